@@ -1,8 +1,8 @@
 //! Tables whose lengths of keys and values are known at run time alone, such as those of a file.
 //!
 //! A configuration says how long keys and values are, and a table of other lengths needs another one. A [`DynTable`] has
-//! the lengths as numbers: it reads the same bytes, of any lengths, and its keys and values are the bytes as they are
-//! stored. The hash function stays a type, since the bytes do not name it.
+//! the lengths as numbers: it reads and writes the same bytes, of any lengths, and its keys and values are the bytes as
+//! they are stored. The hash function stays a type, since the bytes do not name it.
 //!
 //! ```
 //! use odht::dynamic::{DynTable, Layout};
@@ -14,8 +14,18 @@
 //! assert_eq!(view.layout(), Layout { key_len: 8, value_len: 4 });
 //! assert_eq!(view.get(&1_u64.to_le_bytes()), Some(&2_u32.to_le_bytes()[..]));
 //! assert_eq!(view.get(b"another length"), None);
+//!
+//! let mut copy = DynTable::<FxHashFn, _>::open_as_stated(table.raw_bytes().to_vec())?;
+//! assert_eq!(copy.insert(&3_u64.to_le_bytes(), &4_u32.to_le_bytes())?, None);
+//! assert_eq!(copy.len(), 2);
 //! # Ok::<(), odht::dynamic::DynError>(())
 //! ```
+
+mod growth;
+mod short_bytes;
+mod writing;
+
+pub use short_bytes::ShortBytes;
 
 use crate::config::{Config, Hash, HashFn};
 use crate::opened::Opened;
@@ -37,6 +47,12 @@ impl fmt::Display for DynError {
         match self {
             DynError::KeyTooShort { key_len, least } => {
                 write!(f, "keys have {key_len} bytes, and the hash function needs {least}")
+            }
+            DynError::WrongKeyLength { expected, found } => {
+                write!(f, "the key has {found} bytes, and those of the table have {expected}")
+            }
+            DynError::WrongValueLength { expected, found } => {
+                write!(f, "the value has {found} bytes, and those of the table have {expected}")
             }
             DynError::Rejected(error) => error.fmt(f),
         }
@@ -77,10 +93,10 @@ impl Layout {
     }
 }
 
-/// A table in bytes of any kind, to be read, of keys and values of the lengths that were given when it was opened.
+/// A table in bytes of any kind, of keys and values of the lengths that were given when it was opened. It cannot grow.
 ///
-/// The bytes may be a slice, a vector, a mapped file, or anything else that implements `Borrow<[u8]>`. Any number of
-/// threads may read a table.
+/// The bytes may be a slice, a vector, a mapped file, or anything else that implements `Borrow<[u8]>`. Where it
+/// implements `BorrowMut<[u8]>` too, pairs can be inserted. Any number of threads may read a table.
 ///
 /// # Panics
 ///
@@ -142,6 +158,13 @@ impl<H: HashFn, D: Borrow<[u8]>> DynTable<H, D> {
         let bytes = self.data.borrow();
         self.opened.check(bytes);
         bytes
+    }
+
+    // The proved table of the bytes.
+    #[inline(always)]
+    fn view(&self) -> dynamic::DynTable<Hash<H>, Borrowed<'_>> {
+        let store = Borrowed::new(self.bytes());
+        dynamic::DynTable::open_unchecked(self.layout.proved(), store)
     }
 
     // The proved parts of the table. That their header fits is known from when the bytes were opened.

@@ -134,6 +134,12 @@ pub fn check_all_within<C: Config>(bytes: &[u8], groups: usize) -> Result<(), Er
 #[track_caller]
 pub fn percent_of<C: Config>(max_load_factor_percent: u8) -> u8 {
     let () = Proved::<C>::FITS;
+    percent(max_load_factor_percent)
+}
+
+/// The same where there is no configuration.
+#[track_caller]
+pub fn percent(max_load_factor_percent: u8) -> u8 {
     assert!(
         (1..=100).contains(&max_load_factor_percent),
         "a load factor is from 1 to 100 percent, and not {max_load_factor_percent}"

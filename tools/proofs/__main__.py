@@ -34,7 +34,7 @@ GROUPS = [
     ("The table that grows", ["odht/src/hash_table_owned"]),
     ("Growth into other bytes, equality, walks", ["odht/src/growth.rt", "odht/src/equality.rt", "odht/src/iter.rt"]),
     ("Lookups of many keys", ["odht/src/lookups.rt"]),
-    ("Tables of any lengths", ["odht/src/dynamic.rt"]),
+    ("Tables of any lengths", ["odht/src/dynamic.rt", "odht/src/dynamic/"]),
     ("Laws of whole tables", ["odht/src/laws.rt"]),
     ("Calls for C", ["odht_c/src/shapes/u64_u32.rt"]),
     ("The index", ["odht_index/src"]),

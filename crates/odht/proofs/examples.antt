@@ -17,3 +17,5 @@ pub mod RoomForMore
 pub mod Walks
 -- tables that are the same map
 pub mod SameMaps
+-- what is rejected, and what an insert returns, where lengths are known at run time alone
+pub mod DynInserts

@@ -10,12 +10,14 @@
 --     stated_format h B    the format of the lengths that the header of B states, and of the hash h
 --     stated_refusal ml h B  the error of opening bytes as a table of these lengths: those of header and length, then a
 --                          key length below ml, then those of the first slots
+--     dyn_new_refusal ml F n f len  the error of a new table for n items at the load factor f in len bytes: a key length
+--                          below ml, then those of a new table
 use Rattle.std.specs.Prelude.{ℕ, ◌<◌, ◌≤◌, ◌^◌, nat_lt, List, length, slice_index, Option, option_map}
 use Rattle.std.specs.Bool.{then_some}
 use Rattle.std.specs.Option.{option_or}
 use Rattle.odht_base.specs.Format.{Format, format_of}
 use Rattle.odht_header.specs.Coding.{Coding}
-use Rattle.odht_header.specs.Refusals.{opening_refusal, view_refusal}
+use Rattle.odht_header.specs.Refusals.{new_refusal, opening_refusal, view_refusal}
 use Rattle.odht_raw.specs.Dumps.{parts_of}
 use Rattle.odht_raw.specs.Frame.{IsAccepted}
 use Rattle.odht_raw.specs.Sized.{SizedParts, bytes_coding}
@@ -54,3 +56,6 @@ stated_format h B = format_of (slice_index B 5) (slice_index B 6) h
 
 abbrev pub stated_refusal : ℕ → (List ℕ → ℕ) → List ℕ → Option DynError
 stated_refusal ml h B = option_or (option_map Rejected (opening_refusal (stated_format h B) B)) (dyn_refusal ml (stated_format h B) B)
+
+abbrev pub dyn_new_refusal : ℕ → Format → ℕ → ℕ → ℕ → Option DynError
+dyn_new_refusal ml F n f len = option_or (then_some (nat_lt F.key_len ml) (KeyTooShort F.key_len ml)) (option_map Rejected (new_refusal F n f len))

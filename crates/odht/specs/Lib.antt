@@ -29,3 +29,5 @@ pub mod Reserves
 pub mod Equality
 -- tables whose lengths of keys and values are known at run time alone
 pub mod Dynamic
+-- what an insert into such a table returns and leaves
+pub mod DynInserts

@@ -22,10 +22,15 @@ use crate::memory_layout::{
     HEADER_SIZE, Header, check_by_header, check_opening, check_sized, check_sized_within,
     sized_parts,
 };
+pub use crate::raw_table::ShortBytes;
 use crate::raw_table::{SizedIter, SizedSlots, SizedTable};
 use std::marker::{Model, PhantomData};
 
-/// Why bytes are not opened as a table whose lengths are known at run time alone.
+mod growth;
+mod inserts;
+mod new_tables;
+
+/// Why bytes are not opened as a table whose lengths are known at run time alone, or such a table takes no pair.
 #[derive(Debug, PartialEq, Eq, Drop)]
 pub enum DynError {
     /// The keys are shorter than the hash function needs.
@@ -34,6 +39,20 @@ pub enum DynError {
         key_len: u8,
         /// How many bytes the hash function needs at least.
         least: usize,
+    },
+    /// The key has another length than the keys of the table.
+    WrongKeyLength {
+        /// The length of a key of the table, in bytes.
+        expected: u8,
+        /// The length of the key, in bytes.
+        found: usize,
+    },
+    /// The value has another length than the values of the table.
+    WrongValueLength {
+        /// The length of a value of the table, in bytes.
+        expected: u8,
+        /// The length of the value, in bytes.
+        found: usize,
     },
     /// The error of a table of a configuration with these lengths.
     Rejected(Error),
@@ -124,6 +143,28 @@ impl<H: HashFn, D: ByteStore> DynTable<H, D> {
         match check_by_header(bytes, layout) {
             Ok(()) => DynTable::open(layout, data),
             Err(rejected) => Err(DynError::Rejected(rejected)),
+        }
+    }
+
+    /// Takes the bytes as those of a table of these lengths, without a check: the caller knows that their header and
+    /// length fit, and that keys are long enough for the hash function.
+    #[inline]
+    pub fn open_unchecked(layout: Layout, data: D) -> Self
+        requires accepted { IsAccepted (format_of layout.key_len layout.value_len H.hash)
+            (D.bytes «data») }
+        requires hashes { H.MIN_LEN ≤ layout.key_len }
+        ensures { result ≡ record {
+          key_len = layout.key_len;
+          value_len = layout.value_len;
+          store = «data»;
+        } }
+    {
+        // A slice's length is below 2^64, so that of the store's bytes is too.
+        let _ = data.bytes();
+        DynTable {
+            store: data,
+            layout,
+            hash: PhantomData,
         }
     }
 

@@ -19,6 +19,8 @@ pub mod Summaries
 pub mod MutInserts
 -- what placing a key through borrowed parts may not do
 pub mod MutPlacings
+-- the same where lengths are numbers
+pub mod SizedInserts
 -- the first free slot, and a pair that is written there
 pub mod FreePlacings
 -- inserts into any parts

@@ -52,3 +52,5 @@ pub mod Frontiers
 pub mod Expected
 -- the parts of a table whose lengths of keys and values are numbers
 pub mod Sized
+-- such parts that are borrowed to be written
+pub mod SizedMut

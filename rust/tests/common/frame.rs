@@ -194,6 +194,12 @@ fn inserts_stay_in_frame<const K: usize, const V: usize, H: Named>(
         let mut table = HashTable::<Plain<K, V, H>, _>::from_raw_bytes(before.clone()).unwrap();
         let result = table.try_insert(key, value);
         let after = table.into_data();
+        let layout = Layout { key_len: K as u8, value_len: V as u8 };
+        let mut twin = DynTable::<H, _>::open(layout, before.clone()).unwrap();
+        let former = twin.insert(key, value).map(|former| former.map(|it| it.to_vec()));
+        let expected = result.map(|former| former.map(|it| it.to_vec()));
+        assert_eq!(former, expected.map_err(DynError::Rejected));
+        assert_eq!(twin.into_data(), after);
         assert!(is_framed_insert(reading.format, [&before, &after], (key, value), result));
         before = after;
         if result.is_err() {

@@ -21,6 +21,8 @@ mod clearing;
 mod inserts;
 mod writing;
 
+pub(super) use inserts::write_count;
+
 // How many slots are checked when a view is opened.
 pub(super) const SLOTS_TO_CHECK: usize = 10;
 

@@ -5,12 +5,14 @@ ghost use Rattle.std.specs.List.{filter_map, list_all};
 ghost use Rattle.std.specs.Option.{option_copied};
 ghost use Rattle.std.specs.Result.{result_err};
 ghost use Rattle.odht_base.specs.Decoded.{slot_entry, slot_key, slot_value};
+ghost use Rattle.odht_base.specs.Format.{tag as key_tag};
 ghost use Rattle.odht_base.specs.Load.{IsSlotCount};
 ghost use Rattle.odht_base.specs.SlotWalks.{numbered};
 ghost use Rattle.odht_header.specs.Refusals.{checked, hashes_refusal, hashes_refusal_at};
 ghost use Rattle.odht_raw.specs.Checks.{cells_of, IsSlotHash};
 ghost use Rattle.odht_raw.specs.Finds.{IsFind, IsCountedFind};
 ghost use Rattle.odht_raw.specs.Parts.{entry_format};
+ghost use Rattle.odht_raw.specs.Searches.{IsSearchEnd};
 ghost use Rattle.odht_raw.specs.Sized.{HasLengthsOf, sized_format, sized_parts, IsSized};
 
 use super::group_search::search_keys;
@@ -273,6 +275,22 @@ impl<'a, H: HashFn> SizedTable<'a, H> {
             Search::Free(_) => (None, groups),
             Search::Neither => (None, groups),
         }
+    }
+
+    // Where the search for a key that is inserted ends, and the key's tag. It is inlined where the compiler knows the length
+    // of the key, as `find_of` is.
+    #[inline(always)]
+    pub(super) fn search_end(&self, key: &[u8]) -> (Search, u8)
+        requires { length key.now ≡ self.now.key_len }
+        ensures end { IsSearchEnd (sized_format self.now H.hash) self.now.parts.entries
+            self.now.parts.control key.now result.0 }
+        ensures tag { result.1 ≡ key_tag (sized_format self.now H.hash) key.now }
+    {
+        let mut scan = Scan::new(self.controls(), self.len());
+        let sought = SoughtBytes { bytes: &*key };
+        let hash = H::hash(key);
+        let end = search_keys::<SizedTable<'_, H>, H, GroupQuery>(&mut scan, &*self, &sought, hash);
+        (end, tag_of(hash))
     }
 
     /// Checks the first `slots_to_check` slots, or all where there are fewer, and returns the first error:

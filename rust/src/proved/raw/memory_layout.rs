@@ -9,15 +9,20 @@ mod new_tables;
 mod prefix;
 mod sized;
 mod sized_check;
+mod sized_inserts;
+mod sized_new;
 
 pub use crate::proved::header::header::{
     is_accepted, write_header, Header, HEADER_SIZE, LEAST_FACTOR,
 };
 pub use crate::proved::header::sizes::{bytes_needed, entry_at, layout_for};
 pub use crate::proved::raw::raw_table::{Entries, EntryMetadata};
+pub(crate) use allocation::hold_bytes;
 pub use allocation::Allocation;
 pub use check::{check_all, check_all_within, DEFAULT_GROUPS};
 pub use new_tables::{allocate, clear_entries, init_in_place, write_empty};
 pub use prefix::table_len;
 pub use sized::{check_by_header, check_opening, sized_parts};
 pub use sized_check::{check_sized, check_sized_within};
+pub use sized_inserts::insert_sized;
+pub use sized_new::init_sized;

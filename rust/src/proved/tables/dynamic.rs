@@ -9,10 +9,15 @@ use crate::proved::tables::memory_layout::{
     check_by_header, check_opening, check_sized, check_sized_within, sized_parts, Header,
     HEADER_SIZE,
 };
+pub use crate::proved::tables::raw_table::ShortBytes;
 use crate::proved::tables::raw_table::{SizedIter, SizedSlots, SizedTable};
 use std::marker::PhantomData;
 
-/// Why bytes are not opened as a table whose lengths are known at run time alone.
+mod growth;
+mod inserts;
+mod new_tables;
+
+/// Why bytes are not opened as a table whose lengths are known at run time alone, or such a table takes no pair.
 #[derive(Debug, PartialEq, Eq)]
 #[non_exhaustive]
 pub enum DynError {
@@ -22,6 +27,20 @@ pub enum DynError {
         key_len: u8,
         /// How many bytes the hash function needs at least.
         least: usize,
+    },
+    /// The key has another length than the keys of the table.
+    WrongKeyLength {
+        /// The length of a key of the table, in bytes.
+        expected: u8,
+        /// The length of the key, in bytes.
+        found: usize,
+    },
+    /// The value has another length than the values of the table.
+    WrongValueLength {
+        /// The length of a value of the table, in bytes.
+        expected: u8,
+        /// The length of the value, in bytes.
+        found: usize,
     },
     /// The error of a table of a configuration with these lengths.
     Rejected(Error),
@@ -71,6 +90,15 @@ impl<H: HashFn, D: ByteStore> DynTable<H, D> {
             Ok(()) => DynTable::open(layout, data),
             Err(rejected) => Err(DynError::Rejected(rejected)),
         }
+    }
+
+    /// Takes the bytes as those of a table of these lengths, without a check: the caller knows that their header and
+    /// length fit, and that keys are long enough for the hash function.
+    #[inline]
+    pub fn open_unchecked(layout: Layout, data: D) -> Self {
+        // A slice's length is below 2^64, so that of the store's bytes is too.
+        let _ = data.bytes();
+        DynTable { store: data, layout, hash: PhantomData }
     }
 
     /// The lengths of keys and values.

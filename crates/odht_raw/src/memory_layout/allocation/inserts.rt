@@ -95,7 +95,7 @@ impl<C: Config, M: ByteStoreMut> Allocation<C, M> {
 
 // Writes the item count of a header.
 #[inline(always)]
-fn write_count(header: &mut [u8], item_count: usize)
+pub(crate) fn write_count(header: &mut [u8], item_count: usize)
     requires { length header.old ≡ 32 }
     ensures { header.new ≡ with_count header.old item_count }
 {

@@ -169,6 +169,17 @@ impl<'a, H: HashFn> SizedTable<'a, H> {
         }
     }
 
+    // Where the search for a key that is inserted ends, and the key's tag. It is inlined where the compiler knows the length
+    // of the key, as `find_of` is.
+    #[inline(always)]
+    pub(super) fn search_end(&self, key: &[u8]) -> (Search, u8) {
+        let mut scan = Scan::new(self.controls(), self.len());
+        let sought = SoughtBytes { bytes: &*key };
+        let hash = H::hash(key);
+        let end = search_keys::<SizedTable<'_, H>, H, GroupQuery>(&mut scan, &*self, &sought, hash);
+        (end, tag_of(hash))
+    }
+
     /// Checks the first `slots_to_check` slots, or all where there are fewer, and returns the first error:
     /// `NonZeroEmpty` of a slot that counts as free, `ControlMismatch` of any other.
     ///

@@ -74,6 +74,6 @@ impl<C: Config, M: ByteStoreMut> Allocation<C, M> {
 
 // Writes the item count of a header.
 #[inline(always)]
-fn write_count(header: &mut [u8], item_count: usize) {
+pub(crate) fn write_count(header: &mut [u8], item_count: usize) {
     write_slice(header, ITEM_COUNT_AT, &(item_count as u64).to_le_bytes());
 }

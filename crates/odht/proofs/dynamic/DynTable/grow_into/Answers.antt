@@ -1,0 +1,88 @@
+use Rattle.std.proofs.Common.{◌++◌, ◌∙◌, ◌≡◌, ◌*◌, ℕ, List, Some, max, sym, ap, subst, arith, length}
+use Rattle.odht_base.specs.Format.{Format, format_of}
+use Rattle.odht_base.specs.Image.{header_bytes, image_len, parts}
+use Rattle.odht_base.specs.Insert.{grown_slots, place_all}
+use Rattle.odht_base.specs.Map.{KeysApart}
+use Rattle.odht_base.specs.Decoded.{header_count, header_factor}
+use Rattle.odht_base.specs.Table.{walk, count, empty}
+use Rattle.odht_base.proofs.lemmas.DistinctKeys.{walk-KeysApart}
+use Rattle.odht_header.specs.Layouts.{IsLayout}
+use Rattle.odht.specs.Dynamic.{dyn_format}
+use Rattle.odht.specs.Growths.{grown_len, grown_slots_of, IsWritten}
+use Rattle.odht.proofs.lemmas.GrownBytes.{asked_len, grown_header, headed_accepted, headed_count, headed_factor}
+use Rattle.odht.proofs.lemmas.Growths.{grown_placed, grown_image}
+use Rattle.odht.proofs.lemmas.ViewInserts.{count_header, factor_header}
+use Rattle.odht.proofs.dynamic.DynTable.grow_into.Given.{Over}
+use Rattle.odht.proofs.dynamic.DynTable.grow_into.Goals.{In-Some, After-write_table}
+use Rattle.odht.proofs.dynamic.DynTable.grow_into.Goals as goal
+
+-- how large the grown table is
+module _ (g : Over) (c : In-Some g) where
+  abbrev F : Format
+  F = dyn_format c.args.self.now g.H.HashFn.hash
+
+  abbrev B : List ℕ
+  B = g.D.ByteStore.bytes c.args.self.now.store
+
+  header : c.of-header.result ≡ B
+  header = c.of-header.ensures ∙ c.raw_bytes.ensures.bytes
+
+  layout : IsLayout F (max 1 (2 * header_count c.of-header.result)) (header_factor c.of-header.result) c.in-Some.slot_count c.in-Some.field-0-1
+  layout = rw (c.layout-layout.ensures.key, c.layout-layout.ensures.value) at c.in-Some.ensures
+
+  -- the length of `out` is that of the grown table
+  long : length c.args.out.now ≡ image_len F c.in-Some.slot_count
+  long = asked_len F c.of-header.result c.in-Some.slot_count _ _ layout (ap (grown_len F) header ∙ c.requires)
+
+  slots : grown_slots_of B ≡ Some c.in-Some.slot_count
+  slots = ap grown_slots_of (sym header) ∙ layout.slots
+
+pub write_table-requires-clause-len : goal.write_table-requires-clause-len
+write_table-requires-clause-len g c =
+    let at = (goal.at.write_table-requires-clause-len g c).In-Some in
+    long g at ∙ sym (λ i. image_len (format_of (c.layout-layout.ensures.key i) (c.layout-layout.ensures.value i) g.H.HashFn.hash) c.in-Some.slot_count)
+
+-- what is written
+written : (g : Over) (c : After-write_table g) → IsWritten (dyn_format c.args.self.now g.H.HashFn.hash) c.in-Some.slot_count c.item_count-item_count.result c.max_load_factor-factor.result.0 c.iter.result c.write_table.new.bytes
+written g c = rw (c.layout-layout.ensures.key, c.layout-layout.ensures.value) at c.write_table.ensures
+
+-- the written bytes are those of the grown table
+pub returns-clause-on_valid : goal.returns-clause-on_valid
+returns-clause-on_valid g c P is =
+    let at = (goal.at.returns-clause-on_valid g c).In-Some in
+    let done = written g (goal.at.returns-clause-on_valid g c).After-write_table in
+    let F : Format = dyn_format c.args.self.now g.H.HashFn.hash in
+    let s : ℕ = c.in-Some.slot_count in
+    let items = c.item_count-item_count.ensures ∙ ap header_count (header g at) ∙ count_header F P _ is in
+    let factor = c.max_load_factor-factor.ensures ∙ ap header_factor (header g at) ∙ factor_header F P _ is in
+    let enough : grown_slots P ≡ Some s = sym (grown_header F P _ is) ∙ slots g at in
+    let pairs : c.iter.result ≡ walk P = c.iter.ensures.on_valid P is in
+    let q = grown_placed F P is.valid s enough in
+    let placed : place_all F (empty s c.max_load_factor-factor.result.0) c.iter.result ≡ Some q.0 = (λ i. place_all F (empty s (factor i)) (pairs i)) ∙ q.1 in
+    let apart : KeysApart c.iter.result = subst KeysApart (sym pairs) (walk-KeysApart F P is.valid.placed) in
+    let bytes : c.write_table.new.bytes ≡ header_bytes F s (count P) P.factor ++ parts F q.0.cells =
+    done.placed q.0 apart placed ∙ (λ i. header_bytes F s (items i) (factor i) ++ parts F q.0.cells) in
+    let is_grown = grown_image F P is.valid s enough q.0 q.1 c.write_table.new.bytes bytes in
+    (q.0, is_grown.0, is_grown.1)
+
+-- the new header has the item count and the load factor of the old one
+pub returns-clause-accepted : goal.returns-clause-accepted
+returns-clause-accepted g c =
+    let at = (goal.at.returns-clause-accepted g c).In-Some in
+    let done = written g (goal.at.returns-clause-accepted g c).After-write_table in
+    headed_accepted (dyn_format c.args.self.now g.H.HashFn.hash) c.write_table.new.bytes c.in-Some.slot_count c.item_count-item_count.result c.max_load_factor-factor.result.0 done.header
+    (layout g at).least.is_count (omega (arith, c.write_table.auto.bytes, long g at))
+
+pub returns-clause-count : goal.returns-clause-count
+returns-clause-count g c =
+    let at = (goal.at.returns-clause-count g c).In-Some in
+    let done = written g (goal.at.returns-clause-count g c).After-write_table in
+    headed_count (dyn_format c.args.self.now g.H.HashFn.hash) c.write_table.new.bytes c.in-Some.slot_count c.item_count-item_count.result c.max_load_factor-factor.result.0 done.header c.item_count-item_count.type_inv
+    ∙ c.item_count-item_count.ensures ∙ ap header_count (header g at)
+
+pub returns-clause-factor : goal.returns-clause-factor
+returns-clause-factor g c =
+    let at = (goal.at.returns-clause-factor g c).In-Some in
+    let done = written g (goal.at.returns-clause-factor g c).After-write_table in
+    headed_factor (dyn_format c.args.self.now g.H.HashFn.hash) c.write_table.new.bytes c.in-Some.slot_count c.item_count-item_count.result c.max_load_factor-factor.result.0 done.header c.max_load_factor-factor.type_inv.1.1.0.1
+    ∙ c.max_load_factor-factor.ensures ∙ ap header_factor (header g at)

@@ -1,0 +1,92 @@
+use Rattle.std.proofs.Common.{◌≡◌, ◌∙◌, ap, sym, subst, length}
+use Rattle.std.specs.Prelude.{IfOk}
+use Rattle.std.proofs.lemmas.Result.{on_err_weaker}
+use Rattle.odht_base.specs.Format.{Format, IsFormat, format_of}
+use Rattle.odht_base.specs.Table.{Table}
+use Rattle.odht_base.specs.Valid.{IsImage}
+use Rattle.odht_header.proofs.lemmas.Formats.{IsFormat-format_of}
+use Rattle.odht_raw.specs.Frame.{IsAccepted, IsFramed}
+use Rattle.odht_raw.specs.Runs.{IsOnePlaced}
+use Rattle.odht_raw.specs.Sized.{bytes_coding}
+use Rattle.odht_raw.proofs.lemmas.Borrows.{borrowed-bytes, borrowed-same}
+use Rattle.odht.proofs.lemmas.ViewInserts.{if_inserted, if_former, framed-full, full-framed, framed-only_full, framed-refused, held_same_bytes}
+use Rattle.odht.proofs.dynamic.inserts.insert_store.Given.{Over}
+use Rattle.odht.proofs.dynamic.inserts.insert_store.Goals.{After-insert_sized}
+use Rattle.odht.proofs.dynamic.inserts.insert_store.Goals as goal
+
+module _ (g : Over) (c : After-insert_sized g) where
+  abbrev F : Format
+  F = format_of c.args.layout.key_len c.args.layout.value_len g.H.HashFn.hash
+
+  fits : IsFormat F
+  fits = IsFormat-format_of _ _ _ _ c.requires.opened.key_short c.requires.opened.value_short c.requires.opened.hashes g.met.H.HashFn.fits
+
+  -- the store that is left
+  abbrev left : g.row.D.Denot
+  left = g.D.ByteStoreMut.after_borrow c.args.store.now c.insert_sized.new.bytes
+
+  long : length c.insert_sized.new.bytes ≡ length (g.D.ByteStore.bytes c.args.store.now)
+  long = c.insert_sized.ensures.len ∙ ap length c.bytes_mut.ensures.value
+
+  -- has these bytes
+  same : g.D.ByteStore.bytes left ≡ c.insert_sized.new.bytes
+  same =
+      borrowed-bytes g.D.ByteStore.bytes g.D.ByteStoreMut.holding g.D.ByteStoreMut.after_borrow g.met.D.ByteStoreMut.held g.met.D.ByteStoreMut.after_borrow_fits c.args.store.now c.insert_sized.new.bytes long
+
+  -- and is the same store
+  same_store : left ≡ g.D.ByteStoreMut.holding c.args.store.now (g.D.ByteStore.bytes left)
+  same_store =
+      borrowed-same g.D.ByteStore.bytes g.D.ByteStoreMut.holding g.D.ByteStoreMut.after_borrow g.met.D.ByteStoreMut.held g.met.D.ByteStoreMut.after_borrow_fits c.args.store.now c.insert_sized.new.bytes long
+
+  -- what the insert leaves of a valid table
+  placed : (P : Table) → IsImage F P (g.D.ByteStore.bytes c.args.store.now) → IfOk c.insert_sized.result (λ old. IsOnePlaced (bytes_coding F) P c.args.key.now c.args.value.now old (g.D.ByteStore.bytes left))
+  placed P is =
+      subst (λ B. IfOk c.insert_sized.result (λ old. IsOnePlaced (bytes_coding F) P c.args.key.now c.args.value.now old B)) (sym same)
+      (c.insert_sized.ensures.placed P (record { valid = is.valid; bytes = c.bytes_mut.ensures.value ∙ is.bytes }))
+
+  -- and of any bytes
+  framed : IsFramed (bytes_coding F) (g.D.ByteStore.bytes c.args.store.now) c.args.key.now c.args.value.now c.insert_sized.result (g.D.ByteStore.bytes left)
+  framed =
+      subst (λ B. IsFramed (bytes_coding F) (g.D.ByteStore.bytes c.args.store.now) c.args.key.now c.args.value.now c.insert_sized.result B) (sym same)
+      (subst (λ B. IsFramed (bytes_coding F) B c.args.key.now c.args.value.now c.insert_sized.result c.insert_sized.new.bytes) c.bytes_mut.ensures.value c.insert_sized.ensures.framed)
+
+pub returns-clause-on_valid : goal.returns-clause-on_valid
+returns-clause-on_valid g c P is =
+    let at = (goal.at.returns-clause-on_valid g c).After-insert_sized in
+    let K = bytes_coding (F g at) in
+    let k = c.args.key.now in
+    let v = c.args.value.now in
+    let r = c.insert_sized.result in
+    record {
+      former = if_former K P k v r _ (placed g at P is);
+      inserted = if_inserted K P _ k v r _ is (placed g at P is);
+      full = (λ e. framed-full K _ k v (fits g at) P is r _ e (framed g at), λ full. full-framed K _ k v (fits g at) P is r _ (placed g at P is) (framed g at) full);
+    }
+
+pub returns-clause-frame : goal.returns-clause-frame
+returns-clause-frame g c = framed g (goal.at.returns-clause-frame g c).After-insert_sized
+
+pub returns-clause-only_full : goal.returns-clause-only_full
+returns-clause-only_full g c =
+    let at = (goal.at.returns-clause-only_full g c).After-insert_sized in
+    framed-only_full (bytes_coding (F g at)) _ c.args.key.now c.args.value.now c.insert_sized.result _ (framed g at)
+
+pub returns-clause-refused : goal.returns-clause-refused
+returns-clause-refused g c =
+    let at = (goal.at.returns-clause-refused g c).After-insert_sized in
+    let kept = framed-refused (bytes_coding (F g at)) _ c.args.key.now c.args.value.now c.insert_sized.result _ (framed g at) in
+    on_err_weaker c.insert_sized.result
+    (λ kept. held_same_bytes g.D.ByteStoreMut.holding g.D.ByteStore.bytes g.met.D.ByteStoreMut.held_same c.args.store.now (left g at) (same_store g at) kept) kept
+
+pub returns-clause-same_store : goal.returns-clause-same_store
+returns-clause-same_store g c = same_store g (goal.at.returns-clause-same_store g c).After-insert_sized
+
+pub returns-clause-accepted : goal.returns-clause-accepted
+returns-clause-accepted g c =
+    let at = (goal.at.returns-clause-accepted g c).After-insert_sized in
+    subst (IsAccepted (F g at)) (sym (same g at)) c.insert_sized.ensures.accepted
+
+pub returns-clause-len : goal.returns-clause-len
+returns-clause-len g c =
+    let at = (goal.at.returns-clause-len g c).After-insert_sized in
+    ap length (same g at) ∙ long g at

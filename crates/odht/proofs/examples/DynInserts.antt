@@ -1,0 +1,52 @@
+-- Worked examples: what is rejected, and what an insert returns, where lengths are known at run time alone.
+use Rattle.std.proofs.Common.{◌≡◌, ℕ, List, refl, Option, Some, Result, Ok, Err}
+use Rattle.std.specs.Prelude.{option_map, OnErr}
+use Rattle.std.specs.Result.{result_map_both}
+use Rattle.odht_base.specs.Format.{format_of}
+use Rattle.odht_header.specs.Coding.{Coding}
+use Rattle.odht_header.specs.Refusals.{new_refusal, view_refusal}
+use Rattle.odht_header.specs.declared.error.Error.{Error}
+use Rattle.odht_header.specs.declared.error.Error.TheVariants.{Full, TooShort}
+use Rattle.odht_raw.specs.Frame.{IsFramed}
+use Rattle.odht.specs.Dynamic.{dyn_refusal, dyn_new_refusal}
+use Rattle.odht.specs.DynInserts.{IsDynInsert}
+use Rattle.odht.specs.Inserts.{IsInsertInto}
+use Rattle.odht.specs.Tables.{OfTable}
+use Rattle.odht.specs.declared.dynamic.DynError.TheVariants.{KeyTooShort, WrongKeyLength, Rejected}
+
+-- ---- keys of three bytes, where the hash function needs four: before all other errors
+pub short_keys : (h : List ℕ → ℕ) (B : List ℕ) → dyn_refusal 4 (format_of 3 1 h) B ≡ Some (KeyTooShort 3 4)
+short_keys h B = refl
+
+pub new_short_keys : (h : List ℕ → ℕ) (n f len : ℕ) → dyn_new_refusal 4 (format_of 3 1 h) n f len ≡ Some (KeyTooShort 3 4)
+new_short_keys h n f len = refl
+
+-- of keys of four bytes the errors of a configuration
+pub long_keys : (h : List ℕ → ℕ) (B : List ℕ) → dyn_refusal 4 (format_of 4 1 h) B ≡ option_map Rejected (view_refusal (format_of 4 1 h) B)
+long_keys h B = refl
+
+pub new_long_keys : (h : List ℕ → ℕ) (n f len : ℕ) → dyn_new_refusal 4 (format_of 4 1 h) n f len ≡ option_map Rejected (new_refusal (format_of 4 1 h) n f len)
+new_long_keys h n f len = refl
+
+-- ---- inserts
+module _ {K V : Type 0} (c : Coding K V) (B B' : List ℕ) (k : K) (v : V) where
+  -- what an insert into a view returns, with its error as a Rejected
+  pub of_a_view : (r : Result (Option V) Error) → OfTable c.format B (λ P. IsInsertInto c P k v r B') → IsFramed c B k v r B' → OnErr r (r ≡ Err Full)
+      → IsDynInsert c B B' k v (result_map_both (λ o. o) Rejected r)
+  of_a_view r valid frame full = record { answer = r; is = refl; on_valid = valid; frame = frame; only_full = full }
+
+  -- no other error than Full
+  pub other_error_refused : (n : ℕ) → IsDynInsert c B B' k v (Err (Rejected (TooShort n))) → ⊥
+  other_error_refused n h = go h.answer h.is h.only_full
+    where
+      go : (r : Result (Option V) Error) → Err (Rejected (TooShort n)) ≡ result_map_both (λ o. o) Rejected r → OnErr r (r ≡ Err Full) → ⊥
+      go (Ok o) is full = cc
+      go (Err e) is full = cc
+
+  -- and none of lengths
+  pub length_refused : (m n : ℕ) → IsDynInsert c B B' k v (Err (WrongKeyLength m n)) → ⊥
+  length_refused m n h = go h.answer h.is
+    where
+      go : (r : Result (Option V) Error) → Err (WrongKeyLength m n) ≡ result_map_both (λ o. o) Rejected r → ⊥
+      go (Ok o) is = cc
+      go (Err e) is = cc

@@ -1,0 +1,132 @@
+//! Growth of a table whose lengths are known at run time alone, into larger bytes.
+ghost use Rattle.std.specs.Prelude.{◌≡◌, ◌*◌, ◌≤◌, max, All, Some, None, MatchOption, length};
+ghost use Rattle.odht_base.specs.Decoded.{header_count, header_factor};
+ghost use Rattle.odht_base.specs.Format.{format_of};
+ghost use Rattle.odht_base.specs.Image.{image_len};
+ghost use Rattle.odht_base.specs.Insert.{grown_slots, place_all};
+ghost use Rattle.odht_base.specs.Load.{IsSlotCount};
+ghost use Rattle.odht_base.specs.Map.{KeysApart};
+ghost use Rattle.odht_base.specs.Table.{Table};
+ghost use Rattle.odht_base.specs.Valid.{IsPartsOf};
+ghost use Rattle.odht_header.specs.Layouts.{IsLayout};
+ghost use Rattle.odht_raw.specs.Frame.{IsAccepted};
+ghost use Rattle.odht_raw.specs.PartLengths.{ArePartLengths};
+ghost use Rattle.odht_raw.specs.PartsPlacings.{IsNewTo};
+ghost use Rattle.odht_raw.specs.Sized.{HasLengthsOf};
+ghost use Rattle.odht.specs.Dynamic.{dyn_format};
+ghost use Rattle.odht.specs.Growths.{grown_len, table_len, IsGrownImage, IsWritten};
+ghost use Rattle.odht.specs.Tables.{OfTable};
+
+use super::DynTable;
+use crate::bytes::ByteStore;
+use crate::hash::HashFn;
+use crate::layout::Layout;
+use crate::load::Factor;
+use crate::memory_layout::{HEADER_SIZE, Header, init_sized};
+use crate::raw_table::{SizedIter, SizedTableMut};
+
+impl<H: HashFn, D: ByteStore> DynTable<H, D> {
+    /// The length in bytes of the table that this one grows into, as
+    /// [`HashTable::grown_len`](crate::hash_table::HashTable::grown_len) is.
+    pub fn grown_len(&self) -> Option<usize>
+        ensures by_header { result
+            ≡ grown_len (dyn_format self.now H.hash) (D.bytes self.now.store) }
+        ensures on_valid { let F = dyn_format self.now H.hash
+            in OfTable F (D.bytes self.now.store) (λ P. result ≡ table_len F (grown_slots P)) }
+    {
+        match grown_layout::<H>(self.layout(), &Header::of(self.raw_bytes())) {
+            Some((_, len)) => Some(len),
+            None => None,
+        }
+    }
+
+    /// Writes the table that this one grows into to `out`, whatever its bytes were, as
+    /// [`HashTable::grow_into`](crate::hash_table::HashTable::grow_into) does. `out` has [`DynTable::grown_len`] bytes.
+    pub fn grow_into(&self, out: &mut [u8])
+        requires { grown_len (dyn_format self.now H.hash) (D.bytes self.now.store)
+            ≡ Some (length out.old) }
+        ensures on_valid { let F = dyn_format self.now H.hash
+            in OfTable F (D.bytes self.now.store) (λ P. IsGrownImage F P out.new) }
+        ensures accepted { IsAccepted (dyn_format self.now H.hash) out.new }
+        ensures count { header_count out.new ≡ header_count (D.bytes self.now.store) }
+        ensures factor { header_factor out.new ≡ header_factor (D.bytes self.now.store) }
+    {
+        let layout = self.layout();
+        let header = Header::of(self.raw_bytes());
+        let Some((slot_count, _)) = grown_layout::<H>(layout, &header) else {
+            // `out` has the length of the grown table.
+            unreachable!()
+        };
+        let item_count = header.item_count();
+        let factor = header.max_load_factor();
+        write_table::<H>(out, layout, slot_count, item_count, factor, self.iter());
+    }
+}
+
+// The slot count and the length in bytes of the table that the one with this header grows into. None exactly where no
+// slot count is enough, or the length passes `usize`.
+fn grown_layout<H: HashFn>(layout: Layout, header: &Header<'_>) -> Option<(usize, usize)>
+    ensures { let F = format_of layout.key_len layout.value_len H.hash
+        in let B = header.now
+        in MatchOption result (grown_len F B ≡ None)
+        (λ l. IsLayout F (max 1 (2 * header_count B)) (header_factor B) l.0 l.1) }
+{
+    let factor = header.max_load_factor();
+    let Some(twice) = header.item_count().checked_mul(2) else {
+        return None;
+    };
+    if factor.0 == 0 {
+        return None;
+    }
+    layout.table_for(twice.max(1), factor)
+}
+
+// Writes the table of so many slots with the pairs of the walk. The new header gets `item_count`, whatever the walk
+// gives.
+fn write_table<H: HashFn>(
+    bytes: &mut [u8],
+    layout: Layout,
+    slot_count: usize,
+    item_count: usize,
+    max_load_factor: Factor,
+    walk: SizedIter<'_, H>,
+)
+    requires slots { IsSlotCount slot_count }
+    requires len { length bytes.old
+        ≡ image_len (format_of layout.key_len layout.value_len H.hash) slot_count }
+    requires hashes { H.MIN_LEN ≤ layout.key_len }
+    requires lengths { All (HasLengthsOf layout.key_len layout.value_len) walk }
+    ensures { let F = format_of layout.key_len layout.value_len H.hash
+        in IsWritten F slot_count item_count max_load_factor.0 walk.entry bytes.new }
+{
+    init_sized(bytes, layout, slot_count, item_count, max_load_factor);
+    let (table, control) = bytes.split_at_mut(layout.entry_at(slot_count));
+    let (_header, entries) = table.split_at_mut(HEADER_SIZE);
+    place_walk::<H>(control, entries, layout, walk);
+}
+
+// Places the pairs of a walk in turn into the parts of a table, each as long as a slot is free. The clause is for keys
+// that are pairwise distinct and new to the table, as on valid bytes; other walks are taken too.
+fn place_walk<H: HashFn>(
+    control: &mut [u8],
+    entries: &mut [u8],
+    layout: Layout,
+    walk: SizedIter<'_, H>,
+)
+    requires parts { ArePartLengths H.MIN_LEN layout.key_len layout.value_len
+        (length entries.old) (length control.old) }
+    requires lengths { All (HasLengthsOf layout.key_len layout.value_len) walk }
+    ensures { let F = format_of layout.key_len layout.value_len H.hash
+        in (P Q : Table)
+        → IsPartsOf F P entries.old control.old
+        → KeysApart walk.entry
+        → All (IsNewTo P) walk.entry
+        → place_all F P walk.entry ≡ Some Q
+        → IsPartsOf F Q entries.new control.new }
+{
+    let mut table: SizedTableMut<'_, '_, H> = SizedTableMut::new(control, entries, layout);
+    for (key, value) in walk {
+        // There is room for each item of a valid table.
+        let _ = table.place(key, value);
+    }
+}

@@ -1,0 +1,95 @@
+//! Inserts into a table whose lengths are known at run time alone.
+ghost use Rattle.std.specs.Prelude.{◌≡◌, ◌≢◌, length, Err, OnErr};
+ghost use Rattle.odht_base.specs.Format.{format_of};
+ghost use Rattle.odht_raw.specs.Frame.{IsAccepted, IsFramed};
+ghost use Rattle.odht_raw.specs.Sized.{bytes_coding};
+ghost use Rattle.odht.specs.Dynamic.{dyn_coding, dyn_format, IsOpened};
+ghost use Rattle.odht.specs.DynInserts.{IsDynInsert};
+ghost use Rattle.odht.specs.Inserts.{IsInsertInto};
+ghost use Rattle.odht.specs.Tables.{OfTable};
+
+use super::{DynError, DynTable};
+use crate::bytes::ByteStoreMut;
+use crate::error::Error;
+use crate::hash::HashFn;
+use crate::layout::Layout;
+use crate::memory_layout::insert_sized;
+use crate::raw_table::ShortBytes;
+
+impl<H: HashFn, D: ByteStoreMut> DynTable<H, D> {
+    /// Gives the key this value, and returns its former one: on valid bytes that of its last insert. No memory is
+    /// allocated.
+    ///
+    /// The first error: `WrongKeyLength` where the key has another length than the table's keys; `WrongValueLength`
+    /// where the value has another one than its values; then `Rejected` with `Full`, as
+    /// [`HashTable::insert`](crate::hash_table::HashTable::insert) returns it: on valid bytes exactly where the table has
+    /// its maximum of items and the key is not among them. On an error nothing changes. On bytes that are not valid no
+    /// more changes than that call changes.
+    ///
+    /// The key is hashed once. [`DynTable::get_counted`] says how many groups the search reads.
+    pub fn insert(&mut self, key: &[u8], value: &[u8]) -> Result<Option<ShortBytes>, DynError>
+        // Of a key and a value of the table's lengths.
+        ensures inserted { length key.now ≡ self.old.key_len
+            → length value.now ≡ self.old.value_len
+            → IsDynInsert (dyn_coding self.old H.hash) (D.bytes self.old.store)
+            (D.bytes self.new.store) key.now value.now result }
+        // Of others.
+        ensures key { length key.now ≢ self.old.key_len
+            → result ≡ Err (DynError.WrongKeyLength self.old.key_len (length key.now)) }
+        ensures value { length key.now ≡ self.old.key_len
+            → length value.now ≢ self.old.value_len
+            → result ≡ Err (DynError.WrongValueLength self.old.value_len (length value.now)) }
+        // Of any.
+        ensures refused { OnErr result (self.new ≡ self.old) }
+        ensures same_store { self.new ≡ record {
+          key_len = self.old.key_len;
+          value_len = self.old.value_len;
+          store = D.holding self.old.store (D.bytes self.new.store);
+        } }
+        ensures accepted { IsAccepted (dyn_format self.new H.hash) (D.bytes self.new.store) }
+    {
+        let layout = self.layout;
+        if key.len() != layout.key_len as usize {
+            return Err(DynError::WrongKeyLength {
+                expected: layout.key_len,
+                found: key.len(),
+            });
+        }
+        if value.len() != layout.value_len as usize {
+            return Err(DynError::WrongValueLength {
+                expected: layout.value_len,
+                found: value.len(),
+            });
+        }
+        match insert_store::<H, D>(&mut self.store, layout, key, value) {
+            Ok(former) => Ok(former),
+            Err(refused) => Err(DynError::Rejected(refused)),
+        }
+    }
+}
+
+// `insert` on the store itself, of a key and a value of the table's lengths.
+fn insert_store<H: HashFn, D: ByteStoreMut>(
+    store: &mut D,
+    layout: Layout,
+    key: &[u8],
+    value: &[u8],
+) -> Result<Option<ShortBytes>, Error>
+    requires opened { IsOpened H.MIN_LEN H.hash D.bytes
+        (record { key_len = layout.key_len; value_len = layout.value_len; store = store.old }) }
+    requires key { length key.now ≡ layout.key_len }
+    requires value { length value.now ≡ layout.value_len }
+    ensures on_valid { let c = bytes_coding (format_of layout.key_len layout.value_len H.hash)
+        in OfTable c.format (D.bytes store.old)
+        (λ P. IsInsertInto c P key.now value.now result (D.bytes store.new)) }
+    ensures frame { let c = bytes_coding (format_of layout.key_len layout.value_len H.hash)
+        in IsFramed c (D.bytes store.old) key.now value.now result (D.bytes store.new) }
+    ensures only_full { OnErr result (result ≡ Err Error.Full) }
+    ensures refused { OnErr result (store.new ≡ store.old) }
+    ensures same_store { store.new ≡ D.holding store.old (D.bytes store.new) }
+    ensures accepted { IsAccepted (format_of layout.key_len layout.value_len H.hash)
+        (D.bytes store.new) }
+    ensures len { length (D.bytes store.new) ≡ length (D.bytes store.old) }
+{
+    insert_sized::<H>(store.bytes_mut(), layout, key, value)
+}

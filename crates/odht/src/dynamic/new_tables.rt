@@ -1,0 +1,109 @@
+//! New tables whose lengths are known at run time alone.
+ghost use Rattle.std.specs.Prelude.{◌≡◌, ◌↔◌, ℕ, length, IfSome, IsNone, OnErr, OnOk, Some};
+ghost use Rattle.std.specs.Result.{result_err};
+ghost use Rattle.odht_base.specs.Format.{format_of};
+ghost use Rattle.odht_base.specs.Image.{image_len};
+ghost use Rattle.odht_base.specs.Load.{factor_of, slots_for, IsPercent};
+ghost use Rattle.odht_header.specs.Refusals.{IsTooLarge, new_refusal};
+ghost use Rattle.odht_raw.specs.Frame.{IsAccepted};
+ghost use Rattle.odht.specs.Dynamic.{dyn_new_refusal};
+ghost use Rattle.odht.specs.Inserts.{IsFresh};
+
+use super::{DynError, DynTable};
+use crate::bytes::{ByteStore, ByteStoreMut};
+use crate::error::Error;
+use crate::hash::HashFn;
+use crate::layout::Layout;
+use crate::load::Factor;
+use crate::memory_layout::init_sized;
+
+impl<H: HashFn, D: ByteStore> DynTable<H, D> {
+    /// The length in bytes of a new table of these lengths for `max_item_count` items, at a load factor in percent of the
+    /// slots. None exactly where no slot count is enough, or the length passes `usize`. docs/FORMAT.md, "Load factors",
+    /// has the rule.
+    pub fn bytes_needed(
+        layout: Layout,
+        max_item_count: usize,
+        max_load_factor_percent: u8,
+    ) -> Option<usize>
+        requires percent { IsPercent max_load_factor_percent }
+        ensures len { let F = format_of layout.key_len layout.value_len H.hash
+            in let f = factor_of max_load_factor_percent
+            in IfSome result
+            (λ len. (s : ℕ) × (slots_for max_item_count f ≡ Some s) × (len ≡ image_len F s)) }
+        ensures none { let F = format_of layout.key_len layout.value_len H.hash
+            in IsNone result ↔ IsTooLarge F max_item_count (factor_of max_load_factor_percent) }
+    {
+        let factor = Factor::from_percent(max_load_factor_percent);
+        let (_, len) = layout.table_for(max_item_count, factor)?;
+        Some(len)
+    }
+}
+
+impl<H: HashFn, D: ByteStoreMut> DynTable<H, D> {
+    /// Makes an empty table of these lengths for `max_item_count` items in a store, whatever its bytes were. The load
+    /// factor is in percent of the slots.
+    ///
+    /// `KeyTooShort` where the hash function needs longer keys; then `Rejected` with `Capacity` or `InitLength`, as
+    /// [`HashTable::init_store`](crate::hash_table::HashTable::init_store) returns them. An error leaves the store as it
+    /// was. Where there is none, [`DynTable::open_unchecked`] accepts the store. One pass over the bytes.
+    pub fn init_store(
+        layout: Layout,
+        store: &mut D,
+        max_item_count: usize,
+        max_load_factor_percent: u8,
+    ) -> Result<(), DynError>
+        requires percent { IsPercent max_load_factor_percent }
+        ensures ok { let F = format_of layout.key_len layout.value_len H.hash
+            in OnOk result (IsFresh F max_item_count max_load_factor_percent (D.bytes store.new)) }
+        ensures accepted { let F = format_of layout.key_len layout.value_len H.hash
+            in OnOk result (IsAccepted F (D.bytes store.new)) }
+        ensures err { let F = format_of layout.key_len layout.value_len H.hash
+            in let f = factor_of max_load_factor_percent
+            in result_err result
+            ≡ dyn_new_refusal H.MIN_LEN F max_item_count f (length (D.bytes store.old)) }
+        ensures refused { OnErr result (store.new ≡ store.old) }
+        ensures same_store { store.new ≡ D.holding store.old (D.bytes store.new) }
+    {
+        if (layout.key_len as usize) < H::MIN_LEN {
+            return Err(DynError::KeyTooShort {
+                key_len: layout.key_len,
+                least: H::MIN_LEN,
+            });
+        }
+        match init_bytes::<H, D>(layout, store, max_item_count, max_load_factor_percent) {
+            Ok(()) => Ok(()),
+            Err(rejected) => Err(DynError::Rejected(rejected)),
+        }
+    }
+}
+
+// `init_store` of keys that are long enough for the hash function.
+fn init_bytes<H: HashFn, D: ByteStoreMut>(
+    layout: Layout,
+    store: &mut D,
+    max_item_count: usize,
+    max_load_factor_percent: u8,
+) -> Result<(), Error>
+    requires percent { IsPercent max_load_factor_percent }
+    ensures ok { let F = format_of layout.key_len layout.value_len H.hash
+        in OnOk result (IsFresh F max_item_count max_load_factor_percent (D.bytes store.new)) }
+    ensures accepted { let F = format_of layout.key_len layout.value_len H.hash
+        in OnOk result (IsAccepted F (D.bytes store.new)) }
+    ensures err { let F = format_of layout.key_len layout.value_len H.hash
+        in let f = factor_of max_load_factor_percent
+        in result_err result ≡ new_refusal F max_item_count f (length (D.bytes store.old)) }
+    ensures refused { OnErr result (store.new ≡ store.old) }
+    ensures same_store { store.new ≡ D.holding store.old (D.bytes store.new) }
+{
+    let factor = Factor::from_percent(max_load_factor_percent);
+    let Some((slot_count, expected)) = layout.table_for(max_item_count, factor) else {
+        return Err(Error::Capacity);
+    };
+    let found = store.bytes().len();
+    if found != expected {
+        return Err(Error::InitLength { found, expected });
+    }
+    init_sized(store.bytes_mut(), layout, slot_count, 0, factor);
+    Ok(())
+}

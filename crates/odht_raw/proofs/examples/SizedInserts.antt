@@ -1,0 +1,75 @@
+-- Worked examples: an insert and a placing through borrowed parts whose lengths are numbers, and what they may not do.
+use Rattle.std.proofs.Common.{◌≡◌, ◌∙◌, ℕ, List, refl, Option, Some, Result, Err, sym, true, true≢false, ◌<◌}
+use Rattle.std.proofs.lemmas.Option.{none-some}
+use Rattle.std.specs.declared.cmp.PartialEq.{Ghosts as PartialEqOf}
+use Rattle.odht_base.specs.declared.hash.HashFn.{Ghosts as HashFnOf}
+use Rattle.odht_base.specs.Format.{Format, format_of}
+use Rattle.odht_base.specs.Insert.{place}
+use Rattle.odht_base.specs.Table.{Pair, Table, slot_count, is_free}
+use Rattle.odht_base.specs.Valid.{IsPartsOf}
+use Rattle.odht_header.specs.declared.error.Error.{Error}
+use Rattle.odht_header.specs.declared.error.Error.TheVariants.{Full, TooShort}
+use Rattle.odht_raw.specs.PartsInserts.{IsPartsInsert, IsInsertChange}
+use Rattle.odht_raw.specs.PartsPlacings.{IsNewTo, IsNewPlacing, IsAddition}
+use Rattle.odht_raw.specs.SizedMut.{layout_format, sized_control, sized_entries, sized_layout, sized_loans, IsSizedInsert, IsSizedPlacing}
+use Rattle.odht_raw.specs.declared.raw_table.sized_mut.SizedTableMut.{SizedTableMut}
+
+-- keys of eight bytes and values of four
+pub lengths : (h : List ℕ → ℕ) → layout_format (record { key_len = 8; value_len = 4 }) h ≡ format_of 8 4 h
+lengths h = refl
+
+module _ {H : Type 0} {hash : HashFnOf H} {hash_eq : PartialEqOf H} (t : SizedTableMut H hash hash_eq) (k v : List ℕ) (t' : SizedTableMut H hash hash_eq) where
+  -- the format of the table
+  abbrev pub F : Format
+  F = layout_format (sized_layout t) hash.hash
+
+  -- the pair that is inserted
+  abbrev pub p : Pair
+  p = record { key = k; value = v }
+
+  -- an insert into the parts, of each table that they are of, is one through them, where lengths and slices stay
+  pub of_its_parts : (r : Result (Option (List ℕ)) Error)
+      → ((P : Table) → IsPartsOf F P (sized_entries t) (sized_control t) → IsPartsInsert F (λ b. b) P p r (sized_entries t') (sized_control t'))
+      → IsInsertChange F (λ b. b) (sized_entries t) (sized_control t) p r (sized_entries t') (sized_control t')
+      → sized_layout t' ≡ sized_layout t → sized_loans t' ≡ sized_loans t → IsSizedInsert t k v r t'
+  of_its_parts r parts change layout loans = record { parts = parts; change = change; layout = layout; loans = loans }
+
+  -- it returns no other error than Full, and then changes neither control bytes nor entries
+  pub other_error_refused : (n : ℕ) → IsSizedInsert t k v (Err (TooShort n)) t' → ⊥
+  other_error_refused n h = let is = h.change.errors.only_full in absurd cc
+
+  pub written_control_refused : (sized_control t' ≡ sized_control t → ⊥) → IsSizedInsert t k v (Err Full) t' → ⊥
+  written_control_refused other h = other h.change.errors.refused_control
+
+  pub written_entries_refused : (sized_entries t' ≡ sized_entries t → ⊥) → IsSizedInsert t k v (Err Full) t' → ⊥
+  written_entries_refused other h = other h.change.errors.refused_entries
+
+  -- lengths and slices stay
+  pub other_lengths_refused : (r : Result (Option (List ℕ)) Error) → (sized_layout t' ≡ sized_layout t → ⊥) → IsSizedInsert t k v r t' → ⊥
+  other_lengths_refused r other h = other h.layout
+
+  pub other_slices_refused : (r : Result (Option (List ℕ)) Error) → (sized_loans t' ≡ sized_loans t → ⊥) → IsSizedInsert t k v r t' → ⊥
+  other_slices_refused r other h = other h.loans
+
+  -- where the pair has a place, and where a slot is free, the answer is not Full
+  pub placed_refused : (P Q : Table) → IsPartsOf F P (sized_entries t) (sized_control t) → place F P p ≡ Some Q → IsSizedInsert t k v (Err Full) t' → ⊥
+  placed_refused P Q is fits h = none-some Q (sym ((h.parts P is).full.0 refl) ∙ fits)
+
+  pub free_slot_refused : (P : Table) (i : ℕ) → IsPartsOf F P (sized_entries t) (sized_control t) → i < slot_count P → is_free P.cells i ≡ true → IsSizedInsert t k v (Err Full) t' → ⊥
+  free_slot_refused P i is low free h = true≢false (sym free ∙ ((h.parts P is).no_room.0 refl i low).0)
+
+  -- the same of a placing
+  pub placing_of_its_parts : (r : Result (Unit {0}) Error)
+      → ((P : Table) → IsPartsOf F P (sized_entries t) (sized_control t) → IsNewTo P p → IsNewPlacing F P p r (sized_entries t') (sized_control t'))
+      → IsAddition F (sized_entries t) (sized_control t) p r (sized_entries t') (sized_control t')
+      → sized_layout t' ≡ sized_layout t → sized_loans t' ≡ sized_loans t → IsSizedPlacing t k v r t'
+  placing_of_its_parts r parts change layout loans = record { parts = parts; change = change; layout = layout; loans = loans }
+
+  pub placing_full_refused : (P Q : Table) → IsPartsOf F P (sized_entries t) (sized_control t) → IsNewTo P p → place F P p ≡ Some Q → IsSizedPlacing t k v (Err Full) t' → ⊥
+  placing_full_refused P Q is new fits h = none-some Q (sym ((h.parts P is new).full.0 refl) ∙ fits)
+
+  pub placing_other_lengths_refused : (r : Result (Unit {0}) Error) → (sized_layout t' ≡ sized_layout t → ⊥) → IsSizedPlacing t k v r t' → ⊥
+  placing_other_lengths_refused r other h = other h.layout
+
+  pub placing_other_slices_refused : (r : Result (Unit {0}) Error) → (sized_loans t' ≡ sized_loans t → ⊥) → IsSizedPlacing t k v r t' → ⊥
+  placing_other_slices_refused r other h = other h.loans

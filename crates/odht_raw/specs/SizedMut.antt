@@ -1,0 +1,53 @@
+-- The parts of a table whose lengths of keys and values are numbers, borrowed to be written by a `SizedTableMut`: two
+-- slices.
+--     sized_control t      the control bytes with their mirror
+--     sized_entries t      the bytes of the entries
+--     sized_layout t       the lengths of keys and values
+--     sized_loans t        the borrows of the control bytes and of the entries: what is written goes to their slices
+--     layout_format l h    the format of the lengths l and of the hash h
+--     IsSizedInsert t k v r t'  an insert of the key k and the value v through t returns r and leaves t': what an insert
+--                          into parts does, and lengths and borrows stay
+--     IsSizedPlacing t k v r t'  placing k and v through t returns r and leaves t': what placing a pair with a new key
+--                          into parts does, and lengths and borrows stay
+use Rattle.std.specs.Prelude.{◌≡◌, ℕ, List, Option, Result}
+use Rattle.std.specs.Borrow.{GName}
+use Rattle.std.specs.declared.cmp.PartialEq.{Ghosts as PartialEqOf}
+use Rattle.odht_base.specs.declared.hash.HashFn.{Ghosts as HashFnOf}
+use Rattle.odht_base.specs.Format.{Format, format_of}
+use Rattle.odht_base.specs.Table.{Table}
+use Rattle.odht_base.specs.Valid.{IsPartsOf}
+use Rattle.odht_header.specs.declared.error.Error.{Error}
+use Rattle.odht_header.specs.declared.layout.Layout.{Layout}
+use Rattle.odht_raw.specs.PartsInserts.{IsPartsInsert, IsInsertChange}
+use Rattle.odht_raw.specs.PartsPlacings.{IsNewTo, IsNewPlacing, IsAddition}
+use Rattle.odht_raw.specs.declared.raw_table.sized_mut.SizedTableMut.{SizedTableMut}
+
+abbrev pub layout_format : Layout → (List ℕ → ℕ) → Format
+layout_format l h = format_of l.key_len l.value_len h
+
+module _ {H : Type 0} {hash : HashFnOf H} {hash_eq : PartialEqOf H} where
+  abbrev pub sized_control : SizedTableMut H hash hash_eq → List ℕ
+  sized_control t = t.control.now
+
+  abbrev pub sized_entries : SizedTableMut H hash hash_eq → List ℕ
+  sized_entries t = t.entries.now
+
+  abbrev pub sized_layout : SizedTableMut H hash hash_eq → Layout
+  sized_layout t = t.layout
+
+  abbrev pub sized_loans : SizedTableMut H hash hash_eq → GName × GName
+  sized_loans t = (t.control.ghost_name, t.entries.ghost_name)
+
+  pub record IsSizedInsert (t : SizedTableMut H hash hash_eq) (k v : List ℕ) (r : Result (Option (List ℕ)) Error) (t' : SizedTableMut H hash hash_eq) : Type 0 where
+    pub parts : (P : Table) → IsPartsOf (layout_format t.layout hash.hash) P t.entries.now t.control.now
+        → IsPartsInsert (layout_format t.layout hash.hash) (λ b. b) P (record { key = k; value = v }) r t'.entries.now t'.control.now
+    pub change : IsInsertChange (layout_format t.layout hash.hash) (λ b. b) t.entries.now t.control.now (record { key = k; value = v }) r t'.entries.now t'.control.now
+    pub layout : t'.layout ≡ t.layout
+    pub loans : sized_loans t' ≡ sized_loans t
+
+  pub record IsSizedPlacing (t : SizedTableMut H hash hash_eq) (k v : List ℕ) (r : Result (Unit {0}) Error) (t' : SizedTableMut H hash hash_eq) : Type 0 where
+    pub parts : (P : Table) → IsPartsOf (layout_format t.layout hash.hash) P t.entries.now t.control.now → IsNewTo P (record { key = k; value = v })
+        → IsNewPlacing (layout_format t.layout hash.hash) P (record { key = k; value = v }) r t'.entries.now t'.control.now
+    pub change : IsAddition (layout_format t.layout hash.hash) t.entries.now t.control.now (record { key = k; value = v }) r t'.entries.now t'.control.now
+    pub layout : t'.layout ≡ t.layout
+    pub loans : sized_loans t' ≡ sized_loans t

@@ -1,0 +1,137 @@
+//! New tables and inserts in bytes that can be written.
+
+use super::{DynError, DynTable, Layout, ShortBytes};
+use crate::config::{Hash, HashFn};
+use crate::opened::Opened;
+use crate::proved::base::bytes::{Borrowed, BorrowedMut};
+use crate::proved::tables::dynamic;
+use crate::sizes::percent;
+use std::borrow::{Borrow, BorrowMut};
+use std::marker::PhantomData;
+
+impl Layout {
+    /// The length in bytes of a new table of these lengths for so many items, to be given to
+    /// [`DynTable::init_in_place`]. The load factor is in percent of the slots. `None` where no table is large enough.
+    ///
+    /// ```
+    /// use odht::{bytes_needed, configs::U64ToU32, dynamic::Layout};
+    ///
+    /// assert_eq!(Layout { key_len: 8, value_len: 4 }.bytes_needed(3, 95), Some(256));
+    /// assert_eq!(bytes_needed::<U64ToU32>(3, 95), 256);
+    /// ```
+    ///
+    /// # Panics
+    ///
+    /// Where the percentage is not from 1 to 100.
+    #[track_caller]
+    #[must_use]
+    pub fn bytes_needed(self, max_item_count: usize, max_load_factor_percent: u8) -> Option<usize> {
+        let percent = percent(max_load_factor_percent);
+        // The hash function does not matter.
+        dynamic::DynTable::<Hash<crate::FxHashFn>, Borrowed<'_>>::bytes_needed(
+            self.proved(),
+            max_item_count,
+            percent,
+        )
+    }
+}
+
+impl<H: HashFn, D: Borrow<[u8]> + BorrowMut<[u8]>> DynTable<H, D> {
+    /// Makes an empty table of these lengths for so many items in `data`, whatever its bytes were. Its length is
+    /// [`Layout::bytes_needed`], and the load factor is in percent of the slots.
+    ///
+    /// ```
+    /// use odht::dynamic::{DynError, DynTable, Layout};
+    /// use odht::{Error, FxHashFn};
+    ///
+    /// let layout = Layout { key_len: 3, value_len: 1 };
+    /// let len = layout.bytes_needed(100, 87).ok_or(DynError::Rejected(Error::Capacity))?;
+    /// let mut table = DynTable::<FxHashFn, _>::init_in_place(layout, vec![0; len], 100, 87)?;
+    /// table.insert(b"one", &[1])?;
+    /// table.insert(b"two", &[2])?;
+    /// assert_eq!(table.get(b"two"), Some(&[2][..]));
+    /// let stored: Vec<u8> = table.into_data();
+    /// # assert_eq!(stored.len(), len);
+    /// # Ok::<(), DynError>(())
+    /// ```
+    ///
+    /// # Errors
+    ///
+    /// `KeyTooShort` where the hash function needs longer keys; then `Rejected` with [`Error::Capacity`] where no table
+    /// is large enough, else with [`Error::InitLength`] where `data` has another length.
+    ///
+    /// # Panics
+    ///
+    /// Where the percentage is not from 1 to 100.
+    ///
+    /// [`Error::Capacity`]: crate::Error::Capacity
+    /// [`Error::InitLength`]: crate::Error::InitLength
+    #[track_caller]
+    pub fn init_in_place(
+        layout: Layout,
+        mut data: D,
+        max_item_count: usize,
+        max_load_factor_percent: u8,
+    ) -> Result<Self, DynError> {
+        let percent = percent(max_load_factor_percent);
+        let bytes = data.borrow_mut();
+        dynamic::DynTable::<Hash<H>, _>::init_store(
+            layout.proved(),
+            &mut BorrowedMut::new(&mut *bytes),
+            max_item_count,
+            percent,
+        )?;
+        let opened = Opened::of(bytes);
+        Ok(DynTable { data, layout, opened, hash: PhantomData })
+    }
+
+    // The proved table of the bytes, to be written.
+    #[inline(always)]
+    fn view_mut(&mut self) -> dynamic::DynTable<Hash<H>, BorrowedMut<'_>> {
+        let layout = self.layout.proved();
+        let bytes = self.data.borrow_mut();
+        self.opened.check(bytes);
+        dynamic::DynTable::open_unchecked(layout, BorrowedMut::new(bytes))
+    }
+
+    /// Gives the key this value, and returns its former one. The table cannot grow: a new key needs a free slot below
+    /// the maximum.
+    ///
+    /// The key is hashed once, and each group of control bytes is read at most once. No memory is allocated.
+    ///
+    /// ```
+    /// use odht::dynamic::{DynError, DynTable, Layout};
+    /// use odht::{Error, FxHashFn};
+    ///
+    /// let layout = Layout { key_len: 3, value_len: 1 };
+    /// let mut bytes = [0; 128];
+    /// let mut table = DynTable::<FxHashFn, _>::init_in_place(layout, &mut bytes[..], 13, 87)?;
+    /// assert_eq!(table.insert(b"one", &[1])?, None);
+    /// assert_eq!(table.insert(b"one", &[7])?.as_deref(), Some(&[1][..]));
+    ///
+    /// let error = table.insert(b"three", &[3]).unwrap_err();
+    /// assert_eq!(error, DynError::WrongKeyLength { expected: 3, found: 5 });
+    /// let error = table.insert(b"two", &[2, 0]).unwrap_err();
+    /// assert_eq!(error, DynError::WrongValueLength { expected: 1, found: 2 });
+    ///
+    /// for n in 1..13 {
+    ///     table.insert(&[n; 3], &[n])?;
+    /// }
+    /// assert_eq!(table.insert(&[13; 3], &[13]), Err(DynError::Rejected(Error::Full)));
+    /// assert_eq!(table.insert(b"one", &[1])?.as_deref(), Some(&[7][..]));
+    /// # Ok::<(), DynError>(())
+    /// ```
+    ///
+    /// # Errors
+    ///
+    /// `WrongKeyLength` where the key has another length than the keys of the table; `WrongValueLength` where the value
+    /// has another one than its values; then `Rejected` with [`Error::Full`] where the table is at its maximum and the
+    /// key is new, and of bytes that are not those of a table also where no slot is free. Nothing has changed then.
+    ///
+    /// [`Error::Full`]: crate::Error::Full
+    #[inline]
+    pub fn insert(&mut self, key: &[u8], value: &[u8]) -> Result<Option<ShortBytes>, DynError> {
+        let former = self.view_mut().insert(key, value)?;
+        Ok(former.map(ShortBytes))
+    }
+}

@@ -1,0 +1,79 @@
+// Made by `make rust` of crates/odht/src/dynamic/growth.rt.
+//! Growth of a table whose lengths are known at run time alone, into larger bytes.
+
+use super::DynTable;
+use crate::proved::tables::bytes::ByteStore;
+use crate::proved::tables::hash::HashFn;
+use crate::proved::tables::layout::Layout;
+use crate::proved::tables::load::Factor;
+use crate::proved::tables::memory_layout::{init_sized, Header, HEADER_SIZE};
+use crate::proved::tables::raw_table::{SizedIter, SizedTableMut};
+
+impl<H: HashFn, D: ByteStore> DynTable<H, D> {
+    /// The length in bytes of the table that this one grows into, as
+    /// [`HashTable::grown_len`](crate::proved::tables::hash_table::HashTable::grown_len) is.
+    pub fn grown_len(&self) -> Option<usize> {
+        match grown_layout::<H>(self.layout(), &Header::of(self.raw_bytes())) {
+            Some((_, len)) => Some(len),
+            None => None,
+        }
+    }
+
+    /// Writes the table that this one grows into to `out`, whatever its bytes were, as
+    /// [`HashTable::grow_into`](crate::proved::tables::hash_table::HashTable::grow_into) does. `out` has [`DynTable::grown_len`] bytes.
+    pub fn grow_into(&self, out: &mut [u8]) {
+        let layout = self.layout();
+        let header = Header::of(self.raw_bytes());
+        let Some((slot_count, _)) = grown_layout::<H>(layout, &header) else {
+            // `out` has the length of the grown table.
+            unreachable!()
+        };
+        let item_count = header.item_count();
+        let factor = header.max_load_factor();
+        write_table::<H>(out, layout, slot_count, item_count, factor, self.iter());
+    }
+}
+
+// The slot count and the length in bytes of the table that the one with this header grows into. None exactly where no
+// slot count is enough, or the length passes `usize`.
+fn grown_layout<H: HashFn>(layout: Layout, header: &Header<'_>) -> Option<(usize, usize)> {
+    let factor = header.max_load_factor();
+    let Some(twice) = header.item_count().checked_mul(2) else {
+        return None;
+    };
+    if factor.0 == 0 {
+        return None;
+    }
+    layout.table_for(twice.max(1), factor)
+}
+
+// Writes the table of so many slots with the pairs of the walk. The new header gets `item_count`, whatever the walk
+// gives.
+fn write_table<H: HashFn>(
+    bytes: &mut [u8],
+    layout: Layout,
+    slot_count: usize,
+    item_count: usize,
+    max_load_factor: Factor,
+    walk: SizedIter<'_, H>,
+) {
+    init_sized(bytes, layout, slot_count, item_count, max_load_factor);
+    let (table, control) = bytes.split_at_mut(layout.entry_at(slot_count));
+    let (_header, entries) = table.split_at_mut(HEADER_SIZE);
+    place_walk::<H>(control, entries, layout, walk);
+}
+
+// Places the pairs of a walk in turn into the parts of a table, each as long as a slot is free. The clause is for keys
+// that are pairwise distinct and new to the table, as on valid bytes; other walks are taken too.
+fn place_walk<H: HashFn>(
+    control: &mut [u8],
+    entries: &mut [u8],
+    layout: Layout,
+    walk: SizedIter<'_, H>,
+) {
+    let mut table: SizedTableMut<'_, '_, H> = SizedTableMut::new(control, entries, layout);
+    for (key, value) in walk {
+        // There is room for each item of a valid table.
+        let _ = table.place(key, value);
+    }
+}

@@ -1,0 +1,49 @@
+// Made by `make rust` of crates/odht/src/dynamic/inserts.rt.
+//! Inserts into a table whose lengths are known at run time alone.
+
+use super::{DynError, DynTable};
+use crate::proved::tables::bytes::ByteStoreMut;
+use crate::proved::tables::error::Error;
+use crate::proved::tables::hash::HashFn;
+use crate::proved::tables::layout::Layout;
+use crate::proved::tables::memory_layout::insert_sized;
+use crate::proved::tables::raw_table::ShortBytes;
+
+impl<H: HashFn, D: ByteStoreMut> DynTable<H, D> {
+    /// Gives the key this value, and returns its former one: on valid bytes that of its last insert. No memory is
+    /// allocated.
+    ///
+    /// The first error: `WrongKeyLength` where the key has another length than the table's keys; `WrongValueLength`
+    /// where the value has another one than its values; then `Rejected` with `Full`, as
+    /// [`HashTable::insert`](crate::proved::tables::hash_table::HashTable::insert) returns it: on valid bytes exactly where the table has
+    /// its maximum of items and the key is not among them. On an error nothing changes. On bytes that are not valid no
+    /// more changes than that call changes.
+    ///
+    /// The key is hashed once. [`DynTable::get_counted`] says how many groups the search reads.
+    pub fn insert(&mut self, key: &[u8], value: &[u8]) -> Result<Option<ShortBytes>, DynError> {
+        let layout = self.layout;
+        if key.len() != layout.key_len as usize {
+            return Err(DynError::WrongKeyLength { expected: layout.key_len, found: key.len() });
+        }
+        if value.len() != layout.value_len as usize {
+            return Err(DynError::WrongValueLength {
+                expected: layout.value_len,
+                found: value.len(),
+            });
+        }
+        match insert_store::<H, D>(&mut self.store, layout, key, value) {
+            Ok(former) => Ok(former),
+            Err(refused) => Err(DynError::Rejected(refused)),
+        }
+    }
+}
+
+// `insert` on the store itself, of a key and a value of the table's lengths.
+fn insert_store<H: HashFn, D: ByteStoreMut>(
+    store: &mut D,
+    layout: Layout,
+    key: &[u8],
+    value: &[u8],
+) -> Result<Option<ShortBytes>, Error> {
+    insert_sized::<H>(store.bytes_mut(), layout, key, value)
+}
