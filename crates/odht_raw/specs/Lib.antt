@@ -52,3 +52,5 @@ pub mod Frontiers
 pub mod Expected
 -- the parts of a table whose lengths of keys and values are numbers
 pub mod Sized
+-- the passes in which an order of inserts takes the slots, as they are found by walks
+pub mod Passes
