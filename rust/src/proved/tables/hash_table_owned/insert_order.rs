@@ -20,9 +20,9 @@ impl<C: Config> HashTableOwned<C> {
         self.table.as_raw().insert_order(out)
     }
 
-    /// `insert_order` in linear time, where it has `scratch` to write to: its answer, and the same order. Of the numbers
-    /// in `scratch` none is read before it is written, and `insert_order_scratch` says how many it takes. With fewer
-    /// this is `insert_order`, in the time that that takes.
+    /// `insert_order` in linear time, where it has `scratch` to write to: it returns the same, with the same order in
+    /// `out`. `scratch` has as many numbers as `insert_order_scratch` says or more, of any values; with fewer this is
+    /// `insert_order`, in the time that that takes.
     ///
     /// It takes no memory. Each home's probe order is walked through once, up to the last slot whose key has this home,
     /// so that the time is in proportion to the groups that the longest search of each home reads, and to the slots.
