@@ -258,8 +258,8 @@ impl<C: Config> HashTableOwned<C> {
         self.0.insert_order(out)
     }
 
-    /// [`insert_order`](HashTableOwned::insert_order) in linear time, where it has `scratch` to write to: it returns the
-    /// same, with the same order in `out`. `scratch` has as many numbers as
+    /// [`insert_order`](HashTableOwned::insert_order) in linear time, where it has `scratch` to write to: it returns
+    /// the same, with the same order in `out`. `scratch` has as many numbers as
     /// [`insert_order_scratch`](HashTableOwned::insert_order_scratch) says or more, of any values; with fewer this is
     /// `insert_order`, in the time that that takes. It takes no memory.
     ///
