@@ -257,4 +257,39 @@ impl<C: Config> HashTableOwned<C> {
         assert_eq!(there, self.len(), "the item count is that of the occupied slots");
         self.0.insert_order(out)
     }
+
+    /// [`insert_order`](HashTableOwned::insert_order) in linear time, where it has `scratch` to write to: it returns
+    /// the same, with the same order in `out`. `scratch` has as many numbers as
+    /// [`insert_order_scratch`](HashTableOwned::insert_order_scratch) says or more, of any values; with fewer this is
+    /// `insert_order`, in the time that that takes. It takes no memory.
+    ///
+    /// The time is in proportion to the slots, and to the groups that the longest search from each home reads; so it is
+    /// for a file of a stranger.
+    ///
+    /// ```
+    /// # use odht::{configs::U64ToU32, HashTableOwned};
+    /// # let mut table = HashTableOwned::<U64ToU32>::with_capacity(3, 95);
+    /// table.insert_all(&[(1, 2), (3, 4), (5, 6)]);
+    /// let mut slots = vec![0; table.len()];
+    /// let mut scratch = vec![0; table.insert_order_scratch()];
+    /// assert!(table.insert_order_with(&mut slots, &mut scratch));
+    /// ```
+    ///
+    /// # Panics
+    ///
+    /// As `insert_order` does.
+    #[track_caller]
+    #[must_use]
+    pub fn insert_order_with(&self, out: &mut [usize], scratch: &mut [usize]) -> bool {
+        assert_eq!(out.len(), self.len(), "`out` has a number for each item");
+        let there = occupied::<C>(self.raw_bytes());
+        assert_eq!(there, self.len(), "the item count is that of the occupied slots");
+        self.0.insert_order_with(out, scratch)
+    }
+
+    /// How many numbers of scratch [`insert_order_with`](HashTableOwned::insert_order_with) takes: three for each slot.
+    #[must_use]
+    pub fn insert_order_scratch(&self) -> usize {
+        self.0.insert_order_scratch()
+    }
 }

@@ -45,6 +45,8 @@ fn slices_are_as_long_as_they_have_to_be() {
         assert!(words(|| view.get_all(&[1, 3], &mut values)).contains("a value for each key"));
         let mut order = vec![0; length];
         assert!(words(|| table.insert_order(&mut order)).contains("a number for each item"));
+        let end = words(|| table.insert_order_with(&mut order, &mut [0; 48]));
+        assert!(end.contains("a number for each item"));
     }
     let length = view.grown_len().unwrap();
     for length in [0, length - 1, length + 1, 2 * length] {

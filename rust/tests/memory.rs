@@ -190,8 +190,10 @@ fn the_other_calls_take_no_memory() {
     let last = table.iter().last().unwrap().1;
     let (given_up, counted, mut emptied) = (full(), full(), full());
     let mut place = vec![0; bytes_needed::<U64ToU32>(20, 87)];
+    let mut scratch = vec![0; table.insert_order_scratch()];
     let (_, made) = granting(0, || {
         assert!(table.insert_order(&mut order) && table.contains_key(&3));
+        assert!(table.insert_order_with(&mut order, &mut scratch));
         assert_eq!((table.get(&3), table.get_counted(&99).0), (Some(21), None));
         table.get_all(&[1, 2, 99], &mut values);
         assert_eq!((table.iter().count(), table.iter_from(0).count(), table.len()), (13, 13, 13));

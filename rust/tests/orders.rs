@@ -1,11 +1,13 @@
 //! The order of inserts that is found, and what is left in the list where there is none, beside the search as it was
-//! written first: each earlier slot of a probe order by a binary search, and the whole list sorted after each pass.
+//! written first: each earlier slot of a probe order by a binary search, and the whole list sorted after each pass. The
+//! search in linear time finds the same order.
 
 mod common;
 
 use common::random::Random;
 use common::reading::{Format, Hash, Reading};
-use odht::{configs::U64ToU32, HashTableOwned};
+use odht::configs::{DirectU32ToU32, U64ToU32};
+use odht::HashTableOwned;
 
 type Table = HashTableOwned<U64ToU32>;
 
@@ -56,7 +58,27 @@ fn is_made(table: &Table) -> bool {
     let is_found = table.insert_order(&mut found);
     assert_eq!(is_found, first_order(Reading::new(FORMAT, table.raw_bytes()), &mut expected));
     assert_eq!(found, expected);
+    if is_found {
+        same_in_linear_time(table, &found);
+    } else {
+        assert!(!with_scratch(table, &mut expected, table.insert_order_scratch()));
+    }
     is_found
+}
+
+// The answer with so much scratch, of numbers that mean nothing.
+fn with_scratch(table: &Table, out: &mut [usize], numbers: usize) -> bool {
+    table.insert_order_with(out, &mut vec![0x5a5a; numbers])
+}
+
+// With as much scratch as it takes, with more and with less the order is the same.
+fn same_in_linear_time(table: &Table, found: &[usize]) {
+    let numbers = table.insert_order_scratch();
+    for numbers in [numbers, numbers + 3, numbers - 1] {
+        let mut order = vec![usize::MAX; found.len()];
+        assert!(with_scratch(table, &mut order, numbers));
+        assert_eq!(order, found);
+    }
 }
 
 // As many keys, of as many homes as the shift and the count of first keys leave.
@@ -110,6 +132,32 @@ fn keys_of_few_homes() {
     }
     for firsts in [60, 64, 70, 200, 400] {
         assert!(is_made(&table(&mut random, 1900, firsts, 12)));
+    }
+}
+
+// Keys of these homes in turn, in a table of so many slots. The hash of such a key is the key.
+fn keys_of(homes: &[u32], slots: u32, items: usize) -> HashTableOwned<DirectU32ToU32> {
+    let mut table = HashTableOwned::with_capacity(slots as usize - 1, 100);
+    for (number, home) in (0..items as u32).zip(homes.iter().cycle()) {
+        table.insert(&(home + number * slots), &number);
+    }
+    table
+}
+
+// One home, two that alternate, neighbours, and multiples of 16 and of 4096.
+#[test]
+fn homes_that_are_alike() {
+    for slots in [16, 256, 4096, 32768] {
+        let steps = |step: u32| (0..64).map(|it| it * step % slots).collect::<Vec<_>>();
+        let alternating = [3, 3 + slots / 2];
+        for homes in [&[5][..], &[slots - 1], &alternating, &[3, 4], &steps(16), &steps(4096)] {
+            let table = keys_of(homes, slots, slots as usize / 8 * 7);
+            let (mut found, mut order) = (vec![0; table.len()], vec![0; table.len()]);
+            assert!(table.insert_order(&mut found));
+            let mut scratch = vec![7; table.insert_order_scratch()];
+            assert!(table.insert_order_with(&mut order, &mut scratch));
+            assert_eq!(order, found);
+        }
     }
 }
 

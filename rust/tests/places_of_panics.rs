@@ -51,6 +51,7 @@ fn panics_are_told_where_the_caller_is() {
         view.grow_into(&mut []);
         table.get_all(&[1], &mut []);
         table.insert_order(&mut []);
+        table.insert_order_with(&mut [], &mut []);
         table.reserve(usize::MAX);
         UnHashFn::hash(&[1, 2, 3]);
         unsafe { View::from_raw_bytes_unchecked(&bytes[1..]) };

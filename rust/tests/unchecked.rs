@@ -92,6 +92,9 @@ fn owned<const K: usize, const V: usize, H: Named>(bytes: &[u8], random: &mut Ra
     // Where the header states more items than there are, the order has no room to be written.
     let end = outcome(|| table.insert_order(&mut vec![1 << 40; table.len()]));
     assert!(!end.is_err_and(|words| words.contains("overflow") || words.contains("bounds")));
+    let scratch = &mut vec![1 << 40; table.insert_order_scratch()];
+    let end = outcome(|| table.insert_order_with(&mut vec![1 << 40; table.len()], scratch));
+    assert!(!end.is_err_and(|words| words.contains("overflow") || words.contains("bounds")));
     let _ = outcome(|| table.try_insert_all(&items));
     for (key, value) in &items {
         let _ = outcome(|| table.try_insert(key, value));

@@ -92,6 +92,7 @@ fn reads(owned: &HashTableOwned<Fickle>, random: &mut Random) {
     run(|| owned.iter_from(random.below(slots)).count());
     let mut order = vec![0; owned.len()];
     run(|| owned.insert_order(&mut order));
+    run(|| owned.insert_order_with(&mut order, &mut vec![0; owned.insert_order_scratch()]));
     run(|| (format!("{owned:?}").len(), owned.clone().len()));
     run(|| (*owned == owned.clone(), owned.has_same_bytes(owned)));
     let view = run(|| HashTable::<Fickle, _>::try_from_raw_bytes(owned.raw_bytes()));

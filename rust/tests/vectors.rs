@@ -26,9 +26,14 @@ fn order<const K: usize, const V: usize, H: HashFn>(case: &Case<'_>, is_rising: 
         Err(error) => return Answer::word(error),
     };
     let mut order = vec![0; table.len()];
-    if !table.insert_order(&mut order) {
+    let mut other = vec![0; table.len()];
+    let is_found = table.insert_order(&mut order);
+    let scratch = &mut vec![0; table.insert_order_scratch()];
+    assert_eq!(table.insert_order_with(&mut other, scratch), is_found);
+    if !is_found {
         return Answer::word("false");
     }
+    assert_eq!(other, order);
     if is_rising {
         order.sort_unstable();
     }

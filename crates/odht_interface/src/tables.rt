@@ -129,6 +129,11 @@ fn orders_of_inserts(rt: HostRuntime) {
     let out: &mut [usize] = &mut order;
     let is_made: bool = table.insert_order(out);
     same(&rt, "insert_order", is_made, true);
+    let numbers: usize = table.insert_order_scratch();
+    let mut scratch = vec![in rt.alloc(); 0_usize; numbers].expect(&rt, "memory");
+    let out: &mut [usize] = &mut order;
+    let is_made: bool = table.insert_order_with(out, scratch.as_mut_slice());
+    same(&rt, "insert_order_with", is_made, true);
 }
 
 // What a view returns of the keys 3, 5 and 7.

@@ -29,3 +29,5 @@ pub mod PartsFrames
 pub mod WalkedSlots
 -- slots that wait while an order of inserts is looked for
 pub mod WaitingSlots
+-- the passes in which an order takes slots
+pub mod PassesOfSlots

@@ -103,3 +103,9 @@ pub mod OneInsert
 pub mod Expected
 -- runs of items in turn
 pub mod RunsInTurn
+-- slots by their passes, and walks
+pub mod Passes
+-- the slot at a position of a probe order, in 64 bits
+pub mod ProbedSlots
+-- and what passes say of a table
+pub mod PassOrders

@@ -54,3 +54,5 @@ pub mod Expected
 pub mod Sized
 -- such parts that are borrowed to be written
 pub mod SizedMut
+-- the passes in which an order of inserts takes the slots, as they are found by walks
+pub mod Passes

@@ -67,8 +67,9 @@ pub const NUMBERS: [&str; 6] = ["u8", "u16", "u32", "u64", "u128", "usize"];
 /// Methods of std that are the same. Those of `u8x16` are the shim's.
 pub const SAME_METHODS: &str = "all as_mut_slice as_slice checked_add checked_mul copy_from_slice div_ceil fill \
     first_chunk first_chunk_mut get is_none is_ok is_power_of_two is_some iter last_chunk len max min next \
-    next_power_of_two partition_point push rotate_left saturating_add saturating_sub simd_eq simd_ge sort_unstable \
-    split_at split_at_mut split_first_chunk to_bitmask to_le_bytes trailing_zeros unwrap_or wrapping_mul wrapping_sub";
+    next_power_of_two partition_point push rotate_left saturating_add saturating_mul saturating_sub simd_eq simd_ge \
+    sort_unstable split_at split_at_mut split_first_chunk to_bitmask to_le_bytes trailing_zeros unwrap_or wrapping_add \
+    wrapping_mul wrapping_sub";
 
 /// The same, which programs alone call. Those of the system, its files and its clock are the host's.
 pub const METHODS_OF_PROGRAMS: &str =

@@ -1,6 +1,7 @@
 //! An order of inserts that makes a table.
 ghost use Rattle.odht.specs.Tables.{InTable};
-ghost use Rattle.std.specs.Prelude.{◌≡◌, ◌↔◌, length, IsTrue};
+ghost use Rattle.std.specs.Prelude.{◌≡◌, ◌↔◌, ◌*◌, ◌-◌, ◌^◌, length, min, IsTrue};
+ghost use Rattle.odht_base.specs.Decoded.{header_slots};
 ghost use Rattle.odht_base.specs.Made.{IsMade, IsInsertOrder};
 ghost use Rattle.odht_base.specs.Table.{count};
 
@@ -27,5 +28,28 @@ impl<C: Config> HashTableOwned<C> {
             (λ c P. IsTrue result ↔ IsMade c.format P) }
     {
         self.table.as_raw().insert_order(out)
+    }
+
+    /// `insert_order` in linear time, where it has `scratch` to write to: it returns the same, with the same order in
+    /// `out`. `scratch` has as many numbers as `insert_order_scratch` says or more, of any values; with fewer this is
+    /// `insert_order`, in the time that that takes.
+    ///
+    /// It takes no memory. Each home's probe order is walked through once, up to the last slot whose key has this home,
+    /// so that the time is in proportion to the groups that the longest search of each home reads, and to the slots.
+    pub fn insert_order_with(&self, out: &mut [usize], scratch: &mut [usize]) -> bool
+        requires { InTable ⟦<C as Coded>⟧.coding self.now (λ _ P. length out.old ≡ count P) }
+        ensures order { InTable ⟦<C as Coded>⟧.coding self.now
+            (λ c P. IsTrue result → IsInsertOrder c.format P out.new) }
+        ensures made { InTable ⟦<C as Coded>⟧.coding self.now
+            (λ c P. IsTrue result ↔ IsMade c.format P) }
+    {
+        self.table.as_raw().insert_order_with(out, scratch)
+    }
+
+    /// How many numbers of scratch `insert_order_with` takes for this table: three for each slot.
+    pub fn insert_order_scratch(&self) -> usize
+        ensures { result ≡ min (3 * header_slots self.now) (2 ^ 64 - 1) }
+    {
+        self.table.as_raw().insert_order_scratch()
     }
 }

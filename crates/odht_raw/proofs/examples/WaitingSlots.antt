@@ -151,7 +151,7 @@ pending_refused = (
 
 -- ---- parts
 -- the parts of the table
-abbrev parts : TableParts
+abbrev pub parts : TableParts
 parts = record { control = controls direct_config fifteen_first.cells; entries = record { slots = 16; bytes = entries direct_config fifteen_first.cells } }
 
 -- it is valid

@@ -167,7 +167,7 @@ impl<'a, K: ByteArray, V: ByteArray, H: HashFn> RawTable<'a, K, V, H> {
 
     // The home of the key in a slot.
     #[inline(always)]
-    fn home_of(&self, slot: usize) -> usize
+    pub(super) fn home_of(&self, slot: usize) -> usize
         requires { slot < self.now.entries.slots }
         ensures { let F = format_of K.LEN V.LEN H.hash
             in result

@@ -84,6 +84,20 @@ fn check_slots(rt: &impl Abort, alloc: Global, bytes: Bytes<'_>, order: &[usize]
     );
 }
 
+// Asserts that the search in linear time finds the order too.
+fn check_linear_order<C: Config>(
+    rt: &impl Abort,
+    alloc: Global,
+    table: &HashTableOwned<C>,
+    order: &[usize],
+) {
+    let mut other = vec![in alloc; 0; table.len()].expect(rt, "memory");
+    let mut scratch = vec![in alloc; 7; table.insert_order_scratch()].expect(rt, "memory");
+    let is_found = table.insert_order_with(other.as_mut_slice(), scratch.as_mut_slice());
+    same(rt, "an order in linear time", is_found, true);
+    same(rt, "the same order", other.as_slice(), order);
+}
+
 /// Asserts that an order of inserts is found of a table that was made for so many items at 87 percent, that it lists
 /// each occupied slot once, and that inserts in this order into a new table for as many leave its bytes.
 pub fn check_insert_order<C: Config>(
@@ -95,6 +109,7 @@ pub fn check_insert_order<C: Config>(
     let mut order = vec![in alloc; 0; table.len()].expect(rt, "memory");
     let is_found = table.insert_order(order.as_mut_slice());
     same(rt, "an order is found", is_found, true);
+    check_linear_order(rt, alloc, table, order.as_slice());
     let bytes = Bytes(table.raw_bytes());
     check_slots(rt, alloc, bytes, order.as_slice());
     let items = items_of::<C>(rt, alloc, bytes, order.as_slice());

@@ -73,7 +73,23 @@ fn insert_order<C: Config>(
 ) -> Result<(), Fault> {
     let mut order = vec![in case.words.alloc; 0; table.len()]?;
     let is_found = table.insert_order(order.as_mut_slice());
+    if !is_same_in_linear_time(case, table, order.as_slice(), is_found)? {
+        return answer.word(&"another order in linear time");
+    }
     tell_order(case.call, is_found, order.as_mut_slice(), answer)
+}
+
+// Whether the search in linear time has the same answer, and the same order.
+fn is_same_in_linear_time<C: Config>(
+    case: &Case<'_>,
+    table: &HashTableOwned<C>,
+    order: &[usize],
+    is_found: bool,
+) -> Result<bool, Fault> {
+    let mut other = vec![in case.words.alloc; 0; table.len()]?;
+    let mut scratch = vec![in case.words.alloc; 0; table.insert_order_scratch()]?;
+    let is_other = table.insert_order_with(other.as_mut_slice(), scratch.as_mut_slice());
+    Ok(is_other == is_found && (!is_found || other.as_slice() == order))
 }
 
 fn tell_order(

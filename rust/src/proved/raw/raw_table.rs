@@ -22,6 +22,7 @@ mod group_probe;
 mod group_search;
 mod insert;
 mod insert_order;
+mod linear_order;
 mod plain;
 mod probe_seq;
 mod runs;

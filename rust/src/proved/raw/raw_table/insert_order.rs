@@ -117,7 +117,7 @@ impl<'a, K: ByteArray, V: ByteArray, H: HashFn> RawTable<'a, K, V, H> {
 
     // The home of the key in a slot.
     #[inline(always)]
-    fn home_of(&self, slot: usize) -> usize {
+    pub(super) fn home_of(&self, slot: usize) -> usize {
         // Hashed as a slice of the entries, long keys take more instructions.
         let key = K::from_slice(self.entries.key_bytes_of(slot));
         H::hash(key.as_slice()) as usize & (self.entries.len() - 1)

@@ -19,4 +19,19 @@ impl<C: Config> HashTableOwned<C> {
     pub fn insert_order(&self, out: &mut [usize]) -> bool {
         self.table.as_raw().insert_order(out)
     }
+
+    /// `insert_order` in linear time, where it has `scratch` to write to: it returns the same, with the same order in
+    /// `out`. `scratch` has as many numbers as `insert_order_scratch` says or more, of any values; with fewer this is
+    /// `insert_order`, in the time that that takes.
+    ///
+    /// It takes no memory. Each home's probe order is walked through once, up to the last slot whose key has this home,
+    /// so that the time is in proportion to the groups that the longest search of each home reads, and to the slots.
+    pub fn insert_order_with(&self, out: &mut [usize], scratch: &mut [usize]) -> bool {
+        self.table.as_raw().insert_order_with(out, scratch)
+    }
+
+    /// How many numbers of scratch `insert_order_with` takes for this table: three for each slot.
+    pub fn insert_order_scratch(&self) -> usize {
+        self.table.as_raw().insert_order_scratch()
+    }
 }
