@@ -27,7 +27,9 @@ class Command:
 
     def __init__(self, listed):
         self.name, self.summary, self.usage = listed.name, listed.summary, listed.usage
-        self.text = [line[len(command_list.INDENT):] for line in listed.text]
+        text = "\n".join(line[len(command_list.INDENT):] for line in listed.text)
+        # a line that begins with spaces goes on with what the line before it says
+        self.text = re.sub(r"\n +", " ", text).split("\n")
         self.options = [it.name for it in listed.options]
 
     def paragraph(self):

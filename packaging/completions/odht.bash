@@ -22,12 +22,12 @@ _odht() {
         info:-*) COMPREPLY=($(compgen -W '--help --whole --at' -- "$word"));;
         check:-*) COMPREPLY=($(compgen -W '--help --whole --hash --at' -- "$word"));;
         count:-*) COMPREPLY=($(compgen -W '--help --whole --hash --at' -- "$word"));;
-        get:-*) COMPREPLY=($(compgen -W '--help --hash --at' -- "$word"));;
-        dump:-*) COMPREPLY=($(compgen -W '--help --slots --hash --at' -- "$word"));;
-        keys:-*) COMPREPLY=($(compgen -W '--help --hash --at' -- "$word"));;
+        get:-*) COMPREPLY=($(compgen -W '--help --key --value --hash --at' -- "$word"));;
+        dump:-*) COMPREPLY=($(compgen -W '--help --slots --key --value --hash --at' -- "$word"));;
+        keys:-*) COMPREPLY=($(compgen -W '--help --key --hash --at' -- "$word"));;
         find:-*) COMPREPLY=($(compgen -W '--help --whole' -- "$word"));;
         build:-*) COMPREPLY=($(compgen -W '--help --key --value --hash --percent --capacity --progress --break-links' -- "$word"));;
-        put:-*) COMPREPLY=($(compgen -W '--help --whole --hash --progress --break-links' -- "$word"));;
+        put:-*) COMPREPLY=($(compgen -W '--help --key --value --whole --hash --progress --break-links' -- "$word"));;
         *) mapfile -t COMPREPLY < <(compgen -f -- "$word");;
     esac
 }

@@ -83,8 +83,8 @@ class Command:
 
     @property
     def is_making(self):
-        """Whether it makes its file: then the shape is given."""
-        return self.has("--key")
+        """Whether it makes its file: then the shape has to be given."""
+        return "--key SHAPE" in self.written
 
     def has(self, option):
         return any(it.name == option for it in self.options)

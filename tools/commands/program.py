@@ -15,12 +15,14 @@ SUMMARY_COLUMN = 21
 # what a word or an option of a command that reads its file alone becomes: a field, its type, and its value
 FIELDS = {
     "--hash": ("hash", "Option<Hash>", "hash"),
+    "--key": ("kinds", "Kinds", "kinds"),
     "--whole": ("bound", "Option<usize>", "bound"),
     "KEY..": ("keys", "Keys", "keys"),
     "--slots": ("is_slots", "bool", "is_slots: self.is_slots"),
 }
-# these become none: where there is --help nothing is run, and the offset is that of each such command
-NO_FIELDS = [command_list.HELP, "--at"]
+# these become none: where there is --help nothing is run, the offset is that of each such command, and what is said of
+# values stands with what is said of keys
+NO_FIELDS = [command_list.HELP, "--at", "--value"]
 
 
 def line(indent, text):

@@ -22,6 +22,7 @@ use odht::configs::U64ToU32;
 use odht::error::Error;
 use odht::load::{Factor, max_item_count_for, slots_needed};
 use odht::{HashTableOwned, Iter};
+use odht_tool_core::forms::Form;
 use odht_tool_core::places::cut_at;
 use odht_tool_core::text::{Text, write_bytes};
 use std::alloc::Global;
@@ -298,7 +299,7 @@ fn write_number_line<W: Write>(number: u64, output: &mut W) -> io::Result<()>
     ensures { OnOk result (Appends (W.contents output.old) (W.contents output.new)
         (line_of (decimal number))) }
 {
-    number.write(output)?;
+    number.write(Form::Own, output)?;
     output.write_all(b"\n")
 }
 
@@ -317,7 +318,7 @@ fn write_pair_line<W: Write>(key: u64, value: u32, output: &mut W) -> io::Result
     ensures { OnOk result (Appends (W.contents output.old) (W.contents output.new)
         (pair_line (key, value))) }
 {
-    key.write(output)?;
+    key.write(Form::Own, output)?;
     output.write_all(b" ")?;
     write_number_line(u64::from(value), output)
 }

@@ -98,6 +98,14 @@ def number(data):
     return str(int.from_bytes(data, "little"))
 
 
+def signed(data):
+    return str(int.from_bytes(data, "little", signed=True))
+
+
+def high_first(data):
+    return str(int.from_bytes(data, "big"))
+
+
 def nothing(data):
     return ""
 
@@ -152,12 +160,19 @@ def le(number, size):
     return number.to_bytes(size, "little")
 
 
+def two(number, size):
+    """The two's complement of a number."""
+    return number.to_bytes(size, "little", signed=True)
+
+
 class Case:
     """A table, and the texts that the commands have to write of it."""
 
     def __init__(self, name, words, key_size, value_size, hash, percent, capacity, pairs, key_text=number,
-                 value_text=number):
+                 value_text=number, kinds=""):
         self.name, self.words, self.table = name, words, Table(key_size, value_size, hash, percent, capacity)
+        self.kinds = f" {kinds}" if kinds else ""
+        self.key_kind = self.kinds.split(" --value")[0]
         for key, value in pairs:
             self.table.put(key, value)
         self.hash_words = " --hash unhash" if hash is unhash and key_size == 4 else ""
@@ -198,11 +213,13 @@ class Case:
             text += self.run_text("check --whole", f"check --whole {file}{hash}", "", f"{file}: valid\n")
             if hash:
                 text += self.rejected_text(fx, "fx", "unhash")
-            text += self.run_text("dump", f"dump {file}", "", self.dump)
-            text += self.run_text("keys", f"keys {file}", "", self.key_lines)
+            text += self.run_text("dump", f"dump {file}{self.kinds}", "", self.dump)
+            text += self.run_text("keys", f"keys {file}{self.key_kind}", "", self.key_lines)
             text += self.run_text("count", f"count {file}", "", f"{self.table.count()}\n")
-            text += self.run_text("dump --slots", f"dump --slots {file}", "", self.slots)
-            text += self.run_text("get all keys, in lines that end with \\r\\n", f"get {file} -", self.keys, self.dump)
+            text += self.run_text("dump --slots", f"dump --slots {file}{self.kinds}", "", self.slots)
+            text += self.run_text("get all keys, in lines that end with \\r\\n", f"get {file} -{self.kinds}", self.keys, self.dump)
+            if self.kinds:
+                text += self.run_text("put what is there", f"put {file}{self.kinds}", self.dump, "")
             text += self.run_text("build", f"build {file} {self.words}", self.pairs, "", "after")
         write_test(f"tool/tables/{self.name}.cases", text)
 
@@ -260,6 +277,17 @@ def cases():
                [(spread(k + 1, 32), le(k, 8)) for k in range(2)], bytes.hex)
     yield Case("bytes32_set", "--key hex32 --value none", 32, 0, unhash, 87, 12,
                [(spread(k + 1, 32), b"") for k in range(3)], bytes.hex, nothing)
+    # Numbers with a sign at the ends of their range and about zero, and numbers whose bytes begin with the highest.
+    ends = [-2 ** 63, -2 ** 32, -2 ** 31, -2, -1, 0, 1, 2 ** 31, 2 ** 63 - 1]
+    yield Case("i64_i32", "--key i64 --value i32", 8, 4, fx, 87, 12,
+               [(two(k, 8), two(max(-2 ** 31, min(k, 2 ** 31 - 1)), 4)) for k in ends], signed, signed,
+               "--key i64 --value i32")
+    yield Case("i32_u32be", "--key i32 --value u32be", 4, 4, fx, 87, 12,
+               [(two(k, 4), le(n, 4)) for n, k in enumerate([-2 ** 31, -1, 0, 1, 2 ** 31 - 1])], signed, high_first,
+               "--key i32 --value u32be")
+    yield Case("u64be_i64", "--key u64be --value i64", 8, 8, fx, 87, 12,
+               [(k.to_bytes(8, "big"), two(-k if k < 2 ** 63 else k - 2 ** 64, 8))
+                for k in [0, 1, 258, 2 ** 32, 2 ** 63, 2 ** 64 - 1]], high_first, signed, "--key u64be --value i64")
     # No ready shape has these sizes.
     yield Case("odd_sizes", "", 3, 5, fx, 60, 12,
                [(le(k * 77 % 2 ** 24, 3), le(k, 5)) for k in range(12)], bytes.hex, bytes.hex)

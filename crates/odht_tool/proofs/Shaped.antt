@@ -1,34 +1,41 @@
 -- What a command does, from the shape of the bytes on.
-use Rattle.std.proofs.Common.{◌≡◌, ℕ, List, Option, Ok, Err, ap, subst}
+use Rattle.std.proofs.Common.{◌≡◌, ℕ, List, Option, Ok, Err, ap, refl, subst, sym}
 use Rattle.std.specs.Prelude.{Result, MatchResult, IsErrAnd}
 use Rattle.std.specs.Io.KnownBytes.{Keeps}
 use Rattle.std.proofs.KnownBytes.{Keeps-refl}
 use Rattle.odht_tool.specs.Outcomes.{by_shape}
 use Rattle.odht_tool_core.specs.Endings.{Outcome, IsDone, IsOutputFailure}
 use Rattle.odht_tool_core.specs.declared.failure.Failure.{Failure}
-use Rattle.odht_tool_core.specs.declared.shapes.ready.Shape.{Shape}
+use Rattle.odht_tool_core.specs.declared.forms.Form.{Form}
+use Rattle.odht_tool_core.specs.declared.forms.Form.TheVariants.{Own}
+use Rattle.odht_tool_core.specs.declared.forms.GivenForms.{GivenForms}
 use Rattle.odht_tool_core.specs.declared.status.Status.{Status}
 
 -- errors of one kind of result are those of another
-same_failure : (e s : Failure) → ◌≡◌ {A = Result Shape Failure} (Err e) (Err s) → e ≡ s
+same_failure : {X : Type 0} (e s : Failure) → ◌≡◌ {A = Result X Failure} (Err e) (Err s) → e ≡ s
 same_failure e s h = cc
 
 -- with no shape there is its failure
-pub without_shape : (r : Result Shape Failure) (f : Shape → Outcome) (old : Option (List ℕ)) (e : Failure) → Err e ≡ r → IsDone (by_shape r f) old old (Err e)
+pub without_shape : {X : Type 0} (r : Result X Failure) (f : X → Outcome) (old : Option (List ℕ)) (e : Failure) → Err e ≡ r → IsDone (by_shape r f) old old (Err e)
 without_shape (Ok x) f old e h = cc
 without_shape (Err x) f old e h = (ap Err (same_failure e x h), Keeps-refl old)
 
 -- and with one what follows
-pub with_shape : (r : Result Shape Failure) (f : Shape → Outcome) (x : Shape) (old new : Option (List ℕ)) (returned : Result Status Failure) → Ok x ≡ r → IsDone (f x) old new returned → IsDone (by_shape r f) old new returned
+pub with_shape : {X : Type 0} (r : Result X Failure) (f : X → Outcome) (x : X) (old new : Option (List ℕ)) (returned : Result Status Failure) → Ok x ≡ r → IsDone (f x) old new returned → IsDone (by_shape r f) old new returned
 with_shape r f x old new returned e h = subst (λ p. IsDone (by_shape p f) old new returned) e h
 
 -- the same of what is said by cases
-pub without_shape_said : (r : Result Shape Failure) (e : Failure) (old : Option (List ℕ)) (P : Shape → Type 0) → Err e ≡ r → MatchResult r P (λ x. (◌≡◌ {A = Result Status Failure} (Err e) (Err x)) × Keeps old old)
+pub without_shape_said : {X : Type 0} (r : Result X Failure) (e : Failure) (old : Option (List ℕ)) (P : X → Type 0) → Err e ≡ r → MatchResult r P (λ x. (◌≡◌ {A = Result Status Failure} (Err e) (Err x)) × Keeps old old)
 without_shape_said (Ok x) e old P h = cc
 without_shape_said (Err x) e old P h = (ap Err (same_failure e x h), Keeps-refl old)
 
-pub with_shape_said : (r : Result Shape Failure) (x : Shape) (P : Shape → Type 0) (N : Failure → Type 0) → Ok x ≡ r → P x → MatchResult r P N
+pub with_shape_said : {X : Type 0} (r : Result X Failure) (x : X) (P : X → Type 0) (N : Failure → Type 0) → Ok x ≡ r → P x → MatchResult r P N
 with_shape_said r x P N e h = subst (λ p. MatchResult p P N) e h
+
+-- the forms that are both a shape's own
+pub own_pair : (forms : GivenForms) → forms.key ≡ Own → forms.value ≡ Own → ◌≡◌ {A = Form × Form} (forms.key, forms.value) (Own, Own)
+own_pair forms k v =
+    subst (λ f. ◌≡◌ {A = Form × Form} (f, forms.value) (Own, Own)) (sym k) (subst (λ f. ◌≡◌ {A = Form × Form} (Own, f) (Own, Own)) (sym v) refl)
 
 -- what fails by the writer ends as a text allows
 pub failed_output : (A : Status → Type 0) (r : Result Status Failure) → IsErrAnd r IsOutputFailure → MatchResult r A IsOutputFailure

@@ -13,7 +13,9 @@
 --     AreLinesAnswered c f g R p B input old new r   what is returned, r, and written once the table is opened, where the
 --                          input has these bytes, which may be known
 --     AreLinesGot c f g R p B input old new r the same of opening too
---     AreFileLinesGot B h input old new r     the same of the bytes of a file, where the hash function h, or none, is named
+--     lines_of_shape fs B input old new r s   the same of bytes of the shape s in the forms fs of keys and of values
+--     AreFileLinesGot B h ks input old new r  the same of the bytes of a file, where the hash function h, or none, is named,
+--                          and ks is said of keys and values
 -- Nothing is said of answers where the bytes of the input are not known.
 use Rattle.std.specs.Prelude.{◌≡◌, ◌≢◌, ◌⊎◌, ℕ, ◌+◌, ◌-◌, ◌*◌, ◌^◌, List, [], ◌∷◌, ◌++◌, length, take, Option, None, Some, IfSome, Result, Ok, Err, string_bytes, ⊤}
 use Rattle.std.specs.Io.KnownBytes.{Keeps}
@@ -29,6 +31,9 @@ use Rattle.odht_tool.specs.declared.commands.get.TheConstants.{BATCH}
 use Rattle.odht_tool_core.specs.declared.failure.Failure.{Failure}
 use Rattle.odht_tool_core.specs.declared.failure.Failure.TheVariants.{Refused, Input, Misread, Output, Memory}
 use Rattle.odht_tool_core.specs.declared.failure.LineFault.TheVariants.{Key}
+use Rattle.odht_tool_core.specs.declared.forms.Form.{Form}
+use Rattle.odht_tool_core.specs.declared.forms.GivenForms.{GivenForms}
+use Rattle.odht_tool_core.specs.declared.forms.Kinds.{Kinds}
 use Rattle.odht_tool_core.specs.declared.misread.Wanted.{Wanted}
 use Rattle.odht_tool_core.specs.declared.shapes.Hash.{Hash}
 use Rattle.odht_tool_core.specs.declared.shapes.ready.Shape.{Shape}
@@ -79,9 +84,13 @@ module _ {K V : Type 0} (c : Coding K V) (f : K → List ℕ) (g : V → List �
   AreLinesGot input old new r = (view_refusal c.format B ≡ None) × AreLinesAnswered input old new r
 
 -- ---- of a file
-abbrev pub lines_of_shape : List ℕ → Option (List ℕ) → Option (List ℕ) → Option (List ℕ) → Result Status Failure → Shape → Type 0
-lines_of_shape B input old new r s =
-    AreLinesGot (shape_coding s) (typed_text (key_part s)) (typed_text (value_part s)) (IsTextOf (key_part s)) (typed_wanted (key_part s)) B input old new r
+abbrev pub lines_of_shape : Form × Form → List ℕ → Option (List ℕ) → Option (List ℕ) → Option (List ℕ) → Result Status Failure → Shape → Type 0
+lines_of_shape fs B input old new r s =
+    let k = key_part s in
+    AreLinesGot (shape_coding s) (typed_text fs.0 k) (typed_text fs.1 (value_part s)) (IsTextOf fs.0 k) (typed_wanted fs.0 k) B input old new r
 
-abbrev pub AreFileLinesGot : List ℕ → Option Hash → Option (List ℕ) → Option (List ℕ) → Option (List ℕ) → Result Status Failure → Type 0
-AreFileLinesGot B h input old new r = by_shape B h old new r (lines_of_shape B input old new r)
+abbrev pub lines_of_forms : List ℕ → Option (List ℕ) → Option (List ℕ) → Option (List ℕ) → Result Status Failure → Shape × GivenForms → Type 0
+lines_of_forms B input old new r x = lines_of_shape (x.1.key, x.1.value) B input old new r x.0
+
+abbrev pub AreFileLinesGot : List ℕ → Option Hash → Kinds → Option (List ℕ) → Option (List ℕ) → Option (List ℕ) → Result Status Failure → Type 0
+AreFileLinesGot B h ks input old new r = by_shape B h ks old new r (lines_of_forms B input old new r)

@@ -1,5 +1,5 @@
 -- What `get` does with the bytes B of a file. R says which word is a text of which key.
---     IsTextOf p w x       the word w is a text of x, which is of the type p
+--     IsTextOf f p w x     the word w is a text of x, which is of the type p, in the form f
 --     AreAnswers c B ks os os are the values for the keys ks: on valid bytes those that the table's map has, and on any
 --                          bytes only values that are stored with the key
 --     found_status all     the status where all keys were found, or not all
@@ -7,7 +7,9 @@
 --     IsAnswered c f g R B ws old new status   the answers to the words ws were written, which took the writer from the
 --                          bytes old to new; f and g are the texts of keys and of values
 --     AreWordsGot c f g R p B ws old new r what `get` returns, r, and writes for the words ws, where p is wanted of keys
---     AreFileWordsGot B h ws old new r     the same of the bytes of a file, where the hash function h, or none, is named
+--     words_of_shape fs B ws old new r s   the same of bytes of the shape s in the forms fs of keys and of values
+--     AreFileWordsGot B h ks ws old new r  the same of the bytes of a file, where the hash function h, or none, is named,
+--                          and ks is said of keys and values
 use Rattle.std.specs.Prelude.{◌≡◌, Bool, ℕ, List, length, map, is_some, Option, Some, None, Result, Ok, Err, MatchResult, if◌then◌else◌}
 use Rattle.std.specs.Io.KnownBytes.{Appends, Keeps}
 use Rattle.std.specs.List.{list_all, AllZip}
@@ -16,14 +18,17 @@ use Rattle.odht_base.specs.Table.{Table}
 use Rattle.odht_base.specs.Valid.{IsImage}
 use Rattle.odht_header.specs.Coding.{Coding, value_for}
 use Rattle.odht_header.specs.Refusals.{view_refusal}
-use Rattle.odht_tool_core.specs.FoundShapes.{found_shape}
 use Rattle.odht_tool_core.specs.Keys.{IsReadAs, TellsFault}
+use Rattle.odht_tool_core.specs.ReadAs.{read_as}
 use Rattle.odht_tool_core.specs.ReadyShapes.{Typed, IsTypedWord, StandsFor, typed_text, shape_coding}
 use Rattle.odht_tool_core.specs.ShapeList.{key_part, value_part}
 use Rattle.odht_tool_core.specs.Misreads.{typed_wanted}
 use Rattle.odht_tool_core.specs.Texts.{answers_text}
 use Rattle.odht_tool_core.specs.declared.failure.Failure.{Failure}
 use Rattle.odht_tool_core.specs.declared.failure.Failure.TheVariants.{Refused, Output, Memory, Misread}
+use Rattle.odht_tool_core.specs.declared.forms.Form.{Form}
+use Rattle.odht_tool_core.specs.declared.forms.GivenForms.{GivenForms}
+use Rattle.odht_tool_core.specs.declared.forms.Kinds.{Kinds}
 use Rattle.odht_tool_core.specs.declared.misread.Wanted.{Wanted}
 use Rattle.odht_tool_core.specs.declared.shapes.Hash.{Hash}
 use Rattle.odht_tool_core.specs.declared.shapes.Part.{Part}
@@ -31,8 +36,8 @@ use Rattle.odht_tool_core.specs.declared.shapes.ready.Shape.{Shape}
 use Rattle.odht_tool_core.specs.declared.status.Status.{Status}
 use Rattle.odht_tool_core.specs.declared.status.Status.TheVariants.{Done, NotDone}
 
-abbrev pub IsTextOf : (p : Part) → List ℕ → Typed p → Type 0
-IsTextOf p = IsReadAs (IsTypedWord p) (StandsFor p)
+abbrev pub IsTextOf : Form → (p : Part) → List ℕ → Typed p → Type 0
+IsTextOf f p = IsReadAs (IsTypedWord f p) (StandsFor f p)
 
 pub record AreAnswers {K V : Type 0} (c : Coding K V) (B : List ℕ) (ks : List K) (os : List (Option V)) : Type 0 where
   pub each : length os ≡ length ks
@@ -64,13 +69,17 @@ module _ {K V : Type 0} (c : Coding K V) (f : K → List ℕ) (g : V → List �
   AreWordsGot ws old new (Err _) = ⊥
 
 -- ---- of a file
-abbrev pub words_of_shape : List ℕ → List (List ℕ) → Option (List ℕ) → Option (List ℕ) → Result Status Failure → Shape → Type 0
-words_of_shape B ws old new r s =
-    AreWordsGot (shape_coding s) (typed_text (key_part s)) (typed_text (value_part s)) (IsTextOf (key_part s)) (typed_wanted (key_part s)) B ws old new r
+abbrev pub words_of_shape : Form × Form → List ℕ → List (List ℕ) → Option (List ℕ) → Option (List ℕ) → Result Status Failure → Shape → Type 0
+words_of_shape fs B ws old new r s =
+    let k = key_part s in
+    AreWordsGot (shape_coding s) (typed_text fs.0 k) (typed_text fs.1 (value_part s)) (IsTextOf fs.0 k) (typed_wanted fs.0 k) B ws old new r
 
 -- with no shape there is its failure
-abbrev pub by_shape : List ℕ → Option Hash → Option (List ℕ) → Option (List ℕ) → Result Status Failure → (Shape → Type 0) → Type 0
-by_shape B h old new r P = MatchResult (found_shape B h) P (λ failure. (r ≡ Err failure) × Keeps old new)
+abbrev pub by_shape : List ℕ → Option Hash → Kinds → Option (List ℕ) → Option (List ℕ) → Result Status Failure → (Shape × GivenForms → Type 0) → Type 0
+by_shape B h ks old new r P = MatchResult (read_as B h ks) P (λ failure. (r ≡ Err failure) × Keeps old new)
 
-abbrev pub AreFileWordsGot : List ℕ → Option Hash → List (List ℕ) → Option (List ℕ) → Option (List ℕ) → Result Status Failure → Type 0
-AreFileWordsGot B h ws old new r = by_shape B h old new r (words_of_shape B ws old new r)
+abbrev pub words_of_forms : List ℕ → List (List ℕ) → Option (List ℕ) → Option (List ℕ) → Result Status Failure → Shape × GivenForms → Type 0
+words_of_forms B ws old new r x = words_of_shape (x.1.key, x.1.value) B ws old new r x.0
+
+abbrev pub AreFileWordsGot : List ℕ → Option Hash → Kinds → List (List ℕ) → Option (List ℕ) → Option (List ℕ) → Result Status Failure → Type 0
+AreFileWordsGot B h ks ws old new r = by_shape B h ks old new r (words_of_forms B ws old new r)

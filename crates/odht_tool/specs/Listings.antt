@@ -1,7 +1,8 @@
 -- What `keys` and `count` do with the bytes B of a file.
 --     keys_text f xs       a line of the key of each pair, where f is the text of keys
 --     listed_outcome c f B of `keys` for bytes of the coding c: the keys that the slots hold, in slot order
---     keys_outcome B h     of `keys`, where the hash function h, or none, is named
+--     keys_of_shape f B s  the same of bytes of the shape s in the form f of keys
+--     keys_outcome B h ks  of `keys`, where the hash function h, or none, is named, and ks is said of keys
 --     counted F o B        how many items the header states, where the check of the bytes as those of the format F, by the
 --                          bound o, finds no error; else the first error
 --     count_outcome label B h o    of `count`, where the label stands before the number
@@ -16,10 +17,14 @@ use Rattle.odht_tool.specs.Outcomes.{by_shape}
 use Rattle.odht_tool_core.specs.Endings.{Outcome, opened_outcome}
 use Rattle.odht_tool_core.specs.Endings.Outcome.{writes, fails}
 use Rattle.odht_tool_core.specs.FoundShapes.{found_shape}
+use Rattle.odht_tool_core.specs.ReadAs.{read_as}
 use Rattle.odht_tool_core.specs.ReadyShapes.{shape_format, shape_coding, typed_text}
 use Rattle.odht_tool_core.specs.ShapeList.{key_part}
 use Rattle.odht_tool_core.specs.declared.failure.Failure.{Failure}
 use Rattle.odht_tool_core.specs.declared.failure.Failure.TheVariants.{Refused}
+use Rattle.odht_tool_core.specs.declared.forms.Form.{Form}
+use Rattle.odht_tool_core.specs.declared.forms.GivenForms.{GivenForms}
+use Rattle.odht_tool_core.specs.declared.forms.Kinds.{Kinds}
 use Rattle.odht_tool_core.specs.declared.shapes.Hash.{Hash}
 use Rattle.odht_tool_core.specs.declared.shapes.ready.Shape.{Shape}
 use Rattle.odht_tool_core.specs.declared.status.Status.TheVariants.{Done}
@@ -34,11 +39,14 @@ keys_text f xs = flat_map (key_line f) xs
 abbrev pub listed_outcome : {K V : Type 0} → Coding K V → (K → List ℕ) → List ℕ → Outcome
 listed_outcome c f B = opened_outcome (view_refusal c.format B) (keys_text f (decoded_all c (decoded_pairs c.format B)))
 
-abbrev pub keys_of_shape : List ℕ → Shape → Outcome
-keys_of_shape B s = listed_outcome (shape_coding s) (typed_text (key_part s)) B
+abbrev pub keys_of_shape : Form → List ℕ → Shape → Outcome
+keys_of_shape f B s = listed_outcome (shape_coding s) (typed_text f (key_part s)) B
 
-abbrev pub keys_outcome : List ℕ → Option Hash → Outcome
-keys_outcome B h = by_shape (found_shape B h) (keys_of_shape B)
+abbrev pub keys_of_forms : List ℕ → Shape × GivenForms → Outcome
+keys_of_forms B x = keys_of_shape x.1.key B x.0
+
+abbrev pub keys_outcome : List ℕ → Option Hash → Kinds → Outcome
+keys_outcome B h ks = by_shape (read_as B h ks) (keys_of_forms B)
 
 -- ---- count
 abbrev pub count_by : Option Error → ℕ → Result ℕ Failure

@@ -10,7 +10,10 @@
 --                              none, out of memory
 --     pairs_outcome c f g B    of `dump` for bytes of the coding c: the pairs that the slots hold, in slot order, where f
 --                              and g are the texts of keys and of values
---     dump_outcome B h is_slots    of `dump`, with `--slots` or without
+--     dump_of_shape fs B is_slots s    of `dump`, with `--slots` or without, for bytes of the shape s in the forms fs of keys
+--                              and of values
+--     dump_outcome B h ks is_slots the same for the bytes of a file, where the hash function h, or none, is named, and ks is
+--                              said of keys and values
 use Rattle.std.specs.Prelude.{ℕ, Bool, List, ◌++◌, codes, Option, Some, None, Result, Ok, Err, is_ok, is_none, if◌then◌else◌}
 use Rattle.std.specs.Option.{option_and_then, option_map_or}
 use Rattle.std.specs.Result.{result_ok}
@@ -23,8 +26,9 @@ use Rattle.odht_header.specs.declared.error.Error.TheVariants.{SearchTooLong}
 use Rattle.odht_raw.specs.Walks.{decoded_all}
 use Rattle.odht_tool_core.specs.Endings.{Outcome, opened_outcome}
 use Rattle.odht_tool_core.specs.Endings.Outcome.{writes, fails}
-use Rattle.odht_tool_core.specs.FoundShapes.{named_shape, found_shape, hinted_hash}
+use Rattle.odht_tool_core.specs.FoundShapes.{named_shape, hinted_hash}
 use Rattle.odht_tool_core.specs.InfoTexts.{hash_name}
+use Rattle.odht_tool_core.specs.ReadAs.{read_as}
 use Rattle.odht_tool_core.specs.ReadyShapes.{shape_format, shape_coding, typed_text}
 use Rattle.odht_tool_core.specs.ShapeList.{key_part, value_part}
 use Rattle.odht_tool_core.specs.Slots.{slots_outcome}
@@ -32,11 +36,14 @@ use Rattle.odht_tool_core.specs.Refusals.{checked_text}
 use Rattle.odht_tool_core.specs.Texts.{pairs_text}
 use Rattle.odht_tool_core.specs.declared.failure.Failure.{Failure}
 use Rattle.odht_tool_core.specs.declared.failure.Failure.TheVariants.{Refused, Memory}
+use Rattle.odht_tool_core.specs.declared.forms.Form.{Form}
+use Rattle.odht_tool_core.specs.declared.forms.GivenForms.{GivenForms}
+use Rattle.odht_tool_core.specs.declared.forms.Kinds.{Kinds}
 use Rattle.odht_tool_core.specs.declared.shapes.Hash.{Hash}
 use Rattle.odht_tool_core.specs.declared.shapes.ready.Shape.{Shape}
 use Rattle.odht_tool_core.specs.declared.status.Status.TheVariants.{Done, NotDone}
 
-abbrev pub by_shape : Result Shape Failure → (Shape → Outcome) → Outcome
+abbrev pub by_shape : {X : Type 0} → Result X Failure → (X → Outcome) → Outcome
 by_shape (Ok s) f = f s
 by_shape (Err failure) f = fails failure
 
@@ -75,10 +82,14 @@ abbrev pub pairs_outcome : {K V : Type 0} → Coding K V → (K → List ℕ) �
 pairs_outcome c f g B =
     opened_outcome (view_refusal c.format B) (pairs_text f g (decoded_all c (decoded_pairs c.format B)))
 
-abbrev pub dump_of_shape : List ℕ → Bool → Shape → Outcome
-dump_of_shape B is_slots s =
-    if is_slots then slots_outcome (shape_coding s) (typed_text (key_part s)) (typed_text (value_part s)) B
-    else pairs_outcome (shape_coding s) (typed_text (key_part s)) (typed_text (value_part s)) B
+abbrev pub dump_of_shape : Form × Form → List ℕ → Bool → Shape → Outcome
+dump_of_shape fs B is_slots s =
+    let f = typed_text fs.0 (key_part s) in
+    let g = typed_text fs.1 (value_part s) in
+    if is_slots then slots_outcome (shape_coding s) f g B else pairs_outcome (shape_coding s) f g B
 
-abbrev pub dump_outcome : List ℕ → Option Hash → Bool → Outcome
-dump_outcome B h is_slots = by_shape (found_shape B h) (dump_of_shape B is_slots)
+abbrev pub dump_of_forms : List ℕ → Bool → Shape × GivenForms → Outcome
+dump_of_forms B is_slots x = dump_of_shape (x.1.key, x.1.value) B is_slots x.0
+
+abbrev pub dump_outcome : List ℕ → Option Hash → Kinds → Bool → Outcome
+dump_outcome B h ks is_slots = by_shape (read_as B h ks) (dump_of_forms B is_slots)

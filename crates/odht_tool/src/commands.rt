@@ -78,13 +78,24 @@ where
         Command::Build(options) => build::build(rt, file, options, input, output, errors),
         Command::Put {
             hash,
+            kinds,
             bound,
             breaks_links,
             has_progress,
         } => {
             let target = Target::find(rt, file, breaks_links)?;
             let bytes = read_file(rt, target.path())?;
-            build::put(rt, target, bytes, hash, bound, has_progress, input, errors)
+            build::put(
+                rt,
+                target,
+                bytes,
+                hash,
+                kinds,
+                bound,
+                has_progress,
+                input,
+                errors,
+            )
         }
     }
 }
@@ -211,15 +222,21 @@ fn run_reading<I: BufRead, O: Write, E: Write>(
         }
         Reading::Get {
             hash,
+            kinds,
             keys: Keys::Words(words),
-        } => get::get_file_words(alloc, bytes, *hash, words.as_slice(), output),
+        } => get::get_file_words(alloc, bytes, *hash, *kinds, words.as_slice(), output),
         Reading::Get {
             hash,
+            kinds,
             keys: Keys::Lines,
-        } => get::get_file_lines(alloc, bytes, *hash, input, output),
+        } => get::get_file_lines(alloc, bytes, *hash, *kinds, input, output),
         Reading::Find { bound } => find_in(alloc, file, bytes, *bound, output, errors),
-        Reading::Dump { hash, is_slots } => dump::dump_file(bytes, *hash, *is_slots, output),
-        Reading::Keys { hash } => keys::keys_file(bytes, *hash, output),
+        Reading::Dump {
+            hash,
+            kinds,
+            is_slots,
+        } => dump::dump_file(bytes, *hash, *kinds, *is_slots, output),
+        Reading::Keys { hash, kinds } => keys::keys_file(bytes, *hash, *kinds, output),
     }
 }
 

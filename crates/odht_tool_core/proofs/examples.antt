@@ -19,3 +19,5 @@ pub mod Finds
 pub mod Replaced
 -- words that one slip makes of each other, commands and options
 pub mod Slips
+-- forms of keys and values, and what bytes are read as
+pub mod Forms

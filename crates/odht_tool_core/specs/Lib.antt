@@ -41,5 +41,11 @@ pub mod Shown
 pub mod Refusals
 -- the first table inside of other bytes
 pub mod Insides
+-- numbers with a sign
+pub mod Signed
+-- the forms of keys and values
+pub mod Forms
+-- the shape and the forms that bytes are read as
+pub mod ReadAs
 -- texts that are no key or no value
 pub mod Misreads

@@ -3,9 +3,9 @@
 --     typed_len p          how many bytes each of them has in a table
 --     typed_bytes p x      the bytes of x in a table
 --     typed_of p b         what the bytes b decode to
---     typed_text p x       the text of x
---     IsTypedWord p w      the word w is the text of some x of the type p
---     StandsFor p w x      it is that of this x
+--     typed_text f p x     the text of x in the form f
+--     IsTypedWord f p w    the word w is the text of some x of the type p
+--     StandsFor f p w x    it is that of this x
 --     hash_of h            the hash function that is named h
 --     shape_format s       the format of its tables
 --     shape_coding s       how they encode and decode keys and values
@@ -18,10 +18,9 @@
 --                          is one; it is the same for each shape
 --     shape_of_bytes B h   the shape that the bytes B are read as: that of the sizes in the header, and of the hash
 --                          function where one is named; with an early error that of u64 to u32, since any will do
-use Rattle.std.specs.Prelude.{◌≡◌, ℕ, ◌^◌, List, [], ◌∷◌, Bool, true, false, ◌&&◌, ◌==◌, nat_lt, length, slice_index, find, is_some, Option, Some, decimal, if◌then◌else◌}
+use Rattle.std.specs.Prelude.{◌≡◌, ℕ, List, [], ◌∷◌, Bool, true, false, ◌&&◌, ◌==◌, nat_lt, length, slice_index, find, is_some, Option, Some, if◌then◌else◌}
 use Rattle.std.specs.Int.{w32, w64, to_le_bytes, from_le_bytes}
 use Rattle.std.specs.Option.{option_or, option_map_or}
-use Rattle.std.specs.Str.Parse.{digits_value}
 use Rattle.odht_base.specs.Format.{Format, format_of}
 use Rattle.odht_base.specs.Hashes.{fx, un}
 use Rattle.odht_header.specs.Coding.{Coding}
@@ -30,7 +29,8 @@ use Rattle.odht_header.specs.declared.error.Error.{Error}
 use Rattle.odht_header.specs.declared.error.Error.TheVariants.{TooShort}
 use Rattle.odht_header.specs.declared.error.Part.TheVariants.{EntryMetadata}
 use Rattle.odht_tool_core.specs.ShapeList.{key_part, value_part, shape_hash, ready_shapes}
-use Rattle.odht_tool_core.specs.Texts.{IsNumberWord, IsHexWord, WritesBytes, hex_text}
+use Rattle.odht_tool_core.specs.Forms.{number_text, IsNumberText, StandsForNumber, bytes_text, IsBytesText, StandsForBytes}
+use Rattle.odht_tool_core.specs.declared.forms.Form.{Form}
 use Rattle.odht_tool_core.specs.declared.shapes.Hash.{Hash}
 use Rattle.odht_tool_core.specs.declared.shapes.Hash.TheVariants.{Fx, Unhash}
 use Rattle.odht_tool_core.specs.declared.shapes.Part.{Part}
@@ -63,23 +63,23 @@ typed_of U32 b = from_le_bytes w32 b
 typed_of U64 b = from_le_bytes w64 b
 typed_of (Bytes n) b = b
 
-abbrev pub typed_text : (p : Part) → Typed p → List ℕ
-typed_text Nothing x = []
-typed_text U32 n = decimal n
-typed_text U64 n = decimal n
-typed_text (Bytes n) bytes = hex_text bytes
+abbrev pub typed_text : Form → (p : Part) → Typed p → List ℕ
+typed_text f Nothing x = []
+typed_text f U32 n = number_text w32 f n
+typed_text f U64 n = number_text w64 f n
+typed_text f (Bytes n) bytes = bytes_text f bytes
 
-abbrev pub IsTypedWord : Part → List ℕ → Type 0
-IsTypedWord Nothing word = word ≡ []
-IsTypedWord U32 word = IsNumberWord (2 ^ 32) word
-IsTypedWord U64 word = IsNumberWord (2 ^ 64) word
-IsTypedWord (Bytes n) word = IsHexWord n word
+abbrev pub IsTypedWord : Form → Part → List ℕ → Type 0
+IsTypedWord f Nothing word = word ≡ []
+IsTypedWord f U32 word = IsNumberText w32 f word
+IsTypedWord f U64 word = IsNumberText w64 f word
+IsTypedWord f (Bytes n) word = IsBytesText n f word
 
-abbrev pub StandsFor : (p : Part) → List ℕ → Typed p → Type 0
-StandsFor Nothing word x = word ≡ []
-StandsFor U32 word n = digits_value 10 word ≡ n
-StandsFor U64 word n = digits_value 10 word ≡ n
-StandsFor (Bytes n) word bytes = WritesBytes word bytes
+abbrev pub StandsFor : Form → (p : Part) → List ℕ → Typed p → Type 0
+StandsFor f Nothing word x = word ≡ []
+StandsFor f U32 word n = StandsForNumber w32 f word n
+StandsFor f U64 word n = StandsForNumber w64 f word n
+StandsFor f (Bytes n) word bytes = StandsForBytes f word bytes
 
 -- ---- shapes
 abbrev pub hash_of : Hash → List ℕ → ℕ

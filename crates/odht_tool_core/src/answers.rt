@@ -4,6 +4,7 @@ ghost use Rattle.std.specs.Io.KnownBytes.{Appends};
 ghost use Rattle.std.specs.List.{list_all};
 ghost use Rattle.odht_tool_core.specs.Texts.{answer_line, answers_text, pair_line};
 
+use crate::forms::Forms;
 use crate::text::Text;
 use std::alloc::{AllocError, Global};
 use std::io::{self, Write};
@@ -11,28 +12,34 @@ use std::io::{self, Write};
 /// Writes a line of a key, a tab and a value, each part by itself: a buffer behind `output` that becomes full is passed
 /// on with as many parts as fit.
 #[inline(always)]
-pub fn write_pair<K: Text, V: Text, O: Write>(key: &K, value: &V, output: &mut O) -> io::Result<()>
+pub fn write_pair<K: Text, V: Text, F: Forms, O: Write>(
+    key: &K,
+    value: &V,
+    forms: F,
+    output: &mut O,
+) -> io::Result<()>
     ensures { OnOk result (Appends (O.contents output.old) (O.contents output.new)
-        (pair_line K.text V.text (key.now, value.now))) }
+        (pair_line (K.text (F.pair forms).0) (V.text (F.pair forms).1) (key.now, value.now))) }
 {
-    key.write(output)?;
+    key.write(forms.key(), output)?;
     output.write_all(b"\t")?;
-    value.write(output)?;
+    value.write(forms.value(), output)?;
     output.write_all(b"\n")
 }
 
 /// Writes a line for each key: with its value, or the key alone where it has none.
-pub fn write_answers<K: Text, V: Text, O: Write>(
+pub fn write_answers<K: Text, V: Text, F: Forms, O: Write>(
     keys: &[K],
     values: &[Option<V>],
+    forms: F,
     output: &mut O,
 ) -> io::Result<()>
     requires { length values.now ≡ length keys.now }
     ensures { OnOk result (Appends (O.contents output.old) (O.contents output.new)
-        (answers_text K.text V.text keys.now values.now)) }
+        (answers_text (K.text (F.pair forms).0) (V.text (F.pair forms).1) keys.now values.now)) }
 {
     for at in 0..keys.len() {
-        write_answer(&keys[at], &values[at], output)?;
+        write_answer(&keys[at], &values[at], forms, output)?;
     }
     Ok(())
 }
@@ -52,18 +59,19 @@ pub fn are_found<V>(values: &[Option<V>]) -> bool
 }
 
 // Writes the line of a key with its value, or of the key alone.
-fn write_answer<K: Text, V: Text, O: Write>(
+fn write_answer<K: Text, V: Text, F: Forms, O: Write>(
     key: &K,
     value: &Option<V>,
+    forms: F,
     output: &mut O,
 ) -> io::Result<()>
     ensures { OnOk result (Appends (O.contents output.old) (O.contents output.new)
-        (answer_line K.text V.text (key.now, value.now))) }
+        (answer_line (K.text (F.pair forms).0) (V.text (F.pair forms).1) (key.now, value.now))) }
 {
     match value {
-        Some(value) => write_pair(key, value, output),
+        Some(value) => write_pair(key, value, forms, output),
         None => {
-            key.write(output)?;
+            key.write(forms.key(), output)?;
             output.write_all(b"\n")
         }
     }

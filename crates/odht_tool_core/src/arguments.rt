@@ -1,5 +1,6 @@
 //! The arguments that the program is called with.
 
+use crate::forms::{GivenForms, Kinds};
 use crate::shapes::{Hash, Shape};
 use odht_base::load::Percent;
 use std::alloc::Global;
@@ -16,6 +17,7 @@ pub use topics::{Setting, Topic};
 #[derive(Clone, Copy)]
 pub struct BuildOptions {
     pub shape: Shape,
+    pub forms: GivenForms,
     /// For how many items room is made at first.
     pub capacity: usize,
     pub percent: Percent,
@@ -61,6 +63,7 @@ pub enum Command {
     Build(BuildOptions),
     Put {
         hash: Option<Hash>,
+        kinds: Kinds,
         bound: Option<usize>,
         breaks_links: bool,
         has_progress: bool,
@@ -84,14 +87,17 @@ pub enum Reading {
     },
     Get {
         hash: Option<Hash>,
+        kinds: Kinds,
         keys: Keys,
     },
     Dump {
         hash: Option<Hash>,
+        kinds: Kinds,
         is_slots: bool,
     },
     Keys {
         hash: Option<Hash>,
+        kinds: Kinds,
     },
     Find {
         bound: Option<usize>,

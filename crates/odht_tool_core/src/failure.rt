@@ -4,6 +4,7 @@ ghost use Rattle.odht_tool_core.specs.Endings.{failure_of};
 
 use crate::obstacles::Obstacle;
 use crate::refusal::Refusal;
+use crate::shapes::Part;
 use odht_header::error::Error;
 use std::alloc::AllocError;
 use std::{fmt, io};
@@ -25,6 +26,10 @@ pub enum Failure {
     NoShape { key_size: u8, value_size: u8 },
     /// The control bytes are not the tags of the keys under any hash function of the ready shapes of these sizes.
     NoHash { key_size: u8, value_size: u8 },
+    /// Keys are said to be of another type than this, which they are of.
+    OtherKey(Part),
+    /// Values are said to be of another type than this, which they are of.
+    OtherValue(Part),
     /// The file ends before this byte.
     PastEnd { offset: usize, len: usize },
     /// There are headers of tables that overlap, more than a file has that is not forged.
@@ -84,6 +89,10 @@ impl fmt::Display for Failure {
                 key_size,
                 value_size,
             } => write_no_hash(*key_size, *value_size, f),
+            Failure::OtherKey(part) => write!(f, "--key does not fit its keys, which are {part}"),
+            Failure::OtherValue(part) => {
+                write!(f, "--value does not fit its values, which are {part}")
+            }
             Failure::PastEnd { offset, len } => {
                 write!(f, "has {len} bytes, and so none at the offset {offset}")
             }

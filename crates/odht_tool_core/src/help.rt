@@ -126,25 +126,31 @@ odht count FILE.. [--whole] [--hash fx|unhash] [--at OFFSET]
 ";
 
 const GET: &str = "\
-odht get FILE KEY.. [--hash fx|unhash] [--at OFFSET]
+odht get FILE KEY.. [--key SHAPE] [--value SHAPE] [--hash fx|unhash]
+                    [--at OFFSET]
     Writes a line for each key, in their order: KEY, a tab and VALUE; or KEY alone
     where it is absent, and then ends with status 1. With the one word - the keys
     are the lines of standard input, but for an empty last one. The hash function is
-    the one that all control bytes fit, unless --hash names it.
+    the one that all control bytes fit, unless --hash names it. Keys and values have
+    the texts of the ready shape, unless --key and --value name others, as in `odht
+    build`.
 ";
 
 const DUMP: &str = "\
-odht dump FILE [--slots] [--hash fx|unhash] [--at OFFSET]
+odht dump FILE [--slots] [--key SHAPE] [--value SHAPE] [--hash fx|unhash]
+               [--at OFFSET]
     Writes a line for each pair, in slot order: KEY, a tab and VALUE. With --slots
     the slot, the control byte and the number of groups that a search for the key
     looks at stand before them, with tabs too. The hash function is the one that
-    all control bytes fit, unless --hash names it.
+    all control bytes fit, unless --hash names it. Keys and values have the texts
+    of the ready shape, unless --key and --value name others, as in `odht build`.
 ";
 
 const KEYS: &str = "\
-odht keys FILE [--hash fx|unhash] [--at OFFSET]
+odht keys FILE [--key SHAPE] [--hash fx|unhash] [--at OFFSET]
     Writes each key on a line, in slot order. The hash function is the one that all
-    control bytes fit, unless --hash names it.
+    control bytes fit, unless --hash names it. Keys have the texts of the ready
+    shape, unless --key names others, as in `odht build`.
 ";
 
 const FIND: &str = "\
@@ -165,7 +171,8 @@ odht build FILE --key SHAPE --value SHAPE [--hash fx|unhash]
     with - as FILE it goes to standard output. The last line of a key wins; an
     empty last line is left out. Owner, group, permissions and symbolic links of an
     older file are kept; one with hard links is not replaced without --break-links.
-    SHAPE          u32, u64, none (a value only), or hexN: N bytes as 2 N digits
+    SHAPE          u32, u64, none (a value only), or hexN: N bytes as 2 N digits;
+                   i32 and i64 with a sign; u32be and u64be, the highest byte first
     --percent      the load factor, 1 to 100, else 87
     --capacity     the number of items for which room is made at first, else 12
     --progress     a line on standard error each second
@@ -173,14 +180,16 @@ odht build FILE --key SHAPE --value SHAPE [--hash fx|unhash]
 ";
 
 const PUT: &str = "\
-odht put FILE [--whole] [--hash fx|unhash] [--progress] [--break-links]
+odht put FILE [--key SHAPE] [--value SHAPE] [--whole] [--hash fx|unhash]
+              [--progress] [--break-links]
     Adds the lines of standard input, KEY, a tab and VALUE, to the table in FILE,
     which grows as needed, and stores it in the place of the older one, which
     stays where something fails. The last line of a key wins; an empty last line
     is left out. The file is checked before, as by `odht check`; --whole is as
     there. The hash function is the one that all control bytes fit, unless --hash
-    names it. Owner, group, permissions and symbolic links of the file are kept;
-    one with hard links is not replaced without --break-links, with which its other
-    names keep the old file.
+    names it; --key and --value name texts other than those of the ready shape, as
+    in `odht build`. Owner, group, permissions and symbolic links of the file are
+    kept; one with hard links is not replaced without --break-links, with which its
+    other names keep the old file.
 ";
 // end texts

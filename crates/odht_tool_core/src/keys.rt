@@ -4,6 +4,7 @@ ghost use Rattle.std.specs.List.{AllZip};
 ghost use Rattle.odht_tool_core.specs.Keys.{IsReadAs, IsNoKeyLine, TellsWord, TellsFault, IsNextKey};
 
 use crate::failure::{Failure, LineFault};
+use crate::forms::Form;
 use crate::lines::{is_left_out, read_line};
 use crate::misread::Misread;
 use crate::text::Text;
@@ -11,29 +12,29 @@ use std::alloc::Global;
 use std::io::{self, BufRead};
 
 /// The keys of the words, or the first word that is none.
-pub fn parse_keys<K: Text>(alloc: Global, words: &[String]) -> Result<Vec<K>, Failure>
-    ensures keys { IfOk result
-        (λ keys. AllZip (IsReadAs K.is_word K.stands_for) (map string_bytes words.now) keys.items) }
-    ensures fault { IfErr result
-        (TellsFault (IsReadAs K.is_word K.stands_for) K.wants (map string_bytes words.now)) }
+pub fn parse_keys<K: Text>(alloc: Global, words: &[String], form: Form) -> Result<Vec<K>, Failure>
+    ensures keys { IfOk result (λ keys. AllZip (IsReadAs (K.is_word form) (K.stands_for form))
+        (map string_bytes words.now) keys.items) }
+    ensures fault { IfErr result (TellsFault (IsReadAs (K.is_word form) (K.stands_for form))
+        (K.wants form) (map string_bytes words.now)) }
 {
     let mut keys = Vec::new(alloc);
     for word in words {
-        match K::parse(word.as_str().as_bytes()) {
+        match K::parse(word.as_str().as_bytes(), form) {
             Some(key) => push_key(&mut keys, key)?,
-            None => return Err(wrong_key::<K>(alloc, word.as_str())),
+            None => return Err(wrong_key::<K>(alloc, word.as_str(), form)),
         }
     }
     Ok(keys)
 }
 
-fn wrong_key<K: Text>(alloc: Global, word: &str) -> Failure
-    ensures { TellsWord K.wants word.now result }
+fn wrong_key<K: Text>(alloc: Global, word: &str, form: Form) -> Failure
+    ensures { TellsWord (K.wants form) word.now result }
 {
     let misread = Misread {
         line: None,
         fault: LineFault::Key,
-        wanted: K::wanted(),
+        wanted: K::wanted(form),
         text: word.as_bytes(),
     };
     match misread.message(alloc) {
@@ -63,16 +64,21 @@ pub enum NextKey<K> {
 
 /// Reads the next line, and parses its key. The bytes of `line` are replaced. Where an empty line is no key, a line after
 /// it is taken too.
-pub fn next_key<K: Text, I: BufRead>(input: &mut I, line: &mut Vec<u8>) -> io::Result<NextKey<K>>
-    ensures next { IfOk result (IsNextKey (IsReadAs K.is_word K.stands_for)
+pub fn next_key<K: Text, I: BufRead>(
+    input: &mut I,
+    line: &mut Vec<u8>,
+    form: Form,
+) -> io::Result<NextKey<K>>
+    ensures next { IfOk result (IsNextKey (IsReadAs (K.is_word form) (K.stands_for form))
         (I.remaining input.old) (I.remaining input.new)) }
-    ensures fault { result ≡ Ok NextKey.NoKey → IsNoKeyLine (IsReadAs K.is_word K.stands_for)
+    ensures fault { result ≡ Ok NextKey.NoKey
+        → IsNoKeyLine (IsReadAs (K.is_word form) (K.stands_for form))
         (I.remaining input.old) (I.remaining input.new) line.new.items }
 {
     if !read_line(input, line)? {
         return Ok(NextKey::End);
     }
-    match K::parse(line.as_slice()) {
+    match K::parse(line.as_slice(), form) {
         Some(key) => Ok(NextKey::Key(key)),
         None => {
             if is_left_out(input, line)? {

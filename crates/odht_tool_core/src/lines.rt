@@ -7,6 +7,7 @@ ghost use Rattle.odht_tool_core.specs.InputLines.{IsBehind, IsEnding, IsNextLine
 ghost use Rattle.odht_tool_core.specs.InputLines.{IsTakenThrough, without_end};
 
 use crate::failure::{Failure, LineFault};
+use crate::forms::Forms;
 use crate::places::{cut_at, place_of};
 use crate::text::Text;
 use std::io::{self, BufRead, ErrorKind};
@@ -116,15 +117,16 @@ fn drop_last(line: &mut Vec<u8>, byte: u8) -> bool
 }
 
 /// Reads the pair of the line of this number, if there is such a line. The bytes of `line` are replaced.
-pub fn read_pair<K: Text, V: Text, I: BufRead>(
+pub fn read_pair<K: Text, V: Text, F: Forms, I: BufRead>(
     input: &mut I,
     line: &mut Vec<u8>,
     number: u64,
+    forms: F,
 ) -> Result<Option<(K, V)>, Failure> {
     if !read_line(input, line).map_err(Failure::Input)? {
         return Ok(None);
     }
-    match parse_pair(line.as_slice()) {
+    match parse_pair(line.as_slice(), forms) {
         Ok(pair) => Ok(Some(pair)),
         Err(fault) => {
             left_out(input, line, number, fault)?;
@@ -174,17 +176,17 @@ pub(crate) fn is_left_out<I: BufRead>(input: &mut I, line: &mut Vec<u8>) -> io::
 
 // The key and the value of a line: on either side of its first tab, or, where the text of a value is empty, of a line
 // without a tab.
-fn parse_pair<K: Text, V: Text>(line: &[u8]) -> Result<(K, V), LineFault> {
+fn parse_pair<K: Text, V: Text, F: Forms>(line: &[u8], forms: F) -> Result<(K, V), LineFault> {
     let (key, value) = match cut_at(line, b'\t') {
         Some(parts) => parts,
         None => {
-            if V::parse(b"").is_none() {
+            if V::parse(b"", forms.value()).is_none() {
                 return Err(LineFault::NoTab);
             }
             (line, b"".as_slice())
         }
     };
-    let key = K::parse(key).ok_or(LineFault::Key)?;
-    let value = V::parse(value).ok_or(LineFault::Value)?;
+    let key = K::parse(key, forms.key()).ok_or(LineFault::Key)?;
+    let value = V::parse(value, forms.value()).ok_or(LineFault::Value)?;
     Ok((key, value))
 }

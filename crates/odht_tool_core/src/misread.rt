@@ -19,6 +19,10 @@ pub enum Wanted {
     U32,
     /// Those of a number of 64 bits.
     U64,
+    /// Those of a number of 32 bits with a sign.
+    I32,
+    /// Those of a number of 64 bits with a sign.
+    I64,
     /// Two hexadecimal digits for each of so many bytes.
     Bytes(usize),
 }
@@ -31,6 +35,8 @@ impl fmt::Display for Wanted {
             Wanted::Nothing => write!(f, "empty"),
             Wanted::U32 => write!(f, "a number below 2^32"),
             Wanted::U64 => write!(f, "a number below 2^64"),
+            Wanted::I32 => write!(f, "a number from -2^31 to 2^31 - 1"),
+            Wanted::I64 => write!(f, "a number from -2^63 to 2^63 - 1"),
             Wanted::Bytes(count) => {
                 let digits = 2 * count as u128;
                 write!(f, "{digits} hexadecimal digits")

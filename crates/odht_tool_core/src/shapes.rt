@@ -10,6 +10,7 @@ ghost use Rattle.odht_tool_core.specs.FoundShapes.{other_hash};
 use crate::early::check_first;
 use crate::failure::Failure;
 use odht_header::header::Header;
+use std::fmt;
 
 mod ready;
 
@@ -57,7 +58,7 @@ impl Hash {
 }
 
 /// The type of a key or of a value.
-#[derive(Clone, Copy)]
+#[derive(Clone, Copy, Debug)]
 pub enum Part {
     /// Nothing, in a table that is a set.
     Nothing,
@@ -99,8 +100,8 @@ impl Part {
         }
     }
 
-    // Whether both are the same type.
-    fn is(self, other: Part) -> bool
+    /// Whether both are the same type.
+    pub(crate) fn is(self, other: Part) -> bool
         ensures { result ≡ same_part self other }
     {
         match (self, other) {
@@ -108,6 +109,17 @@ impl Part {
                 true,
             (Part::Bytes(size), Part::Bytes(other)) => size == other,
             _ => false,
+        }
+    }
+}
+
+impl fmt::Display for Part {
+    fn fmt<W: fmt::Write>(&self, f: &mut fmt::Formatter<W>) -> fmt::Result {
+        match self {
+            Part::Nothing => write!(f, "none"),
+            Part::U32 => write!(f, "u32"),
+            Part::U64 => write!(f, "u64"),
+            Part::Bytes(size) => write!(f, "hex{size}"),
         }
     }
 }

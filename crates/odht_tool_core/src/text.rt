@@ -1,4 +1,5 @@
-//! Keys and values as text: a number in decimal digits, bytes in hexadecimal digits, and nothing at all.
+//! Keys and values as text: a number in decimal digits, with a sign or without, bytes in hexadecimal digits, and nothing
+//! at all.
 ghost use Rattle.std.specs.Prelude.{◌≡◌, ◌↔◌, ◌<◌, ◌≤◌, ◌*◌, ◌%◌, ◌^◌, ℕ};
 ghost use Rattle.std.specs.Prelude.{List, [], length, take, max, slice_index, Some};
 ghost use Rattle.std.specs.Prelude.{IfErr, IfSome, IsFalse, IsOk, IsSome, IsTrue, OnOk};
@@ -9,125 +10,162 @@ ghost use Rattle.std.specs.List.{AllPass};
 ghost use Rattle.std.specs.Io.KnownBytes.{Appends};
 ghost use Rattle.std.specs.Str.Parse.{digits_value};
 ghost use Rattle.odht_tool_core.specs.Digits.{IsValueOf};
-ghost use Rattle.odht_tool_core.specs.Misreads.{IsWanted};
+ghost use Rattle.std.specs.Int.{w32, w64};
+ghost use Rattle.odht_tool_core.specs.Forms.{number_text, IsNumberText, StandsForNumber};
+ghost use Rattle.odht_tool_core.specs.Forms.{bytes_text, IsBytesText, StandsForBytes};
+ghost use Rattle.odht_tool_core.specs.Misreads.{IsWanted, number_wanted};
 ghost use Rattle.odht_tool_core.specs.declared.misread.Wanted.{Wanted};
-ghost use Rattle.odht_tool_core.specs.declared.misread.Wanted.TheVariants.{Nothing, U32, U64, Bytes};
+ghost use Rattle.odht_tool_core.specs.declared.misread.Wanted.TheVariants.{Nothing, U32, U64, I32, I64, Bytes};
 ghost use Rattle.odht_tool_core.specs.Texts.{IsNumberWord, IsHexWord, WritesBytes, hex_text};
 
 use crate::digits::{parse_number, write_number};
+use crate::forms::Form;
 use crate::misread::Wanted;
+use crate::signed::{parse_signed, write_signed};
 use std::io::{self, Write};
 
-/// A key or a value that has a text.
+/// A key or a value that has a text in each form.
 pub trait Text: Copy {
-    ghost text: { Self → List ℕ };
+    ghost use Rattle.odht_tool_core.specs.declared.forms.Form.{Form};
 
-    ghost is_word: { List ℕ → Type 0 };
+    ghost text: { Form → Self → List ℕ };
 
-    ghost stands_for: { List ℕ → Self → Type 0 };
+    ghost is_word: { Form → List ℕ → Type 0 };
 
-    ghost wants: { Wanted };
+    ghost stands_for: { Form → List ℕ → Self → Type 0 };
+
+    ghost wants: { Form → Wanted };
 
     /// What its texts are.
-    fn wanted() -> Wanted
-        ensures is { result ≡ wants }
-        ensures word { (word : List ℕ) → is_word word ↔ IsWanted result word };
+    fn wanted(form: Form) -> Wanted
+        ensures is { result ≡ wants form }
+        ensures word { (word : List ℕ) → is_word form word ↔ IsWanted result word };
 
     /// The value of which the word is the text. None where it is the text of no such value.
-    fn parse(word: &[u8]) -> Option<Self>
-        ensures value { IfSome result (stands_for word.now) }
-        ensures some { IsSome result ↔ is_word word.now };
+    fn parse(word: &[u8], form: Form) -> Option<Self>
+        ensures value { IfSome result (stands_for form word.now) }
+        ensures some { IsSome result ↔ is_word form word.now };
 
     /// Writes the text.
-    fn write<W: Write>(&self, output: &mut W) -> io::Result<()>
+    fn write<W: Write>(&self, form: Form, output: &mut W) -> io::Result<()>
         ensures { OnOk result (Appends (W.contents output.old) (W.contents output.new)
-            (text self.now)) };
+            (text form self.now)) };
 }
 
 impl Text for u32 {
-    ghost text = { decimal };
+    ghost text = { number_text w32 };
 
-    ghost is_word = { IsNumberWord (2 ^ 32) };
+    ghost is_word = { IsNumberText w32 };
 
-    ghost stands_for = { λ word n. digits_value 10 word ≡ n };
+    ghost stands_for = { StandsForNumber w32 };
 
-    ghost wants = { U32 };
+    ghost wants = { number_wanted U32 I32 };
 
-    fn wanted() -> Wanted {
-        Wanted::U32
+    fn wanted(form: Form) -> Wanted {
+        match form {
+            Form::Own | Form::BigEndian => Wanted::U32,
+            Form::Signed => Wanted::I32,
+        }
     }
 
-    fn parse(word: &[u8]) -> Option<u32> {
-        u32::try_from(parse_number(word)?).ok()
+    fn parse(word: &[u8], form: Form) -> Option<u32> {
+        match form {
+            Form::Own => u32::try_from(parse_number(word)?).ok(),
+            Form::Signed => u32::try_from(parse_signed(word, u64::from(u32::MAX))?).ok(),
+            Form::BigEndian => {
+                let number = u32::try_from(parse_number(word)?).ok()?;
+                Some(number.swap_bytes())
+            }
+        }
     }
 
-    fn write<W: Write>(&self, output: &mut W) -> io::Result<()> {
-        write_number(u64::from(*self), output)
+    #[inline(always)]
+    fn write<W: Write>(&self, form: Form, output: &mut W) -> io::Result<()> {
+        match form {
+            Form::Own => write_number(u64::from(*self), output),
+            Form::Signed => write_signed(u64::from(*self), u64::from(u32::MAX), output),
+            Form::BigEndian => write_number(u64::from(self.swap_bytes()), output),
+        }
     }
 }
 
 impl Text for u64 {
-    ghost text = { decimal };
+    ghost text = { number_text w64 };
 
-    ghost is_word = { IsNumberWord (2 ^ 64) };
+    ghost is_word = { IsNumberText w64 };
 
-    ghost stands_for = { λ word n. digits_value 10 word ≡ n };
+    ghost stands_for = { StandsForNumber w64 };
 
-    ghost wants = { U64 };
+    ghost wants = { number_wanted U64 I64 };
 
-    fn wanted() -> Wanted {
-        Wanted::U64
+    fn wanted(form: Form) -> Wanted {
+        match form {
+            Form::Own | Form::BigEndian => Wanted::U64,
+            Form::Signed => Wanted::I64,
+        }
     }
 
-    fn parse(word: &[u8]) -> Option<u64> {
-        parse_number(word)
+    fn parse(word: &[u8], form: Form) -> Option<u64> {
+        match form {
+            Form::Own => parse_number(word),
+            Form::Signed => parse_signed(word, u64::MAX),
+            Form::BigEndian => {
+                let number = parse_number(word)?;
+                Some(number.swap_bytes())
+            }
+        }
     }
 
-    fn write<W: Write>(&self, output: &mut W) -> io::Result<()> {
-        write_number(*self, output)
+    #[inline(always)]
+    fn write<W: Write>(&self, form: Form, output: &mut W) -> io::Result<()> {
+        match form {
+            Form::Own => write_number(*self, output),
+            Form::Signed => write_signed(*self, u64::MAX, output),
+            Form::BigEndian => write_number(self.swap_bytes(), output),
+        }
     }
 }
 
 impl Text for () {
-    ghost text = { λ u. [] };
+    ghost text = { λ form u. [] };
 
-    ghost is_word = { λ word. word ≡ [] };
+    ghost is_word = { λ form word. word ≡ [] };
 
-    ghost stands_for = { λ word u. word ≡ [] };
+    ghost stands_for = { λ form word u. word ≡ [] };
 
-    ghost wants = { Nothing };
+    ghost wants = { λ form. Nothing };
 
-    fn wanted() -> Wanted {
+    fn wanted(_form: Form) -> Wanted {
         Wanted::Nothing
     }
 
-    fn parse(word: &[u8]) -> Option<()> {
+    fn parse(word: &[u8], _form: Form) -> Option<()> {
         if word.is_empty() { Some(()) } else { None }
     }
 
-    fn write<W: Write>(&self, output: &mut W) -> io::Result<()> {
+    fn write<W: Write>(&self, _form: Form, output: &mut W) -> io::Result<()> {
         output.write_all(b"")
     }
 }
 
 impl<const N: usize> Text for [u8; N] {
-    ghost text = { hex_text };
+    ghost text = { bytes_text };
 
-    ghost is_word = { IsHexWord N };
+    ghost is_word = { IsBytesText N };
 
-    ghost stands_for = { WritesBytes };
+    ghost stands_for = { StandsForBytes };
 
-    ghost wants = { Bytes N };
+    ghost wants = { λ form. Bytes N };
 
-    fn wanted() -> Wanted {
+    fn wanted(_form: Form) -> Wanted {
         Wanted::Bytes(N)
     }
 
-    fn parse(word: &[u8]) -> Option<[u8; N]> {
+    fn parse(word: &[u8], _form: Form) -> Option<[u8; N]> {
         parse_bytes(word)
     }
 
-    fn write<W: Write>(&self, output: &mut W) -> io::Result<()> {
+    fn write<W: Write>(&self, _form: Form, output: &mut W) -> io::Result<()> {
         write_bytes(self, output)
     }
 }

@@ -4,6 +4,7 @@ ghost use Rattle.std.specs.Str.Parse.{IsNumeral, digits_value};
 ghost use Rattle.odht_table.specs.Commands.{IsCommandText, IsPairText, IsWordText};
 ghost use Rattle.odht_table.specs.Verbs.{IsVerbText};
 
+use odht_tool_core::forms::Form;
 use odht_tool_core::places::cut_at;
 use odht_tool_core::text::Text;
 
@@ -116,5 +117,5 @@ fn parse_numeral(word: &[u8]) -> Option<u64>
     ensures { SomeIff result (IsNumeral 10 word.now × (digits_value 10 word.now < 2 ^ 64))
         (digits_value 10 word.now) }
 {
-    u64::parse(word)
+    u64::parse(word, Form::Own)
 }

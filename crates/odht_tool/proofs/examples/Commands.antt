@@ -1,4 +1,4 @@
--- Worked examples: what `check` and `dump` write and return.
+-- Worked examples: what `check`, `dump` and `keys` write and return.
 use Rattle.std.proofs.Common.{◌≡◌, true, false, refl, [], ◌∷◌, Some, None, Ok, Err}
 use Rattle.std.specs.Prelude.{codes}
 use Rattle.std.specs.Fmt.{digits}
@@ -8,13 +8,17 @@ use Rattle.odht_header.specs.declared.error.Error.TheVariants.{TooShort}
 use Rattle.odht_header.proofs.examples.Apart.{unequal_lists}
 use Rattle.odht_header.proofs.examples.Opened.{opened}
 use Rattle.odht_tool_core.specs.GroupNumbers.{groups_to}
+use Rattle.odht_tool.specs.Listings.{keys_outcome}
 use Rattle.odht_tool.specs.Outcomes.{check_outcome, check_word, dump_outcome, hint_of, hint_text}
 use Rattle.odht_tool_core.specs.Endings.{IsDone}
 use Rattle.odht_tool_core.specs.Endings.Outcome.{writes, fails}
-use Rattle.odht_tool_core.specs.declared.failure.Failure.TheVariants.{Refused, NoShape, NoHash, Memory}
+use Rattle.odht_tool_core.specs.declared.failure.Failure.TheVariants.{Refused, NoShape, NoHash, OtherKey, Memory}
+use Rattle.odht_tool_core.specs.declared.forms.Form.TheVariants.{Own, Signed, BigEndian}
 use Rattle.odht_tool_core.specs.declared.shapes.Hash.TheVariants.{Fx, Unhash}
+use Rattle.odht_tool_core.specs.declared.shapes.Part.TheVariants.{U32, U64}
 use Rattle.odht_tool_core.specs.declared.shapes.ready.Shape.TheVariants.{DirectU32ToU32}
 use Rattle.odht_tool_core.specs.declared.status.Status.TheVariants.{Done, NotDone}
+use Rattle.odht_tool_core.proofs.examples.Forms.{kind, said, unsaid}
 use Rattle.odht_tool_core.proofs.examples.Shapes.{one_bytes}
 
 -- ---- check
@@ -58,16 +62,28 @@ unfolding opened first_longer
 words = (refl, refl, refl, refl)
 
 -- ---- dump
-pub pairs : dump_outcome one_bytes (Some Unhash) false ≡ writes (codes "5\t7\n") Done
+pub pairs : dump_outcome one_bytes (Some Unhash) unsaid false ≡ writes (codes "5\t7\n") Done
 unfolding opened digits
 pairs = refl
 
-pub slots : dump_outcome one_bytes (Some Unhash) true ≡ writes (codes "5\t0\t1\t5\t7\n") Done
+pub slots : dump_outcome one_bytes (Some Unhash) unsaid true ≡ writes (codes "5\t0\t1\t5\t7\n") Done
 unfolding opened digits groups_to
 slots = refl
 
+-- with other texts: 5 is 5 * 2^24 with its highest byte first; of another type there is none
+pub formed : (dump_outcome one_bytes (Some Unhash) (said (kind U32 BigEndian) (kind U32 Signed)) false ≡ writes (codes "83886080\t7\n") Done)
+    × (dump_outcome one_bytes (Some Unhash) (said (kind U64 BigEndian) (kind U32 Signed)) false ≡ fails (OtherKey U32))
+unfolding opened digits
+formed = (refl, refl)
+
+-- ---- keys
+pub keys : (keys_outcome one_bytes (Some Unhash) unsaid ≡ writes (codes "5\n") Done)
+    × (keys_outcome one_bytes (Some Unhash) (said (kind U32 BigEndian) (kind U32 Own)) ≡ writes (codes "83886080\n") Done)
+unfolding opened digits
+keys = (refl, refl)
+
 -- the hash function is found, where none is named; with another control byte none fits
-pub found : (dump_outcome one_bytes None false ≡ writes (codes "5\t7\n") Done) × (dump_outcome (overwritten_at one_bytes 165 (1 ∷ [])) None false ≡ fails (NoHash 4 4))
+pub found : (dump_outcome one_bytes None unsaid false ≡ writes (codes "5\t7\n") Done) × (dump_outcome (overwritten_at one_bytes 165 (1 ∷ [])) None unsaid false ≡ fails (NoHash 4 4))
 unfolding opened digits
 found = (refl, refl)
 
@@ -79,8 +95,8 @@ hinted = (refl, refl, refl)
 pub hint_line : hint_text (codes "a.odht") Unhash ≡ codes "odht: a.odht: all control bytes fit unhash: try --hash unhash, or `odht info`\n"
 hint_line = refl
 
-pub refused : (dump_outcome (79 ∷ 68 ∷ []) None false ≡ fails (Refused (TooShort 2)))
-    × (dump_outcome (79 ∷ 68 ∷ []) None true ≡ fails (Refused (TooShort 2)))
+pub refused : (dump_outcome (79 ∷ 68 ∷ []) None unsaid false ≡ fails (Refused (TooShort 2)))
+    × (dump_outcome (79 ∷ 68 ∷ []) None unsaid true ≡ fails (Refused (TooShort 2)))
 unfolding opened
 refused = (refl, refl)
 

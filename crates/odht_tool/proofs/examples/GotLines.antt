@@ -1,7 +1,7 @@
 -- Worked examples: what `get -` writes and returns.
 --     C, f              the coding of the direct shape, and the text of its keys and values
 --     R, a_number       which word is a text of which key, and what is wanted of keys
-use Rattle.std.proofs.Common.{◌≡◌, ◌∙◌, ◌⊎◌, inl, inr, Bool, true, ◌+◌, ◌*◌, ◌≤◌, ℕ, zero, suc, refl, sym, ap, subst, arith, lit<, lit≤, map, length, length-append, List, [], ◌∷◌, ◌++◌, Option, Some, None, Ok, Err, slice_get}
+use Rattle.std.proofs.Common.{◌≡◌, ◌∙◌, inl, inr, Bool, true, ◌+◌, ◌*◌, ◌≤◌, ℕ, zero, suc, refl, sym, ap, subst, arith, lit<, lit≤, map, length, length-append, List, [], ◌∷◌, ◌++◌, Option, Some, None, Ok, Err, slice_get}
 use Rattle.std.specs.Prelude.{codes, string_bytes}
 use Rattle.std.specs.Fmt.{digits}
 use Rattle.std.specs.Io.KnownBytes.{Appends}
@@ -27,6 +27,7 @@ use Rattle.odht_tool_core.specs.Misreads.{misread_text, typed_wanted}
 use Rattle.odht_tool_core.specs.ReadyShapes.{shape_coding, typed_text}
 use Rattle.odht_tool_core.specs.declared.misread.Wanted.{Wanted}
 use Rattle.odht_tool_core.specs.Texts.{answers_text}
+use Rattle.odht_tool_core.specs.declared.forms.Form.TheVariants.{Own}
 use Rattle.odht_tool_core.specs.declared.failure.Failure.TheVariants.{Refused, NoShape, Input, Misread, Output, Memory}
 use Rattle.odht_tool_core.specs.declared.failure.LineFault.TheVariants.{Key}
 use Rattle.odht_tool_core.specs.declared.shapes.Hash.TheVariants.{Unhash}
@@ -37,19 +38,20 @@ use Rattle.odht_tool_core.specs.declared.status.Status.TheVariants.{Done, NotDon
 use Rattle.odht_tool.proofs.AnswerLists.{are_answers_append}
 use Rattle.odht_tool.proofs.KeyAnswers.{no_answers, nothing_flushed}
 use Rattle.odht_tool.proofs.examples.Gots.{no_refusal}
+use Rattle.odht_tool_core.proofs.examples.Forms.{unsaid}
 use Rattle.odht_tool_core.proofs.examples.Shapes.{one_item, one_bytes}
 
 abbrev C : Coding ℕ ℕ
 C = shape_coding DirectU32ToU32
 
 abbrev f : ℕ → List ℕ
-f = typed_text U32
+f = typed_text Own U32
 
 abbrev R : List ℕ → ℕ → Type 0
-R = IsTextOf U32
+R = IsTextOf Own U32
 
 abbrev a_number : Wanted
-a_number = typed_wanted U32
+a_number = typed_wanted Own U32
 
 -- ---- the answers to keys
 -- the bytes are those of this table alone
@@ -132,7 +134,7 @@ both_answered = record {
   status = refl;
 }
 
-pub both : lines_of_shape one_bytes (Some (codes "5\n6\n")) (Some (codes "a")) (Some (codes "a5\t7\n6\n")) (Ok NotDone) DirectU32ToU32
+pub both : lines_of_shape (Own, Own) one_bytes (Some (codes "5\n6\n")) (Some (codes "a")) (Some (codes "a5\t7\n6\n")) (Ok NotDone) DirectU32ToU32
 both = (no_refusal, record { words = codes "5" ∷ codes "6" ∷ []; place = inl refl; answered = both_answered })
 
 -- of these lines there are no other answers
@@ -174,17 +176,17 @@ all_both old new status h = only_both old new status (go h.words h.place h.answe
     go ws (inr e) a = absurd (none_empty ws e.0)
 
 -- the other status; an answer left out; one written twice
-pub other_status : (new : Option (List ℕ)) → lines_of_shape one_bytes (Some (codes "5\n6\n")) (Some []) new (Ok Done) DirectU32ToU32 → ⊥
+pub other_status : (new : Option (List ℕ)) → lines_of_shape (Own, Own) one_bytes (Some (codes "5\n6\n")) (Some []) new (Ok Done) DirectU32ToU32 → ⊥
 other_status new h = let other = (all_both (Some []) new Done h.1).0 in cc
 
-pub left_out : lines_of_shape one_bytes (Some (codes "5\n6\n")) (Some (codes "a")) (Some (codes "a5\t7\n")) (Ok NotDone) DirectU32ToU32 → ⊥
+pub left_out : lines_of_shape (Own, Own) one_bytes (Some (codes "5\n6\n")) (Some (codes "a")) (Some (codes "a5\t7\n")) (Ok NotDone) DirectU32ToU32 → ⊥
 left_out h = unequal_lists (codes "a5\t7\n") (codes "a5\t7\n6\n") refl (all_both (Some (codes "a")) (Some (codes "a5\t7\n")) NotDone h.1).1
 
-pub twice : lines_of_shape one_bytes (Some (codes "5\n6\n")) (Some []) (Some (codes "5\t7\n5\t7\n6\n")) (Ok NotDone) DirectU32ToU32 → ⊥
+pub twice : lines_of_shape (Own, Own) one_bytes (Some (codes "5\n6\n")) (Some []) (Some (codes "5\t7\n5\t7\n6\n")) (Ok NotDone) DirectU32ToU32 → ⊥
 twice h = unequal_lists (codes "5\t7\n5\t7\n6\n") (codes "5\t7\n6\n") refl (all_both (Some []) (Some (codes "5\t7\n5\t7\n6\n")) NotDone h.1).1
 
 -- a status where a line is no key
-pub done_at_fault : (old new : Option (List ℕ)) (status : Status) → lines_of_shape one_bytes (Some (codes "x\n")) old new (Ok status) DirectU32ToU32 → ⊥
+pub done_at_fault : (old new : Option (List ℕ)) (status : Status) → lines_of_shape (Own, Own) one_bytes (Some (codes "x\n")) old new (Ok status) DirectU32ToU32 → ⊥
 done_at_fault old new status h = whole h.1.words h.1.place h.1.answered
   where
     none : (ws : List (List ℕ)) → codes "x" ∷ [] ≡ ws ++ ([] ∷ []) → ⊥
@@ -201,7 +203,7 @@ done_at_fault old new status h = whole h.1.words h.1.place h.1.answered
     whole ws (inr e) a = none ws e.0
 
 -- an empty last line is left out, and no other one
-pub empty_last : lines_of_shape one_bytes (Some (codes "5\n\n")) (Some (codes "a")) (Some (codes "a5\t7\n")) (Ok Done) DirectU32ToU32
+pub empty_last : lines_of_shape (Own, Own) one_bytes (Some (codes "5\n\n")) (Some (codes "a")) (Some (codes "a5\t7\n")) (Ok Done) DirectU32ToU32
 unfolding digits
 empty_last = (
   no_refusal,
@@ -227,7 +229,7 @@ empty_last_told old new text h = go h.before h.after h.place h.more
     go (a ∷ b ∷ before) after place more = cc
 
 -- nothing is said where the bytes of the input are not known
-pub unknown : lines_of_shape one_bytes None (Some []) (Some (codes "b")) (Ok Done) DirectU32ToU32
+pub unknown : lines_of_shape (Own, Own) one_bytes None (Some []) (Some (codes "b")) (Ok Done) DirectU32ToU32
 unknown = (no_refusal, tt)
 
 -- ---- a line that is no key
@@ -235,7 +237,7 @@ unknown = (no_refusal, tt)
 abbrev second_text : List ℕ
 second_text = codes "standard input, line 2: the key \"x\" is not a number below 2^32"
 
-pub second : (message : _) → string_bytes message ≡ second_text → lines_of_shape one_bytes (Some (codes "5\nx\n6")) (Some (codes "a")) (Some (codes "a5\t7\n")) (Err (Misread message)) DirectU32ToU32
+pub second : (message : _) → string_bytes message ≡ second_text → lines_of_shape (Own, Own) one_bytes (Some (codes "5\nx\n6")) (Some (codes "a")) (Some (codes "a5\t7\n")) (Err (Misread message)) DirectU32ToU32
 unfolding digits
 second message told = (
   no_refusal,
@@ -279,28 +281,28 @@ only_second old new text h = go h.before h.place h.told h.answered
         second_key (k ∷ l ∷ ks) t = no_key l t.1.0
 
 -- counted from 0; the answer before it not written; another fault; another text
-told_else : (message : _) (new : Option (List ℕ)) (text : List ℕ) → string_bytes message ≡ text → lines_of_shape one_bytes (Some (codes "5\nx\n6")) (Some []) new (Err (Misread message)) DirectU32ToU32
+told_else : (message : _) (new : Option (List ℕ)) (text : List ℕ) → string_bytes message ≡ text → lines_of_shape (Own, Own) one_bytes (Some (codes "5\nx\n6")) (Some []) new (Err (Misread message)) DirectU32ToU32
     → text ≡ second_text
 told_else message new text e h = sym e ∙ (only_second (Some []) new (string_bytes message) h.1).0
 
 pub from_zero : (message : _) (new : Option (List ℕ)) → string_bytes message ≡ codes "standard input, line 1: the key \"x\" is not a number below 2^32"
-    → lines_of_shape one_bytes (Some (codes "5\nx\n6")) (Some []) new (Err (Misread message)) DirectU32ToU32 → ⊥
+    → lines_of_shape (Own, Own) one_bytes (Some (codes "5\nx\n6")) (Some []) new (Err (Misread message)) DirectU32ToU32 → ⊥
 from_zero message new e h = unequal_lists (codes "standard input, line 1: the key \"x\" is not a number below 2^32") second_text refl (told_else message new _ e h)
 
-pub unwritten : (message : _) → lines_of_shape one_bytes (Some (codes "5\nx\n6")) (Some []) (Some []) (Err (Misread message)) DirectU32ToU32 → ⊥
+pub unwritten : (message : _) → lines_of_shape (Own, Own) one_bytes (Some (codes "5\nx\n6")) (Some []) (Some []) (Err (Misread message)) DirectU32ToU32 → ⊥
 unwritten message h = unequal_lists [] (codes "5\t7\n") refl (only_second (Some []) (Some []) (string_bytes message) h.1).1
 
 pub no_tab : (message : _) (new : Option (List ℕ)) → string_bytes message ≡ codes "standard input, line 2: \"x\" has no tab between key and value"
-    → lines_of_shape one_bytes (Some (codes "5\nx\n6")) (Some []) new (Err (Misread message)) DirectU32ToU32 → ⊥
+    → lines_of_shape (Own, Own) one_bytes (Some (codes "5\nx\n6")) (Some []) new (Err (Misread message)) DirectU32ToU32 → ⊥
 no_tab message new e h = unequal_lists (codes "standard input, line 2: \"x\" has no tab between key and value") second_text refl (told_else message new _ e h)
 
 pub other_text : (message : _) (new : Option (List ℕ)) → string_bytes message ≡ codes "standard input, line 2: the key \"6\" is not a number below 2^32"
-    → lines_of_shape one_bytes (Some (codes "5\nx\n6")) (Some []) new (Err (Misread message)) DirectU32ToU32 → ⊥
+    → lines_of_shape (Own, Own) one_bytes (Some (codes "5\nx\n6")) (Some []) new (Err (Misread message)) DirectU32ToU32 → ⊥
 other_text message new e h = unequal_lists (codes "standard input, line 2: the key \"6\" is not a number below 2^32") second_text refl (told_else message new _ e h)
 
 -- ---- other failures
 -- without memory, or where the input cannot be read, what is written are the answers to whole batches: here to none
-pub no_memory : lines_of_shape one_bytes (Some (codes "5\n")) (Some (codes "a")) (Some (codes "a")) (Err Memory) DirectU32ToU32
+pub no_memory : lines_of_shape (Own, Own) one_bytes (Some (codes "5\n")) (Some (codes "a")) (Some (codes "a")) (Err Memory) DirectU32ToU32
 no_memory = (
   no_refusal,
   record {
@@ -326,34 +328,34 @@ none_first old new h = go h.before (ap length h.place ∙ length-append h.before
         none (k ∷ ks) t w = absurd t
     go (a ∷ rest) place counted answered = absurd (omega (arith, place, counted))
 
-pub half_a_batch : lines_of_shape one_bytes (Some (codes "5\n")) (Some (codes "a")) (Some (codes "a5\t7\n")) (Err Memory) DirectU32ToU32 → ⊥
+pub half_a_batch : lines_of_shape (Own, Own) one_bytes (Some (codes "5\n")) (Some (codes "a")) (Some (codes "a5\t7\n")) (Err Memory) DirectU32ToU32 → ⊥
 half_a_batch h = unequal_lists (codes "a5\t7\n") (codes "a") refl (none_first (Some (codes "a")) (Some (codes "a5\t7\n")) h.1)
 
-pub half_read : (error : _) → lines_of_shape one_bytes (Some (codes "5\n")) (Some (codes "a")) (Some (codes "a5\t7\n")) (Err (Input error)) DirectU32ToU32 → ⊥
+pub half_read : (error : _) → lines_of_shape (Own, Own) one_bytes (Some (codes "5\n")) (Some (codes "a")) (Some (codes "a5\t7\n")) (Err (Input error)) DirectU32ToU32 → ⊥
 half_read error h = unequal_lists (codes "a5\t7\n") (codes "a") refl (none_first (Some (codes "a")) (Some (codes "a5\t7\n")) h.1)
 
 -- the writer fails only once the bytes are opened
-pub unopened : (input old new : Option (List ℕ)) (error : _) → lines_of_shape (79 ∷ 68 ∷ []) input old new (Err (Output error)) DirectU32ToU32 → ⊥
+pub unopened : (input old new : Option (List ℕ)) (error : _) → lines_of_shape (Own, Own) (79 ∷ 68 ∷ []) input old new (Err (Output error)) DirectU32ToU32 → ⊥
 unfolding opened
 unopened input old new error h = let opens = h.0 in cc
 
 -- of bytes that do not open the error is returned, and nothing is written
-pub refused : (input : Option (List ℕ)) → lines_of_shape (79 ∷ 68 ∷ []) input (Some (codes "a")) (Some (codes "a")) (Err (Refused (TooShort 2))) DirectU32ToU32
+pub refused : (input : Option (List ℕ)) → lines_of_shape (Own, Own) (79 ∷ 68 ∷ []) input (Some (codes "a")) (Some (codes "a")) (Err (Refused (TooShort 2))) DirectU32ToU32
 unfolding opened
 refused input = (refl, refl)
 
-pub refused_late : (input : Option (List ℕ)) → lines_of_shape (79 ∷ 68 ∷ []) input (Some (codes "a")) (Some (codes "ab")) (Err (Refused (TooShort 2))) DirectU32ToU32 → ⊥
+pub refused_late : (input : Option (List ℕ)) → lines_of_shape (Own, Own) (79 ∷ 68 ∷ []) input (Some (codes "a")) (Some (codes "ab")) (Err (Refused (TooShort 2))) DirectU32ToU32 → ⊥
 refused_late input h = unequal_lists (codes "ab") (codes "a") refl h.1
 
-pub not_refused : (input old new : Option (List ℕ)) → lines_of_shape one_bytes input old new (Err (Refused (TooShort 2))) DirectU32ToU32 → ⊥
+pub not_refused : (input old new : Option (List ℕ)) → lines_of_shape (Own, Own) one_bytes input old new (Err (Refused (TooShort 2))) DirectU32ToU32 → ⊥
 not_refused input old new h = let no = no_refusal in cc
 
 -- of bytes with no shape nothing is read
-pub no_shape : (input : Option (List ℕ)) → AreFileLinesGot (overwritten_at one_bytes 5 (9 ∷ [])) None input (Some (codes "a")) (Some (codes "a")) (Err (NoShape 9 4))
+pub no_shape : (input : Option (List ℕ)) → AreFileLinesGot (overwritten_at one_bytes 5 (9 ∷ [])) None unsaid input (Some (codes "a")) (Some (codes "a")) (Err (NoShape 9 4))
 unfolding opened
 no_shape input = (refl, refl)
 
-pub shape_missed : (input old new : Option (List ℕ)) → AreFileLinesGot one_bytes (Some Unhash) input old new (Err (NoShape 4 4)) → ⊥
+pub shape_missed : (input old new : Option (List ℕ)) → AreFileLinesGot one_bytes (Some Unhash) unsaid input old new (Err (NoShape 4 4)) → ⊥
 unfolding opened
 shape_missed input old new h = h.1
 

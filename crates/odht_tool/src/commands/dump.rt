@@ -15,7 +15,7 @@ use odht::config::{Coded, Config};
 use odht::{HashTable, Iter};
 use odht_tool_core::answers::write_pair;
 use odht_tool_core::failure::Failure;
-use odht_tool_core::found::found_shape;
+use odht_tool_core::forms::{Forms, Kinds, OwnForms, read_as};
 use odht_tool_core::shapes::{Hash, Shape};
 use odht_tool_core::slots::dump_slots;
 use odht_tool_core::status::{Status, of_output};
@@ -27,50 +27,86 @@ use std::io::{self, Write};
 pub fn dump_file<O: Write>(
     bytes: &[u8],
     hash: Option<Hash>,
+    kinds: Kinds,
     is_slots: bool,
     output: &mut O,
 ) -> Result<Status, Failure>
-    ensures { IsDone (dump_outcome bytes.now hash is_slots)
+    ensures { IsDone (dump_outcome bytes.now hash kinds is_slots)
         (O.contents output.old) (O.contents output.new) result }
 {
-    let shape = found_shape(bytes, hash)?;
-    if is_slots {
-        dump_slots_of(shape, bytes, output)
+    let found = read_as(bytes, hash, kinds)?;
+    let (shape, forms) = found;
+    if forms.are_own() {
+        dump_in(shape, OwnForms, bytes, is_slots, output)
     } else {
-        dump_pairs_of(shape, bytes, output)
+        dump_in(shape, forms, bytes, is_slots, output)
     }
 }
 
-fn dump_pairs_of<O: Write>(shape: Shape, bytes: &[u8], output: &mut O) -> Result<Status, Failure>
-    ensures { IsDone (dump_of_shape bytes.now false shape)
+// The same where the shape and the forms are known.
+fn dump_in<F: Forms, O: Write>(
+    shape: Shape,
+    forms: F,
+    bytes: &[u8],
+    is_slots: bool,
+    output: &mut O,
+) -> Result<Status, Failure>
+    ensures { IsDone (dump_of_shape (F.pair forms) bytes.now is_slots shape)
         (O.contents output.old) (O.contents output.new) result }
 {
-    for_shape!(shape, dump_pairs[O](bytes, output))
+    if is_slots {
+        dump_slots_of(shape, forms, bytes, output)
+    } else {
+        dump_pairs_of(shape, forms, bytes, output)
+    }
 }
 
-fn dump_slots_of<O: Write>(shape: Shape, bytes: &[u8], output: &mut O) -> Result<Status, Failure>
-    ensures { IsDone (dump_of_shape bytes.now true shape)
+fn dump_pairs_of<F: Forms, O: Write>(
+    shape: Shape,
+    forms: F,
+    bytes: &[u8],
+    output: &mut O,
+) -> Result<Status, Failure>
+    ensures { IsDone (dump_of_shape (F.pair forms) bytes.now false shape)
         (O.contents output.old) (O.contents output.new) result }
 {
-    for_shape!(shape, dump_slots[O](bytes, output))
+    for_shape!(shape, dump_pairs[F, O](bytes, forms, output))
 }
 
-fn dump_pairs<C: Config, O: Write>(bytes: &[u8], output: &mut O) -> Result<Status, Failure>
+fn dump_slots_of<F: Forms, O: Write>(
+    shape: Shape,
+    forms: F,
+    bytes: &[u8],
+    output: &mut O,
+) -> Result<Status, Failure>
+    ensures { IsDone (dump_of_shape (F.pair forms) bytes.now true shape)
+        (O.contents output.old) (O.contents output.new) result }
+{
+    for_shape!(shape, dump_slots[F, O](bytes, forms, output))
+}
+
+fn dump_pairs<C: Config, F: Forms, O: Write>(
+    bytes: &[u8],
+    forms: F,
+    output: &mut O,
+) -> Result<Status, Failure>
 where
     C::Key: Text,
     C::Value: Text,
-    ensures { IsDone (pairs_outcome ⟦<C as Coded>⟧.coding C.Key.text C.Value.text bytes.now)
+    ensures { IsDone (pairs_outcome ⟦<C as Coded>⟧.coding (C.Key.text (F.pair forms).0)
+        (C.Value.text (F.pair forms).1) bytes.now)
         (O.contents output.old) (O.contents output.new) result }
 {
     let table = HashTable::<C, Borrowed<'_>>::from_raw_bytes(Borrowed::new(bytes)).map_err(
         Failure::Refused,
     )?;
-    of_output(write_table(&table, output))
+    of_output(write_table(&table, forms, output))
 }
 
 // Writes the pairs of a table.
-fn write_table<C: Config, O: Write>(
+fn write_table<C: Config, F: Forms, O: Write>(
     table: &HashTable<C, Borrowed<'_>>,
+    forms: F,
     output: &mut O,
 ) -> io::Result<()>
 where
@@ -79,25 +115,30 @@ where
     ensures on_valid { (P : Table)
         → IsImage ⟦<C as Coded>⟧.coding.format P table.now.0.now
         → OnOk result (Appends (O.contents output.old) (O.contents output.new)
-        (pairs_text C.Key.text C.Value.text (decoded_all ⟦<C as Coded>⟧.coding (walk P)))) }
+        (pairs_text (C.Key.text (F.pair forms).0) (C.Value.text (F.pair forms).1)
+        (decoded_all ⟦<C as Coded>⟧.coding (walk P)))) }
     ensures on_any { let c = ⟦<C as Coded>⟧.coding
         in let pairs = decoded_all c (decoded_pairs c.format table.now.0.now)
         in OnOk result (Appends (O.contents output.old) (O.contents output.new)
-        (pairs_text C.Key.text C.Value.text pairs)) }
+        (pairs_text (C.Key.text (F.pair forms).0) (C.Value.text (F.pair forms).1) pairs)) }
 {
-    write_pairs(table.iter(), output)
+    write_pairs(table.iter(), forms, output)
 }
 
 // Writes each pair on a line.
-fn write_pairs<C: Config, O: Write>(pairs: Iter<'_, C>, output: &mut O) -> io::Result<()>
+fn write_pairs<C: Config, F: Forms, O: Write>(
+    pairs: Iter<'_, C>,
+    forms: F,
+    output: &mut O,
+) -> io::Result<()>
 where
     C::Key: Text,
     C::Value: Text,
     ensures { OnOk result (Appends (O.contents output.old) (O.contents output.new)
-        (pairs_text C.Key.text C.Value.text pairs.entry)) }
+        (pairs_text (C.Key.text (F.pair forms).0) (C.Value.text (F.pair forms).1) pairs.entry)) }
 {
     for (key, value) in pairs {
-        write_pair(&key, &value, output)?;
+        write_pair(&key, &value, forms, output)?;
     }
     Ok(())
 }

@@ -11,7 +11,7 @@ use odht::bytes::Borrowed;
 use odht::config::{Coded, Config};
 use odht::{HashTable, Iter};
 use odht_tool_core::failure::Failure;
-use odht_tool_core::found::found_shape;
+use odht_tool_core::forms::{Forms, Kinds, OwnForms, read_as};
 use odht_tool_core::shapes::{Hash, Shape};
 use odht_tool_core::status::{Status, of_output};
 use odht_tool_core::text::Text;
@@ -21,37 +21,54 @@ use std::io::{self, Write};
 pub fn keys_file<O: Write>(
     bytes: &[u8],
     hash: Option<Hash>,
+    kinds: Kinds,
     output: &mut O,
 ) -> Result<Status, Failure>
-    ensures { IsDone (keys_outcome bytes.now hash)
+    ensures { IsDone (keys_outcome bytes.now hash kinds)
         (O.contents output.old) (O.contents output.new) result }
 {
-    let shape = found_shape(bytes, hash)?;
-    keys_of(shape, bytes, output)
+    let found = read_as(bytes, hash, kinds)?;
+    let (shape, forms) = found;
+    if forms.are_own() {
+        keys_of(shape, OwnForms, bytes, output)
+    } else {
+        keys_of(shape, forms, bytes, output)
+    }
 }
 
-fn keys_of<O: Write>(shape: Shape, bytes: &[u8], output: &mut O) -> Result<Status, Failure>
-    ensures { IsDone (keys_of_shape bytes.now shape)
+// The same where the shape and the forms are known.
+fn keys_of<F: Forms, O: Write>(
+    shape: Shape,
+    forms: F,
+    bytes: &[u8],
+    output: &mut O,
+) -> Result<Status, Failure>
+    ensures { IsDone (keys_of_shape (F.pair forms).0 bytes.now shape)
         (O.contents output.old) (O.contents output.new) result }
 {
-    for_shape!(shape, list_keys[O](bytes, output))
+    for_shape!(shape, list_keys[F, O](bytes, forms, output))
 }
 
-fn list_keys<C: Config, O: Write>(bytes: &[u8], output: &mut O) -> Result<Status, Failure>
+fn list_keys<C: Config, F: Forms, O: Write>(
+    bytes: &[u8],
+    forms: F,
+    output: &mut O,
+) -> Result<Status, Failure>
 where
     C::Key: Text,
-    ensures { IsDone (listed_outcome ⟦<C as Coded>⟧.coding C.Key.text bytes.now)
+    ensures { IsDone (listed_outcome ⟦<C as Coded>⟧.coding (C.Key.text (F.pair forms).0) bytes.now)
         (O.contents output.old) (O.contents output.new) result }
 {
     let table = HashTable::<C, Borrowed<'_>>::from_raw_bytes(Borrowed::new(bytes)).map_err(
         Failure::Refused,
     )?;
-    of_output(write_table(&table, output))
+    of_output(write_table(&table, forms, output))
 }
 
 // Writes the keys of a table.
-fn write_table<C: Config, O: Write>(
+fn write_table<C: Config, F: Forms, O: Write>(
     table: &HashTable<C, Borrowed<'_>>,
+    forms: F,
     output: &mut O,
 ) -> io::Result<()>
 where
@@ -59,28 +76,32 @@ where
     ensures { let c = ⟦<C as Coded>⟧.coding
         in let pairs = decoded_all c (decoded_pairs c.format table.now.0.now)
         in OnOk result (Appends (O.contents output.old) (O.contents output.new)
-        (keys_text C.Key.text pairs)) }
+        (keys_text (C.Key.text (F.pair forms).0) pairs)) }
 {
-    write_keys(table.iter(), output)
+    write_keys(table.iter(), forms, output)
 }
 
 // Writes the key of each pair on a line.
-fn write_keys<C: Config, O: Write>(pairs: Iter<'_, C>, output: &mut O) -> io::Result<()>
+fn write_keys<C: Config, F: Forms, O: Write>(
+    pairs: Iter<'_, C>,
+    forms: F,
+    output: &mut O,
+) -> io::Result<()>
 where
     C::Key: Text,
     ensures { OnOk result (Appends (O.contents output.old) (O.contents output.new)
-        (keys_text C.Key.text pairs.entry)) }
+        (keys_text (C.Key.text (F.pair forms).0) pairs.entry)) }
 {
     for (key, _) in pairs {
-        write_key(&key, output)?;
+        write_key(&key, forms, output)?;
     }
     Ok(())
 }
 
-fn write_key<K: Text, O: Write>(key: &K, output: &mut O) -> io::Result<()>
+fn write_key<K: Text, F: Forms, O: Write>(key: &K, forms: F, output: &mut O) -> io::Result<()>
     ensures { OnOk result (Appends (O.contents output.old) (O.contents output.new)
-        (K.text key.now ++ 10 ∷ [])) }
+        (K.text (F.pair forms).0 key.now ++ 10 ∷ [])) }
 {
-    key.write(output)?;
+    key.write(forms.key(), output)?;
     output.write_all(b"\n")
 }

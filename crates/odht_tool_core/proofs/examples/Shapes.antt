@@ -11,6 +11,7 @@ use Rattle.odht_base.specs.Table.{Table}
 use Rattle.odht_header.proofs.examples.Opened.{opened}
 use Rattle.odht_tool_core.specs.ReadyShapes.{typed_len, typed_bytes, typed_of, typed_text, shape_format, shape_of_parts, shape_of_sizes, shape_of_bytes}
 use Rattle.odht_tool_core.specs.ShapeList.{key_part, value_part, shape_hash, ready_shapes}
+use Rattle.odht_tool_core.specs.declared.forms.Form.TheVariants.{Own}
 use Rattle.odht_tool_core.specs.declared.shapes.Hash.TheVariants.{Fx, Unhash}
 use Rattle.odht_tool_core.specs.declared.shapes.Part.TheVariants.{Nothing, U32, U64, Bytes}
 use Rattle.odht_tool_core.specs.declared.shapes.ready.Shape.TheVariants.{U32ToU32, DirectU32ToU32, U64ToU32, Bytes16Set, Bytes32Set}
@@ -25,8 +26,8 @@ one_bytes = image direct_config one_item
 pub typed : (typed_bytes U32 258 ≡ 2 ∷ 1 ∷ 0 ∷ 0 ∷ [])
     × (typed_of U64 (2 ∷ 1 ∷ 0 ∷ 0 ∷ 0 ∷ 0 ∷ 0 ∷ 0 ∷ []) ≡ 258)
     × (typed_of (Bytes 2) (10 ∷ 1 ∷ []) ≡ 10 ∷ 1 ∷ [])
-    × (typed_text (Bytes 2) (10 ∷ 255 ∷ []) ≡ codes "0aff")
-    × (typed_text Nothing tt ≡ [])
+    × (typed_text Own (Bytes 2) (10 ∷ 255 ∷ []) ≡ codes "0aff")
+    × (typed_text Own Nothing tt ≡ [])
 typed = (refl, refl, refl, refl, refl)
 
 -- the formats of three shapes

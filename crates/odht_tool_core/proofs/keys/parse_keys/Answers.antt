@@ -8,7 +8,7 @@ use Rattle.odht_tool_core.proofs.keys.parse_keys.Goals as goal
 
 pub loop-word-preserved : goal.loop-word-preserved
 loop-word-preserved g c =
-    let R = IsReadAs g.K.Text.is_word g.K.Text.stands_for in
+    let R = IsReadAs (g.K.Text.is_word c.args.form) (g.K.Text.stands_for c.args.form) in
     let word = c.as_bytes.ensures.value ∙ c.as_str.ensures.value in
     let read : R c.as_bytes.result.now c.in-Some.key = (c.in-Some.ensures.some.0 refl, c.in-Some.ensures.value) in
     let all = words_more R string_bytes c.args.words.now c.loop-word.word-index c.word-item.result c.loop-word.keys.items c.loop-word-test.true c.word-item.is c.loop-word.invariant c.in-Some.key
@@ -17,10 +17,10 @@ loop-word-preserved g c =
 
 pub returns-in-None-clause-fault : goal.returns-in-None-clause-fault
 returns-in-None-clause-fault g c =
-    let R = IsReadAs g.K.Text.is_word g.K.Text.stands_for in
+    let R = IsReadAs (g.K.Text.is_word c.args.form) (g.K.Text.stands_for c.args.form) in
     let word = c.as_bytes.ensures.value ∙ c.as_str.ensures.value in
     let none : IsTextOfNone R c.as_bytes.result.now = λ k r. let no = c.in-None.ensures.some.1 r.0 in cc in
-    tells_fault R g.K.Text.wants (map string_bytes c.args.words.now) (string_bytes c.word-item.result) c.wrong_key.result
+    tells_fault R (g.K.Text.wants c.args.form) (map string_bytes c.args.words.now) (string_bytes c.word-item.result) c.wrong_key.result
     (first_fault R string_bytes c.args.words.now c.loop-word.word-index c.word-item.result c.loop-word.keys.items c.loop-word-test.true c.word-item.is c.loop-word.invariant
     (subst (IsTextOfNone R) word none))
-    (subst (λ w. TellsWord g.K.Text.wants w c.wrong_key.result) c.as_str-in-None.ensures.value c.wrong_key.ensures)
+    (subst (λ w. TellsWord (g.K.Text.wants c.args.form) w c.wrong_key.result) c.as_str-in-None.ensures.value c.wrong_key.ensures)

@@ -13,9 +13,11 @@ loop-slot-preserved g c =
     g.C.EncodedValue.ByteArray.LEN g.C.EncodedValue.ByteArray.bytes g.C.EncodedValue.ByteArray.of_bytes
     g.C.H.HashFn.hash g.C.Config.encode_key g.C.Config.encode_value g.C.Config.decode_key g.C.Config.decode_value in
     let T : TableParts = record { control = c.data_slices-entries.result.0.now; entries = c.data_slices-entries.result.1 } in
-    let line = slot_line coding g.C.Key.Text.text g.C.Value.Text.text T in
+    let f = g.C.Key.Text.text (g.F.Forms.pair c.args.forms).0 in
+    let h = g.C.Value.Text.text (g.F.Forms.pair c.args.forms).1 in
+    let line = slot_line coding f h T in
     let n = c.loop-slot.slot in
     let old = g.O.Write.contents c.args.output.now in
     let new = g.O.Write.contents c.write_slot.new.output in
     subst (Appends old new) (sym (written_more line n))
-    (Appends-trans old (g.O.Write.contents c.loop-slot.output) new (slots_text coding g.C.Key.Text.text g.C.Value.Text.text T n) (line n) c.loop-slot.invariant c.in_ok-write_slot.ensures)
+    (Appends-trans old (g.O.Write.contents c.loop-slot.output) new (slots_text coding f h T n) (line n) c.loop-slot.invariant c.in_ok-write_slot.ensures)

@@ -1,6 +1,7 @@
 // Made by `make rust` of crates/odht_tool_core/src/answers.rt.
 //! The lines in which pairs and answers are printed.
 
+use crate::erased::core::forms::Forms;
 use crate::erased::core::text::Text;
 use crate::host::prelude::*;
 use crate::shim::{AllocError, Global};
@@ -9,25 +10,27 @@ use std::io::{self, Write};
 /// Writes a line of a key, a tab and a value, each part by itself: a buffer behind `output` that becomes full is passed
 /// on with as many parts as fit.
 #[inline(always)]
-pub fn write_pair<K: Text, V: Text, O: Write>(
+pub fn write_pair<K: Text, V: Text, F: Forms, O: Write>(
     key: &K,
     value: &V,
+    forms: F,
     output: &mut O,
 ) -> io::Result<()> {
-    key.write(output)?;
+    key.write(forms.key(), output)?;
     output.write_all(b"\t")?;
-    value.write(output)?;
+    value.write(forms.value(), output)?;
     output.write_all(b"\n")
 }
 
 /// Writes a line for each key: with its value, or the key alone where it has none.
-pub fn write_answers<K: Text, V: Text, O: Write>(
+pub fn write_answers<K: Text, V: Text, F: Forms, O: Write>(
     keys: &[K],
     values: &[Option<V>],
+    forms: F,
     output: &mut O,
 ) -> io::Result<()> {
     for at in 0..keys.len() {
-        write_answer(&keys[at], &values[at], output)?;
+        write_answer(&keys[at], &values[at], forms, output)?;
     }
     Ok(())
 }
@@ -43,15 +46,16 @@ pub fn are_found<V>(values: &[Option<V>]) -> bool {
 }
 
 // Writes the line of a key with its value, or of the key alone.
-fn write_answer<K: Text, V: Text, O: Write>(
+fn write_answer<K: Text, V: Text, F: Forms, O: Write>(
     key: &K,
     value: &Option<V>,
+    forms: F,
     output: &mut O,
 ) -> io::Result<()> {
     match value {
-        Some(value) => write_pair(key, value, output),
+        Some(value) => write_pair(key, value, forms, output),
         None => {
-            key.write(output)?;
+            key.write(forms.key(), output)?;
             output.write_all(b"\n")
         }
     }

@@ -1,6 +1,7 @@
 // Made by `make rust` of crates/odht_tool_core/src/arguments.rt.
 //! The arguments that the program is called with.
 
+use crate::erased::core::forms::{GivenForms, Kinds};
 use crate::erased::core::shapes::{Hash, Shape};
 use crate::host::prelude::*;
 use crate::proved::base::load::Percent;
@@ -18,6 +19,7 @@ pub use topics::{Setting, Topic};
 #[derive(Clone, Copy)]
 pub struct BuildOptions {
     pub shape: Shape,
+    pub forms: GivenForms,
     /// For how many items room is made at first.
     pub capacity: usize,
     pub percent: Percent,
@@ -61,6 +63,7 @@ pub enum Command {
     Build(BuildOptions),
     Put {
         hash: Option<Hash>,
+        kinds: Kinds,
         bound: Option<usize>,
         breaks_links: bool,
         has_progress: bool,
@@ -73,9 +76,9 @@ pub enum Reading {
     Info { bound: Option<usize> },
     Check { hash: Option<Hash>, bound: Option<usize> },
     Count { hash: Option<Hash>, bound: Option<usize> },
-    Get { hash: Option<Hash>, keys: Keys },
-    Dump { hash: Option<Hash>, is_slots: bool },
-    Keys { hash: Option<Hash> },
+    Get { hash: Option<Hash>, kinds: Kinds, keys: Keys },
+    Dump { hash: Option<Hash>, kinds: Kinds, is_slots: bool },
+    Keys { hash: Option<Hash>, kinds: Kinds },
     Find { bound: Option<usize> },
     // end readings
 }

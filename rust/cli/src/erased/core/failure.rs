@@ -3,6 +3,7 @@
 
 use crate::erased::core::obstacles::Obstacle;
 use crate::erased::core::refusal::Refusal;
+use crate::erased::core::shapes::Part;
 use crate::host::prelude::*;
 use crate::proved::header::error::Error;
 use crate::shim::AllocError;
@@ -25,6 +26,10 @@ pub enum Failure {
     NoShape { key_size: u8, value_size: u8 },
     /// The control bytes are not the tags of the keys under any hash function of the ready shapes of these sizes.
     NoHash { key_size: u8, value_size: u8 },
+    /// Keys are said to be of another type than this, which they are of.
+    OtherKey(Part),
+    /// Values are said to be of another type than this, which they are of.
+    OtherValue(Part),
     /// The file ends before this byte.
     PastEnd { offset: usize, len: usize },
     /// There are headers of tables that overlap, more than a file has that is not forged.
@@ -78,6 +83,10 @@ impl fmt::Display for Failure {
             }
             Failure::NoShape { key_size, value_size } => write_no_shape(*key_size, *value_size, f),
             Failure::NoHash { key_size, value_size } => write_no_hash(*key_size, *value_size, f),
+            Failure::OtherKey(part) => write!(f, "--key does not fit its keys, which are {part}"),
+            Failure::OtherValue(part) => {
+                write!(f, "--value does not fit its values, which are {part}")
+            }
             Failure::PastEnd { offset, len } => {
                 write!(f, "has {len} bytes, and so none at the offset {offset}")
             }

@@ -2,6 +2,7 @@
 //! Words of the command line, and lines of an input, that are read as keys.
 
 use crate::erased::core::failure::{Failure, LineFault};
+use crate::erased::core::forms::Form;
 use crate::erased::core::lines::{is_left_out, read_line};
 use crate::erased::core::misread::Misread;
 use crate::erased::core::text::Text;
@@ -10,20 +11,24 @@ use crate::shim::Global;
 use std::io::{self, BufRead};
 
 /// The keys of the words, or the first word that is none.
-pub fn parse_keys<K: Text>(alloc: Global, words: &[String]) -> Result<Vec<K>, Failure> {
+pub fn parse_keys<K: Text>(alloc: Global, words: &[String], form: Form) -> Result<Vec<K>, Failure> {
     let mut keys = crate::host::lists::empty(alloc);
     for word in words {
-        match K::parse(word.as_str().as_bytes()) {
+        match K::parse(word.as_str().as_bytes(), form) {
             Some(key) => push_key(&mut keys, key)?,
-            None => return Err(wrong_key::<K>(alloc, word.as_str())),
+            None => return Err(wrong_key::<K>(alloc, word.as_str(), form)),
         }
     }
     Ok(keys)
 }
 
-fn wrong_key<K: Text>(alloc: Global, word: &str) -> Failure {
-    let misread =
-        Misread { line: None, fault: LineFault::Key, wanted: K::wanted(), text: word.as_bytes() };
+fn wrong_key<K: Text>(alloc: Global, word: &str, form: Form) -> Failure {
+    let misread = Misread {
+        line: None,
+        fault: LineFault::Key,
+        wanted: K::wanted(form),
+        text: word.as_bytes(),
+    };
     match misread.message(alloc) {
         Ok(message) => Failure::Misread(message),
         Err(_) => Failure::Memory,
@@ -47,11 +52,15 @@ pub enum NextKey<K> {
 
 /// Reads the next line, and parses its key. The bytes of `line` are replaced. Where an empty line is no key, a line after
 /// it is taken too.
-pub fn next_key<K: Text, I: BufRead>(input: &mut I, line: &mut Vec<u8>) -> io::Result<NextKey<K>> {
+pub fn next_key<K: Text, I: BufRead>(
+    input: &mut I,
+    line: &mut Vec<u8>,
+    form: Form,
+) -> io::Result<NextKey<K>> {
     if !read_line(input, line)? {
         return Ok(NextKey::End);
     }
-    match K::parse(line.as_slice()) {
+    match K::parse(line.as_slice(), form) {
         Some(key) => Ok(NextKey::Key(key)),
         None => {
             if is_left_out(input, line)? {

@@ -5,6 +5,7 @@ use crate::erased::core::early::check_first;
 use crate::erased::core::failure::Failure;
 use crate::host::prelude::*;
 use crate::proved::header::header::Header;
+use std::fmt;
 
 mod ready;
 
@@ -48,7 +49,7 @@ impl Hash {
 }
 
 /// The type of a key or of a value.
-#[derive(Clone, Copy)]
+#[derive(Clone, Copy, Debug)]
 pub enum Part {
     /// Nothing, in a table that is a set.
     Nothing,
@@ -88,14 +89,25 @@ impl Part {
         }
     }
 
-    // Whether both are the same type.
-    fn is(self, other: Part) -> bool {
+    /// Whether both are the same type.
+    pub(crate) fn is(self, other: Part) -> bool {
         match (self, other) {
             (Part::Nothing, Part::Nothing) | (Part::U32, Part::U32) | (Part::U64, Part::U64) => {
                 true
             }
             (Part::Bytes(size), Part::Bytes(other)) => size == other,
             _ => false,
+        }
+    }
+}
+
+impl fmt::Display for Part {
+    fn fmt(&self, f: &mut fmt::Formatter<'_>) -> fmt::Result {
+        match self {
+            Part::Nothing => write!(f, "none"),
+            Part::U32 => write!(f, "u32"),
+            Part::U64 => write!(f, "u64"),
+            Part::Bytes(size) => write!(f, "hex{size}"),
         }
     }
 }

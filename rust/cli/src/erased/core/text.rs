@@ -1,57 +1,90 @@
 // Made by `make rust` of crates/odht_tool_core/src/text.rt.
-//! Keys and values as text: a number in decimal digits, bytes in hexadecimal digits, and nothing at all.
+//! Keys and values as text: a number in decimal digits, with a sign or without, bytes in hexadecimal digits, and nothing
+//! at all.
 
 use crate::erased::core::digits::{parse_number, write_number};
+use crate::erased::core::forms::Form;
 use crate::erased::core::misread::Wanted;
+use crate::erased::core::signed::{parse_signed, write_signed};
 use crate::host::prelude::*;
 use std::io::{self, Write};
 
-/// A key or a value that has a text.
+/// A key or a value that has a text in each form.
 pub trait Text: Copy {
     /// What its texts are.
-    fn wanted() -> Wanted;
+    fn wanted(form: Form) -> Wanted;
 
     /// The value of which the word is the text. None where it is the text of no such value.
-    fn parse(word: &[u8]) -> Option<Self>;
+    fn parse(word: &[u8], form: Form) -> Option<Self>;
 
     /// Writes the text.
-    fn write<W: Write>(&self, output: &mut W) -> io::Result<()>;
+    fn write<W: Write>(&self, form: Form, output: &mut W) -> io::Result<()>;
 }
 
 impl Text for u32 {
-    fn wanted() -> Wanted {
-        Wanted::U32
+    fn wanted(form: Form) -> Wanted {
+        match form {
+            Form::Own | Form::BigEndian => Wanted::U32,
+            Form::Signed => Wanted::I32,
+        }
     }
 
-    fn parse(word: &[u8]) -> Option<u32> {
-        u32::try_from(parse_number(word)?).ok()
+    fn parse(word: &[u8], form: Form) -> Option<u32> {
+        match form {
+            Form::Own => u32::try_from(parse_number(word)?).ok(),
+            Form::Signed => u32::try_from(parse_signed(word, u64::from(u32::MAX))?).ok(),
+            Form::BigEndian => {
+                let number = u32::try_from(parse_number(word)?).ok()?;
+                Some(number.swap_bytes())
+            }
+        }
     }
 
-    fn write<W: Write>(&self, output: &mut W) -> io::Result<()> {
-        write_number(u64::from(*self), output)
+    #[inline(always)]
+    fn write<W: Write>(&self, form: Form, output: &mut W) -> io::Result<()> {
+        match form {
+            Form::Own => write_number(u64::from(*self), output),
+            Form::Signed => write_signed(u64::from(*self), u64::from(u32::MAX), output),
+            Form::BigEndian => write_number(u64::from(self.swap_bytes()), output),
+        }
     }
 }
 
 impl Text for u64 {
-    fn wanted() -> Wanted {
-        Wanted::U64
+    fn wanted(form: Form) -> Wanted {
+        match form {
+            Form::Own | Form::BigEndian => Wanted::U64,
+            Form::Signed => Wanted::I64,
+        }
     }
 
-    fn parse(word: &[u8]) -> Option<u64> {
-        parse_number(word)
+    fn parse(word: &[u8], form: Form) -> Option<u64> {
+        match form {
+            Form::Own => parse_number(word),
+            Form::Signed => parse_signed(word, u64::MAX),
+            Form::BigEndian => {
+                let number = parse_number(word)?;
+                Some(number.swap_bytes())
+            }
+        }
     }
 
-    fn write<W: Write>(&self, output: &mut W) -> io::Result<()> {
-        write_number(*self, output)
+    #[inline(always)]
+    fn write<W: Write>(&self, form: Form, output: &mut W) -> io::Result<()> {
+        match form {
+            Form::Own => write_number(*self, output),
+            Form::Signed => write_signed(*self, u64::MAX, output),
+            Form::BigEndian => write_number(self.swap_bytes(), output),
+        }
     }
 }
 
 impl Text for () {
-    fn wanted() -> Wanted {
+    fn wanted(_form: Form) -> Wanted {
         Wanted::Nothing
     }
 
-    fn parse(word: &[u8]) -> Option<()> {
+    fn parse(word: &[u8], _form: Form) -> Option<()> {
         if word.is_empty() {
             Some(())
         } else {
@@ -59,21 +92,21 @@ impl Text for () {
         }
     }
 
-    fn write<W: Write>(&self, output: &mut W) -> io::Result<()> {
+    fn write<W: Write>(&self, _form: Form, output: &mut W) -> io::Result<()> {
         output.write_all(b"")
     }
 }
 
 impl<const N: usize> Text for [u8; N] {
-    fn wanted() -> Wanted {
+    fn wanted(_form: Form) -> Wanted {
         Wanted::Bytes(N)
     }
 
-    fn parse(word: &[u8]) -> Option<[u8; N]> {
+    fn parse(word: &[u8], _form: Form) -> Option<[u8; N]> {
         parse_bytes(word)
     }
 
-    fn write<W: Write>(&self, output: &mut W) -> io::Result<()> {
+    fn write<W: Write>(&self, _form: Form, output: &mut W) -> io::Result<()> {
         write_bytes(self, output)
     }
 }

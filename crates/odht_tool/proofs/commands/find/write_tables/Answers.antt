@@ -1,4 +1,4 @@
-use Rattle.std.proofs.Common.{◌∙◌, ◌+◌, ◌∷◌, ◌++◌, [], take, get_or, append-nil, sym, ap, subst}
+use Rattle.std.proofs.Common.{◌∙◌, ◌∷◌, ◌++◌, [], take, get_or, append-nil, sym, ap, subst}
 use Rattle.std.specs.Io.KnownBytes.{Appends}
 use Rattle.std.specs.List.{flat_map}
 use Rattle.std.proofs.KnownBytes.{Appends-trans}

@@ -13,10 +13,10 @@ loop-number-init g c =
     let C = coding_of g.C.EncodedKey.ByteArray.LEN g.C.EncodedKey.ByteArray.bytes g.C.EncodedKey.ByteArray.of_bytes
     g.C.EncodedValue.ByteArray.LEN g.C.EncodedValue.ByteArray.bytes g.C.EncodedValue.ByteArray.of_bytes
     g.C.H.HashFn.hash g.C.Config.encode_key g.C.Config.encode_value g.C.Config.decode_key g.C.Config.decode_value in
-    let f = g.C.Key.Text.text in
-    let h = g.C.Value.Text.text in
-    let R = IsReadAs g.C.Key.Text.is_word g.C.Key.Text.stands_for in
-    let p = g.C.Key.Text.wants in
+    let f = g.C.Key.Text.text (g.F.Forms.pair c.args.forms).0 in
+    let h = g.C.Value.Text.text (g.F.Forms.pair c.args.forms).1 in
+    let R = IsReadAs (g.C.Key.Text.is_word (g.F.Forms.pair c.args.forms).0) (g.C.Key.Text.stands_for (g.F.Forms.pair c.args.forms).0) in
+    let p = g.C.Key.Text.wants (g.F.Forms.pair c.args.forms).0 in
     let B = c.args.table.now.0.now in
     let input = g.I.Read.remaining c.args.input.now in
     let old = g.O.Write.contents c.args.output.now in
@@ -27,10 +27,10 @@ returns-in_err-read g c =
     let C = coding_of g.C.EncodedKey.ByteArray.LEN g.C.EncodedKey.ByteArray.bytes g.C.EncodedKey.ByteArray.of_bytes
     g.C.EncodedValue.ByteArray.LEN g.C.EncodedValue.ByteArray.bytes g.C.EncodedValue.ByteArray.of_bytes
     g.C.H.HashFn.hash g.C.Config.encode_key g.C.Config.encode_value g.C.Config.decode_key g.C.Config.decode_value in
-    let f = g.C.Key.Text.text in
-    let h = g.C.Value.Text.text in
-    let R = IsReadAs g.C.Key.Text.is_word g.C.Key.Text.stands_for in
-    let p = g.C.Key.Text.wants in
+    let f = g.C.Key.Text.text (g.F.Forms.pair c.args.forms).0 in
+    let h = g.C.Value.Text.text (g.F.Forms.pair c.args.forms).1 in
+    let R = IsReadAs (g.C.Key.Text.is_word (g.F.Forms.pair c.args.forms).0) (g.C.Key.Text.stands_for (g.F.Forms.pair c.args.forms).0) in
+    let p = g.C.Key.Text.wants (g.F.Forms.pair c.args.forms).0 in
     let B = c.args.table.now.0.now in
     let input = g.I.Read.remaining c.args.input.now in
     let old = g.O.Write.contents c.args.output.now in
@@ -50,10 +50,10 @@ returns-in_err-is_all_found-in-Some g c =
     let C = coding_of g.C.EncodedKey.ByteArray.LEN g.C.EncodedKey.ByteArray.bytes g.C.EncodedKey.ByteArray.of_bytes
     g.C.EncodedValue.ByteArray.LEN g.C.EncodedValue.ByteArray.bytes g.C.EncodedValue.ByteArray.of_bytes
     g.C.H.HashFn.hash g.C.Config.encode_key g.C.Config.encode_value g.C.Config.decode_key g.C.Config.decode_value in
-    let f = g.C.Key.Text.text in
-    let h = g.C.Value.Text.text in
-    let R = IsReadAs g.C.Key.Text.is_word g.C.Key.Text.stands_for in
-    let p = g.C.Key.Text.wants in
+    let f = g.C.Key.Text.text (g.F.Forms.pair c.args.forms).0 in
+    let h = g.C.Value.Text.text (g.F.Forms.pair c.args.forms).1 in
+    let R = IsReadAs (g.C.Key.Text.is_word (g.F.Forms.pair c.args.forms).0) (g.C.Key.Text.stands_for (g.F.Forms.pair c.args.forms).0) in
+    let p = g.C.Key.Text.wants (g.F.Forms.pair c.args.forms).0 in
     let B = c.args.table.now.0.now in
     let input = g.I.Read.remaining c.args.input.now in
     let old = g.O.Write.contents c.args.output.now in
@@ -77,10 +77,10 @@ loop-number-preserved g c =
     let C = coding_of g.C.EncodedKey.ByteArray.LEN g.C.EncodedKey.ByteArray.bytes g.C.EncodedKey.ByteArray.of_bytes
     g.C.EncodedValue.ByteArray.LEN g.C.EncodedValue.ByteArray.bytes g.C.EncodedValue.ByteArray.of_bytes
     g.C.H.HashFn.hash g.C.Config.encode_key g.C.Config.encode_value g.C.Config.decode_key g.C.Config.decode_value in
-    let f = g.C.Key.Text.text in
-    let h = g.C.Value.Text.text in
-    let R = IsReadAs g.C.Key.Text.is_word g.C.Key.Text.stands_for in
-    let p = g.C.Key.Text.wants in
+    let f = g.C.Key.Text.text (g.F.Forms.pair c.args.forms).0 in
+    let h = g.C.Value.Text.text (g.F.Forms.pair c.args.forms).1 in
+    let R = IsReadAs (g.C.Key.Text.is_word (g.F.Forms.pair c.args.forms).0) (g.C.Key.Text.stands_for (g.F.Forms.pair c.args.forms).0) in
+    let p = g.C.Key.Text.wants (g.F.Forms.pair c.args.forms).0 in
     let B = c.args.table.now.0.now in
     let input = g.I.Read.remaining c.args.input.now in
     let old = g.O.Write.contents c.args.output.now in
@@ -104,10 +104,10 @@ returns-in_err-is_last_found g c =
     let C = coding_of g.C.EncodedKey.ByteArray.LEN g.C.EncodedKey.ByteArray.bytes g.C.EncodedKey.ByteArray.of_bytes
     g.C.EncodedValue.ByteArray.LEN g.C.EncodedValue.ByteArray.bytes g.C.EncodedValue.ByteArray.of_bytes
     g.C.H.HashFn.hash g.C.Config.encode_key g.C.Config.encode_value g.C.Config.decode_key g.C.Config.decode_value in
-    let f = g.C.Key.Text.text in
-    let h = g.C.Value.Text.text in
-    let R = IsReadAs g.C.Key.Text.is_word g.C.Key.Text.stands_for in
-    let p = g.C.Key.Text.wants in
+    let f = g.C.Key.Text.text (g.F.Forms.pair c.args.forms).0 in
+    let h = g.C.Value.Text.text (g.F.Forms.pair c.args.forms).1 in
+    let R = IsReadAs (g.C.Key.Text.is_word (g.F.Forms.pair c.args.forms).0) (g.C.Key.Text.stands_for (g.F.Forms.pair c.args.forms).0) in
+    let p = g.C.Key.Text.wants (g.F.Forms.pair c.args.forms).0 in
     let B = c.args.table.now.0.now in
     let input = g.I.Read.remaining c.args.input.now in
     let old = g.O.Write.contents c.args.output.now in
@@ -130,10 +130,10 @@ returns g c =
     let C = coding_of g.C.EncodedKey.ByteArray.LEN g.C.EncodedKey.ByteArray.bytes g.C.EncodedKey.ByteArray.of_bytes
     g.C.EncodedValue.ByteArray.LEN g.C.EncodedValue.ByteArray.bytes g.C.EncodedValue.ByteArray.of_bytes
     g.C.H.HashFn.hash g.C.Config.encode_key g.C.Config.encode_value g.C.Config.decode_key g.C.Config.decode_value in
-    let f = g.C.Key.Text.text in
-    let h = g.C.Value.Text.text in
-    let R = IsReadAs g.C.Key.Text.is_word g.C.Key.Text.stands_for in
-    let p = g.C.Key.Text.wants in
+    let f = g.C.Key.Text.text (g.F.Forms.pair c.args.forms).0 in
+    let h = g.C.Value.Text.text (g.F.Forms.pair c.args.forms).1 in
+    let R = IsReadAs (g.C.Key.Text.is_word (g.F.Forms.pair c.args.forms).0) (g.C.Key.Text.stands_for (g.F.Forms.pair c.args.forms).0) in
+    let p = g.C.Key.Text.wants (g.F.Forms.pair c.args.forms).0 in
     let B = c.args.table.now.0.now in
     let input = g.I.Read.remaining c.args.input.now in
     let old = g.O.Write.contents c.args.output.now in

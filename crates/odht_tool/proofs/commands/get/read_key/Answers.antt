@@ -7,15 +7,16 @@ use Rattle.odht_tool.proofs.commands.get.read_key.Goals as goal
 -- the line that was read is no key, and the message tells it
 pub returns-in_ok-answer_keys-in-Ok-NoKey-clause-err : goal.returns-in_ok-answer_keys-in-Ok-NoKey-clause-err
 returns-in_ok-answer_keys-in-Ok-NoKey-clause-err g c =
-    let R = IsReadAs g.C.Key.Text.is_word g.C.Key.Text.stands_for in
-    let line : IsNoKeyLine R (g.I.Read.remaining c.args.input.now) (g.I.Read.remaining c.next_key.new.input) c.next_key.new.line.items = search rules in
+    let f = (g.F.Forms.pair c.args.forms).0 in
+    let R = IsReadAs (g.C.Key.Text.is_word f) (g.C.Key.Text.stands_for f) in
+    let line : IsNoKeyLine R (g.I.Read.remaining c.args.input.now) (g.I.Read.remaining c.key_of_line.new.input) c.key_of_line.new.line.items = search rules in
     record {
       then = line.0;
-      line = c.next_key.new.line.items;
+      line = c.key_of_line.new.line.items;
       next = line.1;
       fault = line.2;
       more = line.3.0;
-      told = c.in_ok-message-in-Ok-NoKey.ensures ∙ ap (misread_text (Some c.args.number) Key g.C.Key.Text.wants) c.as_slice.ensures.value;
+      told = c.in_ok-message-in-Ok-NoKey.ensures ∙ ap (misread_text (Some c.args.number) Key (g.C.Key.Text.wants f)) c.as_slice.ensures.value;
       every = c.in_ok-answer_keys-in-Ok-NoKey.field-0;
       answered = c.in_ok-answer_keys-in-Ok-NoKey.ensures.ok;
     }

@@ -1,20 +1,31 @@
-use Rattle.std.proofs.Common.{rules, ◌≡◌, ◌∙◌, Err, sym}
-use Rattle.odht_tool.specs.Listings.{keys_of_shape}
-use Rattle.odht_tool_core.specs.FoundShapes.{found_shape}
+use Rattle.std.proofs.Common.{rules, ◌≡◌, ◌∙◌, Err, sym, subst}
+use Rattle.odht_tool.specs.Listings.{keys_of_shape, keys_of_forms}
+use Rattle.odht_tool_core.specs.Endings.{IsDone}
+use Rattle.odht_tool_core.specs.ReadAs.{read_as}
 use Rattle.odht_tool.proofs.Shaped.{without_shape, with_shape}
 use Rattle.odht_tool.proofs.commands.keys.keys_file.Goals as goal
 
-pub returns-in_err-shape : goal.returns-in_err-shape
-returns-in_err-shape g c =
+pub returns-in_err-found : goal.returns-in_err-found
+returns-in_err-found g c =
     let B = c.args.bytes.now in
-    let x = c.in_err-shape.field-0.0 in
+    let x = c.in_err-found.field-0.0 in
     let old = g.O.Write.contents c.args.output.now in
     let failed : c.from_residual.result ≡ Err x = search rules in
-    rw failed (without_shape (found_shape B c.args.hash) (keys_of_shape B) old x (sym c.in_err-shape.was ∙ c.found_shape.ensures))
+    rw failed (without_shape (read_as B c.args.hash c.args.kinds) (keys_of_forms B) old x (sym c.in_err-found.was ∙ c.read_as.ensures))
 
-pub returns : goal.returns
-returns g c =
+pub returns-then-are_own : goal.returns-then-are_own
+returns-then-are_own g c =
     let B = c.args.bytes.now in
     let old = g.O.Write.contents c.args.output.now in
     let new = g.O.Write.contents c.keys_of.new.output in
-    with_shape (found_shape B c.args.hash) (keys_of_shape B) c.in_ok-shape.shape old new _ (sym c.in_ok-shape.was ∙ c.found_shape.ensures) c.keys_of.ensures
+    let found = c.in_ok-found.found in
+    with_shape (read_as B c.args.hash c.args.kinds) (keys_of_forms B) found old new _ (sym c.in_ok-found.was ∙ c.read_as.ensures)
+    (subst (λ f. IsDone (keys_of_shape f B found.0) old new c.keys_of.result) (sym (c.are_own.ensures.key c.if-are_own.true)) c.keys_of.ensures)
+
+pub returns-else-are_own : goal.returns-else-are_own
+returns-else-are_own g c =
+    let B = c.args.bytes.now in
+    let old = g.O.Write.contents c.args.output.now in
+    let new = g.O.Write.contents c.keys_of-else-are_own.new.output in
+    with_shape (read_as B c.args.hash c.args.kinds) (keys_of_forms B) c.in_ok-found.found old new _ (sym c.in_ok-found.was ∙ c.read_as.ensures)
+    c.keys_of-else-are_own.ensures

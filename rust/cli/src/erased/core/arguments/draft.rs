@@ -3,7 +3,8 @@
 use super::topics::{Setting, Topic};
 use super::{is_stream, BuildOptions, Command, CommandMisuse, Keys, Misuse, Reading, Request};
 use crate::erased::core::digits::parse_number;
-use crate::erased::core::shapes::{Hash, Part, Shape};
+use crate::erased::core::forms::{GivenForms, Kind, Kinds};
+use crate::erased::core::shapes::{Hash, Shape};
 use crate::host::prelude::*;
 use crate::proved::base::load::Percent;
 use crate::proved::raw::memory_layout::DEFAULT_GROUPS;
@@ -21,8 +22,7 @@ pub(super) struct Draft {
     is_ended: bool,
     at: Option<usize>,
     hash: Option<Hash>,
-    key: Option<Part>,
-    value: Option<Part>,
+    kinds: Kinds,
     percent: Percent,
     capacity: usize,
     is_help: bool,
@@ -42,8 +42,7 @@ impl Draft {
             is_ended: false,
             at: None,
             hash: None,
-            key: None,
-            value: None,
+            kinds: Kinds { key: None, value: None },
             percent: Percent::new(87).unwrap(),
             capacity: 12,
             is_help: false,
@@ -119,8 +118,8 @@ impl Draft {
         match setting {
             Setting::At => self.at = Some(parse_number(value.as_bytes())? as usize),
             Setting::Hash => self.hash = Some(Hash::named(value)?),
-            Setting::Key => self.key = Some(Part::named(value)?),
-            Setting::Value => self.value = Some(Part::named(value)?),
+            Setting::Key => self.kinds.key = Some(Kind::named(value)?),
+            Setting::Value => self.kinds.value = Some(Kind::named(value)?),
             Setting::Percent => self.percent = parse_percent(value)?,
             Setting::Capacity => self.capacity = parse_number(value.as_bytes())? as usize,
             _ => return None,
@@ -162,6 +161,7 @@ impl Draft {
             Topic::Put if is_stream => Err(CommandMisuse::Replaced),
             Topic::Put => Ok(Command::Put {
                 hash: self.hash,
+                kinds: self.kinds,
                 bound: bound_of(self.is_whole),
                 breaks_links: self.breaks_links,
                 has_progress: self.has_progress,
@@ -191,14 +191,14 @@ impl Draft {
 
     // What is read of each file, where all words name files.
     fn reading(&self) -> Reading {
-        let (hash, bound) = (self.hash, bound_of(self.is_whole));
+        let (hash, kinds, bound) = (self.hash, self.kinds, bound_of(self.is_whole));
         match self.topic {
             // begin readings: made of commands.txt by tools/commands; `make manual` makes it anew
             Topic::Info => Reading::Info { bound },
             Topic::Check => Reading::Check { hash, bound },
             Topic::Count => Reading::Count { hash, bound },
-            Topic::Dump => Reading::Dump { hash, is_slots: self.is_slots },
-            Topic::Keys => Reading::Keys { hash },
+            Topic::Dump => Reading::Dump { hash, kinds, is_slots: self.is_slots },
+            Topic::Keys => Reading::Keys { hash, kinds },
             _ => Reading::Find { bound },
             // end readings
         }
@@ -216,22 +216,23 @@ impl Draft {
         Ok(Command::Read {
             others: crate::host::lists::empty(self.alloc),
             at: self.at,
-            reading: Reading::Get { hash: self.hash, keys },
+            reading: Reading::Get { hash: self.hash, kinds: self.kinds, keys },
         })
     }
 
     fn build(self) -> Result<Command, CommandMisuse> {
-        let Some(key) = self.key else {
+        let Some(key) = self.kinds.key else {
             return Err(CommandMisuse::Missing("--key"));
         };
-        let Some(value) = self.value else {
+        let Some(value) = self.kinds.value else {
             return Err(CommandMisuse::Missing("--value"));
         };
-        let Some(shape) = Shape::of_parts(key, value, self.hash) else {
+        let Some(shape) = Shape::of_parts(key.part, value.part, self.hash) else {
             return Err(CommandMisuse::NoShape);
         };
         Ok(Command::Build(BuildOptions {
             shape,
+            forms: GivenForms { key: key.form, value: value.form },
             capacity: self.capacity,
             percent: self.percent,
             breaks_links: self.breaks_links,

@@ -72,9 +72,18 @@ impl Topic {
             Topic::Info => &[Setting::Help, Setting::Whole, Setting::At],
             Topic::Check => &[Setting::Help, Setting::Whole, Setting::Hash, Setting::At],
             Topic::Count => &[Setting::Help, Setting::Whole, Setting::Hash, Setting::At],
-            Topic::Get => &[Setting::Help, Setting::Hash, Setting::At],
-            Topic::Dump => &[Setting::Help, Setting::Slots, Setting::Hash, Setting::At],
-            Topic::Keys => &[Setting::Help, Setting::Hash, Setting::At],
+            Topic::Get => {
+                &[Setting::Help, Setting::Key, Setting::Value, Setting::Hash, Setting::At]
+            }
+            Topic::Dump => &[
+                Setting::Help,
+                Setting::Slots,
+                Setting::Key,
+                Setting::Value,
+                Setting::Hash,
+                Setting::At,
+            ],
+            Topic::Keys => &[Setting::Help, Setting::Key, Setting::Hash, Setting::At],
             Topic::Find => &[Setting::Help, Setting::Whole],
             Topic::Build => &[
                 Setting::Help,
@@ -88,6 +97,8 @@ impl Topic {
             ],
             Topic::Put => &[
                 Setting::Help,
+                Setting::Key,
+                Setting::Value,
                 Setting::Whole,
                 Setting::Hash,
                 Setting::Progress,
@@ -161,8 +172,8 @@ impl Setting {
             | Setting::BreakLinks => None,
             Setting::At | Setting::Capacity => Some("a number below 2^64"),
             Setting::Hash => Some("fx or unhash"),
-            Setting::Key => Some("u32, u64 or hexN"),
-            Setting::Value => Some("u32, u64, none or hexN"),
+            Setting::Key => Some("u32, u64, i32, i64, u32be, u64be or hexN"),
+            Setting::Value => Some("u32, u64, i32, i64, u32be, u64be, none or hexN"),
             Setting::Percent => Some("a number from 1 to 100"),
         }
     }

@@ -4,7 +4,7 @@
 use crate::erased::core::arguments::{is_stream, BuildOptions};
 use crate::erased::core::failure::Failure;
 use crate::erased::core::files::replace_file;
-use crate::erased::core::found::found_shape;
+use crate::erased::core::forms::{read_as, Forms, Kinds, OwnForms};
 use crate::erased::core::lines::read_pair;
 use crate::erased::core::misread::Misread;
 use crate::erased::core::progress::Progress;
@@ -38,18 +38,40 @@ pub fn build<R: Files + AllocGlobal + Clock, I: BufRead, O: Write, E: Write>(
 where
     R::File: AsFd,
 {
+    let forms = options.forms;
+    if forms.are_own() {
+        build_in(rt, file, OwnForms, options, input, output, errors)
+    } else {
+        build_in(rt, file, forms, options, input, output, errors)
+    }
+}
+
+// The same where the forms are known.
+fn build_in<F: Forms, R: Files + AllocGlobal + Clock, I: BufRead, O: Write, E: Write>(
+    rt: &R,
+    file: &str,
+    forms: F,
+    options: BuildOptions,
+    input: &mut I,
+    output: &mut O,
+    errors: &mut E,
+) -> Result<Status, Failure>
+where
+    R::File: AsFd,
+{
     let shape = options.shape;
     if is_stream(file) {
-        for_shape!(shape, build_stream[R, I, O, E](rt, options, input, output, errors))
+        for_shape!(shape, build_stream[F, R, I, O, E](rt, forms, options, input, output, errors))
     } else {
         let target = Target::find(rt, file, options.breaks_links)?;
-        for_shape!(shape, build_file[R, I, E](rt, target, options, input, errors))
+        for_shape!(shape, build_file[F, R, I, E](rt, target, forms, options, input, errors))
     }
 }
 
 // Writes the table to `output`.
-fn build_stream<C: Config, R: AllocGlobal + Clock, I: BufRead, O: Write, E: Write>(
+fn build_stream<C: Config, F: Forms, R: AllocGlobal + Clock, I: BufRead, O: Write, E: Write>(
     rt: &R,
+    forms: F,
     options: BuildOptions,
     input: &mut I,
     output: &mut O,
@@ -61,13 +83,14 @@ where
 {
     let mut table = make_table::<C>(rt.alloc(), options.capacity, options.percent)?;
     let progress = Progress::new(rt, options.has_progress);
-    fill(rt, &mut table, progress, input, errors)?;
+    fill(rt, &mut table, progress, forms, input, errors)?;
     of_output(output.write_all(table.raw_bytes()))
 }
 
-fn build_file<C: Config, R: Files + AllocGlobal + Clock, I: BufRead, E: Write>(
+fn build_file<C: Config, F: Forms, R: Files + AllocGlobal + Clock, I: BufRead, E: Write>(
     rt: &R,
     target: Target,
+    forms: F,
     options: BuildOptions,
     input: &mut I,
     errors: &mut E,
@@ -78,7 +101,7 @@ where
     R::File: AsFd,
 {
     let table = make_table::<C>(rt.alloc(), options.capacity, options.percent)?;
-    insert_into_file(rt, target, table, options.has_progress, input, errors)
+    insert_into_file(rt, target, table, forms, options.has_progress, input, errors)
 }
 
 fn make_table<C: Config>(
@@ -96,6 +119,7 @@ pub fn put<R: Files + AllocGlobal + Clock, I: BufRead, E: Write>(
     target: Target,
     bytes: Vec<u8>,
     hash: Option<Hash>,
+    kinds: Kinds,
     bound: Option<usize>,
     has_progress: bool,
     input: &mut I,
@@ -104,14 +128,40 @@ pub fn put<R: Files + AllocGlobal + Clock, I: BufRead, E: Write>(
 where
     R::File: AsFd,
 {
-    let shape = found_shape(bytes.as_slice(), hash)?;
-    for_shape!(shape, put_file[R, I, E](rt, target, bytes, bound, has_progress, input, errors))
+    let (shape, forms) = read_as(bytes.as_slice(), hash, kinds)?;
+    if forms.are_own() {
+        put_in(rt, target, shape, OwnForms, bytes, bound, has_progress, input, errors)
+    } else {
+        put_in(rt, target, shape, forms, bytes, bound, has_progress, input, errors)
+    }
+}
+
+// The same where the shape and the forms are known.
+fn put_in<F: Forms, R: Files + AllocGlobal + Clock, I: BufRead, E: Write>(
+    rt: &R,
+    target: Target,
+    shape: Shape,
+    forms: F,
+    bytes: Vec<u8>,
+    bound: Option<usize>,
+    has_progress: bool,
+    input: &mut I,
+    errors: &mut E,
+) -> Result<Status, Failure>
+where
+    R::File: AsFd,
+{
+    for_shape!(
+        shape,
+        put_file[F, R, I, E](rt, target, forms, bytes, bound, has_progress, input, errors)
+    )
 }
 
 // The bytes are freed once the table has a copy.
-fn put_file<C: Config, R: Files + AllocGlobal + Clock, I: BufRead, E: Write>(
+fn put_file<C: Config, F: Forms, R: Files + AllocGlobal + Clock, I: BufRead, E: Write>(
     rt: &R,
     target: Target,
+    forms: F,
     bytes: Vec<u8>,
     bound: Option<usize>,
     has_progress: bool,
@@ -124,7 +174,7 @@ where
     R::File: AsFd,
 {
     let table = copy_table::<C>(rt.alloc(), bytes, bound)?;
-    insert_into_file(rt, target, table, has_progress, input, errors)
+    insert_into_file(rt, target, table, forms, has_progress, input, errors)
 }
 
 fn copy_table<C: Config>(
@@ -138,10 +188,11 @@ fn copy_table<C: Config>(
 }
 
 // Adds the lines to the table, and stores it as the file.
-fn insert_into_file<C: Config, R: Files + AllocGlobal + Clock, I: BufRead, E: Write>(
+fn insert_into_file<C: Config, F: Forms, R: Files + AllocGlobal + Clock, I: BufRead, E: Write>(
     rt: &R,
     target: Target,
     mut table: HashTableOwned<C>,
+    forms: F,
     has_progress: bool,
     input: &mut I,
     errors: &mut E,
@@ -152,16 +203,17 @@ where
     R::File: AsFd,
 {
     let progress = Progress::new(rt, has_progress);
-    fill(rt, &mut table, progress, input, errors)?;
+    fill(rt, &mut table, progress, forms, input, errors)?;
     replace_file(rt, &target, table.raw_bytes())?;
     Ok(Status::Done)
 }
 
 // Inserts the pairs of the lines, a batch at a time.
-fn fill<C: Config, R: AllocGlobal + Clock, I: BufRead, E: Write>(
+fn fill<C: Config, F: Forms, R: AllocGlobal + Clock, I: BufRead, E: Write>(
     rt: &R,
     table: &mut HashTableOwned<C>,
     mut progress: Progress,
+    forms: F,
     input: &mut I,
     errors: &mut E,
 ) -> Result<(), Failure>
@@ -173,10 +225,13 @@ where
     let mut pairs = crate::host::lists::empty(alloc);
     let mut line = crate::host::lists::empty(alloc);
     for number in 1..u64::MAX {
-        let pair = match read_pair::<C::Key, C::Value, I>(input, &mut line, number) {
+        let pair = match read_pair::<C::Key, C::Value, F, I>(input, &mut line, number, forms) {
             Ok(Some(pair)) => pair,
             Ok(None) => break,
-            Err(failure) => return Err(told::<C::Key, C::Value>(alloc, failure, line.as_slice())),
+            Err(failure) => {
+                let line = line.as_slice();
+                return Err(told::<C::Key, C::Value, F>(alloc, failure, line, forms));
+            }
         };
         pairs.try_push(pair).or(Err(Failure::Memory))?;
         if pairs.len() >= BATCH {
@@ -191,10 +246,15 @@ where
 // The failure with what is said of this line, where the line cannot be parsed.
 #[cold]
 #[inline(never)]
-fn told<K: Text, V: Text>(alloc: Global, failure: Failure, line: &[u8]) -> Failure {
+fn told<K: Text, V: Text, F: Forms>(
+    alloc: Global,
+    failure: Failure,
+    line: &[u8],
+    forms: F,
+) -> Failure {
     match failure {
         Failure::Line { number, fault } => {
-            let wanted = (K::wanted(), V::wanted());
+            let wanted = (K::wanted(forms.key()), V::wanted(forms.value()));
             match Misread::of_line(number, fault, wanted, line).message(alloc) {
                 Ok(message) => Failure::Misread(message),
                 Err(_) => Failure::Memory,

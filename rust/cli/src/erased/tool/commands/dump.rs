@@ -3,7 +3,7 @@
 
 use crate::erased::core::answers::write_pair;
 use crate::erased::core::failure::Failure;
-use crate::erased::core::found::found_shape;
+use crate::erased::core::forms::{read_as, Forms, Kinds, OwnForms};
 use crate::erased::core::shapes::{Hash, Shape};
 use crate::erased::core::slots::dump_slots;
 use crate::erased::core::status::{of_output, Status};
@@ -20,55 +20,91 @@ use std::io::{self, Write};
 pub fn dump_file<O: Write>(
     bytes: &[u8],
     hash: Option<Hash>,
+    kinds: Kinds,
     is_slots: bool,
     output: &mut O,
 ) -> Result<Status, Failure> {
-    let shape = found_shape(bytes, hash)?;
-    if is_slots {
-        dump_slots_of(shape, bytes, output)
+    let found = read_as(bytes, hash, kinds)?;
+    let (shape, forms) = found;
+    if forms.are_own() {
+        dump_in(shape, OwnForms, bytes, is_slots, output)
     } else {
-        dump_pairs_of(shape, bytes, output)
+        dump_in(shape, forms, bytes, is_slots, output)
     }
 }
 
-fn dump_pairs_of<O: Write>(shape: Shape, bytes: &[u8], output: &mut O) -> Result<Status, Failure> {
-    for_shape!(shape, dump_pairs[O](bytes, output))
+// The same where the shape and the forms are known.
+fn dump_in<F: Forms, O: Write>(
+    shape: Shape,
+    forms: F,
+    bytes: &[u8],
+    is_slots: bool,
+    output: &mut O,
+) -> Result<Status, Failure> {
+    if is_slots {
+        dump_slots_of(shape, forms, bytes, output)
+    } else {
+        dump_pairs_of(shape, forms, bytes, output)
+    }
 }
 
-fn dump_slots_of<O: Write>(shape: Shape, bytes: &[u8], output: &mut O) -> Result<Status, Failure> {
-    for_shape!(shape, dump_slots[O](bytes, output))
+fn dump_pairs_of<F: Forms, O: Write>(
+    shape: Shape,
+    forms: F,
+    bytes: &[u8],
+    output: &mut O,
+) -> Result<Status, Failure> {
+    for_shape!(shape, dump_pairs[F, O](bytes, forms, output))
 }
 
-fn dump_pairs<C: Config, O: Write>(bytes: &[u8], output: &mut O) -> Result<Status, Failure>
+fn dump_slots_of<F: Forms, O: Write>(
+    shape: Shape,
+    forms: F,
+    bytes: &[u8],
+    output: &mut O,
+) -> Result<Status, Failure> {
+    for_shape!(shape, dump_slots[F, O](bytes, forms, output))
+}
+
+fn dump_pairs<C: Config, F: Forms, O: Write>(
+    bytes: &[u8],
+    forms: F,
+    output: &mut O,
+) -> Result<Status, Failure>
 where
     C::Key: Text,
     C::Value: Text,
 {
     let table = HashTable::<C, Borrowed<'_>>::from_raw_bytes(Borrowed::new(bytes))
         .map_err(Failure::Refused)?;
-    of_output(write_table(&table, output))
+    of_output(write_table(&table, forms, output))
 }
 
 // Writes the pairs of a table.
-fn write_table<C: Config, O: Write>(
+fn write_table<C: Config, F: Forms, O: Write>(
     table: &HashTable<C, Borrowed<'_>>,
+    forms: F,
     output: &mut O,
 ) -> io::Result<()>
 where
     C::Key: Text,
     C::Value: Text,
 {
-    write_pairs(table.iter(), output)
+    write_pairs(table.iter(), forms, output)
 }
 
 // Writes each pair on a line.
-fn write_pairs<C: Config, O: Write>(pairs: Iter<'_, C>, output: &mut O) -> io::Result<()>
+fn write_pairs<C: Config, F: Forms, O: Write>(
+    pairs: Iter<'_, C>,
+    forms: F,
+    output: &mut O,
+) -> io::Result<()>
 where
     C::Key: Text,
     C::Value: Text,
 {
     for (key, value) in pairs {
-        write_pair(&key, &value, output)?;
+        write_pair(&key, &value, forms, output)?;
     }
     Ok(())
 }

@@ -3,7 +3,7 @@
 
 use crate::erased::core::answers::{absent_values, are_found, write_answers};
 use crate::erased::core::failure::{Failure, LineFault};
-use crate::erased::core::found::found_shape;
+use crate::erased::core::forms::{read_as, Forms, Kinds, OwnForms};
 use crate::erased::core::keys::{next_key, parse_keys, push_key, NextKey};
 use crate::erased::core::misread::Misread;
 use crate::erased::core::shapes::{Hash, Shape};
@@ -15,7 +15,7 @@ use crate::proved::tables::bytes::Borrowed;
 use crate::proved::tables::config::Config;
 use crate::proved::tables::HashTable;
 use crate::shim::{AllocError, Global};
-use std::io::{BufRead, Write};
+use std::io::{self, BufRead, Write};
 
 /// How many keys are looked up at once.
 const BATCH: usize = 1024;
@@ -26,21 +26,28 @@ pub fn get_file_words<O: Write>(
     alloc: Global,
     bytes: &[u8],
     hash: Option<Hash>,
+    kinds: Kinds,
     words: &[String],
     output: &mut O,
 ) -> Result<Status, Failure> {
-    let shape = found_shape(bytes, hash)?;
-    get_words_of(alloc, shape, bytes, words, output)
+    let found = read_as(bytes, hash, kinds)?;
+    let (shape, forms) = found;
+    if forms.are_own() {
+        get_words_of(alloc, shape, OwnForms, bytes, words, output)
+    } else {
+        get_words_of(alloc, shape, forms, bytes, words, output)
+    }
 }
 
-fn get_words_of<O: Write>(
+fn get_words_of<F: Forms, O: Write>(
     alloc: Global,
     shape: Shape,
+    forms: F,
     bytes: &[u8],
     words: &[String],
     output: &mut O,
 ) -> Result<Status, Failure> {
-    for_shape!(shape, get_words[O](alloc, bytes, words, output))
+    for_shape!(shape, get_words[F, O](alloc, bytes, forms, words, output))
 }
 
 /// `odht get` of the bytes of a file, for the lines of an input.
@@ -48,27 +55,35 @@ pub fn get_file_lines<I: BufRead, O: Write>(
     alloc: Global,
     bytes: &[u8],
     hash: Option<Hash>,
+    kinds: Kinds,
     input: &mut I,
     output: &mut O,
 ) -> Result<Status, Failure> {
-    let shape = found_shape(bytes, hash)?;
-    get_lines_of(alloc, shape, bytes, input, output)
+    let found = read_as(bytes, hash, kinds)?;
+    let (shape, forms) = found;
+    if forms.are_own() {
+        get_lines_of(alloc, shape, OwnForms, bytes, input, output)
+    } else {
+        get_lines_of(alloc, shape, forms, bytes, input, output)
+    }
 }
 
-fn get_lines_of<I: BufRead, O: Write>(
+fn get_lines_of<F: Forms, I: BufRead, O: Write>(
     alloc: Global,
     shape: Shape,
+    forms: F,
     bytes: &[u8],
     input: &mut I,
     output: &mut O,
 ) -> Result<Status, Failure> {
-    for_shape!(shape, get_lines[I, O](alloc, bytes, input, output))
+    for_shape!(shape, get_lines[F, I, O](alloc, bytes, forms, input, output))
 }
 
 // Looks up the keys of the words.
-fn get_words<C: Config, O: Write>(
+fn get_words<C: Config, F: Forms, O: Write>(
     alloc: Global,
     bytes: &[u8],
+    forms: F,
     words: &[String],
     output: &mut O,
 ) -> Result<Status, Failure>
@@ -77,15 +92,25 @@ where
     C::Value: Text,
 {
     let table = open::<C>(bytes)?;
-    let keys = parse_keys::<C::Key>(alloc, words)?;
-    let is_all_found = answer_keys(alloc, &table, keys.as_slice(), output)?;
+    let keys = keys_of_words::<C::Key, F>(alloc, words, forms)?;
+    let is_all_found = answer_keys(alloc, &table, keys.as_slice(), forms, output)?;
     Ok(Status::of(is_all_found))
 }
 
+// The keys of the words in the form of keys.
+fn keys_of_words<K: Text, F: Forms>(
+    alloc: Global,
+    words: &[String],
+    forms: F,
+) -> Result<Vec<K>, Failure> {
+    parse_keys(alloc, words, forms.key())
+}
+
 // Looks up the keys of the lines, a batch at a time.
-fn get_lines<C: Config, I: BufRead, O: Write>(
+fn get_lines<C: Config, F: Forms, I: BufRead, O: Write>(
     alloc: Global,
     bytes: &[u8],
+    forms: F,
     input: &mut I,
     output: &mut O,
 ) -> Result<Status, Failure>
@@ -94,12 +119,13 @@ where
     C::Value: Text,
 {
     let table = open::<C>(bytes)?;
-    answer_lines(alloc, &table, input, output)
+    answer_lines(alloc, &table, forms, input, output)
 }
 
-fn answer_lines<C: Config, I: BufRead, O: Write>(
+fn answer_lines<C: Config, F: Forms, I: BufRead, O: Write>(
     alloc: Global,
     table: &HashTable<C, Borrowed<'_>>,
+    forms: F,
     input: &mut I,
     output: &mut O,
 ) -> Result<Status, Failure>
@@ -111,59 +137,81 @@ where
     let mut line = crate::host::lists::empty(alloc);
     let mut is_all_found = true;
     for number in 1..u64::MAX {
-        let read = read_key(alloc, table, number, input, &mut line, keys.as_slice(), output)?;
+        let read =
+            read_key(alloc, table, number, input, &mut line, keys.as_slice(), forms, output)?;
         match read {
             Some(key) => {
-                is_all_found = take_key(alloc, table, &mut keys, key, is_all_found, output)?;
+                is_all_found = take_key(alloc, table, &mut keys, key, is_all_found, forms, output)?;
             }
             None => break,
         }
     }
-    let is_last_found = answer_keys(alloc, table, keys.as_slice(), output)?;
+    let is_last_found = answer_keys(alloc, table, keys.as_slice(), forms, output)?;
     Ok(Status::of(is_last_found && is_all_found))
 }
 
 // Reads the key of the line of this number, if there is such a line. Where it is no key, the keys before it are
 // answered first.
-fn read_key<C: Config, I: BufRead, O: Write>(
+fn read_key<C: Config, F: Forms, I: BufRead, O: Write>(
     alloc: Global,
     table: &HashTable<C, Borrowed<'_>>,
     number: u64,
     input: &mut I,
     line: &mut Vec<u8>,
     keys: &[C::Key],
+    forms: F,
     output: &mut O,
 ) -> Result<Option<C::Key>, Failure>
 where
     C::Key: Text,
     C::Value: Text,
 {
-    match next_key(input, line) {
+    match key_of_line(input, line, forms) {
         Ok(NextKey::Key(key)) => Ok(Some(key)),
         Ok(NextKey::End) => Ok(None),
         Ok(NextKey::NoKey) => {
-            let message = wrong_line::<C::Key>(alloc, number, line.as_slice())?;
-            answer_keys(alloc, table, keys, output)?;
+            let message = wrong_line::<C::Key, F>(alloc, number, line.as_slice(), forms)?;
+            answer_keys(alloc, table, keys, forms, output)?;
             Err(Failure::Misread(message))
         }
         Err(error) => Err(Failure::Input(error)),
     }
 }
 
+// The key of the next line in the form of keys.
+#[inline(always)]
+fn key_of_line<K: Text, F: Forms, I: BufRead>(
+    input: &mut I,
+    line: &mut Vec<u8>,
+    forms: F,
+) -> io::Result<NextKey<K>> {
+    next_key(input, line, forms.key())
+}
+
 // What is said of a line that is no key.
-fn wrong_line<K: Text>(alloc: Global, number: u64, line: &[u8]) -> Result<String, AllocError> {
-    let misread =
-        Misread { line: Some(number), fault: LineFault::Key, wanted: K::wanted(), text: line };
+fn wrong_line<K: Text, F: Forms>(
+    alloc: Global,
+    number: u64,
+    line: &[u8],
+    forms: F,
+) -> Result<String, AllocError> {
+    let misread = Misread {
+        line: Some(number),
+        fault: LineFault::Key,
+        wanted: K::wanted(forms.key()),
+        text: line,
+    };
     misread.message(alloc)
 }
 
 // Adds a key, and answers all where they are a batch. Returns whether each was found, and those before.
-fn take_key<C: Config, O: Write>(
+fn take_key<C: Config, F: Forms, O: Write>(
     alloc: Global,
     table: &HashTable<C, Borrowed<'_>>,
     keys: &mut Vec<C::Key>,
     key: C::Key,
     is_all_found: bool,
+    forms: F,
     output: &mut O,
 ) -> Result<bool, Failure>
 where
@@ -171,16 +219,17 @@ where
     C::Value: Text,
 {
     push_key(keys, key)?;
-    answer_batch(alloc, table, keys, is_all_found, output)
+    answer_batch(alloc, table, keys, is_all_found, forms, output)
 }
 
 // Answers the keys where they are a batch, and drops them. Returns whether each was found, and
 // those before.
-fn answer_batch<C: Config, O: Write>(
+fn answer_batch<C: Config, F: Forms, O: Write>(
     alloc: Global,
     table: &HashTable<C, Borrowed<'_>>,
     keys: &mut Vec<C::Key>,
     is_all_found: bool,
+    forms: F,
     output: &mut O,
 ) -> Result<bool, Failure>
 where
@@ -190,7 +239,7 @@ where
     if keys.len() < BATCH {
         return Ok(is_all_found);
     }
-    let is_found = answer_keys(alloc, table, keys.as_slice(), output)?;
+    let is_found = answer_keys(alloc, table, keys.as_slice(), forms, output)?;
     keys.clear();
     Ok(is_found && is_all_found)
 }
@@ -200,10 +249,11 @@ fn open<C: Config>(bytes: &[u8]) -> Result<HashTable<C, Borrowed<'_>>, Failure> 
 }
 
 // Looks the keys up, and writes a line for each. Returns whether each was found.
-fn answer_keys<C: Config, O: Write>(
+fn answer_keys<C: Config, F: Forms, O: Write>(
     alloc: Global,
     table: &HashTable<C, Borrowed<'_>>,
     keys: &[C::Key],
+    forms: F,
     output: &mut O,
 ) -> Result<bool, Failure>
 where
@@ -212,11 +262,12 @@ where
 {
     let values = look_up::<C>(alloc, table, keys)?;
     let values = values.as_slice();
-    write_answers(keys, values, output).map_err(Failure::Output)?;
+    write_answers(keys, values, forms, output).map_err(Failure::Output)?;
     Ok(are_found(values))
 }
 
 // The value of each key.
+#[inline(always)]
 fn look_up<C: Config>(
     alloc: Global,
     table: &HashTable<C, Borrowed<'_>>,

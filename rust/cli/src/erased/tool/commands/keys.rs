@@ -2,7 +2,7 @@
 //! `odht keys`: the keys of a table file.
 
 use crate::erased::core::failure::Failure;
-use crate::erased::core::found::found_shape;
+use crate::erased::core::forms::{read_as, Forms, Kinds, OwnForms};
 use crate::erased::core::shapes::{Hash, Shape};
 use crate::erased::core::status::{of_output, Status};
 use crate::erased::core::text::Text;
@@ -17,48 +17,69 @@ use std::io::{self, Write};
 pub fn keys_file<O: Write>(
     bytes: &[u8],
     hash: Option<Hash>,
+    kinds: Kinds,
     output: &mut O,
 ) -> Result<Status, Failure> {
-    let shape = found_shape(bytes, hash)?;
-    keys_of(shape, bytes, output)
+    let found = read_as(bytes, hash, kinds)?;
+    let (shape, forms) = found;
+    if forms.are_own() {
+        keys_of(shape, OwnForms, bytes, output)
+    } else {
+        keys_of(shape, forms, bytes, output)
+    }
 }
 
-fn keys_of<O: Write>(shape: Shape, bytes: &[u8], output: &mut O) -> Result<Status, Failure> {
-    for_shape!(shape, list_keys[O](bytes, output))
+// The same where the shape and the forms are known.
+fn keys_of<F: Forms, O: Write>(
+    shape: Shape,
+    forms: F,
+    bytes: &[u8],
+    output: &mut O,
+) -> Result<Status, Failure> {
+    for_shape!(shape, list_keys[F, O](bytes, forms, output))
 }
 
-fn list_keys<C: Config, O: Write>(bytes: &[u8], output: &mut O) -> Result<Status, Failure>
+fn list_keys<C: Config, F: Forms, O: Write>(
+    bytes: &[u8],
+    forms: F,
+    output: &mut O,
+) -> Result<Status, Failure>
 where
     C::Key: Text,
 {
     let table = HashTable::<C, Borrowed<'_>>::from_raw_bytes(Borrowed::new(bytes))
         .map_err(Failure::Refused)?;
-    of_output(write_table(&table, output))
+    of_output(write_table(&table, forms, output))
 }
 
 // Writes the keys of a table.
-fn write_table<C: Config, O: Write>(
+fn write_table<C: Config, F: Forms, O: Write>(
     table: &HashTable<C, Borrowed<'_>>,
+    forms: F,
     output: &mut O,
 ) -> io::Result<()>
 where
     C::Key: Text,
 {
-    write_keys(table.iter(), output)
+    write_keys(table.iter(), forms, output)
 }
 
 // Writes the key of each pair on a line.
-fn write_keys<C: Config, O: Write>(pairs: Iter<'_, C>, output: &mut O) -> io::Result<()>
+fn write_keys<C: Config, F: Forms, O: Write>(
+    pairs: Iter<'_, C>,
+    forms: F,
+    output: &mut O,
+) -> io::Result<()>
 where
     C::Key: Text,
 {
     for (key, _) in pairs {
-        write_key(&key, output)?;
+        write_key(&key, forms, output)?;
     }
     Ok(())
 }
 
-fn write_key<K: Text, O: Write>(key: &K, output: &mut O) -> io::Result<()> {
-    key.write(output)?;
+fn write_key<K: Text, F: Forms, O: Write>(key: &K, forms: F, output: &mut O) -> io::Result<()> {
+    key.write(forms.key(), output)?;
     output.write_all(b"\n")
 }

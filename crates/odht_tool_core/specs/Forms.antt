@@ -1,0 +1,43 @@
+-- The forms of keys and values: their texts, by form, where those of a number are of a type of the width w.
+--     count_of w               how many numbers the type has
+--     number_text w f n        the text of the number n in the form f
+--     IsNumberText w f word    the word is such a text
+--     StandsForNumber w f word n   it is that of n
+--     bytes_text f bytes       the text of bytes in the form f
+--     IsBytesText k f word     the word is such a text of k bytes
+--     StandsForBytes f word bytes  it is that of these bytes
+-- A number is what its stored bytes say from the lowest one on. Bytes have only the form that is their own.
+use Rattle.std.specs.Prelude.{◌≡◌, ℕ, ◌^◌, List, decimal}
+use Rattle.std.specs.Int.{Width, byte_len, swap_bytes}
+use Rattle.std.specs.Str.Parse.{digits_value}
+use Rattle.odht_tool_core.specs.Signed.{IsSignedWord, signed_text, signed_value}
+use Rattle.odht_tool_core.specs.Texts.{IsNumberWord, IsHexWord, WritesBytes, hex_text}
+use Rattle.odht_tool_core.specs.declared.forms.Form.{Form}
+use Rattle.odht_tool_core.specs.declared.forms.Form.TheVariants.{Own, Signed, BigEndian}
+
+abbrev pub count_of : Width → ℕ
+count_of w = 256 ^ byte_len w
+
+abbrev pub number_text : Width → Form → ℕ → List ℕ
+number_text w Own n = decimal n
+number_text w Signed n = signed_text (count_of w) n
+number_text w BigEndian n = decimal (swap_bytes w n)
+
+abbrev pub IsNumberText : Width → Form → List ℕ → Type 0
+IsNumberText w Own word = IsNumberWord (count_of w) word
+IsNumberText w Signed word = IsSignedWord (count_of w) word
+IsNumberText w BigEndian word = IsNumberWord (count_of w) word
+
+abbrev pub StandsForNumber : Width → Form → List ℕ → ℕ → Type 0
+StandsForNumber w Own word n = digits_value 10 word ≡ n
+StandsForNumber w Signed word n = signed_value (count_of w) word ≡ n
+StandsForNumber w BigEndian word n = swap_bytes w (digits_value 10 word) ≡ n
+
+abbrev pub bytes_text : Form → List ℕ → List ℕ
+bytes_text f bytes = hex_text bytes
+
+abbrev pub IsBytesText : ℕ → Form → List ℕ → Type 0
+IsBytesText k f word = IsHexWord k word
+
+abbrev pub StandsForBytes : Form → List ℕ → List ℕ → Type 0
+StandsForBytes f word bytes = WritesBytes word bytes
