@@ -263,8 +263,8 @@ impl<C: Config> HashTableOwned<C> {
     /// [`insert_order_scratch`](HashTableOwned::insert_order_scratch) says or more, of any values; with fewer this is
     /// `insert_order`, in the time that that takes. It takes no memory.
     ///
-    /// The time is in proportion to the slots, and to the groups that the longest search from each home reads; so it is
-    /// for a file of a stranger.
+    /// The time is in proportion to the slots, and to the groups that the longest search from each home reads. It is
+    /// for tables of strangers: where most keys are near their homes `insert_order` is faster.
     ///
     /// ```
     /// # use odht::{configs::U64ToU32, HashTableOwned};

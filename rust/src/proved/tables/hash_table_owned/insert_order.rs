@@ -25,7 +25,8 @@ impl<C: Config> HashTableOwned<C> {
     /// `insert_order`, in the time that that takes.
     ///
     /// It takes no memory. Each home's probe order is walked through once, up to the last slot whose key has this home,
-    /// so that the time is in proportion to the groups that the longest search of each home reads, and to the slots.
+    /// so that the time is in proportion to the groups that the longest search of each home reads, and to the slots. It
+    /// is for tables of strangers: where most keys are near their homes `insert_order` is faster.
     pub fn insert_order_with(&self, out: &mut [usize], scratch: &mut [usize]) -> bool {
         self.table.as_raw().insert_order_with(out, scratch)
     }
