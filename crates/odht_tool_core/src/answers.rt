@@ -4,15 +4,24 @@ ghost use Rattle.std.specs.Io.KnownBytes.{Appends};
 ghost use Rattle.std.specs.List.{list_all};
 ghost use Rattle.odht_tool_core.specs.Texts.{answer_line, answers_text, pair_line};
 
-use crate::forms::Forms;
+use crate::forms::{Form, Forms, OwnForms};
 use crate::text::Text;
 use std::alloc::{AllocError, Global};
 use std::io::{self, Write};
 
-/// Writes a line of a key, a tab and a value, each part by itself: a buffer behind `output` that becomes full is passed
-/// on with as many parts as fit.
+/// Writes a line of a key, a tab and a value, in the texts that their types have.
 #[inline(always)]
-pub fn write_pair<K: Text, V: Text, F: Forms, O: Write>(
+pub fn write_pair<K: Text, V: Text, O: Write>(key: &K, value: &V, output: &mut O) -> io::Result<()>
+    ensures { OnOk result (Appends (O.contents output.old) (O.contents output.new)
+        (pair_line (K.text Form.Own) (V.text Form.Own) (key.now, value.now))) }
+{
+    write_pair_as(key, value, OwnForms, output)
+}
+
+/// Writes a line of a key, a tab and a value, in texts of these forms. Each part is written by itself: a buffer behind
+/// `output` that becomes full is passed on with as many parts as fit.
+#[inline(always)]
+pub fn write_pair_as<K: Text, V: Text, F: Forms, O: Write>(
     key: &K,
     value: &V,
     forms: F,
@@ -27,8 +36,22 @@ pub fn write_pair<K: Text, V: Text, F: Forms, O: Write>(
     output.write_all(b"\n")
 }
 
-/// Writes a line for each key: with its value, or the key alone where it has none.
-pub fn write_answers<K: Text, V: Text, F: Forms, O: Write>(
+/// Writes a line for each key: with its value, or the key alone where it has none; in the texts that their types have.
+#[inline]
+pub fn write_answers<K: Text, V: Text, O: Write>(
+    keys: &[K],
+    values: &[Option<V>],
+    output: &mut O,
+) -> io::Result<()>
+    requires { length values.now ≡ length keys.now }
+    ensures { OnOk result (Appends (O.contents output.old) (O.contents output.new)
+        (answers_text (K.text Form.Own) (V.text Form.Own) keys.now values.now)) }
+{
+    write_answers_as(keys, values, OwnForms, output)
+}
+
+/// `write_answers` in texts of these forms.
+pub fn write_answers_as<K: Text, V: Text, F: Forms, O: Write>(
     keys: &[K],
     values: &[Option<V>],
     forms: F,
@@ -69,7 +92,7 @@ fn write_answer<K: Text, V: Text, F: Forms, O: Write>(
         (answer_line (K.text (F.pair forms).0) (V.text (F.pair forms).1) (key.now, value.now))) }
 {
     match value {
-        Some(value) => write_pair(key, value, forms, output),
+        Some(value) => write_pair_as(key, value, forms, output),
         None => {
             key.write(forms.key(), output)?;
             output.write_all(b"\n")

@@ -62,9 +62,21 @@ pub enum NextKey<K> {
     End,
 }
 
-/// Reads the next line, and parses its key. The bytes of `line` are replaced. Where an empty line is no key, a line after
-/// it is taken too.
-pub fn next_key<K: Text, I: BufRead>(
+/// Reads the next line, and parses its key, in the text that its type has. The bytes of `line` are replaced. Where an
+/// empty line is no key, a line after it is taken too.
+#[inline]
+pub fn next_key<K: Text, I: BufRead>(input: &mut I, line: &mut Vec<u8>) -> io::Result<NextKey<K>>
+    ensures next { IfOk result (IsNextKey (IsReadAs (K.is_word Form.Own) (K.stands_for Form.Own))
+        (I.remaining input.old) (I.remaining input.new)) }
+    ensures fault { result ≡ Ok NextKey.NoKey
+        → IsNoKeyLine (IsReadAs (K.is_word Form.Own) (K.stands_for Form.Own))
+        (I.remaining input.old) (I.remaining input.new) line.new.items }
+{
+    next_key_as(input, line, Form::Own)
+}
+
+/// `next_key` in texts of this form.
+pub fn next_key_as<K: Text, I: BufRead>(
     input: &mut I,
     line: &mut Vec<u8>,
     form: Form,

@@ -7,7 +7,7 @@ ghost use Rattle.odht_tool_core.specs.InputLines.{IsBehind, IsEnding, IsNextLine
 ghost use Rattle.odht_tool_core.specs.InputLines.{IsTakenThrough, without_end};
 
 use crate::failure::{Failure, LineFault};
-use crate::forms::Forms;
+use crate::forms::{Forms, OwnForms};
 use crate::places::{cut_at, place_of};
 use crate::text::Text;
 use std::io::{self, BufRead, ErrorKind};
@@ -116,8 +116,19 @@ fn drop_last(line: &mut Vec<u8>, byte: u8) -> bool
     true
 }
 
-/// Reads the pair of the line of this number, if there is such a line. The bytes of `line` are replaced.
-pub fn read_pair<K: Text, V: Text, F: Forms, I: BufRead>(
+/// Reads the pair of the line of this number, if there is such a line, in the texts that the types of key and value have.
+/// The bytes of `line` are replaced.
+#[inline]
+pub fn read_pair<K: Text, V: Text, I: BufRead>(
+    input: &mut I,
+    line: &mut Vec<u8>,
+    number: u64,
+) -> Result<Option<(K, V)>, Failure> {
+    read_pair_as(input, line, number, OwnForms)
+}
+
+/// `read_pair` in texts of these forms.
+pub fn read_pair_as<K: Text, V: Text, F: Forms, I: BufRead>(
     input: &mut I,
     line: &mut Vec<u8>,
     number: u64,

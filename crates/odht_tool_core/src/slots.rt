@@ -8,10 +8,10 @@ ghost use Rattle.odht_raw.specs.Parts.{TableParts};
 ghost use Rattle.odht_tool_core.specs.Endings.{IsDone};
 ghost use Rattle.odht_tool_core.specs.Slots.{numbers_text, slot_line, slots_text, slots_outcome};
 
-use crate::answers::write_pair;
+use crate::answers::write_pair_as;
 use crate::digits::write_number;
 use crate::failure::Failure;
-use crate::forms::Forms;
+use crate::forms::{Form, Forms, OwnForms};
 use crate::groups::groups_to;
 use crate::status::{Status, of_output};
 use crate::text::Text;
@@ -22,8 +22,22 @@ use odht_header::config::{Coded, Config};
 use odht_raw::memory_layout::{Allocation, Entries};
 use std::io::{self, Write};
 
-/// `odht dump --slots` of bytes of a configuration: writes a line for each occupied slot, in slot order.
-pub fn dump_slots<C: Config, F: Forms, O: Write>(
+/// `odht dump --slots` of bytes of a configuration: writes a line for each occupied slot, in slot order, in the texts that
+/// the types of key and value have.
+#[inline]
+pub fn dump_slots<C: Config, O: Write>(bytes: &[u8], output: &mut O) -> Result<Status, Failure>
+where
+    C::Key: Text,
+    C::Value: Text,
+    ensures { IsDone (slots_outcome ⟦<C as Coded>⟧.coding (C.Key.text Form.Own)
+        (C.Value.text Form.Own) bytes.now)
+        (O.contents output.old) (O.contents output.new) result }
+{
+    dump_slots_as::<C, OwnForms, O>(bytes, OwnForms, output)
+}
+
+/// `dump_slots` in texts of these forms.
+pub fn dump_slots_as<C: Config, F: Forms, O: Write>(
     bytes: &[u8],
     forms: F,
     output: &mut O,
@@ -91,7 +105,7 @@ where
     let groups = groups_to(C::H::hash(entry.key.as_slice()), slot, entries.len(), None);
     write_numbers(slot, tag, groups, output)?;
     let (key, value) = (C::decode_key(&entry.key), C::decode_value(&entry.value));
-    write_pair(&key, &value, forms, output)
+    write_pair_as(&key, &value, forms, output)
 }
 
 // Writes the number of a slot, its control byte and a number of groups, each with a tab after it.

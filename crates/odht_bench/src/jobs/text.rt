@@ -7,7 +7,6 @@ use odht::HashTableOwned;
 use odht::config::Config;
 use odht::configs::{Bytes16ToU64, Bytes32Set, U64ToU32, U64ToU64};
 use odht_tool_core::answers::{absent_values, are_found, write_answers, write_pair};
-use odht_tool_core::forms::{Form, OwnForms};
 use odht_tool_core::keys::{NextKey, next_key, push_key};
 use odht_tool_core::lines::read_pair;
 use odht_tool_core::slots::dump_slots;
@@ -60,7 +59,7 @@ where
 fn lines_of<K: Text, V: Text>(alloc: Global, pairs: &[(K, V)]) -> Result<Vec<u8>, Stopped> {
     let mut output = BufWriter::with_capacity(alloc, BUFFER_SIZE, Vec::new(alloc))?;
     for (key, value) in pairs {
-        write_pair(key, value, OwnForms, &mut output)?;
+        write_pair(key, value, &mut output)?;
     }
     output.into_inner().or(Err(Stopped::Output))
 }
@@ -69,7 +68,7 @@ fn lines_of<K: Text, V: Text>(alloc: Global, pairs: &[(K, V)]) -> Result<Vec<u8>
 fn words_of<K: Text>(alloc: Global, keys: &[K]) -> Result<Vec<u8>, Stopped> {
     let absent = absent_values::<u32>(alloc, keys.len())?;
     let mut output = BufWriter::with_capacity(alloc, BUFFER_SIZE, Vec::new(alloc))?;
-    write_answers(keys, absent.as_slice(), OwnForms, &mut output)?;
+    write_answers(keys, absent.as_slice(), &mut output)?;
     output.into_inner().or(Err(Stopped::Output))
 }
 
@@ -83,8 +82,8 @@ where
     let mut line = Vec::new(alloc);
     let mut table: HashTableOwned<C> = HashTableOwned::default(alloc)?;
     for number in 1..u64::MAX {
-        let Some((key, value)) = read_pair::<C::Key, C::Value, OwnForms, &[u8]>(
-            &mut input, &mut line, number, OwnForms,
+        let Some((key, value)) = read_pair::<C::Key, C::Value, &[u8]>(
+            &mut input, &mut line, number,
         )?
         else {
             break;
@@ -106,7 +105,7 @@ where
 {
     let mut output = BufWriter::with_capacity(alloc, BUFFER_SIZE, Vec::new(alloc))?;
     for (key, value) in table.iter() {
-        write_pair(&key, &value, OwnForms, &mut output)?;
+        write_pair(&key, &value, &mut output)?;
     }
     let text = output.into_inner().or(Err(Stopped::Output))?;
     digest.bytes(text.as_slice());
@@ -124,11 +123,7 @@ where
     C::Value: Text,
 {
     let mut output = BufWriter::with_capacity(alloc, BUFFER_SIZE, Vec::new(alloc))?;
-    digest.holds(dump_slots::<C, OwnForms, BufWriter<Vec<u8>>>(
-        bytes,
-        OwnForms,
-        &mut output,
-    )?.is_done());
+    digest.holds(dump_slots::<C, BufWriter<Vec<u8>>>(bytes, &mut output)?.is_done());
     let text = output.into_inner().or(Err(Stopped::Output))?;
     digest.bytes(text.as_slice());
     Ok(())
@@ -149,7 +144,7 @@ where
     let mut line = Vec::new(alloc);
     let mut keys = Vec::new(alloc);
     for _ in 1..u64::MAX {
-        match next_key::<C::Key, &[u8]>(&mut input, &mut line, Form::Own)? {
+        match next_key::<C::Key, &[u8]>(&mut input, &mut line)? {
             NextKey::Key(key) => push_key(&mut keys, key)?,
             NextKey::NoKey => return Err(Stopped::Refused),
             NextKey::End => break,
@@ -158,7 +153,7 @@ where
     let mut values = absent_values::<C::Value>(alloc, keys.len())?;
     table.get_all(keys.as_slice(), values.as_mut_slice());
     let mut output = BufWriter::with_capacity(alloc, BUFFER_SIZE, Vec::new(alloc))?;
-    write_answers(keys.as_slice(), values.as_slice(), OwnForms, &mut output)?;
+    write_answers(keys.as_slice(), values.as_slice(), &mut output)?;
     let text = output.into_inner().or(Err(Stopped::Output))?;
     digest.holds(are_found(values.as_slice()));
     digest.bytes(text.as_slice());

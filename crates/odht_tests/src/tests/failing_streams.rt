@@ -2,7 +2,6 @@
 //! text. What has gone out until then is all that goes out. The clauses of the traits of std say of an error no more than
 //! that there is one, so no contract over any writer or reader can say which it is.
 use crate::tests::checks::{same, same_bytes};
-use odht_tool_core::forms::Form;
 use odht_tool_core::keys::{NextKey, next_key};
 use odht_tool_core::text::write_bytes;
 use std::alloc::Global;
@@ -94,7 +93,7 @@ fn read_keys(
 ) -> (Vec<u64>, Option<io::Error>) {
     let (mut keys, mut line) = (Vec::new(alloc), Vec::new(alloc));
     for _ in 0..4 {
-        match next_key(input, &mut line, Form::Own) {
+        match next_key(input, &mut line) {
             Ok(NextKey::Key(key)) => keys.push(key).expect(rt, "memory"),
             Ok(_) => return (keys, None),
             Err(error) => return (keys, Some(error)),

@@ -4,7 +4,7 @@ use crate::tests::checks::same_len;
 use odht::HashTableOwned;
 use odht::configs::Bytes16ToU32;
 use odht_tool_core::answers::{write_answers, write_pair};
-use odht_tool_core::forms::{Form, OwnForms};
+use odht_tool_core::forms::Form;
 use odht_tool_core::slots::dump_slots;
 use odht_tool_core::text::Text;
 use std::alloc::Global;
@@ -35,10 +35,10 @@ fn a_full_buffer_has_as_many_parts_as_fit(rt: HostRuntime) {
     KEY.write(Form::Own, &mut key).expect(&rt, "memory");
     check_full(&rt, "key", &key);
     let mut pair = output(&rt, alloc);
-    write_pair(&KEY, &5u32, OwnForms, &mut pair).expect(&rt, "memory");
+    write_pair(&KEY, &5u32, &mut pair).expect(&rt, "memory");
     check_full(&rt, "pair", &pair);
     let mut answers = output(&rt, alloc);
-    write_answers(&[KEY], &[Some(5u32)], OwnForms, &mut answers).expect(&rt, "memory");
+    write_answers(&[KEY], &[Some(5u32)], &mut answers).expect(&rt, "memory");
     check_full(&rt, "answer", &answers);
 }
 
@@ -51,10 +51,6 @@ fn a_full_buffer_has_as_many_parts_of_a_slot_as_fit(rt: HostRuntime) {
     );
     let _ = table.insert(&KEY, &5).expect(&rt, "memory");
     let mut slots = output(&rt, alloc);
-    let _ = dump_slots::<Bytes16ToU32, OwnForms, Output>(
-        table.raw_bytes(),
-        OwnForms,
-        &mut slots,
-    ).expect(&rt, "memory");
+    let _ = dump_slots::<Bytes16ToU32, Output>(table.raw_bytes(), &mut slots).expect(&rt, "memory");
     check_full(&rt, "slot", &slots);
 }

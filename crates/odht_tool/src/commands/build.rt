@@ -18,7 +18,7 @@ use odht_tool_core::arguments::{BuildOptions, is_stream};
 use odht_tool_core::failure::Failure;
 use odht_tool_core::files::replace_file;
 use odht_tool_core::forms::{Forms, Kinds, OwnForms, read_as};
-use odht_tool_core::lines::read_pair;
+use odht_tool_core::lines::read_pair_as;
 use odht_tool_core::misread::Misread;
 use odht_tool_core::progress::Progress;
 use odht_tool_core::shapes::{Hash, Shape};
@@ -268,7 +268,7 @@ where
     let mut pairs = Vec::new(alloc);
     let mut line = Vec::new(alloc);
     for number in 1..u64::MAX {
-        let pair = match read_pair::<C::Key, C::Value, F, I>(input, &mut line, number, forms) {
+        let pair = match read_pair_as::<C::Key, C::Value, F, I>(input, &mut line, number, forms) {
             Ok(Some(pair)) => pair,
             Ok(None) => break,
             Err(failure) => {

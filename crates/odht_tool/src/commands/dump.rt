@@ -13,11 +13,11 @@ use crate::shapes::for_shape;
 use odht::bytes::Borrowed;
 use odht::config::{Coded, Config};
 use odht::{HashTable, Iter};
-use odht_tool_core::answers::write_pair;
+use odht_tool_core::answers::write_pair_as;
 use odht_tool_core::failure::Failure;
 use odht_tool_core::forms::{Forms, Kinds, OwnForms, read_as};
 use odht_tool_core::shapes::{Hash, Shape};
-use odht_tool_core::slots::dump_slots;
+use odht_tool_core::slots::dump_slots_as;
 use odht_tool_core::status::{Status, of_output};
 use odht_tool_core::text::Text;
 use std::io::{self, Write};
@@ -82,7 +82,7 @@ fn dump_slots_of<F: Forms, O: Write>(
     ensures { IsDone (dump_of_shape (F.pair forms) bytes.now true shape)
         (O.contents output.old) (O.contents output.new) result }
 {
-    for_shape!(shape, dump_slots[F, O](bytes, forms, output))
+    for_shape!(shape, dump_slots_as[F, O](bytes, forms, output))
 }
 
 fn dump_pairs<C: Config, F: Forms, O: Write>(
@@ -138,7 +138,7 @@ where
         (pairs_text (C.Key.text (F.pair forms).0) (C.Value.text (F.pair forms).1) pairs.entry)) }
 {
     for (key, value) in pairs {
-        write_pair(&key, &value, forms, output)?;
+        write_pair_as(&key, &value, forms, output)?;
     }
     Ok(())
 }

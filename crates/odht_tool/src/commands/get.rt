@@ -15,10 +15,10 @@ use crate::shapes::for_shape;
 use odht::HashTable;
 use odht::bytes::Borrowed;
 use odht::config::{Coded, Config};
-use odht_tool_core::answers::{absent_values, are_found, write_answers};
+use odht_tool_core::answers::{absent_values, are_found, write_answers_as};
 use odht_tool_core::failure::{Failure, LineFault};
 use odht_tool_core::forms::{Forms, Kinds, OwnForms, read_as};
-use odht_tool_core::keys::{NextKey, next_key, parse_keys, push_key};
+use odht_tool_core::keys::{NextKey, next_key_as, parse_keys, push_key};
 use odht_tool_core::misread::Misread;
 use odht_tool_core::shapes::{Hash, Shape};
 use odht_tool_core::status::Status;
@@ -252,7 +252,7 @@ fn key_of_line<K: Text, F: Forms, I: BufRead>(
         (IsReadAs (K.is_word (F.pair forms).0) (K.stands_for (F.pair forms).0))
         (I.remaining input.old) (I.remaining input.new) line.new.items }
 {
-    next_key(input, line, forms.key())
+    next_key_as(input, line, forms.key())
 }
 
 // What is said of a line that is no key.
@@ -351,7 +351,7 @@ where
 {
     let values = look_up::<C>(alloc, table, keys)?;
     let values = values.as_slice();
-    write_answers(keys, values, forms, output).map_err(Failure::Output)?;
+    write_answers_as(keys, values, forms, output).map_err(Failure::Output)?;
     Ok(are_found(values))
 }
 

@@ -1,16 +1,26 @@
 // Made by `make rust` of crates/odht_tool_core/src/answers.rt.
 //! The lines in which pairs and answers are printed.
 
-use crate::erased::core::forms::Forms;
+use crate::erased::core::forms::{Form, Forms, OwnForms};
 use crate::erased::core::text::Text;
 use crate::host::prelude::*;
 use crate::shim::{AllocError, Global};
 use std::io::{self, Write};
 
-/// Writes a line of a key, a tab and a value, each part by itself: a buffer behind `output` that becomes full is passed
-/// on with as many parts as fit.
+/// Writes a line of a key, a tab and a value, in the texts that their types have.
 #[inline(always)]
-pub fn write_pair<K: Text, V: Text, F: Forms, O: Write>(
+pub fn write_pair<K: Text, V: Text, O: Write>(
+    key: &K,
+    value: &V,
+    output: &mut O,
+) -> io::Result<()> {
+    write_pair_as(key, value, OwnForms, output)
+}
+
+/// Writes a line of a key, a tab and a value, in texts of these forms. Each part is written by itself: a buffer behind
+/// `output` that becomes full is passed on with as many parts as fit.
+#[inline(always)]
+pub fn write_pair_as<K: Text, V: Text, F: Forms, O: Write>(
     key: &K,
     value: &V,
     forms: F,
@@ -22,8 +32,18 @@ pub fn write_pair<K: Text, V: Text, F: Forms, O: Write>(
     output.write_all(b"\n")
 }
 
-/// Writes a line for each key: with its value, or the key alone where it has none.
-pub fn write_answers<K: Text, V: Text, F: Forms, O: Write>(
+/// Writes a line for each key: with its value, or the key alone where it has none; in the texts that their types have.
+#[inline]
+pub fn write_answers<K: Text, V: Text, O: Write>(
+    keys: &[K],
+    values: &[Option<V>],
+    output: &mut O,
+) -> io::Result<()> {
+    write_answers_as(keys, values, OwnForms, output)
+}
+
+/// `write_answers` in texts of these forms.
+pub fn write_answers_as<K: Text, V: Text, F: Forms, O: Write>(
     keys: &[K],
     values: &[Option<V>],
     forms: F,
@@ -53,7 +73,7 @@ fn write_answer<K: Text, V: Text, F: Forms, O: Write>(
     output: &mut O,
 ) -> io::Result<()> {
     match value {
-        Some(value) => write_pair(key, value, forms, output),
+        Some(value) => write_pair_as(key, value, forms, output),
         None => {
             key.write(forms.key(), output)?;
             output.write_all(b"\n")

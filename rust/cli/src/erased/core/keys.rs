@@ -50,9 +50,15 @@ pub enum NextKey<K> {
     End,
 }
 
-/// Reads the next line, and parses its key. The bytes of `line` are replaced. Where an empty line is no key, a line after
-/// it is taken too.
-pub fn next_key<K: Text, I: BufRead>(
+/// Reads the next line, and parses its key, in the text that its type has. The bytes of `line` are replaced. Where an
+/// empty line is no key, a line after it is taken too.
+#[inline]
+pub fn next_key<K: Text, I: BufRead>(input: &mut I, line: &mut Vec<u8>) -> io::Result<NextKey<K>> {
+    next_key_as(input, line, Form::Own)
+}
+
+/// `next_key` in texts of this form.
+pub fn next_key_as<K: Text, I: BufRead>(
     input: &mut I,
     line: &mut Vec<u8>,
     form: Form,

@@ -2,7 +2,7 @@
 //! The lines of standard input.
 
 use crate::erased::core::failure::{Failure, LineFault};
-use crate::erased::core::forms::Forms;
+use crate::erased::core::forms::{Forms, OwnForms};
 use crate::erased::core::places::{cut_at, place_of};
 use crate::erased::core::text::Text;
 use crate::host::prelude::*;
@@ -85,8 +85,19 @@ fn drop_last(line: &mut Vec<u8>, byte: u8) -> bool {
     true
 }
 
-/// Reads the pair of the line of this number, if there is such a line. The bytes of `line` are replaced.
-pub fn read_pair<K: Text, V: Text, F: Forms, I: BufRead>(
+/// Reads the pair of the line of this number, if there is such a line, in the texts that the types of key and value have.
+/// The bytes of `line` are replaced.
+#[inline]
+pub fn read_pair<K: Text, V: Text, I: BufRead>(
+    input: &mut I,
+    line: &mut Vec<u8>,
+    number: u64,
+) -> Result<Option<(K, V)>, Failure> {
+    read_pair_as(input, line, number, OwnForms)
+}
+
+/// `read_pair` in texts of these forms.
+pub fn read_pair_as<K: Text, V: Text, F: Forms, I: BufRead>(
     input: &mut I,
     line: &mut Vec<u8>,
     number: u64,

@@ -1,10 +1,10 @@
 // Made by `make rust` of crates/odht_tool_core/src/slots.rt.
 //! The occupied slots of a table, a line for each.
 
-use crate::erased::core::answers::write_pair;
+use crate::erased::core::answers::write_pair_as;
 use crate::erased::core::digits::write_number;
 use crate::erased::core::failure::Failure;
-use crate::erased::core::forms::Forms;
+use crate::erased::core::forms::{Form, Forms, OwnForms};
 use crate::erased::core::groups::groups_to;
 use crate::erased::core::status::{of_output, Status};
 use crate::erased::core::text::Text;
@@ -16,8 +16,19 @@ use crate::proved::header::config::Config;
 use crate::proved::raw::memory_layout::{Allocation, Entries};
 use std::io::{self, Write};
 
-/// `odht dump --slots` of bytes of a configuration: writes a line for each occupied slot, in slot order.
-pub fn dump_slots<C: Config, F: Forms, O: Write>(
+/// `odht dump --slots` of bytes of a configuration: writes a line for each occupied slot, in slot order, in the texts that
+/// the types of key and value have.
+#[inline]
+pub fn dump_slots<C: Config, O: Write>(bytes: &[u8], output: &mut O) -> Result<Status, Failure>
+where
+    C::Key: Text,
+    C::Value: Text,
+{
+    dump_slots_as::<C, OwnForms, O>(bytes, OwnForms, output)
+}
+
+/// `dump_slots` in texts of these forms.
+pub fn dump_slots_as<C: Config, F: Forms, O: Write>(
     bytes: &[u8],
     forms: F,
     output: &mut O,
@@ -69,7 +80,7 @@ where
     let groups = groups_to(C::H::hash(entry.key.as_slice()), slot, entries.len(), None);
     write_numbers(slot, tag, groups, output)?;
     let (key, value) = (C::decode_key(&entry.key), C::decode_value(&entry.value));
-    write_pair(&key, &value, forms, output)
+    write_pair_as(&key, &value, forms, output)
 }
 
 // Writes the number of a slot, its control byte and a number of groups, each with a tab after it.

@@ -5,7 +5,7 @@ use crate::erased::core::arguments::{is_stream, BuildOptions};
 use crate::erased::core::failure::Failure;
 use crate::erased::core::files::replace_file;
 use crate::erased::core::forms::{read_as, Forms, Kinds, OwnForms};
-use crate::erased::core::lines::read_pair;
+use crate::erased::core::lines::read_pair_as;
 use crate::erased::core::misread::Misread;
 use crate::erased::core::progress::Progress;
 use crate::erased::core::shapes::{Hash, Shape};
@@ -225,7 +225,7 @@ where
     let mut pairs = crate::host::lists::empty(alloc);
     let mut line = crate::host::lists::empty(alloc);
     for number in 1..u64::MAX {
-        let pair = match read_pair::<C::Key, C::Value, F, I>(input, &mut line, number, forms) {
+        let pair = match read_pair_as::<C::Key, C::Value, F, I>(input, &mut line, number, forms) {
             Ok(Some(pair)) => pair,
             Ok(None) => break,
             Err(failure) => {

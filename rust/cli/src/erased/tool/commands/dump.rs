@@ -1,11 +1,11 @@
 // Made by `make rust` of crates/odht_tool/src/commands/dump.rt.
 //! `odht dump`: the pairs of a table file.
 
-use crate::erased::core::answers::write_pair;
+use crate::erased::core::answers::write_pair_as;
 use crate::erased::core::failure::Failure;
 use crate::erased::core::forms::{read_as, Forms, Kinds, OwnForms};
 use crate::erased::core::shapes::{Hash, Shape};
-use crate::erased::core::slots::dump_slots;
+use crate::erased::core::slots::dump_slots_as;
 use crate::erased::core::status::{of_output, Status};
 use crate::erased::core::text::Text;
 use crate::erased::tool::shapes::for_shape;
@@ -63,7 +63,7 @@ fn dump_slots_of<F: Forms, O: Write>(
     bytes: &[u8],
     output: &mut O,
 ) -> Result<Status, Failure> {
-    for_shape!(shape, dump_slots[F, O](bytes, forms, output))
+    for_shape!(shape, dump_slots_as[F, O](bytes, forms, output))
 }
 
 fn dump_pairs<C: Config, F: Forms, O: Write>(
@@ -104,7 +104,7 @@ where
     C::Value: Text,
 {
     for (key, value) in pairs {
-        write_pair(&key, &value, forms, output)?;
+        write_pair_as(&key, &value, forms, output)?;
     }
     Ok(())
 }

@@ -1,10 +1,10 @@
 // Made by `make rust` of crates/odht_tool/src/commands/get.rt.
 //! `odht get`: lookups in a table file.
 
-use crate::erased::core::answers::{absent_values, are_found, write_answers};
+use crate::erased::core::answers::{absent_values, are_found, write_answers_as};
 use crate::erased::core::failure::{Failure, LineFault};
 use crate::erased::core::forms::{read_as, Forms, Kinds, OwnForms};
-use crate::erased::core::keys::{next_key, parse_keys, push_key, NextKey};
+use crate::erased::core::keys::{next_key_as, parse_keys, push_key, NextKey};
 use crate::erased::core::misread::Misread;
 use crate::erased::core::shapes::{Hash, Shape};
 use crate::erased::core::status::Status;
@@ -185,7 +185,7 @@ fn key_of_line<K: Text, F: Forms, I: BufRead>(
     line: &mut Vec<u8>,
     forms: F,
 ) -> io::Result<NextKey<K>> {
-    next_key(input, line, forms.key())
+    next_key_as(input, line, forms.key())
 }
 
 // What is said of a line that is no key.
@@ -262,7 +262,7 @@ where
 {
     let values = look_up::<C>(alloc, table, keys)?;
     let values = values.as_slice();
-    write_answers(keys, values, forms, output).map_err(Failure::Output)?;
+    write_answers_as(keys, values, forms, output).map_err(Failure::Output)?;
     Ok(are_found(values))
 }
 

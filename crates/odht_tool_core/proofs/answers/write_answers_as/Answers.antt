@@ -2,7 +2,7 @@ use Rattle.std.proofs.Common.{◌≡◌, ◌+◌, suc, ◌<◌, length, take, sy
 use Rattle.std.specs.Io.KnownBytes.{Appends}
 use Rattle.odht_tool_core.specs.Texts.{answer_line, answers_text}
 use Rattle.odht_tool_core.proofs.Answered.{answers_take, appends_more}
-use Rattle.odht_tool_core.proofs.answers.write_answers.Goals as goal
+use Rattle.odht_tool_core.proofs.answers.write_answers_as.Goals as goal
 
 pub loop-at-preserved : goal.loop-at-preserved
 loop-at-preserved g c =

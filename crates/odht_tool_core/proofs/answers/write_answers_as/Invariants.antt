@@ -1,7 +1,7 @@
 use Rattle.std.proofs.Common.{take}
 use Rattle.std.specs.Io.KnownBytes.{Appends}
 use Rattle.odht_tool_core.specs.Texts.{answers_text}
-use Rattle.odht_tool_core.proofs.answers.write_answers.Given as goal
+use Rattle.odht_tool_core.proofs.answers.write_answers_as.Given as goal
 
 -- the lines of the keys so far are written
 abbrev pub invariant-loop-at : goal.invariant-loop-at
