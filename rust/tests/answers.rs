@@ -4,9 +4,16 @@
 use std::fs;
 use std::path::{Path, PathBuf};
 
-// Calls that are made for what they do, or whose result has a type that says it. The last two are the crate's own.
-const OTHERS: [&str; 6] =
-    ["insert", "try_insert_all", "try_extend", "get_or_insert_with", "percent_of", "refused"];
+// Calls that are made for what they do, or whose result has a type that says it. The last three are the crate's own.
+const OTHERS: [&str; 7] = [
+    "insert",
+    "try_insert_all",
+    "try_extend",
+    "get_or_insert_with",
+    "percent_of",
+    "percent",
+    "refused",
+];
 const WALKS: [&str; 4] = ["Iter<", "Keys<", "Values<", "Slots<"];
 
 fn sources(folder: &Path) -> Vec<PathBuf> {
@@ -50,6 +57,6 @@ fn answers_are_to_be_used() {
             count += usize::from(is_marked);
         }
     }
-    // 14 of the table that grows, 15 of views, and one more
-    assert_eq!(count, 30);
+    // 16 of the table that grows, 15 of views, and one more
+    assert_eq!(count, 32);
 }
