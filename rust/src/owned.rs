@@ -258,13 +258,13 @@ impl<C: Config> HashTableOwned<C> {
         self.0.insert_order(out)
     }
 
-    /// [`insert_order`](HashTableOwned::insert_order) in linear time, where it has `scratch` to write to: it returns
-    /// the same, with the same order in `out`. `scratch` has as many numbers as
+    /// [`insert_order`](HashTableOwned::insert_order) for tables of strangers, where it has `scratch` to write to: it
+    /// returns the same, and leaves the same order in `out`. `scratch` has as many numbers as
     /// [`insert_order_scratch`](HashTableOwned::insert_order_scratch) says or more, of any values; with fewer this is
     /// `insert_order`, in the time that that takes. It takes no memory.
     ///
-    /// The time is in proportion to the slots, and to the groups that the longest search from each home reads. It is
-    /// for tables of strangers: where most keys are near their homes `insert_order` is faster.
+    /// The time is in proportion to the slots, and to the groups that the longest search from each home reads: with a
+    /// bound of `g` groups to `g` times the slots. Where most keys are near their homes `insert_order` is faster.
     ///
     /// ```
     /// # use odht::{configs::U64ToU32, HashTableOwned};

@@ -13,7 +13,7 @@ use common::writing::Writing;
 use odht::configs::U64ToU32;
 use odht::dynamic::{DynError, DynTable, Layout};
 use odht::{bytes_needed, Error, FxHashFn, HashFn, HashTable, HashTableOwned, Part, UnHashFn};
-use std::borrow::Borrow;
+use std::borrow::{Borrow, BorrowMut};
 use std::cell::Cell;
 
 // So many bytes, which look random.
@@ -187,16 +187,28 @@ impl Borrow<[u8]> for Fickle {
     }
 }
 
+impl BorrowMut<[u8]> for Fickle {
+    fn borrow_mut(&mut self) -> &mut [u8] {
+        let asked = self.asked.get();
+        self.asked.set(asked + 1);
+        &mut self.buffers[asked % 2]
+    }
+}
+
 #[test]
 fn other_bytes_than_those_that_were_opened() {
     let table = |items| Writing::new(Format::new(8, 4, FxHashFn::HASH), items, 87).bytes;
     let fickle = Fickle { buffers: [table(3), table(300)], asked: Cell::new(0) };
-    let view = DynTable::<FxHashFn, _>::open_as_stated(fickle).unwrap();
+    let mut view = DynTable::<FxHashFn, _>::open_as_stated(fickle).unwrap();
     let others = "the bytes of a table are not those that were opened";
     assert_eq!(outcome(|| view.len()), Err(others.to_string()));
     assert_eq!(outcome(|| view.len()), Ok(0));
     assert_eq!(outcome(|| view.get(&[0; 8]).is_some()), Err(others.to_string()));
     assert_eq!(outcome(|| view.iter().count()), Ok(0));
+    assert_eq!(outcome(|| view.insert(&[0; 8], &[1; 4]).is_ok()), Err(others.to_string()));
+    assert_eq!(outcome(|| view.insert(&[0; 8], &[1; 4]).is_ok()), Ok(true));
+    assert_eq!(outcome(|| view.grown_len()), Err(others.to_string()));
+    assert_eq!(outcome(|| view.get(&[0; 8]) == Some(&[1; 4])), Ok(true));
 }
 
 fn layout_of(format: Format) -> Layout {

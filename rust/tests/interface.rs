@@ -6,6 +6,7 @@ mod common;
 use common::outcomes::outcome;
 use common::worked::{changed, three_pairs};
 use odht::configs::{DirectU32ToU32, U64ToU32};
+use odht::dynamic::{DynTable, Layout};
 use odht::{bytes_needed, try_bytes_needed, Config, Error, FxHashFn, HashFn};
 use odht::{HashTable, HashTableOwned, Iter, Part, UnHashFn};
 use std::borrow::{Borrow, Cow};
@@ -14,6 +15,7 @@ use std::sync::Arc;
 
 type Owned = HashTableOwned<U64ToU32>;
 type View<D> = HashTable<U64ToU32, D>;
+type Dyn = DynTable<FxHashFn, Vec<u8>>;
 
 // The words of the panic of a call, which has to panic.
 fn words<T>(call: impl FnOnce() -> T) -> String {
@@ -32,6 +34,9 @@ fn percentages_are_from_1_to_100() {
         assert_eq!(words(|| try_bytes_needed::<U64ToU32>(3, percent)), stated);
         assert_eq!(words(|| View::init_in_place(vec![0; 256], 3, percent)), stated);
         assert_eq!(words(|| View::try_init_in_place(vec![0; 256], 3, percent)), stated);
+        let layout = Layout::of::<U64ToU32>();
+        assert_eq!(words(|| layout.bytes_needed(3, percent)), stated);
+        assert_eq!(words(|| Dyn::init_in_place(layout, vec![0; 256], 3, percent)), stated);
     }
 }
 
@@ -48,10 +53,12 @@ fn slices_are_as_long_as_they_have_to_be() {
         let end = words(|| table.insert_order_with(&mut order, &mut [0; 48]));
         assert!(end.contains("a number for each item"));
     }
+    let sized = Dyn::open_as_stated(table.raw_bytes().to_vec()).unwrap();
     let length = view.grown_len().unwrap();
     for length in [0, length - 1, length + 1, 2 * length] {
         let mut out = vec![0; length];
         assert!(words(|| view.grow_into(&mut out)).contains("as long as the grown table"));
+        assert!(words(|| sized.grow_into(&mut out)).contains("as long as the grown table"));
         assert!(out.iter().all(|byte| *byte == 0));
     }
     // At a load factor of 0 no table is large enough.

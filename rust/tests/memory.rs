@@ -2,8 +2,10 @@
 //! changes nothing; the other calls end as Rust's collections do; and calls that take no memory make no request.
 
 use odht::configs::U64ToU32;
+use odht::dynamic::{self, DynTable};
 use odht::{
-    bytes_needed, check_all, try_bytes_needed, Error, HashTable, HashTableOwned, DEFAULT_GROUPS,
+    bytes_needed, check_all, try_bytes_needed, Error, FxHashFn, HashTable, HashTableOwned,
+    DEFAULT_GROUPS,
 };
 use std::alloc::{GlobalAlloc, Layout, System};
 use std::cell::Cell;
@@ -224,6 +226,9 @@ fn the_other_calls_take_no_memory() {
         emptied.reserve(13);
         emptied.extend(pairs_of(13));
         assert_eq!((emptied.len(), emptied.get_or_insert_with(&3, || 1)), (13, 21));
+        let sizes = dynamic::Layout::of::<U64ToU32>();
+        let made = DynTable::<FxHashFn, _>::init_in_place(sizes, &mut place[..], 20, 87);
+        assert_eq!(made.unwrap().insert(&[1; 8], &[2; 4]), Ok(None));
     });
     assert_eq!((made, values), (0, [Some(7), Some(14), None]));
 }

@@ -4,12 +4,14 @@ mod common;
 
 use common::worked::three_pairs;
 use odht::configs::U64ToU32;
-use odht::{bytes_needed, HashFn, HashTable, HashTableOwned, UnHashFn};
+use odht::dynamic::{DynTable, Layout};
+use odht::{bytes_needed, FxHashFn, HashFn, HashTable, HashTableOwned, UnHashFn};
 use std::panic::{catch_unwind, set_hook, AssertUnwindSafe};
 use std::sync::Mutex;
 
 type Owned = HashTableOwned<U64ToU32>;
 type View<D> = HashTable<U64ToU32, D>;
+type Dyn = DynTable<FxHashFn, Vec<u8>>;
 
 static PLACE: Mutex<(String, u32)> = Mutex::new((String::new(), 0));
 
@@ -29,6 +31,8 @@ fn panics_are_told_where_the_caller_is() {
     let bytes = three_pairs();
     let view = View::try_from_raw_bytes(&bytes[..]).unwrap();
     let mut table = Owned::try_from_raw_bytes(&bytes).unwrap();
+    let layout = Layout::of::<U64ToU32>();
+    let sized = Dyn::open(layout, bytes.to_vec()).unwrap();
     let mut full = View::try_init_in_place(vec![0; 256], 13, 87).unwrap();
     full.insert_all(&(0..13).map(|key| (key, 0)).collect::<Vec<_>>());
     macro_rules! each {
@@ -49,6 +53,9 @@ fn panics_are_told_where_the_caller_is() {
         full.insert_all(&[(13, 0)]);
         view.get_all(&[1], &mut []);
         view.grow_into(&mut []);
+        sized.grow_into(&mut []);
+        layout.bytes_needed(1, 0);
+        Dyn::init_in_place(layout, vec![0; 256], 1, 0).ok();
         table.get_all(&[1], &mut []);
         table.insert_order(&mut []);
         table.insert_order_with(&mut [], &mut []);
@@ -61,6 +68,6 @@ fn panics_are_told_where_the_caller_is() {
     table.insert(&1, &2);
     for (line, call, (file, panicked)) in found {
         assert!(file.ends_with("places_of_panics.rs"), "{call}: {file}:{panicked}");
-        assert!(panicked >= line && panicked < line + 23, "{call}: line {panicked}");
+        assert!(panicked >= line && panicked < line + 26, "{call}: line {panicked}");
     }
 }

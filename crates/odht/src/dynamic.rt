@@ -58,7 +58,8 @@ pub enum DynError {
     Rejected(Error),
 }
 
-/// A table in the bytes of a store, of keys and values of the lengths that were given when it was opened. It cannot grow.
+/// A table in the bytes of a store, of keys and values of lengths that were given when it was opened, or that its header
+/// states. It cannot grow.
 ///
 /// A contract speaks of it as of these lengths and the store.
 #[derive(Drop)]
@@ -153,11 +154,7 @@ impl<H: HashFn, D: ByteStore> DynTable<H, D> {
         requires accepted { IsAccepted (format_of layout.key_len layout.value_len H.hash)
             (D.bytes «data») }
         requires hashes { H.MIN_LEN ≤ layout.key_len }
-        ensures { result ≡ record {
-          key_len = layout.key_len;
-          value_len = layout.value_len;
-          store = «data»;
-        } }
+        ensures { result ≡ dyn_store layout.key_len layout.value_len «data» }
     {
         // A slice's length is below 2^64, so that of the store's bytes is too.
         let _ = data.bytes();

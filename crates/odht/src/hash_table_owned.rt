@@ -187,6 +187,8 @@ impl<C: Config> HashTableOwned<C> {
         ensures ok { IfOk result (λ t. t ≡ raw_bytes.now) }
         ensures err { let refusal = check_refusal ⟦<C as Coded>⟧.coding.format raw_bytes.now
             in FailsBy refusal result }
+        ensures valid { IsValidBytes ⟦<C as Coded>⟧.coding.format raw_bytes.now
+            → OnErr result (result ≡ Err Error.Memory) }
     {
         if let Err(refused) = memory_layout::check_all::<C>(raw_bytes) {
             return Err(refused);

@@ -3,7 +3,7 @@ ghost use Rattle.std.specs.Prelude.{◌≡◌, ◌≢◌, length, Err, OnErr};
 ghost use Rattle.odht_base.specs.Format.{format_of};
 ghost use Rattle.odht_raw.specs.Frame.{IsAccepted, IsFramed};
 ghost use Rattle.odht_raw.specs.Sized.{bytes_coding};
-ghost use Rattle.odht.specs.Dynamic.{dyn_coding, dyn_format, IsOpened};
+ghost use Rattle.odht.specs.Dynamic.{dyn_coding, dyn_format, dyn_store, IsOpened};
 ghost use Rattle.odht.specs.DynInserts.{IsDynInsert};
 ghost use Rattle.odht.specs.Inserts.{IsInsertInto};
 ghost use Rattle.odht.specs.Tables.{OfTable};
@@ -41,11 +41,8 @@ impl<H: HashFn, D: ByteStoreMut> DynTable<H, D> {
             → result ≡ Err (DynError.WrongValueLength self.old.value_len (length value.now)) }
         // Of any.
         ensures refused { OnErr result (self.new ≡ self.old) }
-        ensures same_store { self.new ≡ record {
-          key_len = self.old.key_len;
-          value_len = self.old.value_len;
-          store = D.holding self.old.store (D.bytes self.new.store);
-        } }
+        ensures same_store { self.new ≡ dyn_store self.old.key_len self.old.value_len
+            (D.holding self.old.store (D.bytes self.new.store)) }
         ensures accepted { IsAccepted (dyn_format self.new H.hash) (D.bytes self.new.store) }
     {
         let layout = self.layout;
@@ -76,7 +73,7 @@ fn insert_store<H: HashFn, D: ByteStoreMut>(
     value: &[u8],
 ) -> Result<Option<ShortBytes>, Error>
     requires opened { IsOpened H.MIN_LEN H.hash D.bytes
-        (record { key_len = layout.key_len; value_len = layout.value_len; store = store.old }) }
+        (dyn_store layout.key_len layout.value_len store.old) }
     requires key { length key.now ≡ layout.key_len }
     requires value { length value.now ≡ layout.value_len }
     ensures on_valid { let c = bytes_coding (format_of layout.key_len layout.value_len H.hash)

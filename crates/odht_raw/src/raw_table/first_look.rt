@@ -45,7 +45,8 @@ impl<'a, K: ByteArray, V: ByteArray, H: HashFn> RawTable<'a, K, V, H> {
         }
     }
 
-    /// What `find` returns for the key, from its first look in this very table.
+    /// The value of the key, from its first look in this very table: on the parts of a placed table what `find` returns,
+    /// on any parts a value that is stored with this very key, or None.
     ///
     /// The matches of the look are compared in turn. Where none holds the key and the group has no free byte, the
     /// search goes on with the second group.

@@ -20,9 +20,11 @@ use crate::swisstable_group_query::{Group, GroupQuery, REFERENCE_GROUP_SIZE};
 /// the key is placed, and exactly the groups up to this slot are read.
 ///
 /// On any parts the key may be found behind a free byte of the same group. `Found(i)`: the entry of i has the key, and
-/// no slot of an earlier group counts as free. `Free(i)`: i counts as free, and none before it. `Neither`: none counts
-/// as free. In each case no earlier slot has this key with its tag. Earlier means earlier in the probe order; a slot
-/// counts as free, or has a tag, by its control byte or by its mirror. No more groups are read than there are.
+/// each slot of an earlier group counts as occupied. `Free(i)`: i counts as free, and each slot before it as occupied.
+/// `Neither`: each slot counts as occupied. In each case each earlier slot has, by its control byte or by its mirror,
+/// another tag than this key, or another key. Earlier means earlier in the probe order; a slot counts as free or as
+/// occupied by one of its two bytes, so that one below 16 whose bytes differ may count as both. No more groups are read
+/// than there are.
 ///
 /// All this holds for every group search. The rules are those of docs/FORMAT.md, "Search".
 #[inline(always)]

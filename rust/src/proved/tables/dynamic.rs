@@ -46,7 +46,8 @@ pub enum DynError {
     Rejected(Error),
 }
 
-/// A table in the bytes of a store, of keys and values of the lengths that were given when it was opened. It cannot grow.
+/// A table in the bytes of a store, of keys and values of lengths that were given when it was opened, or that its header
+/// states. It cannot grow.
 ///
 /// A contract speaks of it as of these lengths and the store.
 pub struct DynTable<H: HashFn, D: ByteStore> {

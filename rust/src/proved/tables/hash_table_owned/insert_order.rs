@@ -20,13 +20,14 @@ impl<C: Config> HashTableOwned<C> {
         self.table.as_raw().insert_order(out)
     }
 
-    /// `insert_order` in linear time, where it has `scratch` to write to: it returns the same, with the same order in
-    /// `out`. `scratch` has as many numbers as `insert_order_scratch` says or more, of any values; with fewer this is
-    /// `insert_order`, in the time that that takes.
+    /// `insert_order` for tables of strangers, where it has `scratch` to write to: it returns the same. `scratch` has as
+    /// many numbers as `insert_order_scratch` says or more, of any values; with fewer this is `insert_order`, in the
+    /// time that that takes. The clauses say that `out` has an order; that it is the same one is tested.
     ///
     /// It takes no memory. Each home's probe order is walked through once, up to the last slot whose key has this home,
-    /// so that the time is in proportion to the groups that the longest search of each home reads, and to the slots. It
-    /// is for tables of strangers: where most keys are near their homes `insert_order` is faster.
+    /// so that the time is in proportion to the slots, and to the groups that the longest search of each home reads:
+    /// with a bound of `g` groups to `g` times the slots. That `insert_order` is not called after all, which no clause
+    /// says, is tested. Where most keys are near their homes `insert_order` is faster.
     pub fn insert_order_with(&self, out: &mut [usize], scratch: &mut [usize]) -> bool {
         self.table.as_raw().insert_order_with(out, scratch)
     }
