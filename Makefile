@@ -16,7 +16,7 @@
 # make manual: of commands.txt, what is the same for each command of the program `odht`: its code and definitions, help,
 # cases and table in docs/TOOL.md, the manual page, and what completes its words
 # make documents: docs/PROOFS.md, of its text in docs/parts and the contracts and definitions, docs/FILES.md, and the
-# speeds in README.md, of bench/RESULTS.md
+# speeds in README.md and rust/README.md, of bench/RESULTS.md
 # make cli: the program for table files, `odht`, of erased source, by cargo alone
 # make install-tool, make uninstall-tool: this program below PREFIX, and below DESTDIR before it: with its proofs, where
 # `rt run` in crates/odht_tool has left it, else as `make cli` makes it; with its manual page, and what completes its words

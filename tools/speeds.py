@@ -1,7 +1,7 @@
 #!/usr/bin/env python3
-"""The speeds in README.md, of the tables of bench/RESULTS.md.
+"""The speeds in README.md and rust/README.md, of the tables of bench/RESULTS.md.
 
-  tools/speeds.py            writes them between the two comments in README.md
+  tools/speeds.py            writes them: between the two comments in README.md, and a sentence of rust/README.md
   tools/speeds.py --check    sees that they are current; status 1 where they are not
 """
 import os
@@ -54,19 +54,39 @@ def made(results):
     return "\n".join(head + rows) + "\n\n" + textwrap.fill(told, WIDTH) + "\n"
 
 
+def of_readme(text, results):
+    before, rest = text.split(BEGIN)
+    return before + BEGIN + made(results) + END + rest.split(END)[1]
+
+
+def of_crate(text, results):
+    """Returns the text with the paragraph that begins so made anew; the sentence behind it stays."""
+    found = [cells(results, "## The crate for Rust", name, [CRATE_SIZE])[0].split(" / ") for _, name in CRATE_ROWS]
+    (insert, insert_fast), (get, get_fast), (walk, walk_fast) = found
+    told = (
+        f"Beside the original, on tables of {CRATE_SIZE} numbers, `insert` takes {insert} of the time, and {insert_fast} "
+        f"with `fast`; `get` of a present key {get} and {get_fast}; a walk {walk} and {walk_fast}."
+    )
+    paragraph = re.search(r"Beside the original, on tables of .*?\n\n", text, re.S)[0]
+    behind = re.search(r"`bench/RESULTS.md` .*", " ".join(paragraph.split()))[0]
+    return text.replace(paragraph, textwrap.fill(f"{told} {behind}", WIDTH) + "\n\n")
+
+
 def main(*words):
     if words not in ((), ("--check",)):
         sys.exit(__doc__)
-    readme = read(f"{TOP}/README.md")
-    before, rest = readme.split(BEGIN)
-    current = before + BEGIN + made(read(f"{TOP}/bench/RESULTS.md")) + END + rest.split(END)[1]
-    if words and current != readme:
-        print("not current: the speeds in README.md: run `make documents`")
-        return 1
-    if not words:
-        with open(f"{TOP}/README.md", "w", encoding="utf-8") as it:
-            it.write(current)
-    return 0
+    results = read(f"{TOP}/bench/RESULTS.md")
+    wrong = 0
+    for name, of in (("README.md", of_readme), ("rust/README.md", of_crate)):
+        text = read(f"{TOP}/{name}")
+        current = of(text, results)
+        if words and current != text:
+            print(f"not current: the speeds in {name}: run `make documents`")
+            wrong = 1
+        if not words:
+            with open(f"{TOP}/{name}", "w", encoding="utf-8") as it:
+                it.write(current)
+    return wrong
 
 
 if __name__ == "__main__":

@@ -5,7 +5,8 @@
 --     dyn_coding t h       the coding of this format that leaves lists of bytes as they are
 --     dyn_parts t h B      the lengths of t, and the parts of the bytes B
 --     IsOpened ml h bytes t  header and length of the table's bytes fit, and its keys are long enough for the hash h, which
---                          needs ml bytes; `bytes` has the bytes of a store
+--                          needs ml bytes; its lengths are at most 255, and it has fewer than 2 ^ 64 bytes; `bytes` has
+--                          the bytes of a store
 --     dyn_refusal ml F B   the error of opening: a key length below ml, then those of opening a view
 --     stated_format h B    the format of the lengths that the header of B states, and of the hash h
 --     stated_refusal ml h B  the error of opening bytes as a table of these lengths: those of header and length, then a

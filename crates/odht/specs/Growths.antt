@@ -9,7 +9,8 @@
 --                          is the image of a table, T is the image of the one that it grows into
 --     IsPlacing F P ps Q   placing the pairs ps into P gives Q; their keys are pairwise distinct and new to P
 --     IsWritten F s c f ps T   T has the header of s slots, the item count c and the load factor f; where the keys of
---                          the pairs ps are pairwise distinct, and all are placed into the empty table, it is this table
+--                          the pairs ps are pairwise distinct, and all are placed into the empty table, it is this header
+--                          and the parts of that table
 use Rattle.std.specs.Prelude.{◌≡◌, ℕ, ◌*◌, ◌^◌, ◌++◌, max, nat_lt, take, length, List, All, Option, Some, option_and_then}
 use Rattle.std.specs.Bool.{then_some}
 use Rattle.odht_base.specs.Bytes.{bytes_at}

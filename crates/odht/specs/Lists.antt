@@ -1,7 +1,8 @@
 -- Lists of keys and values that are inserted in turn.
 --     IsAfterInserts F insert P ps B   B are the bytes of the table after the pairs ps are inserted into P in turn, by
 --                          `insert`; its map is that of P with the last values of ps over it; where all have room below
---                          the maximum of P, it has the slot count and load factor of P
+--                          the maximum of P, it has the slot count and load factor of P, and at most as many pairs
+--                          more as ps has
 --     HasSizeOf P Q        Q has the slot count and the load factor of P
 --     IsRefusedAt c P items n    P is full for the key of item n
 --     IsFreshAfterInserts c p items B  B are the bytes of the fresh table for as many items at p percent, after the

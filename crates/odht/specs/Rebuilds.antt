@@ -1,5 +1,5 @@
 -- Making a table again by inserts.
---     IsNewSizeOf P n p    a new table for n items at p percent has the slots of P, and its load factor
+--     IsNewSizeOf P n p    the new table for n items at p percent has the slot count and the load factor of P
 --     AreInOrder c P items the items, encoded, are the pairs of the slots `order`, an insert order of P
 --     IsRebuilding c items n p P   P is valid, the items are in an insert order of it, and a new table for n items at p
 --                          percent has its size

@@ -9,8 +9,8 @@
 --     IsMove c B s T       T has the pairs of the table of the bytes B in s slots: of a valid table that has room there they
 --                          are placed (`on_valid`), and header and length fit (`accepted`)
 --     IsReserve c P n r B    room for n more items in P is made, with the result r, and leaves the bytes B: on success
---                          there is room; it is `Capacity` exactly where no table is that large, and an error only
---                          where the room is lacking
+--                          there is room; it is `Capacity` exactly where the room is lacking and no table is that
+--                          large, and an error only where the room is lacking
 use Rattle.std.specs.Prelude.{◌≡◌, ℕ, ◌+◌, ◌<◌, ◌≤◌, ◌↔◌, nat_le, Bool, List, Option, Some, Result, Err, OnOk, OnErr, option_and_then, if◌then◌else◌}
 use Rattle.odht_base.specs.Format.{Format}
 use Rattle.odht_base.specs.Insert.{place_all}

@@ -6,7 +6,8 @@
 --     InsertFrame F B p r B'              an insert of p, a pair of F, may answer r and leave B'
 --     IsBytesFramed F f B p r B'          the same with the answer decoded by f
 --     IsFramed c B k v r B'               the same of a key and a value
---     PartsFrame F es ctrl p r es' ctrl'  the same of the parts
+--     PartsFrame F es ctrl p r es' ctrl'  the same of the parts, which have no item count: Full only where each slot
+--                          counts as occupied
 --     IsPartsFramed F f es ctrl p r es' ctrl'  the same with the answer decoded by f
 --     IsOnlyFull es ctrl r es' ctrl'      Full is the only error, and changes none of the parts
 use Rattle.std.specs.Prelude.{◌≡◌, ℕ, ◌+◌, ◌-◌, ◌*◌, ◌<◌, ◌≤◌, length, List, ◌++◌, Option, option_map, Some, None, Result, Ok, Err, OnErr}

@@ -2,9 +2,9 @@
 --     IsSearchEnd F E ctrl k r       on the parts of a table r is the table's answer (`on_placed`); on any parts r is
 --                                    an end (`slot`), and says what comes before it in the probe order (`earlier`)
 --     IsSearch F E k before after r  the same of a search that finds the scan `before` and leaves `after` (`end`). On
---                                    the parts of a table r is where a pair with the key is placed (`placing`), and
---                                    exactly the groups up to the end are read (`groups`); on any parts no more than
---                                    there are (`few`); no control byte changes (`control`)
+--                                    the parts of a table r is where a pair with the key is placed (`placing`), and the
+--                                    count of groups rises by those up to the end, up to 2 ^ 64 - 1 (`groups`); on any
+--                                    parts by no more than there are (`few`); no control byte changes (`control`)
 --     IsPassed F E ctrl k p          the search passes each position of the probe order before p
 --     IsUnderWay F E k q             it passed those before the place q, the first one of a group of sixteen
 --     IsRest F E k before after r    the same as IsSearch of the rest of a search, from the place `before` on

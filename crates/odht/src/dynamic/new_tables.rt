@@ -1,5 +1,5 @@
 //! New tables whose lengths are known at run time alone.
-ghost use Rattle.std.specs.Prelude.{◌≡◌, ◌↔◌, ℕ, length, IfSome, IsNone, OnErr, OnOk, Some};
+ghost use Rattle.std.specs.Prelude.{◌≡◌, ◌≤◌, ◌↔◌, ℕ, length, IfSome, IsNone, OnErr, OnOk, Some};
 ghost use Rattle.std.specs.Result.{result_err};
 ghost use Rattle.odht_base.specs.Format.{format_of};
 ghost use Rattle.odht_base.specs.Image.{image_len};
@@ -58,6 +58,7 @@ impl<H: HashFn, D: ByteStoreMut> DynTable<H, D> {
             in OnOk result (IsFresh F max_item_count max_load_factor_percent (D.bytes store.new)) }
         ensures accepted { let F = format_of layout.key_len layout.value_len H.hash
             in OnOk result (IsAccepted F (D.bytes store.new)) }
+        ensures hashes { OnOk result (H.MIN_LEN ≤ layout.key_len) }
         ensures err { let F = format_of layout.key_len layout.value_len H.hash
             in let f = factor_of max_load_factor_percent
             in result_err result
