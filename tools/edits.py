@@ -29,6 +29,8 @@ LOG = f"{TOP}/build/logs/edits.log"
 FUNCTION = re.compile(r"^\s*(?:pub(?:\([\w ]+\))? )?(?:const )?fn (\w+)", re.M)
 IMPL = re.compile(r"^impl(?:<.*?>)? (\w+)(?:<[^{]*)? \{$", re.M)
 ONLY = re.compile(r"only=(\d+) proved=(\d+)")
+# a function with a goal that its proof leaves open, or that has no proof file and is not proved without
+OPEN = re.compile(r"(?:fn|impl) .*: (?:not proved|no proof: expected answers in )")
 # an edit that does not read shows nothing of a contract
 UNREAD = re.compile(r"is not in scope|has no field|is no name|operand is missing|expected the end|cannot continue")
 
@@ -175,7 +177,7 @@ def functions_of(edit, folder):
 def errors_of(lines):
     """Returns the errors of a check, the goals that it leaves open, and the errors of texts that it cannot read."""
     errors = [it for it in lines if re.match(r"\S+:\d+:\d+: error", it)]
-    open_goals = [it for it in lines if re.match(r"(fn|impl) .*: not proved", it)]
+    open_goals = [it for it in lines if OPEN.match(it)]
     unread = [it for it in errors if it.removeprefix("./").startswith(("src/", "specs/")) and UNREAD.search(it)]
     return errors, open_goals, unread
 
