@@ -15,13 +15,19 @@ pub mod Moves
 pub mod SameMaps
 -- inserts in turn
 pub mod ListInserts
+-- inserts in turn into a table whose lengths are known at run time alone
+pub mod DynLists
 -- keys and values that their bytes decode to
 pub mod LosslessPairs
 -- inserts in an insert order make a table again
 pub mod Rebuilding
 -- lookups of many keys
 pub mod Lookups
+-- many lookups by a lookup of each
+pub mod ManyGets
 -- lookups of keys that are lists of bytes
 pub mod DynLookups
 -- valid bytes, opened with the lengths that their header states
 pub mod DynOpens
+-- such a table at the front of longer bytes
+pub mod DynPrefixes

@@ -31,3 +31,7 @@ pub mod Equality
 pub mod Dynamic
 -- what an insert into such a table returns and leaves
 pub mod DynInserts
+-- such a table at the front of longer bytes
+pub mod DynPrefixes
+-- lists of inserts into such a table
+pub mod DynLists

@@ -28,7 +28,12 @@ use std::marker::{Model, PhantomData};
 
 mod growth;
 mod inserts;
+mod lists;
+mod lookups;
 mod new_tables;
+mod prefix;
+
+pub use prefix::table_len;
 
 /// Why bytes are not opened as a table whose lengths are known at run time alone, or such a table takes no pair.
 #[derive(Debug, PartialEq, Eq, Drop)]

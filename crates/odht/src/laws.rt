@@ -20,6 +20,8 @@ use crate::error::Error;
 use crate::hash_table_owned::HashTableOwned;
 use std::alloc::Global;
 
+pub mod dynamic;
+
 /// The header and length of a valid table's bytes fit. A caller that has such bytes calls this, and then
 /// [`HashTable::from_raw_bytes_unchecked`](crate::HashTable::from_raw_bytes_unchecked).
 pub fn valid_bytes_are_accepted<C: Config>()

@@ -1,0 +1,115 @@
+//! A table at the front of longer bytes, of lengths that are known at run time alone.
+ghost use Rattle.std.specs.Prelude.{◌≡◌, ◌++◌, ◌≤◌, List, ℕ, min, Ok, IfOk, IsOk};
+ghost use Rattle.std.specs.Result.{result_err};
+ghost use Rattle.odht_base.specs.Format.{format_of};
+ghost use Rattle.odht_base.specs.Image.{image_len};
+ghost use Rattle.odht_base.specs.Valid.{IsValidBytes};
+ghost use Rattle.odht_header.specs.Refusals.{prefix_refusal};
+ghost use Rattle.odht_raw.specs.Prefixes.{IsFront};
+ghost use Rattle.odht.specs.DynPrefixes.{IsDynCut, dyn_front_refusal, stated_front_refusal};
+ghost use Rattle.odht.specs.Dynamic.{stated_format};
+
+use super::{DynError, DynTable};
+use crate::bytes::Borrowed;
+use crate::error::Error;
+use crate::hash::HashFn;
+use crate::layout::Layout;
+use crate::memory_layout::{HEADER_SIZE, Header};
+
+/// How many bytes the table of these lengths at the front of `bytes` has, by its header. What follows is not looked at,
+/// nor is any slot, and the hash function does not matter.
+///
+/// The first error: as [`table_len`](crate::memory_layout::table_len) returns it. Constant time.
+pub fn table_len(layout: Layout, bytes: &[u8]) -> Result<usize, Error>
+    ensures ok { (hash : List ℕ → ℕ) → IfOk result
+        (IsFront (format_of layout.key_len layout.value_len hash) bytes.now) }
+    ensures only { (hash : List ℕ → ℕ) (n : ℕ)
+        → IsFront (format_of layout.key_len layout.value_len hash) bytes.now n → result ≡ Ok n }
+    ensures err { (hash : List ℕ → ℕ) → result_err result
+        ≡ prefix_refusal (format_of layout.key_len layout.value_len hash) bytes.now }
+{
+    let found = bytes.len();
+    if found < HEADER_SIZE {
+        return Err(Error::TooShort { found });
+    }
+    let header = Header::of(bytes);
+    let len = len_within(layout, header.slot_count(), found);
+    match header.check_layout(layout, len) {
+        Ok(()) => Ok(len),
+        Err(rejected) => Err(rejected),
+    }
+}
+
+// The length of a table of so many slots, or `found` where that is less: no table of them is as long then.
+fn len_within(layout: Layout, slot_count: usize, found: usize) -> usize
+    ensures { (hash : List ℕ → ℕ)
+        → result ≡ min found (image_len (format_of layout.key_len layout.value_len hash) slot_count) }
+{
+    match layout.bytes_needed(slot_count) {
+        Some(len) => len.min(found),
+        None => found,
+    }
+}
+
+impl<'a, H: HashFn> DynTable<H, Borrowed<'a>> {
+    /// Opens the table of these lengths at the front of `bytes`, and returns it with the bytes behind it, which are not
+    /// looked at. How many bytes are the table's its header says, as [`table_len`].
+    ///
+    /// Or the first error: `KeyTooShort` where the hash function needs longer keys; then `Rejected` with those of
+    /// [`table_len`], then those of the first ten slots, as [`DynTable::open`]. Valid bytes with anything behind them are
+    /// always opened. Constant time.
+    pub fn from_prefix(layout: Layout, bytes: &'a [u8]) -> Result<(Self, &'a [u8]), DynError>
+        ensures ok { let F = format_of layout.key_len layout.value_len H.hash
+            in IfOk result (λ r. IsDynCut F bytes.now r.0 r.0.store.0.now r.1.now) }
+        ensures err { let F = format_of layout.key_len layout.value_len H.hash
+            in result_err result ≡ dyn_front_refusal H.MIN_LEN F bytes.now }
+        ensures valid { let F = format_of layout.key_len layout.value_len H.hash
+            in (table rest : List ℕ) → H.MIN_LEN ≤ layout.key_len
+            → IsValidBytes F table → bytes.now ≡ table ++ rest → IsOk result }
+    {
+        if (layout.key_len as usize) < H::MIN_LEN {
+            return Err(DynError::KeyTooShort {
+                key_len: layout.key_len,
+                least: H::MIN_LEN,
+            });
+        }
+        match table_len(layout, bytes) {
+            Ok(len) => {
+                let (front, rest) = bytes.split_at(len);
+                match DynTable::open(layout, Borrowed::new(front)) {
+                    Ok(table) => Ok((table, rest)),
+                    Err(refused) => Err(refused),
+                }
+            }
+            Err(rejected) => Err(DynError::Rejected(rejected)),
+        }
+    }
+
+    /// [`DynTable::from_prefix`] with the lengths that the header states; [`DynTable::layout`] tells them.
+    ///
+    /// The first error: `Rejected` with those of [`table_len`]; then `KeyTooShort`; then `Rejected` with that of the first
+    /// ten slots. A header states no hash function: a table of another one is rejected where one of the first ten slots
+    /// is occupied and has another tag.
+    pub fn from_prefix_as_stated(bytes: &'a [u8]) -> Result<(Self, &'a [u8]), DynError>
+        ensures ok { let F = stated_format H.hash bytes.now
+            in IfOk result (λ r. IsDynCut F bytes.now r.0 r.0.store.0.now r.1.now) }
+        ensures err { result_err result ≡ stated_front_refusal H.MIN_LEN H.hash bytes.now }
+        ensures valid { (key_len value_len : ℕ) (table rest : List ℕ) → H.MIN_LEN ≤ key_len
+            → IsValidBytes (format_of key_len value_len H.hash) table
+            → bytes.now ≡ table ++ rest → IsOk result }
+    {
+        let found = bytes.len();
+        if found < HEADER_SIZE {
+            return Err(DynError::Rejected(Error::TooShort { found }));
+        }
+        let header = Header::of(bytes);
+        let layout = Layout {
+            key_len: header.key_size(),
+            value_len: header.value_size(),
+        };
+        match table_len(layout, bytes) {
+            Ok(_) => DynTable::from_prefix(layout, bytes),
+            Err(rejected) => Err(DynError::Rejected(rejected)),
+        }
+    }
+}
