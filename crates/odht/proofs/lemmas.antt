@@ -31,3 +31,5 @@ pub mod DynLookups
 pub mod DynOpens
 -- such a table at the front of longer bytes
 pub mod DynPrefixes
+-- what the insert into a view says of that into a table that grows
+pub mod DynOwned

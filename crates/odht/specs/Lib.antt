@@ -35,3 +35,5 @@ pub mod DynInserts
 pub mod DynPrefixes
 -- lists of inserts into such a table
 pub mod DynLists
+-- the owned table of such lengths, which grows
+pub mod DynOwned

@@ -31,8 +31,10 @@ mod inserts;
 mod lists;
 mod lookups;
 mod new_tables;
+mod owned;
 mod prefix;
 
+pub use owned::DynTableOwned;
 pub use prefix::table_len;
 
 /// Why bytes are not opened as a table whose lengths are known at run time alone, or such a table takes no pair.
