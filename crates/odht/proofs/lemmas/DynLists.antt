@@ -31,8 +31,8 @@ use Rattle.odht.proofs.lemmas.ListInserts.{inserted_none, inserted_more}
 -- ---- what a single insert said
 module _ {K V : Type 0} (c : Coding K V) (B B' : List ℕ) (k : K) (v : V) where
   -- where it was accepted
-  pub dyn_accepted : (o : Option V) → IsDynInsert c B B' k v (Ok o) → (a : Option V) × OfTable c.format B (λ P. IsInsertInto c P k v (Ok a) B') × IsFramed c B k v (Ok a) B'
-  dyn_accepted o h = go h.answer h.is h.on_valid h.frame
+  pub dyn_accepted : (o : Option V) → IsDynInsert c B k v (Ok o) B' → (a : Option V) × OfTable c.format B (λ P. IsInsertInto c P k v (Ok a) B') × IsFramed c B k v (Ok a) B'
+  dyn_accepted o h = go h.answer h.is h.insert.on_valid h.insert.frame
     where
       go : (r : Result (Option V) Error) → Ok o ≡ result_map_both (λ o. o) Rejected r → OfTable c.format B (λ P. IsInsertInto c P k v r B') → IsFramed c B k v r B'
           → (a : Option V) × OfTable c.format B (λ P. IsInsertInto c P k v (Ok a) B') × IsFramed c B k v (Ok a) B'
@@ -40,8 +40,8 @@ module _ {K V : Type 0} (c : Coding K V) (B B' : List ℕ) (k : K) (v : V) where
       go (Err x) e valid frame = absurd (let both : Ok o ≡ Err (Rejected x) = e in cc)
 
   -- and where it was not
-  pub dyn_refused : (x : DynError) → IsDynInsert c B B' k v (Err x) → (x ≡ Rejected Full) × OfTable c.format B (λ P. IsFullFor P (c.key_bytes k)) × IsFramed c B k v (Err Full) B'
-  dyn_refused x h = go h.answer h.is h.on_valid h.frame h.only_full
+  pub dyn_refused : (x : DynError) → IsDynInsert c B k v (Err x) B' → (x ≡ Rejected Full) × OfTable c.format B (λ P. IsFullFor P (c.key_bytes k)) × IsFramed c B k v (Err Full) B'
+  dyn_refused x h = go h.answer h.is h.insert.on_valid h.insert.frame h.insert.only_full
     where
       go : (r : Result (Option V) Error) → Err x ≡ result_map_both (λ o. o) Rejected r → OfTable c.format B (λ P. IsInsertInto c P k v r B') → IsFramed c B k v r B' → OnErr r (r ≡ Err Full)
           → (x ≡ Rejected Full) × OfTable c.format B (λ P. IsFullFor P (c.key_bytes k)) × IsFramed c B k v (Err Full) B'
@@ -79,13 +79,13 @@ module _ {D : Type 0} (h : List ℕ → ℕ) (bytes : D → List ℕ) (holding :
   -- and one more
   pub one_more : ((s : D) (a b : List ℕ) → holding (holding s a) b ≡ holding s b) → (before t t' : DynStore D) (items : List (List ℕ × List ℕ)) (k v : List ℕ) (o : Option (List ℕ))
       → AreInserted h bytes holding before t items → length k ≡ t.key_len → length v ≡ t.value_len
-      → IsDynInsert (dyn_coding t h) (bytes t.store) (bytes t'.store) k v (Ok o) → t' ≡ dyn_store t.key_len t.value_len (holding t.store (bytes t'.store)) → IsAccepted (dyn_format t' h) (bytes t'.store)
+      → IsDynInsert (dyn_coding t h) (bytes t.store) k v (Ok o) (bytes t'.store) → t' ≡ dyn_store t.key_len t.value_len (holding t.store (bytes t'.store)) → IsAccepted (dyn_format t' h) (bytes t'.store)
       → AreInserted h bytes holding before t' (items ++ (k, v) ∷ [])
   one_more held_last before t t' items k v o so_far key value one same accepted =
       let c = dyn_coding before h in
       let F = dyn_format before h in
       let coding : dyn_coding t h ≡ c = ap (λ (s : DynStore D). dyn_coding s h) so_far.same_store in
-      let here = dyn_accepted c (bytes t.store) (bytes t'.store) k v o (subst (λ (d : Coding (List ℕ) (List ℕ)). IsDynInsert d (bytes t.store) (bytes t'.store) k v (Ok o)) coding one) in
+      let here = dyn_accepted c (bytes t.store) (bytes t'.store) k v o (subst (λ (d : Coding (List ℕ) (List ℕ)). IsDynInsert d (bytes t.store) k v (Ok o) (bytes t'.store)) coding one) in
       let pairs : encoded_all c (items ++ (k, v) ∷ []) ≡ encoded_all c items ++ encoded c k v ∷ [] = map-append (λ (i : List ℕ × List ℕ). encoded c i.0 i.1) items ((k, v) ∷ []) in
       let lengths = HasLengthsOf before.key_len before.value_len in
       record {
@@ -137,7 +137,7 @@ module _ {D : Type 0} (t : DynStore D) (k v : List ℕ) where
       full = λ none. absurd (let both : Some y ≡ None = sym is ∙ none in cc);
     }
 
-    pub stopped_here : (length k ≡ t.key_len → length v ≡ t.value_len → IsDynInsert (dyn_coding t h) (bytes t.store) (bytes t.store) k v (Err x))
+    pub stopped_here : (length k ≡ t.key_len → length v ≡ t.value_len → IsDynInsert (dyn_coding t h) (bytes t.store) k v (Err x) (bytes t.store))
         → (length k ≢ t.key_len → refusal x ≡ refusal (WrongKeyLength t.key_len (length k)))
         → (length k ≡ t.key_len → length v ≢ t.value_len → refusal x ≡ refusal (WrongValueLength t.value_len (length v)))
         → IsDynStop h bytes t items i x

@@ -18,10 +18,10 @@ use Rattle.odht.specs.declared.dynamic.DynError.{DynError}
 use Rattle.odht.specs.declared.dynamic.DynError.TheVariants.{Rejected}
 use Rattle.odht.proofs.lemmas.NewRefusals.{not_both, not_ok, passed_on}
 
-module _ {K V : Type 0} (c : Coding K V) (B B' : List ℕ) (k : K) (v : V) (r : Result (Option V) DynError) (h : IsDynInsert c B B' k v r) (P : Table) (is : IsImage c.format P B) where
+module _ {K V : Type 0} (c : Coding K V) (B B' : List ℕ) (k : K) (v : V) (r : Result (Option V) DynError) (h : IsDynInsert c B k v r B') (P : Table) (is : IsImage c.format P B) where
   -- an insert that succeeds is that into the view
   pub took : (o : Option V) → r ≡ Ok o → IsInsertInto c P k v (Ok o) B'
-  took o was = go h.answer h.is (h.on_valid P is)
+  took o was = go h.answer h.is (h.insert.on_valid P is)
     where
       go : (a : Result (Option V) Error) → r ≡ result_map_both (λ x. x) Rejected a → IsInsertInto c P k v a B' → IsInsertInto c P k v (Ok o) B'
       go (Ok p) e into = let same : p ≡ o = cc in subst (λ x. IsInsertInto c P k v (Ok x) B') same into
@@ -29,7 +29,7 @@ module _ {K V : Type 0} (c : Coding K V) (B B' : List ℕ) (k : K) (v : V) (r : 
 
   -- one that fails finds the table full
   pub found_full : (e : DynError) → r ≡ Err e → IsFullFor P (c.key_bytes k)
-  found_full e was = go h.answer h.is (h.on_valid P is) h.only_full
+  found_full e was = go h.answer h.is (h.insert.on_valid P is) h.insert.only_full
     where
       go : (a : Result (Option V) Error) → r ≡ result_map_both (λ x. x) Rejected a → IsInsertInto c P k v a B' → OnErr a (a ≡ Err Full) → IsFullFor P (c.key_bytes k)
       go (Ok p) e into full = absurd cc

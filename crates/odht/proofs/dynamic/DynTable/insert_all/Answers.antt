@@ -65,7 +65,7 @@ returns-in-Err g c =
       accepted = so_far.accepted;
       stopped = subst (λ (s : DynStore g.row.D.Denot). IsDynStop hash bytes s (items g at) (i g at) c.in-Err.refused) (sym kept)
           (stopped_here t (item g at).0.now (item g at).1.now hash bytes (items g at) (i g at) c.in-Err.refused (here g at)
-          (λ key value. subst (λ (s : DynStore g.row.D.Denot). IsDynInsert (dyn_coding t hash) (bytes t.store) (bytes s.store) (item g at).0.now (item g at).1.now (Err c.in-Err.refused)) kept (c.in-Err.ensures.inserted key value))
+          (λ key value. subst (λ (s : DynStore g.row.D.Denot). IsDynInsert (dyn_coding t hash) (bytes t.store) (item g at).0.now (item g at).1.now (Err c.in-Err.refused) (bytes s.store)) kept (c.in-Err.ensures.inserted key value))
           c.in-Err.ensures.key c.in-Err.ensures.value);
     }
 

@@ -11,7 +11,7 @@ returns-in-Ok-clause-inserted g c key value =
     let t : DynStore (List ℕ) = c.args.self.now in
     let F = dyn_format t g.H.HashFn.hash in
     let p : Pair = record { key = c.args.key.now; value = c.args.value.now } in
-    let wide = subst (λ (s : DynStore (List ℕ)). length c.args.key.now ≡ s.key_len → length c.args.value.now ≡ s.value_len → IsDynInsert (dyn_coding s g.H.HashFn.hash) s.store c.insert.new.self.store c.args.key.now c.args.value.now c.insert.result) c.self.view_is c.insert.ensures.inserted in
+    let wide = subst (λ (s : DynStore (List ℕ)). length c.args.key.now ≡ s.key_len → length c.args.value.now ≡ s.value_len → IsDynInsert (dyn_coding s g.H.HashFn.hash) s.store c.args.key.now c.args.value.now c.insert.result c.insert.new.self.store) c.self.view_is c.insert.ensures.inserted in
     record {
       answer = Ok c.in-Ok.former;
       is = refl;

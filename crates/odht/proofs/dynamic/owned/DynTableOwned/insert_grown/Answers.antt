@@ -25,7 +25,7 @@ module _ (g : Over) (c : After-insert g) where
   F = dyn_format c.args.self.now g.H.HashFn.hash
 
   -- the insert into the grown table, which has the lengths of the table
-  into : IsDynInsert (dyn_coding c.args.self.now g.H.HashFn.hash) c.in-Some.grown.store c.insert.new.self.store c.args.key.now c.args.value.now c.insert.result
+  into : IsDynInsert (dyn_coding c.args.self.now g.H.HashFn.hash) c.in-Some.grown.store c.args.key.now c.args.value.now c.insert.result c.insert.new.self.store
   into =
       rw (c.in-Some.ensures.key_len, c.in-Some.ensures.value_len) at
       (c.insert.ensures.inserted (c.requires.key ∙ sym c.in-Some.ensures.key_len) (c.requires.value ∙ sym c.in-Some.ensures.value_len))
