@@ -22,6 +22,8 @@
 //! ```
 
 mod growth;
+mod lists;
+mod prefix;
 mod short_bytes;
 mod writing;
 

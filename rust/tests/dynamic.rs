@@ -81,6 +81,36 @@ fn compare<H: HashFn>(table: &DynTable<H, &[u8]>, reading: &Reading<'_>, random:
     }
 }
 
+// Looks up a list of keys, in turn those of the table and ones of another length.
+fn compare_list<H: HashFn>(table: &DynTable<H, &[u8]>, reading: &Reading<'_>) {
+    let pairs = reading.occupied().map(|slot| [reading.key(slot), &[0; 256]]);
+    let keys: Vec<&[u8]> = pairs.flatten().collect();
+    let mut values = vec![Some(&b"left"[..]); keys.len()];
+    table.get_all(&keys, &mut values);
+    let expected = reading.occupied().map(|slot| [Some(reading.value(slot)), None]);
+    assert!(values.into_iter().eq(expected.flatten()));
+}
+
+// Opens the table in front of other bytes, with the lengths that are given, and with those of its header.
+fn compare_fronts<H: HashFn>(layout: Layout, table: &Writing) {
+    let file = [&table.bytes[..], b"and more"].concat();
+    assert_eq!(layout.table_len(&file), Ok(table.bytes.len()));
+    let given = DynTable::<H, _>::open_prefix(layout, &file).unwrap();
+    let stated = DynTable::<H, _>::open_prefix_as_stated(&file).unwrap();
+    for (front, rest) in [given, stated] {
+        assert_eq!(
+            (front.layout(), front.raw_bytes(), rest),
+            (layout, &table.bytes[..], &b"and more"[..])
+        );
+    }
+    for len in [0, 31, 32, table.bytes.len() - 1] {
+        let (cut, error) = (&file[..len], layout.table_len(&file[..len]).unwrap_err());
+        let rejected = Some(DynError::Rejected(error));
+        assert_eq!(DynTable::<H, _>::open_prefix(layout, cut).err(), rejected);
+        assert_eq!(DynTable::<H, _>::open_prefix_as_stated(cut).err(), rejected);
+    }
+}
+
 fn each_length_of<H: Named>(least: usize) {
     let mut random = Random(4);
     for key in least..=255 {
@@ -91,6 +121,8 @@ fn each_length_of<H: Named>(least: usize) {
             compare(&opened, &table.reading(), &mut random);
             let stated = DynTable::<H, _>::open_as_stated(&table.bytes[..]).unwrap();
             compare(&stated, &table.reading(), &mut random);
+            compare_list(&stated, &table.reading());
+            compare_fronts::<H>(layout, &table);
             assert_eq!(stated.into_data(), table.bytes);
         }
     }
@@ -100,6 +132,31 @@ fn each_length_of<H: Named>(least: usize) {
 fn each_length() {
     each_length_of::<FxHashFn>(0);
     each_length_of::<UnHashFn>(4);
+}
+
+#[test]
+fn lists_are_inserted_in_turn() {
+    let mut random = Random(6);
+    for key in 0..40 {
+        let layout = Layout { key_len: key, value_len: 3 };
+        let mut expected = Writing::new(Format::new(usize::from(key), 3, FxHashFn::HASH), 50, 87);
+        let bytes = vec![0; layout.bytes_needed(50, 87).unwrap()];
+        let mut table = DynTable::<FxHashFn, _>::init_in_place(layout, bytes, 50, 87).unwrap();
+        let mut pair = || (some_bytes(&mut random, key.into()), some_bytes(&mut random, 3));
+        let pairs: Vec<_> = (0..40).map(|_| pair()).collect();
+        let mut items: Vec<(&[u8], &[u8])> = pairs.iter().map(|(k, v)| (&k[..], &v[..])).collect();
+        for (key, value) in &pairs {
+            expected.insert(key, value);
+        }
+        assert_eq!(table.insert_all(&items), (40, Ok(())));
+        assert_eq!(table.raw_bytes(), expected.bytes);
+        items.insert(7, (&[0; 256], b"one"));
+        let error = DynError::WrongKeyLength { expected: key, found: 256 };
+        assert_eq!(table.insert_all(&items), (7, Err(error)));
+        items[7] = (items[0].0, b"four");
+        let error = DynError::WrongValueLength { expected: 3, found: 4 };
+        assert_eq!(table.insert_all(&items), (7, Err(error)));
+    }
 }
 
 // No slot is free: the search for an absent key reads each group once.

@@ -35,7 +35,7 @@ GROUPS = [
     ("Growth into other bytes, equality, walks", ["odht/src/growth.rt", "odht/src/equality.rt", "odht/src/iter.rt"]),
     ("Lookups of many keys", ["odht/src/lookups.rt"]),
     ("Tables of any lengths", ["odht/src/dynamic.rt", "odht/src/dynamic/"]),
-    ("Laws of whole tables", ["odht/src/laws.rt"]),
+    ("Laws of whole tables", ["odht/src/laws.rt", "odht/src/laws/"]),
     ("Calls for C", ["odht_c/src/shapes/u64_u32.rt"]),
     ("The index", ["odht_index/src"]),
     ("The script program", ["odht_table/src"]),

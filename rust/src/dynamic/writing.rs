@@ -87,7 +87,7 @@ impl<H: HashFn, D: Borrow<[u8]> + BorrowMut<[u8]>> DynTable<H, D> {
 
     // The proved table of the bytes, to be written.
     #[inline(always)]
-    fn view_mut(&mut self) -> dynamic::DynTable<Hash<H>, BorrowedMut<'_>> {
+    pub(super) fn view_mut(&mut self) -> dynamic::DynTable<Hash<H>, BorrowedMut<'_>> {
         let layout = self.layout.proved();
         let bytes = self.data.borrow_mut();
         self.opened.check(bytes);
