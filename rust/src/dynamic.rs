@@ -23,10 +23,12 @@
 
 mod growth;
 mod lists;
+mod owned;
 mod prefix;
 mod short_bytes;
 mod writing;
 
+pub use owned::DynTableOwned;
 pub use short_bytes::ShortBytes;
 
 use crate::config::{Config, Hash, HashFn};
