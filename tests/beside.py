@@ -69,10 +69,10 @@ def words(dice):
     command = dice.choice(COMMANDS)
     found = [command] + [dice.choice(FILES)] * (dice.random() < 0.95)
     if command == "build" and dice.random() < 0.8:
-        key, value = ["u64", "u32", "hex16", "i64", "u64be"], ["u32", "u64", "none", "i32", "u32be"]
+        key, value = ["u64", "u32", "hex16", "i64", "u64be", "text:8"], ["u32", "u64", "none", "i32", "u32be"]
         found += ["--key", dice.choice(key), "--value", dice.choice(value)]
     if command in ("get", "dump", "keys", "put") and dice.random() < 0.3:
-        found += ["--key", dice.choice(["i64", "u64be", "u64", "i32"])]
+        found += ["--key", dice.choice(["i64", "u64be", "u64", "i32", "text:8", "text:16"])]
     if command == "get":
         found += dice.choices(["-", "3", "5", "00" * 16, "x", "1", "7"], k=dice.choice([1, 1, 2, 4]))
     return [os.fsencode(it) for it in found + dice.choices(WORDS, k=dice.choice([0, 0, 0, 1, 1, 2, 3]))]

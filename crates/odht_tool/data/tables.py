@@ -106,6 +106,10 @@ def high_first(data):
     return str(int.from_bytes(data, "big"))
 
 
+def plain(data):
+    return data.rstrip(b"\0").decode()
+
+
 def nothing(data):
     return ""
 
@@ -290,6 +294,11 @@ def cases():
     yield Case("u64be_i64", "--key u64be --value i64", 8, 8, fx, 87, 12,
                [(k.to_bytes(8, "big"), two(-k if k < 2 ** 63 else k - 2 ** 64, 8))
                 for k in [0, 1, 258, 2 ** 32, 2 ** 63, 2 ** 64 - 1]], high_first, signed, "--key u64be --value i64")
+    # Texts with zeros behind them: of all bytes, of one, of none, and with spaces.
+    words = [("no value", ""), ("a", "z"), ("sixteen bytes ok", "exactly sixteen!"), (" x ", "-1"), ("b/c", "0" * 15)]
+    yield Case("text16_text16", "--key text:16 --value text:16", 16, 16, unhash, 87, 12,
+               [(k.encode().ljust(16, b"\0"), v.encode().ljust(16, b"\0")) for k, v in words], plain, plain,
+               "--key text:16 --value text:16")
     # No ready shape has these sizes.
     yield Case("odd_sizes", "", 3, 5, fx, 60, 12,
                [(le(k * 77 % 2 ** 24, 3), le(k, 5)) for k in range(12)], bytes.hex, bytes.hex, is_other=True)

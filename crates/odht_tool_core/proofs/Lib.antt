@@ -1,5 +1,7 @@
 -- laws over bytes' texts
 pub mod Words
+-- plain texts and the bytes that they are stored as
+pub mod PlainTexts
 -- digits that are read one after the other
 pub mod Numerals
 -- eight digits in a word and in lanes

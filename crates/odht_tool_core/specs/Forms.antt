@@ -6,14 +6,16 @@
 --     bytes_text f bytes       the text of bytes in the form f
 --     IsBytesText k f word     the word is such a text of k bytes
 --     StandsForBytes f word bytes  it is that of these bytes
--- A number is what its stored bytes say from the lowest one on. Bytes have only the form that is their own.
+-- A number is what its stored bytes say from the lowest one on. No kind of numbers has the form of plain texts, and none of
+-- bytes one of numbers: there they are as their own.
 use Rattle.std.specs.Prelude.{◌≡◌, ℕ, ◌^◌, List, decimal}
 use Rattle.std.specs.Int.{Width, byte_len, swap_bytes}
 use Rattle.std.specs.Str.Parse.{digits_value}
+use Rattle.odht_tool_core.specs.PlainTexts.{IsPlainText, PadsText, plain_text}
 use Rattle.odht_tool_core.specs.Signed.{IsSignedWord, signed_text, signed_value}
 use Rattle.odht_tool_core.specs.Texts.{IsNumberWord, IsHexWord, WritesBytes, hex_text}
 use Rattle.odht_tool_core.specs.declared.forms.Form.{Form}
-use Rattle.odht_tool_core.specs.declared.forms.Form.TheVariants.{Own, Signed, BigEndian}
+use Rattle.odht_tool_core.specs.declared.forms.Form.TheVariants.{Own, Signed, BigEndian, Plain}
 
 abbrev pub count_of : Width → ℕ
 count_of w = 256 ^ byte_len w
@@ -22,22 +24,34 @@ abbrev pub number_text : Width → Form → ℕ → List ℕ
 number_text w Own n = decimal n
 number_text w Signed n = signed_text (count_of w) n
 number_text w BigEndian n = decimal (swap_bytes w n)
+number_text w Plain n = decimal n
 
 abbrev pub IsNumberText : Width → Form → List ℕ → Type 0
 IsNumberText w Own word = IsNumberWord (count_of w) word
 IsNumberText w Signed word = IsSignedWord (count_of w) word
 IsNumberText w BigEndian word = IsNumberWord (count_of w) word
+IsNumberText w Plain word = IsNumberWord (count_of w) word
 
 abbrev pub StandsForNumber : Width → Form → List ℕ → ℕ → Type 0
 StandsForNumber w Own word n = digits_value 10 word ≡ n
 StandsForNumber w Signed word n = signed_value (count_of w) word ≡ n
 StandsForNumber w BigEndian word n = swap_bytes w (digits_value 10 word) ≡ n
+StandsForNumber w Plain word n = digits_value 10 word ≡ n
 
 abbrev pub bytes_text : Form → List ℕ → List ℕ
-bytes_text f bytes = hex_text bytes
+bytes_text Own bytes = hex_text bytes
+bytes_text Signed bytes = hex_text bytes
+bytes_text BigEndian bytes = hex_text bytes
+bytes_text Plain bytes = plain_text bytes
 
 abbrev pub IsBytesText : ℕ → Form → List ℕ → Type 0
-IsBytesText k f word = IsHexWord k word
+IsBytesText k Own word = IsHexWord k word
+IsBytesText k Signed word = IsHexWord k word
+IsBytesText k BigEndian word = IsHexWord k word
+IsBytesText k Plain word = IsPlainText k word
 
 abbrev pub StandsForBytes : Form → List ℕ → List ℕ → Type 0
-StandsForBytes f word bytes = WritesBytes word bytes
+StandsForBytes Own word bytes = WritesBytes word bytes
+StandsForBytes Signed word bytes = WritesBytes word bytes
+StandsForBytes BigEndian word bytes = WritesBytes word bytes
+StandsForBytes Plain word bytes = PadsText word bytes

@@ -49,5 +49,7 @@ pub mod Signed
 pub mod Forms
 -- the shape and the forms that bytes are read as
 pub mod ReadAs
+-- plain texts, which are stored with zeros behind them
+pub mod PlainTexts
 -- texts that are no key or no value
 pub mod Misreads

@@ -25,6 +25,7 @@ mod near;
 mod numbers;
 mod obstacles;
 pub mod places;
+mod plain;
 pub mod progress;
 pub mod refusal;
 pub mod shapes;

@@ -87,6 +87,16 @@ impl Part {
         }
     }
 
+    /// So many bytes as these digits say, from 1 to 255.
+    pub(crate) fn of_size(digits: &str) -> Option<Part> {
+        let size = digits.parse::<u8>().ok()?;
+        if size == 0 {
+            None
+        } else {
+            Some(Part::Bytes(size))
+        }
+    }
+
     /// How many bytes it has in a table.
     pub fn size(self) -> u8
         ensures { result ≡ typed_len self }

@@ -1,5 +1,5 @@
-//! Keys and values as text: a number in decimal digits, with a sign or without, bytes in hexadecimal digits, and nothing
-//! at all.
+//! Keys and values as text: a number in decimal digits, with a sign or without, bytes in hexadecimal digits or as plain
+//! text, and nothing at all.
 ghost use Rattle.std.specs.Prelude.{◌≡◌, ◌↔◌, ◌<◌, ◌≤◌, ◌*◌, ◌%◌, ◌^◌, ℕ};
 ghost use Rattle.std.specs.Prelude.{List, [], length, take, max, slice_index, Some};
 ghost use Rattle.std.specs.Prelude.{IfErr, IfSome, IsFalse, IsOk, IsSome, IsTrue, OnOk};
@@ -13,14 +13,15 @@ ghost use Rattle.odht_tool_core.specs.Digits.{IsValueOf};
 ghost use Rattle.std.specs.Int.{w32, w64};
 ghost use Rattle.odht_tool_core.specs.Forms.{number_text, IsNumberText, StandsForNumber};
 ghost use Rattle.odht_tool_core.specs.Forms.{bytes_text, IsBytesText, StandsForBytes};
-ghost use Rattle.odht_tool_core.specs.Misreads.{IsWanted, number_wanted};
+ghost use Rattle.odht_tool_core.specs.Misreads.{IsWanted, bytes_wanted, number_wanted};
 ghost use Rattle.odht_tool_core.specs.declared.misread.Wanted.{Wanted};
-ghost use Rattle.odht_tool_core.specs.declared.misread.Wanted.TheVariants.{Nothing, U32, U64, I32, I64, Bytes};
+ghost use Rattle.odht_tool_core.specs.declared.misread.Wanted.TheVariants.{Nothing, U32, U64, I32, I64};
 ghost use Rattle.odht_tool_core.specs.Texts.{IsNumberWord, IsHexWord, WritesBytes, hex_text};
 
 use crate::digits::{parse_number, write_number};
 use crate::forms::Form;
 use crate::misread::Wanted;
+use crate::plain::{parse_plain, write_plain};
 use crate::signed::{parse_signed, write_signed};
 use std::io::{self, Write};
 
@@ -63,14 +64,14 @@ impl Text for u32 {
 
     fn wanted(form: Form) -> Wanted {
         match form {
-            Form::Own | Form::BigEndian => Wanted::U32,
+            Form::Own | Form::BigEndian | Form::Plain => Wanted::U32,
             Form::Signed => Wanted::I32,
         }
     }
 
     fn parse(word: &[u8], form: Form) -> Option<u32> {
         match form {
-            Form::Own => u32::try_from(parse_number(word)?).ok(),
+            Form::Own | Form::Plain => u32::try_from(parse_number(word)?).ok(),
             Form::Signed => u32::try_from(parse_signed(word, u64::from(u32::MAX))?).ok(),
             Form::BigEndian => {
                 let number = u32::try_from(parse_number(word)?).ok()?;
@@ -82,7 +83,7 @@ impl Text for u32 {
     #[inline(always)]
     fn write<W: Write>(&self, form: Form, output: &mut W) -> io::Result<()> {
         match form {
-            Form::Own => write_number(u64::from(*self), output),
+            Form::Own | Form::Plain => write_number(u64::from(*self), output),
             Form::Signed => write_signed(u64::from(*self), u64::from(u32::MAX), output),
             Form::BigEndian => write_number(u64::from(self.swap_bytes()), output),
         }
@@ -100,14 +101,14 @@ impl Text for u64 {
 
     fn wanted(form: Form) -> Wanted {
         match form {
-            Form::Own | Form::BigEndian => Wanted::U64,
+            Form::Own | Form::BigEndian | Form::Plain => Wanted::U64,
             Form::Signed => Wanted::I64,
         }
     }
 
     fn parse(word: &[u8], form: Form) -> Option<u64> {
         match form {
-            Form::Own => parse_number(word),
+            Form::Own | Form::Plain => parse_number(word),
             Form::Signed => parse_signed(word, u64::MAX),
             Form::BigEndian => {
                 let number = parse_number(word)?;
@@ -119,7 +120,7 @@ impl Text for u64 {
     #[inline(always)]
     fn write<W: Write>(&self, form: Form, output: &mut W) -> io::Result<()> {
         match form {
-            Form::Own => write_number(*self, output),
+            Form::Own | Form::Plain => write_number(*self, output),
             Form::Signed => write_signed(*self, u64::MAX, output),
             Form::BigEndian => write_number(self.swap_bytes(), output),
         }
@@ -155,18 +156,28 @@ impl<const N: usize> Text for [u8; N] {
 
     ghost stands_for = { StandsForBytes };
 
-    ghost wants = { λ form. Bytes N };
+    ghost wants = { bytes_wanted N };
 
-    fn wanted(_form: Form) -> Wanted {
-        Wanted::Bytes(N)
+    fn wanted(form: Form) -> Wanted {
+        match form {
+            Form::Plain => Wanted::Text(N),
+            _ => Wanted::Bytes(N),
+        }
     }
 
-    fn parse(word: &[u8], _form: Form) -> Option<[u8; N]> {
-        parse_bytes(word)
+    fn parse(word: &[u8], form: Form) -> Option<[u8; N]> {
+        match form {
+            Form::Plain => parse_plain(word),
+            _ => parse_bytes(word),
+        }
     }
 
-    fn write<W: Write>(&self, _form: Form, output: &mut W) -> io::Result<()> {
-        write_bytes(self, output)
+    #[inline(always)]
+    fn write<W: Write>(&self, form: Form, output: &mut W) -> io::Result<()> {
+        match form {
+            Form::Plain => write_plain(self, output),
+            _ => write_bytes(self, output),
+        }
     }
 }
 
