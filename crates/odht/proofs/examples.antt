@@ -21,3 +21,5 @@ pub mod SameMaps
 pub mod DynInserts
 -- the owned table of such lengths
 pub mod DynOwned
+-- lists and fronts of such tables
+pub mod DynLists

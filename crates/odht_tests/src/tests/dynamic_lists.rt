@@ -67,7 +67,7 @@ fn values_of_a_list(rt: HostRuntime) {
     let mut table: Table<'_> = DynTable::open(LAYOUT, store).expect(&rt, "a table");
     let (accepted, _) = table.insert_all(&[(b"one", &[1]), (b"one", &[2])]);
     same(&rt, "accepted", accepted, 2);
-    let mut values: [Option<&[u8]>; 4] = [Some(b"left"); 4];
+    let mut values: [Option<&[u8]>; 4] = [None; 4];
     table.get_all(&[b"two", b"one", b"on", b"one"], &mut values);
     same(&rt, "absent", values[0], None);
     same(&rt, "last value", values[1], Some(&[2][..]));
