@@ -6,7 +6,6 @@ mod checks;
 mod collected_items;
 mod dynamic_inserts;
 mod dynamic_lists;
-mod dynamic_owned;
 mod dynamic_tables;
 mod failing_streams;
 mod first_table;
