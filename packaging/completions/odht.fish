@@ -22,33 +22,33 @@ complete -c odht -n '__fish_seen_subcommand_from count' -l whole
 complete -c odht -n '__fish_seen_subcommand_from count' -l hash -x -a 'fx unhash' -d 'fx or unhash'
 complete -c odht -n '__fish_seen_subcommand_from count' -l at -x -d 'a number below 2^64'
 complete -c odht -n '__fish_seen_subcommand_from get' -l help
-complete -c odht -n '__fish_seen_subcommand_from get' -l key -x -d 'u32, u64, i32, i64, u32be, u64be or hexN'
-complete -c odht -n '__fish_seen_subcommand_from get' -l value -x -d 'u32, u64, i32, i64, u32be, u64be, none or hexN'
+complete -c odht -n '__fish_seen_subcommand_from get' -l key -x -d 'u32, u64, i32, i64, u32be, u64be, hexN or text N'
+complete -c odht -n '__fish_seen_subcommand_from get' -l value -x -d 'u32, u64, i32, i64, u32be, u64be, none, hexN or text N'
 complete -c odht -n '__fish_seen_subcommand_from get' -l hash -x -a 'fx unhash' -d 'fx or unhash'
 complete -c odht -n '__fish_seen_subcommand_from get' -l at -x -d 'a number below 2^64'
 complete -c odht -n '__fish_seen_subcommand_from dump' -l help
 complete -c odht -n '__fish_seen_subcommand_from dump' -l slots
-complete -c odht -n '__fish_seen_subcommand_from dump' -l key -x -d 'u32, u64, i32, i64, u32be, u64be or hexN'
-complete -c odht -n '__fish_seen_subcommand_from dump' -l value -x -d 'u32, u64, i32, i64, u32be, u64be, none or hexN'
+complete -c odht -n '__fish_seen_subcommand_from dump' -l key -x -d 'u32, u64, i32, i64, u32be, u64be, hexN or text N'
+complete -c odht -n '__fish_seen_subcommand_from dump' -l value -x -d 'u32, u64, i32, i64, u32be, u64be, none, hexN or text N'
 complete -c odht -n '__fish_seen_subcommand_from dump' -l hash -x -a 'fx unhash' -d 'fx or unhash'
 complete -c odht -n '__fish_seen_subcommand_from dump' -l at -x -d 'a number below 2^64'
 complete -c odht -n '__fish_seen_subcommand_from keys' -l help
-complete -c odht -n '__fish_seen_subcommand_from keys' -l key -x -d 'u32, u64, i32, i64, u32be, u64be or hexN'
+complete -c odht -n '__fish_seen_subcommand_from keys' -l key -x -d 'u32, u64, i32, i64, u32be, u64be, hexN or text N'
 complete -c odht -n '__fish_seen_subcommand_from keys' -l hash -x -a 'fx unhash' -d 'fx or unhash'
 complete -c odht -n '__fish_seen_subcommand_from keys' -l at -x -d 'a number below 2^64'
 complete -c odht -n '__fish_seen_subcommand_from find' -l help
 complete -c odht -n '__fish_seen_subcommand_from find' -l whole
 complete -c odht -n '__fish_seen_subcommand_from build' -l help
-complete -c odht -n '__fish_seen_subcommand_from build' -l key -x -d 'u32, u64, i32, i64, u32be, u64be or hexN'
-complete -c odht -n '__fish_seen_subcommand_from build' -l value -x -d 'u32, u64, i32, i64, u32be, u64be, none or hexN'
+complete -c odht -n '__fish_seen_subcommand_from build' -l key -x -d 'u32, u64, i32, i64, u32be, u64be, hexN or text N'
+complete -c odht -n '__fish_seen_subcommand_from build' -l value -x -d 'u32, u64, i32, i64, u32be, u64be, none, hexN or text N'
 complete -c odht -n '__fish_seen_subcommand_from build' -l hash -x -a 'fx unhash' -d 'fx or unhash'
 complete -c odht -n '__fish_seen_subcommand_from build' -l percent -x -d 'a number from 1 to 100'
 complete -c odht -n '__fish_seen_subcommand_from build' -l capacity -x -d 'a number below 2^64'
 complete -c odht -n '__fish_seen_subcommand_from build' -l progress
 complete -c odht -n '__fish_seen_subcommand_from build' -l break-links
 complete -c odht -n '__fish_seen_subcommand_from put' -l help
-complete -c odht -n '__fish_seen_subcommand_from put' -l key -x -d 'u32, u64, i32, i64, u32be, u64be or hexN'
-complete -c odht -n '__fish_seen_subcommand_from put' -l value -x -d 'u32, u64, i32, i64, u32be, u64be, none or hexN'
+complete -c odht -n '__fish_seen_subcommand_from put' -l key -x -d 'u32, u64, i32, i64, u32be, u64be, hexN or text N'
+complete -c odht -n '__fish_seen_subcommand_from put' -l value -x -d 'u32, u64, i32, i64, u32be, u64be, none, hexN or text N'
 complete -c odht -n '__fish_seen_subcommand_from put' -l whole
 complete -c odht -n '__fish_seen_subcommand_from put' -l hash -x -a 'fx unhash' -d 'fx or unhash'
 complete -c odht -n '__fish_seen_subcommand_from put' -l progress

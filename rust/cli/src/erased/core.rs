@@ -5,6 +5,7 @@
 use crate::host::prelude::*;
 
 pub mod answers;
+pub mod any;
 pub mod arguments;
 mod digits;
 mod early;
@@ -26,11 +27,13 @@ mod near;
 mod numbers;
 mod obstacles;
 pub mod places;
+mod plain;
 pub mod progress;
 pub mod refusal;
 pub mod shapes;
 mod shown;
 mod signed;
+pub mod sized_slots;
 pub mod slots;
 pub mod status;
 mod stored;

@@ -15,10 +15,14 @@ use std::marker::PhantomData;
 
 mod growth;
 mod inserts;
+mod lists;
+mod lookups;
 mod new_tables;
 mod owned;
+mod prefix;
 
 pub use owned::DynTableOwned;
+pub use prefix::table_len;
 
 /// Why bytes are not opened as a table whose lengths are known at run time alone, or such a table takes no pair.
 #[derive(Debug, PartialEq, Eq)]

@@ -5,6 +5,7 @@ use crate::proved::tables::bytes::{ByteArray, ByteStore};
 use crate::proved::tables::config::Config;
 use crate::proved::tables::hash::HashFn;
 use crate::proved::tables::hash_table::HashTable;
+use crate::proved::tables::layout::Layout;
 use crate::proved::tables::load::Factor;
 use crate::proved::tables::memory_layout::{self, Header, HEADER_SIZE};
 use crate::proved::tables::raw_table::{RawIter, RawTableMut};
@@ -47,6 +48,15 @@ impl<C: Config, D: ByteStore> HashTable<C, D> {
 /// The slot count and the length in bytes of the table that the one with this header grows into. None exactly where no
 /// slot count is enough, or the length passes `usize`.
 pub(crate) fn grown_layout<C: Config>(header: &Header<'_>) -> Option<(usize, usize)> {
+    grown_sizes::<C::H>(Layout::of::<C>(), header)
+}
+
+/// The same of a table of these lengths.
+#[inline(always)]
+pub(crate) fn grown_sizes<H: HashFn>(
+    layout: Layout,
+    header: &Header<'_>,
+) -> Option<(usize, usize)> {
     let factor = header.max_load_factor();
     let Some(twice) = header.item_count().checked_mul(2) else {
         return None;
@@ -54,7 +64,7 @@ pub(crate) fn grown_layout<C: Config>(header: &Header<'_>) -> Option<(usize, usi
     if factor.0 == 0 {
         return None;
     }
-    memory_layout::layout_for::<C>(twice.max(1), factor)
+    layout.table_for(twice.max(1), factor)
 }
 
 /// Writes the grown table with so many slots into bytes whose entries are zeros.

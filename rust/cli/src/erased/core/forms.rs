@@ -15,6 +15,8 @@ pub enum Form {
     Signed,
     /// A number whose stored bytes begin with the highest one.
     BigEndian,
+    /// Bytes that are a plain text, with zeros behind it.
+    Plain,
 }
 
 /// The forms of keys and of values.
@@ -79,14 +81,18 @@ pub struct Kind {
 }
 
 impl Kind {
-    /// The kind of this name: that of a type (`Part::named`), `i32` or `i64`, `u32be` or `u64be`.
+    /// The kind of this name: that of a type (`Part::named`), `i32` or `i64`, `u32be` or `u64be`, or `text:` and a number of
+    /// bytes from 1 to 255.
     pub(crate) fn named(name: &str) -> Option<Kind> {
         let (part, form) = match name {
             "i32" => (Part::U32, Form::Signed),
             "i64" => (Part::U64, Form::Signed),
             "u32be" => (Part::U32, Form::BigEndian),
             "u64be" => (Part::U64, Form::BigEndian),
-            _ => (Part::named(name)?, Form::Own),
+            _ => match name.strip_prefix("text:") {
+                Some(size) => (Part::of_size(size)?, Form::Plain),
+                None => (Part::named(name)?, Form::Own),
+            },
         };
         Some(Kind { part, form })
     }
@@ -116,8 +122,8 @@ pub fn read_as(
     Ok((shape, GivenForms { key, value }))
 }
 
-// The form of keys or values of this type of which this is said, if anything is. None where that is of another type.
-fn form_for(kind: Option<Kind>, part: Part) -> Option<Form> {
+/// The form of keys or values of this type of which this is said, if anything is. None where that is of another type.
+pub(crate) fn form_for(kind: Option<Kind>, part: Part) -> Option<Form> {
     match kind {
         None => Some(Form::Own),
         Some(kind) if part.is(kind.part) => Some(kind.form),

@@ -145,13 +145,13 @@ pub(crate) fn is_left_out<I: BufRead>(input: &mut I, line: &mut Vec<u8>) -> io::
     Ok(!is_next)
 }
 
-// The key and the value of a line: on either side of its first tab, or, where the text of a value is empty, of a line
-// without a tab.
+// The key and the value of a line: on either side of its first tab, or, where a value is nothing, of a line without a
+// tab.
 fn parse_pair<K: Text, V: Text, F: Forms>(line: &[u8], forms: F) -> Result<(K, V), LineFault> {
     let (key, value) = match cut_at(line, b'\t') {
         Some(parts) => parts,
         None => {
-            if V::parse(b"", forms.value()).is_none() {
+            if !V::wanted(forms.value()).is_nothing() {
                 return Err(LineFault::NoTab);
             }
             (line, b"".as_slice())

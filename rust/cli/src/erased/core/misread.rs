@@ -23,6 +23,18 @@ pub enum Wanted {
     I64,
     /// Two hexadecimal digits for each of so many bytes.
     Bytes(usize),
+    /// A plain text of at most so many bytes.
+    Text(usize),
+}
+
+impl Wanted {
+    /// Whether it is nothing at all.
+    pub(crate) fn is_nothing(self) -> bool {
+        match self {
+            Wanted::Nothing => true,
+            _ => false,
+        }
+    }
 }
 
 impl fmt::Display for Wanted {
@@ -36,6 +48,10 @@ impl fmt::Display for Wanted {
             Wanted::Bytes(count) => {
                 let digits = 2 * count as u128;
                 write!(f, "{digits} hexadecimal digits")
+            }
+            Wanted::Text(count) => {
+                let most = count as u128;
+                write!(f, "a text of at most {most} bytes without NUL, tab and line end")
             }
         }
     }

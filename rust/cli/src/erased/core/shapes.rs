@@ -62,20 +62,29 @@ pub enum Part {
 }
 
 impl Part {
-    /// The type of this name: `u32`, `u64`, `none`, or `hex` and a number of bytes from 1 to 255.
+    /// The type of this name: `u32`, `u64`, `none`, or `hex` or `bytes:` and a number of bytes from 0 to 255.
     pub(crate) fn named(name: &str) -> Option<Part> {
         match name {
             "none" => Some(Part::Nothing),
             "u32" => Some(Part::U32),
             "u64" => Some(Part::U64),
             _ => {
-                let size = name.strip_prefix("hex")?.parse::<u8>().ok()?;
-                if size == 0 {
-                    None
-                } else {
-                    Some(Part::Bytes(size))
-                }
+                let size = match name.strip_prefix("hex") {
+                    Some(size) => size,
+                    None => name.strip_prefix("bytes:")?,
+                };
+                Some(Part::Bytes(size.parse::<u8>().ok()?))
             }
+        }
+    }
+
+    /// So many bytes as these digits say, from 1 to 255.
+    pub(crate) fn of_size(digits: &str) -> Option<Part> {
+        let size = digits.parse::<u8>().ok()?;
+        if size == 0 {
+            None
+        } else {
+            Some(Part::Bytes(size))
         }
     }
 
@@ -89,13 +98,14 @@ impl Part {
         }
     }
 
-    /// Whether both are the same type.
+    /// Whether both are the same type. No bytes are nothing.
     pub(crate) fn is(self, other: Part) -> bool {
         match (self, other) {
             (Part::Nothing, Part::Nothing) | (Part::U32, Part::U32) | (Part::U64, Part::U64) => {
                 true
             }
             (Part::Bytes(size), Part::Bytes(other)) => size == other,
+            (Part::Nothing, Part::Bytes(size)) | (Part::Bytes(size), Part::Nothing) => size == 0,
             _ => false,
         }
     }
@@ -104,7 +114,7 @@ impl Part {
 impl fmt::Display for Part {
     fn fmt(&self, f: &mut fmt::Formatter<'_>) -> fmt::Result {
         match self {
-            Part::Nothing => write!(f, "none"),
+            Part::Nothing | Part::Bytes(0) => write!(f, "none"),
             Part::U32 => write!(f, "u32"),
             Part::U64 => write!(f, "u64"),
             Part::Bytes(size) => write!(f, "hex{size}"),
@@ -113,8 +123,8 @@ impl fmt::Display for Part {
 }
 
 impl Shape {
-    // The first ready shape of keys and values of so many bytes, and of the hash function, where one is given.
-    fn of_sizes(key_size: u8, value_size: u8, hash: Option<Hash>) -> Option<Shape> {
+    /// The first ready shape of keys and values of so many bytes, and of the hash function, where one is given.
+    pub(crate) fn of_sizes(key_size: u8, value_size: u8, hash: Option<Hash>) -> Option<Shape> {
         SHAPES.iter().copied().find(|shape| shape.is_of(key_size, value_size, hash))
     }
 

@@ -1,10 +1,11 @@
 // Made by `make rust` of crates/odht_tool_core/src/text.rt.
-//! Keys and values as text: a number in decimal digits, with a sign or without, bytes in hexadecimal digits, and nothing
-//! at all.
+//! Keys and values as text: a number in decimal digits, with a sign or without, bytes in hexadecimal digits or as plain
+//! text, and nothing at all.
 
 use crate::erased::core::digits::{parse_number, write_number};
 use crate::erased::core::forms::Form;
 use crate::erased::core::misread::Wanted;
+use crate::erased::core::plain::{parse_plain, write_plain};
 use crate::erased::core::signed::{parse_signed, write_signed};
 use crate::host::prelude::*;
 use std::io::{self, Write};
@@ -24,14 +25,14 @@ pub trait Text: Copy {
 impl Text for u32 {
     fn wanted(form: Form) -> Wanted {
         match form {
-            Form::Own | Form::BigEndian => Wanted::U32,
+            Form::Own | Form::BigEndian | Form::Plain => Wanted::U32,
             Form::Signed => Wanted::I32,
         }
     }
 
     fn parse(word: &[u8], form: Form) -> Option<u32> {
         match form {
-            Form::Own => u32::try_from(parse_number(word)?).ok(),
+            Form::Own | Form::Plain => u32::try_from(parse_number(word)?).ok(),
             Form::Signed => u32::try_from(parse_signed(word, u64::from(u32::MAX))?).ok(),
             Form::BigEndian => {
                 let number = u32::try_from(parse_number(word)?).ok()?;
@@ -43,7 +44,7 @@ impl Text for u32 {
     #[inline(always)]
     fn write<W: Write>(&self, form: Form, output: &mut W) -> io::Result<()> {
         match form {
-            Form::Own => write_number(u64::from(*self), output),
+            Form::Own | Form::Plain => write_number(u64::from(*self), output),
             Form::Signed => write_signed(u64::from(*self), u64::from(u32::MAX), output),
             Form::BigEndian => write_number(u64::from(self.swap_bytes()), output),
         }
@@ -53,14 +54,14 @@ impl Text for u32 {
 impl Text for u64 {
     fn wanted(form: Form) -> Wanted {
         match form {
-            Form::Own | Form::BigEndian => Wanted::U64,
+            Form::Own | Form::BigEndian | Form::Plain => Wanted::U64,
             Form::Signed => Wanted::I64,
         }
     }
 
     fn parse(word: &[u8], form: Form) -> Option<u64> {
         match form {
-            Form::Own => parse_number(word),
+            Form::Own | Form::Plain => parse_number(word),
             Form::Signed => parse_signed(word, u64::MAX),
             Form::BigEndian => {
                 let number = parse_number(word)?;
@@ -72,7 +73,7 @@ impl Text for u64 {
     #[inline(always)]
     fn write<W: Write>(&self, form: Form, output: &mut W) -> io::Result<()> {
         match form {
-            Form::Own => write_number(*self, output),
+            Form::Own | Form::Plain => write_number(*self, output),
             Form::Signed => write_signed(*self, u64::MAX, output),
             Form::BigEndian => write_number(self.swap_bytes(), output),
         }
@@ -98,16 +99,26 @@ impl Text for () {
 }
 
 impl<const N: usize> Text for [u8; N] {
-    fn wanted(_form: Form) -> Wanted {
-        Wanted::Bytes(N)
+    fn wanted(form: Form) -> Wanted {
+        match form {
+            Form::Plain => Wanted::Text(N),
+            _ => Wanted::Bytes(N),
+        }
     }
 
-    fn parse(word: &[u8], _form: Form) -> Option<[u8; N]> {
-        parse_bytes(word)
+    fn parse(word: &[u8], form: Form) -> Option<[u8; N]> {
+        match form {
+            Form::Plain => parse_plain(word),
+            _ => parse_bytes(word),
+        }
     }
 
-    fn write<W: Write>(&self, _form: Form, output: &mut W) -> io::Result<()> {
-        write_bytes(self, output)
+    #[inline(always)]
+    fn write<W: Write>(&self, form: Form, output: &mut W) -> io::Result<()> {
+        match form {
+            Form::Plain => write_plain(self, output),
+            _ => write_bytes(self, output),
+        }
     }
 }
 

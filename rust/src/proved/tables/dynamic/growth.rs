@@ -3,6 +3,7 @@
 
 use super::DynTable;
 use crate::proved::tables::bytes::ByteStore;
+use crate::proved::tables::growth::grown_sizes;
 use crate::proved::tables::hash::HashFn;
 use crate::proved::tables::layout::Layout;
 use crate::proved::tables::load::Factor;
@@ -13,7 +14,7 @@ impl<H: HashFn, D: ByteStore> DynTable<H, D> {
     /// The length in bytes of the table that this one grows into, as
     /// [`HashTable::grown_len`](crate::proved::tables::hash_table::HashTable::grown_len) is.
     pub fn grown_len(&self) -> Option<usize> {
-        match grown_layout::<H>(self.layout(), &Header::of(self.raw_bytes())) {
+        match grown_sizes::<H>(self.layout(), &Header::of(self.raw_bytes())) {
             Some((_, len)) => Some(len),
             None => None,
         }
@@ -24,7 +25,7 @@ impl<H: HashFn, D: ByteStore> DynTable<H, D> {
     pub fn grow_into(&self, out: &mut [u8]) {
         let layout = self.layout();
         let header = Header::of(self.raw_bytes());
-        let Some((slot_count, _)) = grown_layout::<H>(layout, &header) else {
+        let Some((slot_count, _)) = grown_sizes::<H>(layout, &header) else {
             // `out` has the length of the grown table.
             unreachable!()
         };
@@ -32,19 +33,6 @@ impl<H: HashFn, D: ByteStore> DynTable<H, D> {
         let factor = header.max_load_factor();
         write_table::<H>(out, layout, slot_count, item_count, factor, self.iter());
     }
-}
-
-// The slot count and the length in bytes of the table that the one with this header grows into. None exactly where no
-// slot count is enough, or the length passes `usize`.
-fn grown_layout<H: HashFn>(layout: Layout, header: &Header<'_>) -> Option<(usize, usize)> {
-    let factor = header.max_load_factor();
-    let Some(twice) = header.item_count().checked_mul(2) else {
-        return None;
-    };
-    if factor.0 == 0 {
-        return None;
-    }
-    layout.table_for(twice.max(1), factor)
 }
 
 // Writes the table of so many slots with the pairs of the walk. The new header gets `item_count`, whatever the walk

@@ -172,8 +172,8 @@ impl Setting {
             | Setting::BreakLinks => None,
             Setting::At | Setting::Capacity => Some("a number below 2^64"),
             Setting::Hash => Some("fx or unhash"),
-            Setting::Key => Some("u32, u64, i32, i64, u32be, u64be or hexN"),
-            Setting::Value => Some("u32, u64, i32, i64, u32be, u64be, none or hexN"),
+            Setting::Key => Some("u32, u64, i32, i64, u32be, u64be, hexN or text:N"),
+            Setting::Value => Some("u32, u64, i32, i64, u32be, u64be, none, hexN or text:N"),
             Setting::Percent => Some("a number from 1 to 100"),
         }
     }

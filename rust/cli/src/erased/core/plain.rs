@@ -1,0 +1,38 @@
+// Made by `make rust` of crates/odht_tool_core/src/plain.rt.
+//! Bytes as plain text, without NUL, tab and line end: they are stored with zeros behind the text.
+
+use crate::host::prelude::*;
+use std::io::{self, Write};
+
+/// The bytes of the word, and zeros behind them. None where it is longer, or has a byte that no plain text has.
+pub(crate) fn parse_plain<const N: usize>(word: &[u8]) -> Option<[u8; N]> {
+    if word.len() > N || !are_plain(word) {
+        return None;
+    }
+    let mut bytes = [0; N];
+    bytes[..word.len()].copy_from_slice(word);
+    Some(bytes)
+}
+
+// Whether each byte may be in a plain text.
+fn are_plain(word: &[u8]) -> bool {
+    word.iter().all(|byte| is_plain(*byte))
+}
+
+fn is_plain(byte: u8) -> bool {
+    byte != 0 && byte != b'\t' && byte != b'\n' && byte != b'\r'
+}
+
+/// Writes the bytes without the zeros at their end, whatever they are.
+pub(crate) fn write_plain<W: Write>(bytes: &[u8], output: &mut W) -> io::Result<()> {
+    output.write_all(&bytes[..text_len(bytes)])
+}
+
+// How many bytes there are without the zeros at the end.
+fn text_len(bytes: &[u8]) -> usize {
+    let mut count = bytes.len();
+    while count > 0 && bytes[count - 1] == 0 {
+        count -= 1;
+    }
+    count
+}

@@ -1,0 +1,76 @@
+// Made by `make rust` of crates/odht/src/dynamic/prefix.rt.
+//! A table at the front of longer bytes, of lengths that are known at run time alone.
+
+use super::{DynError, DynTable};
+use crate::proved::tables::bytes::Borrowed;
+use crate::proved::tables::error::Error;
+use crate::proved::tables::hash::HashFn;
+use crate::proved::tables::layout::Layout;
+use crate::proved::tables::memory_layout::{Header, HEADER_SIZE};
+
+/// How many bytes the table of these lengths at the front of `bytes` has, by its header. What follows is not looked at,
+/// nor is any slot, and the hash function does not matter.
+///
+/// The first error: as [`table_len`](crate::proved::tables::memory_layout::table_len) returns it. Constant time.
+pub fn table_len(layout: Layout, bytes: &[u8]) -> Result<usize, Error> {
+    let found = bytes.len();
+    if found < HEADER_SIZE {
+        return Err(Error::TooShort { found });
+    }
+    let header = Header::of(bytes);
+    let len = len_within(layout, header.slot_count(), found);
+    match header.check_layout(layout, len) {
+        Ok(()) => Ok(len),
+        Err(rejected) => Err(rejected),
+    }
+}
+
+// The length of a table of so many slots, or `found` where that is less: no table of them is as long then.
+fn len_within(layout: Layout, slot_count: usize, found: usize) -> usize {
+    match layout.bytes_needed(slot_count) {
+        Some(len) => len.min(found),
+        None => found,
+    }
+}
+
+impl<'a, H: HashFn> DynTable<H, Borrowed<'a>> {
+    /// Opens the table of these lengths at the front of `bytes`, and returns it with the bytes behind it, which are not
+    /// looked at. How many bytes are the table's its header says, as [`table_len`].
+    ///
+    /// Or the first error: `KeyTooShort` where the hash function needs longer keys; then `Rejected` with those of
+    /// [`table_len`], then those of the first ten slots, as [`DynTable::open`]. Valid bytes with anything behind them are
+    /// always opened. Constant time.
+    pub fn from_prefix(layout: Layout, bytes: &'a [u8]) -> Result<(Self, &'a [u8]), DynError> {
+        if (layout.key_len as usize) < H::MIN_LEN {
+            return Err(DynError::KeyTooShort { key_len: layout.key_len, least: H::MIN_LEN });
+        }
+        match table_len(layout, bytes) {
+            Ok(len) => {
+                let (front, rest) = bytes.split_at(len);
+                match DynTable::open(layout, Borrowed::new(front)) {
+                    Ok(table) => Ok((table, rest)),
+                    Err(refused) => Err(refused),
+                }
+            }
+            Err(rejected) => Err(DynError::Rejected(rejected)),
+        }
+    }
+
+    /// [`DynTable::from_prefix`] with the lengths that the header states; [`DynTable::layout`] tells them.
+    ///
+    /// The first error: `Rejected` with those of [`table_len`]; then `KeyTooShort`; then `Rejected` with that of the first
+    /// ten slots. A header states no hash function: a table of another one is rejected where one of the first ten slots
+    /// is occupied and has another tag.
+    pub fn from_prefix_as_stated(bytes: &'a [u8]) -> Result<(Self, &'a [u8]), DynError> {
+        let found = bytes.len();
+        if found < HEADER_SIZE {
+            return Err(DynError::Rejected(Error::TooShort { found }));
+        }
+        let header = Header::of(bytes);
+        let layout = Layout { key_len: header.key_size(), value_len: header.value_size() };
+        match table_len(layout, bytes) {
+            Ok(_) => DynTable::from_prefix(layout, bytes),
+            Err(rejected) => Err(DynError::Rejected(rejected)),
+        }
+    }
+}
