@@ -26,7 +26,7 @@ use std::marker::PhantomData;
 /// assert_eq!((table.len(), table.get(&[150, 0, 7])), (200, Some(&[150][..])));
 /// assert_eq!(table.insert(&[150, 0, 7], &[1])?.as_deref(), Some(&[150][..]));
 /// let stored: Vec<u8> = table.into_raw_bytes();
-/// # assert_eq!(stored.len(), 32 + 512 * 4 + 512 + 16);
+/// # assert_eq!(stored.len(), 32 + 256 * 4 + 256 + 16);
 /// # Ok::<(), odht::dynamic::DynError>(())
 /// ```
 pub struct DynTableOwned<H: HashFn>(dynamic::DynTableOwned<Hash<H>>);
