@@ -35,5 +35,3 @@ pub mod HandedOut
 pub mod AfterInserts
 -- what the calls answer that build a table
 pub mod Builds
--- layouts
-mod Layouts
