@@ -67,12 +67,17 @@ fn values_of_a_list(rt: HostRuntime) {
     let mut table: Table<'_> = DynTable::open(LAYOUT, store).expect(&rt, "a table");
     let (accepted, _) = table.insert_all(&[(b"one", &[1]), (b"one", &[2])]);
     same(&rt, "accepted", accepted, 2);
-    let mut values: [Option<&[u8]>; 4] = [None; 4];
+    check_values(&rt, &table);
+}
+
+// Asserts the values of a list of keys, in the table with one key.
+fn check_values<'a>(rt: &impl Abort, table: &'a Table<'a>) {
+    let mut values: [Option<&'a [u8]>; 4] = [None; 4];
     table.get_all(&[b"two", b"one", b"on", b"one"], &mut values);
-    same(&rt, "absent", values[0], None);
-    same(&rt, "last value", values[1], Some(&[2][..]));
-    same(&rt, "other length", values[2], None);
-    same(&rt, "again", values[3], Some(&[2][..]));
+    same(rt, "absent", values[0], None);
+    same(rt, "last value", values[1], Some(&[2][..]));
+    same(rt, "other length", values[2], None);
+    same(rt, "again", values[3], Some(&[2][..]));
 }
 
 // The 192 bytes of a table of 16 slots with the pair of 1 and 2, both of four bytes, and 8 bytes.
@@ -112,6 +117,8 @@ fn tables_at_the_front(rt: HostRuntime) {
 #[test]
 fn rejected_fronts(rt: HostRuntime) {
     let file = file();
+    let most = file.get(..191).expect(&rt, "a part");
+    let begun = file.get(..31).expect(&rt, "a part");
     let cut = || DynError::Rejected(Error::WrongLength {
         slot_count: 16,
         found: 191,
@@ -121,31 +128,31 @@ fn rejected_fronts(rt: HostRuntime) {
     same(
         &rt,
         "cut",
-        View::from_prefix(FOURS, &file[..191]).err(),
+        View::from_prefix(FOURS, most).err(),
         Some(cut()),
     );
     same(
         &rt,
         "cut, stated",
-        View::from_prefix_as_stated(&file[..191]).err(),
+        View::from_prefix_as_stated(most).err(),
         Some(cut()),
     );
     same(
         &rt,
         "few",
-        View::from_prefix(FOURS, &file[..31]).err(),
+        View::from_prefix(FOURS, begun).err(),
         Some(few()),
     );
     same(
         &rt,
         "few, stated",
-        View::from_prefix_as_stated(&file[..31]).err(),
+        View::from_prefix_as_stated(begun).err(),
         Some(few()),
     );
     let short = DynError::KeyTooShort {
         key_len: 3,
         least: 4,
     };
-    let found = DynTable::<UnHashFn, Borrowed<'_>>::from_prefix(LAYOUT, &file[..31]);
+    let found = DynTable::<UnHashFn, Borrowed<'_>>::from_prefix(LAYOUT, begun);
     same(&rt, "short keys", found.err(), Some(short));
 }
