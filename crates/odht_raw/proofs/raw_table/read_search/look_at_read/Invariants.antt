@@ -1,4 +1,5 @@
 use Rattle.std.proofs.Common.{◌≡◌, ◌+◌, ◌%◌, ℕ, List, length}
+use Rattle.std.specs.Prelude.{⊤}
 use Rattle.std.specs.List.Sorted.{IsStrictlyIncreasing}
 use Rattle.odht_raw.specs.Reads.{read_key}
 use Rattle.odht_raw.proofs.lemmas.GroupLooks.{IsTaken}
@@ -8,6 +9,7 @@ abbrev pub invariant-matches : goal.invariant-matches
 invariant-matches g l = record {
   rising : IsStrictlyIncreasing (g.Q.Group.matches l.group);
   same : g.Q.Group.free l.group ≡ g.Q.Group.free l.initial.group;
+  part : IsTaken (g.Q.Group.matches l.initial.group) (g.Q.Group.matches l.group) (λ i. ⊤);
   taken : (B : List ℕ) → g.S.ReadAt.gives l.source B → IsTaken (g.Q.Group.matches l.initial.group) (g.Q.Group.matches l.group) (λ i. read_key l.place B ((l.start + i) % l.place.slots) ≡ l.key → ⊥);
 }
 
