@@ -4,11 +4,12 @@
 --     read_controls p B        the control bytes that they have there
 --     read_key p B i           the key of slot i there
 --     IsPlaceFitting p         all of these offsets are below 2 ^ 64, and a key has at most 255 bytes
+--     IsHeldBy p B             B is long enough to have the control bytes at the place p
 --     IsGroupLook F E bs b k r r is what a look at the sixteen slots from b on finds, whose control bytes are bs: on a
 --                              placed table the answer of the search if it ends there (`on_placed`), on any parts such an
 --                              end (`slot`), and None where the search goes on from each slot (`none`)
 --     read_groups p B n        the control bytes at the place p, of which n groups were read
-use Rattle.std.specs.Prelude.{ℕ, ◌+◌, ◌*◌, ◌<◌, ◌≤◌, List, Option, IfSome, IsNone}
+use Rattle.std.specs.Prelude.{ℕ, ◌+◌, ◌*◌, ◌<◌, ◌≤◌, List, length, Option, IfSome, IsNone}
 use Rattle.odht_base.specs.Bytes.{bytes_at}
 use Rattle.odht_base.specs.Decoded.{slot_key}
 use Rattle.odht_base.specs.Format.{Format}
@@ -35,6 +36,9 @@ pub record IsPlaceFitting (p : ReadPlace) : Type 0 where
   pub entries : p.entries_at + p.slots * entry_size p < 18446744073709551616
   pub controls : p.control_at + p.slots + 16 < 18446744073709551616
   pub key : p.layout.key_len ≤ 255
+
+abbrev pub IsHeldBy : ReadPlace → List ℕ → Type 0
+IsHeldBy p B = p.control_at + (p.slots + 16) ≤ length B
 
 pub record IsGroupLook (F : Format) (E : EntryBytes) (bs : List ℕ) (b : ℕ) (k : List ℕ) (r : Option Search) : Type 0 where
   pub slot : IfSome r (IsEndAmong F E bs b 16 k)

@@ -4,7 +4,7 @@ ghost use Rattle.odht_base.specs.Bytes.{bytes_at};
 ghost use Rattle.odht_base.specs.Format.{format_of, IsFormat};
 ghost use Rattle.odht_base.specs.Load.{IsSlotCount};
 ghost use Rattle.odht_raw.specs.Reads.{read_entries, read_groups, read_key};
-ghost use Rattle.odht_raw.specs.Reads.{IsPlaceFitting, IsGroupLook};
+ghost use Rattle.odht_raw.specs.Reads.{IsPlaceFitting, IsHeldBy, IsGroupLook};
 ghost use Rattle.odht_raw.specs.SearchSteps.{IsTag};
 ghost use Rattle.odht_raw.specs.Searches.{IsSearch};
 
@@ -30,7 +30,8 @@ pub struct ReadPlace {
 /// Searches for the key as [`search`](super::search) does, and says how many groups were read. It reads each group of
 /// the probe order at most once, up to the one where the search ends, and of each slot that is reported there the key.
 ///
-/// Where the source gives the bytes of one list throughout, the result is that of the search in the parts of this list.
+/// Where the source gives the bytes of one list throughout, the result is that of the search in the parts of this list, where
+/// it is long enough to have them.
 /// Each error is that of a read that failed.
 pub fn search_read<S: ReadAt, H: HashFn>(
     source: &S,
@@ -43,7 +44,7 @@ pub fn search_read<S: ReadAt, H: HashFn>(
     requires hashes { H.MIN_LEN ≤ place.now.layout.key_len }
     ensures few { IfOk result (λ r. r.1 ≤ place.now.slots / 16) }
     ensures given { let F = format_of place.now.layout.key_len place.now.layout.value_len H.hash
-        in (B : List ℕ) → S.gives source.now B → IfOk result
+        in (B : List ℕ) → S.gives source.now B → IsHeldBy place.now B → IfOk result
         (λ r. IsSearch F (read_entries place.now B) key.now
         (read_groups place.now B 0) (read_groups place.now B r.1) r.0) }
 {
