@@ -7,7 +7,7 @@
 --     IsReachAnswer F T i b  where neither a slot of T nor the mirror gives an error, b says whether the search for the
 --                          key in slot i ends at this slot
 --     ArePassed F T k b n  none of the n slots from b on, modulo the slot count, is free or holds the key k
---     IsLookAt g h q       q is a search of the group g for the tag h
+--     IsGroupSearch g h q  q is a search of the group g for the tag h
 use Rattle.std.specs.Prelude.{◌≡◌, ℕ, ◌+◌, ◌%◌, ◌<◌, Bool, List, length, filter_map, slice_index, Option, None, MatchOption, IsTrue, IsFalse}
 use Rattle.odht_base.specs.Format.{Format}
 use Rattle.odht_base.specs.Groups.{GroupMatches, IsReport, first_free}
@@ -41,6 +41,6 @@ IsReachAnswer F T i b = IsFitting F T → b ≡ is_at i (search_end F (cells_of 
 abbrev pub ArePassed : Format → TableParts → List ℕ → ℕ → ℕ → Type 0
 ArePassed F T k b n = (j : ℕ) → j < n → IsFalse (stops_at (cells_of F T) k ((b + j) % T.entries.slots))
 
-pub record IsLookAt (g : List ℕ) (h : ℕ) (q : GroupMatches) : Type 0 where
+pub record IsGroupSearch (g : List ℕ) (h : ℕ) (q : GroupMatches) : Type 0 where
   pub report : IsReport g h q.matches
   pub free : q.free ≡ first_free g

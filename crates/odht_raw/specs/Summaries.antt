@@ -6,7 +6,7 @@
 --     IsSummary F T t n m o        none of them gives an error, m of them are occupied, and where the flag t says that
 --                                  searches are made, and slots and mirror give no error, o is the first that is
 --                                  unreachable
---     IsKnown F T t n s            the same, of the counts in s
+--     IsSummaryOf F T t n s        the same, of the counts in s
 --     AreRight F T b is            slot b + i gives no error, for each i of is
 --     IsFreeSlot F T i             the control byte of slot i is that of a free slot, 255, and its entry is zeros
 --     AreFree F T b is             slot b + i is such a slot, for each i of is
@@ -43,8 +43,8 @@ pub record IsSummary (F : Format) (T : TableParts) (t : Bool) (n m : ℕ) (o : O
   pub counted : m ≡ occupied_before F T n
   pub reached : t ≡ true → IsFitting F T → IsFirstUnreachable F T n o
 
-abbrev pub IsKnown : Format → TableParts → Bool → ℕ → SlotSummary → Type 0
-IsKnown F T t n s = IsSummary F T t n s.occupied s.unreachable
+abbrev pub IsSummaryOf : Format → TableParts → Bool → ℕ → SlotSummary → Type 0
+IsSummaryOf F T t n s = IsSummary F T t n s.occupied s.unreachable
 
 abbrev pub AreRight : Format → TableParts → ℕ → List ℕ → Type 0
 AreRight F T b is = (i : ℕ) → Contains is i → slot_refusal_at F T.entries.bytes T.control (b + i) ≡ None

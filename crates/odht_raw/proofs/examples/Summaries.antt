@@ -10,20 +10,20 @@ use Rattle.odht_header.specs.Refusals.{slot_refusal_at, unreachable}
 use Rattle.odht_header.specs.declared.error.Error.TheVariants.{ControlMismatch}
 use Rattle.odht_header.proofs.examples.Apart.{unequal, unequal_lists, tested}
 use Rattle.odht_header.proofs.examples.Opened.{opened}
-use Rattle.odht_raw.specs.Checks.{IsLookAt}
+use Rattle.odht_raw.specs.Checks.{IsGroupSearch}
 use Rattle.odht_raw.specs.Parts.{TableParts}
-use Rattle.odht_raw.specs.Summaries.{IsFirstUnreachable, IsFirstError, IsFreeSlot, IsKnown, IsSummary, HaveNoError, AreFree, AreRight}
+use Rattle.odht_raw.specs.Summaries.{IsFirstUnreachable, IsFirstError, IsFreeSlot, IsSummaryOf, IsSummary, HaveNoError, AreFree, AreRight}
 use Rattle.odht_raw.proofs.examples.Checked.{parts, two}
 
 -- ---- a group
 -- a search of two bytes for 3, which is the first; the second is free
-pub look : IsLookAt (3 ∷ 255 ∷ []) 3 (record { matches = 0 ∷ []; free = Some 1 })
+pub look : IsGroupSearch (3 ∷ 255 ∷ []) 3 (record { matches = 0 ∷ []; free = Some 1 })
 look = record { report = report; free = refl }
 
 -- it leaves out neither the free byte nor the match, and names no other byte as free
-pub other_looks_refused : (IsLookAt (3 ∷ 255 ∷ []) 3 (record { matches = 0 ∷ []; free = None }) → ⊥)
-    × (IsLookAt (3 ∷ 255 ∷ []) 3 (record { matches = 0 ∷ []; free = Some 0 }) → ⊥)
-    × (IsLookAt (3 ∷ []) 3 (record { matches = []; free = None }) → ⊥)
+pub other_looks_refused : (IsGroupSearch (3 ∷ 255 ∷ []) 3 (record { matches = 0 ∷ []; free = None }) → ⊥)
+    × (IsGroupSearch (3 ∷ 255 ∷ []) 3 (record { matches = 0 ∷ []; free = Some 0 }) → ⊥)
+    × (IsGroupSearch (3 ∷ []) 3 (record { matches = []; free = None }) → ⊥)
 other_looks_refused = (λ h. none-some _ h.free, λ h. unequal 0 1 refl (same h.free), λ h. other_reports_refused.0 h.report)
   where
     same : {a b : ℕ} → Some a ≡ Some b → a ≡ b
@@ -148,7 +148,7 @@ other_summaries_refused = (
 )
 
 -- the same of a summary by its name
-pub known : IsKnown direct_config lost true 16 (record { occupied = 1; unreachable = Some 7 }) × (IsKnown direct_config lost true 16 (record { occupied = 1; unreachable = None }) → ⊥)
+pub known : IsSummaryOf direct_config lost true 16 (record { occupied = 1; unreachable = Some 7 }) × (IsSummaryOf direct_config lost true 16 (record { occupied = 1; unreachable = None }) → ⊥)
 known = (summaries.1, other_summaries_refused.2)
 
 -- a wrong tag in slot 5 is the first error, and none comes before; where there is none, none is the first

@@ -7,14 +7,14 @@ use Rattle.odht_base.specs.Format.{Format, tag}
 use Rattle.odht_base.specs.Groups.{GroupMatches}
 use Rattle.odht_base.specs.Decoded.{counts_as_free, slot_key}
 use Rattle.odht_base.proofs.lemmas.ByteRanges.{length-bytes_at}
-use Rattle.odht_raw.specs.Checks.{IsFitting, ArePassed, IsLookAt}
+use Rattle.odht_raw.specs.Checks.{IsFitting, ArePassed, IsGroupSearch}
 use Rattle.odht_raw.specs.Parts.{TableParts}
 use Rattle.odht_raw.proofs.lemmas.GroupLooks.{rising-first}
 use Rattle.odht_raw.proofs.lemmas.KeyPasses.{stopped_free, stopped_key, passes}
 use Rattle.odht_raw.proofs.lemmas.SlotFits.{IsMirrored, IsMirrored-mirror_refusal, AllFit-slots_refusal}
 
 module _ (F : Format) (T : TableParts) (mirrored : length T.control ≡ T.entries.slots + 16) (least : 16 ≤ T.entries.slots) (fitting : IsFitting F T)
-    (b : ℕ) (from : b < T.entries.slots) (k : List ℕ) (q : GroupMatches) (look : IsLookAt (bytes_at T.control b 16) (tag F k) q) where
+    (b : ℕ) (from : b < T.entries.slots) (k : List ℕ) (q : GroupMatches) (look : IsGroupSearch (bytes_at T.control b 16) (tag F k) q) where
   abbrev es : List ℕ
   es = T.entries.bytes
 

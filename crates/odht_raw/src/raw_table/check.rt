@@ -6,9 +6,9 @@ ghost use Rattle.odht_base.specs.Bytes.{bytes_at};
 ghost use Rattle.odht_base.specs.Format.{format_of, tag as key_tag};
 ghost use Rattle.odht_base.specs.Groups.{free_in, occupied};
 ghost use Rattle.odht_base.specs.Decoded.{counts_as_free, slot_key};
-ghost use Rattle.odht_raw.specs.Checks.{decoded_count, IsFitting, ArePassed, IsLookAt};
+ghost use Rattle.odht_raw.specs.Checks.{decoded_count, IsFitting, ArePassed, IsGroupSearch};
 ghost use Rattle.odht_raw.specs.Checks.{IsHashAt, IsReachAnswer};
-ghost use Rattle.odht_raw.specs.Summaries.{IsKnown, IsFirstError, HaveNoError, AreFree, AreRight};
+ghost use Rattle.odht_raw.specs.Summaries.{IsSummaryOf, IsFirstError, HaveNoError, AreFree, AreRight};
 ghost use Rattle.odht_raw.specs.Summaries.{IsFreeSlot};
 ghost use Rattle.odht_header.specs.Refusals.{checked, bad_free_control, slots_refusal};
 ghost use Rattle.odht_header.specs.Refusals.{mirror_refusal, reach_refusal};
@@ -103,10 +103,10 @@ impl<'a, K: ByteArray, V: ByteArray, H: HashFn> RawTable<'a, K, V, H> {
         requires others { others ≡ occupied (bytes_at self.now.control start size) }
         requires free { AreRight (format_of K.LEN V.LEN H.hash) self.now start
             (free_in (bytes_at self.now.control start size)) }
-        requires known { IsKnown (format_of K.LEN V.LEN H.hash) self.now searches start before }
+        requires known { IsSummaryOf (format_of K.LEN V.LEN H.hash) self.now searches start before }
         ensures err { IsFirstError (format_of K.LEN V.LEN H.hash) self.now result }
         ensures ok { let F = format_of K.LEN V.LEN H.hash
-            in IfOk result (IsKnown F self.now searches (start + size)) }
+            in IfOk result (IsSummaryOf F self.now searches (start + size)) }
     {
         // Its invariant is used: slots and control bytes are as many as fit in a `usize`.
         let _ = &self.control;
@@ -201,7 +201,7 @@ impl<'a, K: ByteArray, V: ByteArray, H: HashFn> RawTable<'a, K, V, H> {
     fn is_reached_late(&self, slot: usize, hash: u32, first: GroupQuery) -> bool
         requires slot { slot < self.now.entries.slots }
         requires hash { IsHashAt (format_of K.LEN V.LEN H.hash) self.now slot hash }
-        requires group { IsLookAt (bytes_at self.now.control (hash % self.now.entries.slots) 16)
+        requires group { IsGroupSearch (bytes_at self.now.control (hash % self.now.entries.slots) 16)
             (hash / 2 ^ 25) first }
         ensures { IsReachAnswer (format_of K.LEN V.LEN H.hash) self.now slot result }
     {
@@ -232,7 +232,7 @@ impl<'a, K: ByteArray, V: ByteArray, H: HashFn> RawTable<'a, K, V, H> {
         requires count { count ≤ 16 }
         requires slot { slot < self.now.entries.slots }
         requires group { let F = format_of K.LEN V.LEN H.hash
-            in IsLookAt (bytes_at self.now.control start 16)
+            in IsGroupSearch (bytes_at self.now.control start 16)
             (key_tag F (slot_key F self.now.entries.bytes slot)) group }
         ensures { let F = format_of K.LEN V.LEN H.hash
             in IsFitting F self.now

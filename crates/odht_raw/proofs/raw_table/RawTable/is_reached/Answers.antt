@@ -4,7 +4,7 @@ use Rattle.odht_base.specs.Bytes.{bytes_at}
 use Rattle.odht_base.specs.Format.{Format, format_of}
 use Rattle.odht_base.specs.Decoded.{slot_key}
 use Rattle.odht_base.specs.Probe.{probe_slot}
-use Rattle.odht_raw.specs.Checks.{cells_of, IsLookAt}
+use Rattle.odht_raw.specs.Checks.{cells_of, IsGroupSearch}
 use Rattle.odht_raw.specs.Parts.{TableParts, IsTableParts}
 use Rattle.odht_raw.proofs.lemmas.KeyPasses.{slots_decoded, stops_key}
 use Rattle.odht_raw.proofs.lemmas.KeyPositions.{home_position, ends_here, distance}
@@ -55,10 +55,10 @@ module _ (g : Over) (c : After-of-group g) where
   behind_is : bit_and ((c.args.slot + (2 ^ 64 - c.start.result)) % 2 ^ 64) (c.len-slots.result - 1) ≡ (c.args.slot + s - home) % s
   behind_is = (λ i. bit_and ((c.args.slot + (2 ^ 64 - home_is i)) % 2 ^ 64) (slots i - 1)) ∙ distance c.args.slot home s parts.slots home_low
 
-  look : IsLookAt (bytes_at T.control home 16) (c.args.hash / 2 ^ 25) c.of-group.result
+  look : IsGroupSearch (bytes_at T.control home 16) (c.args.hash / 2 ^ 25) c.of-group.result
   look =
       let read = c.read.ensures.bytes ∙ (λ i. bytes_at (control i) ((sym c.start.ensures.slot ∙ home_is) i) 16) in
-      subst₂ (λ b h. IsLookAt b h c.of-group.result) read c.tag_of.ensures (record { report = c.of-group.ensures.matches; free = c.of-group.ensures.free })
+      subst₂ (λ b h. IsGroupSearch b h c.of-group.result) read c.tag_of.ensures (record { report = c.of-group.ensures.matches; free = c.of-group.ensures.free })
 
 pub returns-then-unwrap_or-before-2 : goal.returns-then-unwrap_or-before-2
 returns-then-unwrap_or-before-2 g c fitting =
@@ -71,8 +71,8 @@ returns-then-unwrap_or-before-2 g c fitting =
     let free : behind ≤ unwrap_or c.of-group.result.free 16 = subst₂ (λ n m. n ≤ m) is (c.unwrap_or.ensures ∙ ap (λ o. unwrap_or o 16) c.first_empty.ensures) c.if-unwrap_or-before.true in
     let unmatched : behind ≤ unwrap_or (slice_get c.of-group.result.matches 0) 16 =
     subst₂ (λ n m. n ≤ m) is (c.unwrap_or-then-unwrap_or-before.ensures ∙ ap (λ o. unwrap_or o 16) c.first_match.ensures) c.if-unwrap_or-before-2.true in
-    let tagged : IsLookAt (bytes_at (T g at).control (home g at) 16) ((F g at).hash (key g at) / 2 ^ 25) c.of-group.result =
-    subst (λ h. IsLookAt (bytes_at (T g at).control (home g at) 16) (h / 2 ^ 25) c.of-group.result) c.requires.hash (look g at) in
+    let tagged : IsGroupSearch (bytes_at (T g at).control (home g at) 16) ((F g at).hash (key g at) / 2 ^ 25) c.of-group.result =
+    subst (λ h. IsGroupSearch (bytes_at (T g at).control (home g at) 16) (h / 2 ^ 25) c.of-group.result) c.requires.hash (look g at) in
     ends_here c.args.hash (s g at) (home g at) 0 c.args.slot p.slots (omega arith) (omega (arith, least)) (sym (home_position (home g at) (s g at) (home_low g at))) c.requires.slot
     (F g at) (cells_of (F g at) (T g at)) (key g at) (slots_decoded (F g at) (T g at).entries.bytes (T g at).control (s g at) p.mirrored) c.requires.hash
     near (λ q l. absurd (omega (arith, l)))

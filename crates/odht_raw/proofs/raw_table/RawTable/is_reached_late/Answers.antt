@@ -6,7 +6,7 @@ use Rattle.odht_base.specs.Probe.{probe_slot}
 use Rattle.odht_base.specs.Search.{stops_at}
 use Rattle.odht_base.specs.Decoded.{slot_key}
 use Rattle.std.proofs.lemmas.Bool.{cases_lt}
-use Rattle.odht_raw.specs.Checks.{cells_of, IsLookAt}
+use Rattle.odht_raw.specs.Checks.{cells_of, IsGroupSearch}
 use Rattle.odht_raw.specs.Parts.{TableParts}
 use Rattle.odht_raw.proofs.lemmas.KeyPasses.{slots_decoded, stops_key}
 use Rattle.odht_raw.proofs.lemmas.KeyPositions.{home_position, distance, later_position, not_in_group, passes_more, ends_here, ends_earlier}
@@ -61,8 +61,8 @@ module _ (g : Over) (c : After-start-start g) where
       later_position c.args.hash s c.start-start.result c.groups.probe.position c.args.slot count c.start-start.ensures.aligned within first_is c.requires.slot (far h) v.others
 
   -- the group at hand was looked at for the key's tag
-  looked : IsLookAt (bytes_at c.args.self.now.control c.start-start.result 16) (tag (format g) (slot_key (format g) c.args.self.now.entries.bytes c.args.slot)) c.groups.group
-  looked = subst₂ (λ b h. IsLookAt (bytes_at c.args.self.now.control b 16) (h / 2 ^ 25) c.groups.group) (sym first_is) c.requires.hash c.groups.invariant.looked
+  looked : IsGroupSearch (bytes_at c.args.self.now.control c.start-start.result 16) (tag (format g) (slot_key (format g) c.args.self.now.entries.bytes c.args.slot)) c.groups.group
+  looked = subst₂ (λ b h. IsGroupSearch (bytes_at c.args.self.now.control b 16) (h / 2 ^ 25) c.groups.group) (sym first_is) c.requires.hash c.groups.invariant.looked
 
 pub are_passed-requires-clause-group : goal.are_passed-requires-clause-group
 are_passed-requires-clause-group g c κs _ = looked g (goal.at.are_passed-requires-clause-group g c).After-start-start
@@ -119,7 +119,7 @@ groups-preserved g c =
       home = ap (λ q. q.home) read ∙ home;
       looked =
           let next = c.read.ensures.bytes ∙ (λ i. bytes_at (control i) (probe_slot (home i) (long i) (sym (ap (λ q. q.position) read) i)) 16) in
-          subst₂ (λ b h. IsLookAt b h c.of-group.result) next c.tag_of-tag.ensures (record { report = c.of-group.ensures.matches; free = c.of-group.ensures.free });
+          subst₂ (λ b h. IsGroupSearch b h c.of-group.result) next c.tag_of-tag.ensures (record { report = c.of-group.ensures.matches; free = c.of-group.ensures.free });
       others = λ q l e. elim (cases_lt q c.groups.probe.position) [
         | inl before ↦ v.others q before e
         | inr here ↦
@@ -143,7 +143,7 @@ groups-init g c =
     record {
       control = ap (λ q. q.control) c.new-probe.ensures ∙ ap (λ (t : TableParts). t.control) c.self.view_is;
       home = ap (λ q. q.home) c.new-probe.ensures ∙ ap (λ n. c.args.hash % n) slots;
-      looked = subst (λ b. IsLookAt (bytes_at c.args.self.now.control b 16) (c.args.hash / 2 ^ 25) c.args.first)
+      looked = subst (λ b. IsGroupSearch (bytes_at c.args.self.now.control b 16) (c.args.hash / 2 ^ 25) c.args.first)
           (sym (ap (probe_slot (c.args.hash % s) s) place ∙ home_position (c.args.hash % s) s home)) c.requires.group;
       others = λ q l. absurd (omega (arith, l, place));
       passed = λ fitting q l. absurd (omega (arith, l, place));

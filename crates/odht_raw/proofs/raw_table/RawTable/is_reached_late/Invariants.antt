@@ -5,7 +5,7 @@ use Rattle.odht_base.specs.Format.{format_of}
 use Rattle.odht_base.specs.Probe.{probe_slot}
 use Rattle.odht_base.specs.Search.{stops_at}
 use Rattle.odht_base.specs.Decoded.{slot_key}
-use Rattle.odht_raw.specs.Checks.{cells_of, IsFitting, IsLookAt}
+use Rattle.odht_raw.specs.Checks.{cells_of, IsFitting, IsGroupSearch}
 use Rattle.odht_raw.proofs.raw_table.RawTable.is_reached_late.Given as goal
 
 -- the probe's group was looked at, and each position before it is passed and is not the slot's own
@@ -16,7 +16,7 @@ invariant-groups g l =
     record {
       control : l.probe.control ≡ l.self.control;
       home : l.probe.home ≡ l.hash % s;
-      looked : IsLookAt (bytes_at l.self.control (probe_slot (l.hash % s) s l.probe.position) 16) (l.hash / 2 ^ 25) l.group;
+      looked : IsGroupSearch (bytes_at l.self.control (probe_slot (l.hash % s) s l.probe.position) 16) (l.hash / 2 ^ 25) l.group;
       others : (q : ℕ) → q < l.probe.position → probe_slot (l.hash % s) s q ≡ l.fn.slot → ⊥;
       passed : IsFitting F l.self → (q : ℕ) → q < l.probe.position
           → IsFalse (stops_at (cells_of F l.self) (slot_key F l.self.entries.bytes l.fn.slot) (probe_slot (l.hash % s) s q));
