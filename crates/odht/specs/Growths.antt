@@ -3,6 +3,8 @@
 --     grown_slots_of B     the slots for twice the item count of the header of B, and for one item at least, at the
 --                          header's load factor
 --     grown_len F B        how many bytes the table has that the bytes B grow into
+--     IsGrownLayout F B r  r is the slot count and the length in bytes of the table that the bytes B grow into; None exactly
+--                          where there is none
 --     IsGrownImage F P T   T is the image of the grown table of P
 --     IsRoomFor c s B      the bytes B are as many as a table of s slots has, and zeros where its entries are
 --     IsGrownFrom F B T    T are accepted bytes whose header has the item count and the load factor of B; and where B
@@ -11,7 +13,7 @@
 --     IsWritten F s c f ps T   T has the header of s slots, the item count c and the load factor f; where the keys of
 --                          the pairs ps are pairwise distinct, and all are placed into the empty table, it is this header
 --                          and the parts of that table
-use Rattle.std.specs.Prelude.{◌≡◌, ℕ, ◌*◌, ◌^◌, ◌++◌, max, nat_lt, take, length, List, All, Option, Some, option_and_then}
+use Rattle.std.specs.Prelude.{◌≡◌, ℕ, ◌*◌, ◌^◌, ◌++◌, max, nat_lt, take, length, List, All, Option, Some, None, MatchOption, option_and_then}
 use Rattle.std.specs.Bool.{then_some}
 use Rattle.odht_base.specs.Bytes.{bytes_at}
 use Rattle.odht_base.specs.Format.{Format, entry_len}
@@ -23,6 +25,7 @@ use Rattle.odht_base.specs.Map.{KeysApart}
 use Rattle.odht_base.specs.Table.{Pair, Table, empty}
 use Rattle.odht_base.specs.Valid.{IsImage}
 use Rattle.odht_header.specs.Coding.{Coding}
+use Rattle.odht_header.specs.Layouts.{IsLayout}
 use Rattle.odht_raw.specs.Frame.{IsAccepted}
 use Rattle.odht_raw.specs.Parts.{IsZeros}
 use Rattle.odht_raw.specs.PartsPlacings.{IsNewTo}
@@ -36,6 +39,9 @@ grown_slots_of B = slots_for (max 1 (2 * header_count B)) (header_factor B)
 
 unfoldable pub grown_len : Format → List ℕ → Option ℕ
 grown_len F B = table_len F (grown_slots_of B)
+
+abbrev pub IsGrownLayout : Format → List ℕ → Option (ℕ × ℕ) → Type 0
+IsGrownLayout F B r = MatchOption r (grown_len F B ≡ None) (λ l. IsLayout F (max 1 (2 * header_count B)) (header_factor B) l.0 l.1)
 
 abbrev pub IsGrownImage : Format → Table → List ℕ → Type 0
 IsGrownImage F P T = (Q : Table) × (grown F P ≡ Some Q) × IsImage F Q T

@@ -1,23 +1,21 @@
 //! Growth: a table with the slots for twice as many items, written into larger bytes.
 ghost use Rattle.odht.specs.Tables.{InTable};
-ghost use Rattle.std.specs.Prelude.{◌≡◌, ◌*◌, max, Some, None};
-ghost use Rattle.std.specs.Prelude.{MatchOption, length, map};
+ghost use Rattle.std.specs.Prelude.{◌≡◌, Some, length, map};
 ghost use Rattle.odht_base.specs.Format.{format_of};
 ghost use Rattle.odht_base.specs.Insert.{grown_slots};
 ghost use Rattle.odht_base.specs.Load.{IsSlotCount};
-ghost use Rattle.odht_base.specs.Decoded.{header_count, header_factor};
 ghost use Rattle.odht_base.specs.Table.{Table};
 ghost use Rattle.odht_base.specs.Valid.{IsPartsOf};
-ghost use Rattle.odht_header.specs.Layouts.{IsLayout};
 ghost use Rattle.odht_raw.specs.PartLengths.{ArePartLengths};
 ghost use Rattle.odht_raw.specs.Walks.{stored};
 ghost use Rattle.odht.specs.Growths.{grown_len, grown_slots_of, table_len};
-ghost use Rattle.odht.specs.Growths.{IsWritten, IsGrownFrom, IsRoomFor, IsPlacing};
+ghost use Rattle.odht.specs.Growths.{IsWritten, IsGrownFrom, IsGrownLayout, IsRoomFor, IsPlacing};
 
 use crate::bytes::{ByteArray, ByteStore};
 use crate::config::{Coded, Config};
 use crate::hash::HashFn;
 use crate::hash_table::HashTable;
+use crate::layout::Layout;
 use crate::load::Factor;
 use crate::memory_layout::{self, HEADER_SIZE, Header};
 use crate::raw_table::{RawIter, RawTableMut};
@@ -68,10 +66,15 @@ impl<C: Config, D: ByteStore> HashTable<C, D> {
 /// The slot count and the length in bytes of the table that the one with this header grows into. None exactly where no
 /// slot count is enough, or the length passes `usize`.
 pub(crate) fn grown_layout<C: Config>(header: &Header<'_>) -> Option<(usize, usize)>
-    ensures { let F = ⟦<C as Coded>⟧.coding.format
-        in let B = header.now
-        in MatchOption result (grown_len F B ≡ None)
-        (λ l. IsLayout F (max 1 (2 * header_count B)) (header_factor B) l.0 l.1) }
+    ensures { IsGrownLayout ⟦<C as Coded>⟧.coding.format header.now result }
+{
+    grown_sizes::<C::H>(Layout::of::<C>(), header)
+}
+
+/// The same of a table of these lengths.
+#[inline(always)]
+pub(crate) fn grown_sizes<H: HashFn>(layout: Layout, header: &Header<'_>) -> Option<(usize, usize)>
+    ensures { IsGrownLayout (format_of layout.key_len layout.value_len H.hash) header.now result }
 {
     let factor = header.max_load_factor();
     let Some(twice) = header.item_count().checked_mul(2) else {
@@ -80,7 +83,7 @@ pub(crate) fn grown_layout<C: Config>(header: &Header<'_>) -> Option<(usize, usi
     if factor.0 == 0 {
         return None;
     }
-    memory_layout::layout_for::<C>(twice.max(1), factor)
+    layout.table_for(twice.max(1), factor)
 }
 
 /// Writes the grown table with so many slots into bytes whose entries are zeros.

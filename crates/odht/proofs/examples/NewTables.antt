@@ -1,13 +1,14 @@
 -- Worked examples: how long new tables are, why there is none, and what is written into their bytes. A slot of
 -- number_coding takes thirteen bytes.
-use Rattle.std.proofs.Common.{◌≡◌, ◌^◌, ℕ, refl, arith, replicate, get_or, [], ◌∷◌, Some, None, Ok, Err, inl, inr}
+use Rattle.std.proofs.Common.{◌≡◌, ◌^◌, ℕ, refl, arith, replicate, get_or, [], ◌∷◌, Some, None, Err, inl, inr}
 use Rattle.odht_base.specs.Load.{factor_of, slots_for}
 use Rattle.odht_base.proofs.examples.Configs.{my_config, pair64}
 use Rattle.odht_base.proofs.lemmas.FreeSlots.{map_of-empty}
+use Rattle.odht_base.proofs.lemmas.Least.{slots_for-IsLeastSlots}
 use Rattle.odht_header.specs.declared.error.Error.TheVariants.{Capacity, InitLength, Memory, TooShort}
 use Rattle.odht_header.specs.Refusals.{new_refusal}
 use Rattle.odht_header.proofs.examples.Opened.{opened}
-use Rattle.odht.specs.Growths.{IsRoomFor, IsPlacing}
+use Rattle.odht.specs.Growths.{grown_len, IsGrownLayout, IsRoomFor, IsPlacing}
 use Rattle.odht.specs.NewTables.{new_len, init_refusal, IsEmptyFor, IsCapacityOrMemory, FailsAsNew, FailsBy}
 use Rattle.odht.proofs.examples.SmallTables.{number_coding, no_pairs, one_pair, bytes_of, no_pairs_image}
 
@@ -26,6 +27,15 @@ refusals = (refl, refl, refl)
 pub empty_for : IsEmptyFor number_coding 13 (factor_of 87) (bytes_of no_pairs)
 unfolding opened slots_for
 empty_for = (16, refl, no_pairs_image)
+
+-- the empty table grows into one of sixteen slots, as for one item
+pub grown_layout : IsGrownLayout my_config (bytes_of no_pairs) (Some (16, 256))
+unfolding opened slots_for
+grown_layout = record { slots = refl; least = slots_for-IsLeastSlots 1 (factor_of 87) 16 refl; long = refl; fits = omega arith }
+
+pub no_layout_refused : IsGrownLayout my_config (bytes_of no_pairs) None → ⊥
+unfolding opened slots_for grown_len
+no_layout_refused h = absurd cc
 
 -- ---- errors
 pub either_error : IsCapacityOrMemory {T = ℕ} (Err Capacity) × IsCapacityOrMemory {T = ℕ} (Err Memory)

@@ -1,5 +1,5 @@
 //! Growth of a table whose lengths are known at run time alone, into larger bytes.
-ghost use Rattle.std.specs.Prelude.{◌≡◌, ◌*◌, ◌≤◌, max, All, Some, None, MatchOption, length};
+ghost use Rattle.std.specs.Prelude.{◌≡◌, ◌≤◌, All, Some, length};
 ghost use Rattle.odht_base.specs.Decoded.{header_count, header_factor};
 ghost use Rattle.odht_base.specs.Format.{format_of};
 ghost use Rattle.odht_base.specs.Image.{image_len};
@@ -8,7 +8,6 @@ ghost use Rattle.odht_base.specs.Load.{IsSlotCount};
 ghost use Rattle.odht_base.specs.Map.{KeysApart};
 ghost use Rattle.odht_base.specs.Table.{Table};
 ghost use Rattle.odht_base.specs.Valid.{IsPartsOf};
-ghost use Rattle.odht_header.specs.Layouts.{IsLayout};
 ghost use Rattle.odht_raw.specs.Frame.{IsAccepted};
 ghost use Rattle.odht_raw.specs.PartLengths.{ArePartLengths};
 ghost use Rattle.odht_raw.specs.PartsPlacings.{IsNewTo};
@@ -19,6 +18,7 @@ ghost use Rattle.odht.specs.Tables.{OfTable};
 
 use super::DynTable;
 use crate::bytes::ByteStore;
+use crate::growth::grown_sizes;
 use crate::hash::HashFn;
 use crate::layout::Layout;
 use crate::load::Factor;
@@ -34,7 +34,7 @@ impl<H: HashFn, D: ByteStore> DynTable<H, D> {
         ensures on_valid { let F = dyn_format self.now H.hash
             in OfTable F (D.bytes self.now.store) (λ P. result ≡ table_len F (grown_slots P)) }
     {
-        match grown_layout::<H>(self.layout(), &Header::of(self.raw_bytes())) {
+        match grown_sizes::<H>(self.layout(), &Header::of(self.raw_bytes())) {
             Some((_, len)) => Some(len),
             None => None,
         }
@@ -53,7 +53,7 @@ impl<H: HashFn, D: ByteStore> DynTable<H, D> {
     {
         let layout = self.layout();
         let header = Header::of(self.raw_bytes());
-        let Some((slot_count, _)) = grown_layout::<H>(layout, &header) else {
+        let Some((slot_count, _)) = grown_sizes::<H>(layout, &header) else {
             // `out` has the length of the grown table.
             unreachable!()
         };
@@ -61,24 +61,6 @@ impl<H: HashFn, D: ByteStore> DynTable<H, D> {
         let factor = header.max_load_factor();
         write_table::<H>(out, layout, slot_count, item_count, factor, self.iter());
     }
-}
-
-// The slot count and the length in bytes of the table that the one with this header grows into. None exactly where no
-// slot count is enough, or the length passes `usize`.
-fn grown_layout<H: HashFn>(layout: Layout, header: &Header<'_>) -> Option<(usize, usize)>
-    ensures { let F = format_of layout.key_len layout.value_len H.hash
-        in let B = header.now
-        in MatchOption result (grown_len F B ≡ None)
-        (λ l. IsLayout F (max 1 (2 * header_count B)) (header_factor B) l.0 l.1) }
-{
-    let factor = header.max_load_factor();
-    let Some(twice) = header.item_count().checked_mul(2) else {
-        return None;
-    };
-    if factor.0 == 0 {
-        return None;
-    }
-    layout.table_for(twice.max(1), factor)
 }
 
 // Writes the table of so many slots with the pairs of the walk. The new header gets `item_count`, whatever the walk
