@@ -1,6 +1,5 @@
 //! Growth of a table whose lengths are known at run time alone, into larger bytes.
 ghost use Rattle.std.specs.Prelude.{◌≡◌, ◌≤◌, All, Some, length};
-ghost use Rattle.odht_base.specs.Decoded.{header_count, header_factor};
 ghost use Rattle.odht_base.specs.Format.{format_of};
 ghost use Rattle.odht_base.specs.Image.{image_len};
 ghost use Rattle.odht_base.specs.Insert.{grown_slots, place_all};
@@ -8,12 +7,11 @@ ghost use Rattle.odht_base.specs.Load.{IsSlotCount};
 ghost use Rattle.odht_base.specs.Map.{KeysApart};
 ghost use Rattle.odht_base.specs.Table.{Table};
 ghost use Rattle.odht_base.specs.Valid.{IsPartsOf};
-ghost use Rattle.odht_raw.specs.Frame.{IsAccepted};
 ghost use Rattle.odht_raw.specs.PartLengths.{ArePartLengths};
 ghost use Rattle.odht_raw.specs.PartsPlacings.{IsNewTo};
 ghost use Rattle.odht_raw.specs.Sized.{HasLengthsOf};
 ghost use Rattle.odht.specs.Dynamic.{dyn_format};
-ghost use Rattle.odht.specs.Growths.{grown_len, table_len, IsGrownImage, IsWritten};
+ghost use Rattle.odht.specs.Growths.{grown_len, table_len, IsGrownFrom, IsWritten};
 ghost use Rattle.odht.specs.Tables.{OfTable};
 
 use super::DynTable;
@@ -45,11 +43,7 @@ impl<H: HashFn, D: ByteStore> DynTable<H, D> {
     pub fn grow_into(&self, out: &mut [u8])
         requires { grown_len (dyn_format self.now H.hash) (D.bytes self.now.store)
             ≡ Some (length out.old) }
-        ensures on_valid { let F = dyn_format self.now H.hash
-            in OfTable F (D.bytes self.now.store) (λ P. IsGrownImage F P out.new) }
-        ensures accepted { IsAccepted (dyn_format self.now H.hash) out.new }
-        ensures count { header_count out.new ≡ header_count (D.bytes self.now.store) }
-        ensures factor { header_factor out.new ≡ header_factor (D.bytes self.now.store) }
+        ensures { IsGrownFrom (dyn_format self.now H.hash) (D.bytes self.now.store) out.new }
     {
         let layout = self.layout();
         let header = Header::of(self.raw_bytes());

@@ -46,43 +46,31 @@ write_table-requires-clause-len g c =
 written : (g : Over) (c : After-write_table g) → IsWritten (dyn_format c.args.self.now g.H.HashFn.hash) c.in-Some.slot_count c.item_count-item_count.result c.max_load_factor-factor.result.0 c.iter.result c.write_table.new.bytes
 written g c = rw (c.layout-layout.ensures.key, c.layout-layout.ensures.value) at c.write_table.ensures
 
--- the written bytes are those of the grown table
-pub returns-clause-on_valid : goal.returns-clause-on_valid
-returns-clause-on_valid g c P is =
-    let at = (goal.at.returns-clause-on_valid g c).In-Some in
-    let done = written g (goal.at.returns-clause-on_valid g c).After-write_table in
-    let F : Format = dyn_format c.args.self.now g.H.HashFn.hash in
+-- the written bytes are those of the grown table, and their header has the item count and the load factor of the old one
+pub returns : goal.returns
+returns g c =
+    let at = (goal.at.returns g c).In-Some in
+    let done = written g (goal.at.returns g c).After-write_table in
+    let G : Format = dyn_format c.args.self.now g.H.HashFn.hash in
     let s : ℕ = c.in-Some.slot_count in
-    let items = c.item_count-item_count.ensures ∙ ap header_count (header g at) ∙ count_header F P _ is in
-    let factor = c.max_load_factor-factor.ensures ∙ ap header_factor (header g at) ∙ factor_header F P _ is in
-    let enough : grown_slots P ≡ Some s = sym (grown_header F P _ is) ∙ slots g at in
-    let pairs : c.iter.result ≡ walk P = c.iter.ensures.pairs.on_valid P is in
-    let q = grown_placed F P is.valid s enough in
-    let placed : place_all F (empty s c.max_load_factor-factor.result.0) c.iter.result ≡ Some q.0 = (λ i. place_all F (empty s (factor i)) (pairs i)) ∙ q.1 in
-    let apart : KeysApart c.iter.result = subst KeysApart (sym pairs) (walk-KeysApart F P is.valid.placed) in
-    let bytes : c.write_table.new.bytes ≡ header_bytes F s (count P) P.factor ++ parts F q.0.cells =
-    done.placed q.0 apart placed ∙ (λ i. header_bytes F s (items i) (factor i) ++ parts F q.0.cells) in
-    let is_grown = grown_image F P is.valid s enough q.0 q.1 c.write_table.new.bytes bytes in
-    (q.0, is_grown.0, is_grown.1)
-
--- the new header has the item count and the load factor of the old one
-pub returns-clause-accepted : goal.returns-clause-accepted
-returns-clause-accepted g c =
-    let at = (goal.at.returns-clause-accepted g c).In-Some in
-    let done = written g (goal.at.returns-clause-accepted g c).After-write_table in
-    headed_accepted (dyn_format c.args.self.now g.H.HashFn.hash) c.write_table.new.bytes c.in-Some.slot_count c.item_count-item_count.result c.max_load_factor-factor.result.0 done.header
-    (layout g at).least.is_count (omega (arith, c.write_table.auto.bytes, long g at))
-
-pub returns-clause-count : goal.returns-clause-count
-returns-clause-count g c =
-    let at = (goal.at.returns-clause-count g c).In-Some in
-    let done = written g (goal.at.returns-clause-count g c).After-write_table in
-    headed_count (dyn_format c.args.self.now g.H.HashFn.hash) c.write_table.new.bytes c.in-Some.slot_count c.item_count-item_count.result c.max_load_factor-factor.result.0 done.header c.item_count-item_count.type_inv
-    ∙ c.item_count-item_count.ensures ∙ ap header_count (header g at)
-
-pub returns-clause-factor : goal.returns-clause-factor
-returns-clause-factor g c =
-    let at = (goal.at.returns-clause-factor g c).In-Some in
-    let done = written g (goal.at.returns-clause-factor g c).After-write_table in
-    headed_factor (dyn_format c.args.self.now g.H.HashFn.hash) c.write_table.new.bytes c.in-Some.slot_count c.item_count-item_count.result c.max_load_factor-factor.result.0 done.header c.max_load_factor-factor.type_inv.1.1.0.1
-    ∙ c.max_load_factor-factor.ensures ∙ ap header_factor (header g at)
+    let n : ℕ = c.item_count-item_count.result in
+    let f : ℕ = c.max_load_factor-factor.result.0 in
+    let T : List ℕ = c.write_table.new.bytes in
+    let few = c.max_load_factor-factor.type_inv.1.1.0.1 in
+    record {
+      accepted = headed_accepted G T s n f done.header (layout g at).least.is_count (omega (arith, c.write_table.auto.bytes, long g at));
+      count = headed_count G T s n f done.header c.item_count-item_count.type_inv ∙ c.item_count-item_count.ensures ∙ ap header_count (header g at);
+      factor = headed_factor G T s n f done.header few ∙ c.max_load_factor-factor.ensures ∙ ap header_factor (header g at);
+      on_valid = λ P is. (
+          let items = c.item_count-item_count.ensures ∙ ap header_count (header g at) ∙ count_header G P _ is in
+          let factor = c.max_load_factor-factor.ensures ∙ ap header_factor (header g at) ∙ factor_header G P _ is in
+          let enough : grown_slots P ≡ Some s = sym (grown_header G P _ is) ∙ slots g at in
+          let pairs : c.iter.result ≡ walk P = c.iter.ensures.pairs.on_valid P is in
+          let q = grown_placed G P is.valid s enough in
+          let placed : place_all G (empty s f) c.iter.result ≡ Some q.0 = (λ i. place_all G (empty s (factor i)) (pairs i)) ∙ q.1 in
+          let apart : KeysApart c.iter.result = subst KeysApart (sym pairs) (walk-KeysApart G P is.valid.placed) in
+          let bytes : T ≡ header_bytes G s (count P) P.factor ++ parts G q.0.cells =
+          done.placed q.0 apart placed ∙ (λ i. header_bytes G s (items i) (factor i) ++ parts G q.0.cells) in
+          let is_grown = grown_image G P is.valid s enough q.0 q.1 T bytes in
+          (q.0, is_grown.0, is_grown.1));
+    }
