@@ -32,19 +32,19 @@ new_long_keys h n f len = refl
 module _ {K V : Type 0} (c : Coding K V) (B B' : List ℕ) (k : K) (v : V) where
   -- what an insert into a view returns, with its error as a Rejected
   pub of_a_view : (r : Result (Option V) Error) → OfTable c.format B (λ P. IsInsertInto c P k v r B') → IsFramed c B k v r B' → OnErr r (r ≡ Err Full)
-      → IsDynInsert c B B' k v (result_map_both (λ o. o) Rejected r)
-  of_a_view r valid frame full = record { answer = r; is = refl; on_valid = valid; frame = frame; only_full = full }
+      → IsDynInsert c B k v (result_map_both (λ o. o) Rejected r) B'
+  of_a_view r valid frame full = record { answer = r; is = refl; insert = record { on_valid = valid; frame = frame; only_full = full } }
 
   -- no other error than Full
-  pub other_error_refused : (n : ℕ) → IsDynInsert c B B' k v (Err (Rejected (TooShort n))) → ⊥
-  other_error_refused n h = go h.answer h.is h.only_full
+  pub other_error_refused : (n : ℕ) → IsDynInsert c B k v (Err (Rejected (TooShort n))) B' → ⊥
+  other_error_refused n h = go h.answer h.is h.insert.only_full
     where
       go : (r : Result (Option V) Error) → Err (Rejected (TooShort n)) ≡ result_map_both (λ o. o) Rejected r → OnErr r (r ≡ Err Full) → ⊥
       go (Ok o) is full = cc
       go (Err e) is full = cc
 
   -- and none of lengths
-  pub length_refused : (m n : ℕ) → IsDynInsert c B B' k v (Err (WrongKeyLength m n)) → ⊥
+  pub length_refused : (m n : ℕ) → IsDynInsert c B k v (Err (WrongKeyLength m n)) B' → ⊥
   length_refused m n h = go h.answer h.is
     where
       go : (r : Result (Option V) Error) → Err (WrongKeyLength m n) ≡ result_map_both (λ o. o) Rejected r → ⊥

@@ -1,12 +1,10 @@
 //! Inserts into a table whose lengths are known at run time alone.
 ghost use Rattle.std.specs.Prelude.{◌≡◌, ◌≢◌, length, Err, OnErr};
 ghost use Rattle.odht_base.specs.Format.{format_of};
-ghost use Rattle.odht_raw.specs.Frame.{IsAccepted, IsFramed};
+ghost use Rattle.odht_raw.specs.Frame.{IsAccepted};
 ghost use Rattle.odht_raw.specs.Sized.{bytes_coding};
 ghost use Rattle.odht.specs.Dynamic.{dyn_coding, dyn_format, dyn_store, IsOpened};
-ghost use Rattle.odht.specs.DynInserts.{IsDynInsert};
-ghost use Rattle.odht.specs.Inserts.{IsInsertInto};
-ghost use Rattle.odht.specs.Tables.{OfTable};
+ghost use Rattle.odht.specs.DynInserts.{IsDynInsert, IsStoreInsert};
 
 use super::{DynError, DynTable};
 use crate::bytes::ByteStoreMut;
@@ -29,15 +27,13 @@ impl<H: HashFn, D: ByteStoreMut> DynTable<H, D> {
     /// The key is hashed once. [`DynTable::get_counted`] says how many groups the search reads.
     pub fn insert(&mut self, key: &[u8], value: &[u8]) -> Result<Option<ShortBytes>, DynError>
         // Of a key and a value of the table's lengths.
-        ensures inserted { length key.now ≡ self.old.key_len
-            → length value.now ≡ self.old.value_len
+        ensures inserted { length key.now ≡ self.old.key_len → length value.now ≡ self.old.value_len
             → IsDynInsert (dyn_coding self.old H.hash) (D.bytes self.old.store)
-            (D.bytes self.new.store) key.now value.now result }
+            key.now value.now result (D.bytes self.new.store) }
         // Of others.
         ensures key { length key.now ≢ self.old.key_len
             → result ≡ Err (DynError.WrongKeyLength self.old.key_len (length key.now)) }
-        ensures value { length key.now ≡ self.old.key_len
-            → length value.now ≢ self.old.value_len
+        ensures value { length key.now ≡ self.old.key_len → length value.now ≢ self.old.value_len
             → result ≡ Err (DynError.WrongValueLength self.old.value_len (length value.now)) }
         // Of any.
         ensures refused { OnErr result (self.new ≡ self.old) }
@@ -76,12 +72,8 @@ fn insert_store<H: HashFn, D: ByteStoreMut>(
         (dyn_store layout.key_len layout.value_len store.old) }
     requires key { length key.now ≡ layout.key_len }
     requires value { length value.now ≡ layout.value_len }
-    ensures on_valid { let c = bytes_coding (format_of layout.key_len layout.value_len H.hash)
-        in OfTable c.format (D.bytes store.old)
-        (λ P. IsInsertInto c P key.now value.now result (D.bytes store.new)) }
-    ensures frame { let c = bytes_coding (format_of layout.key_len layout.value_len H.hash)
-        in IsFramed c (D.bytes store.old) key.now value.now result (D.bytes store.new) }
-    ensures only_full { OnErr result (result ≡ Err Error.Full) }
+    ensures inserted { let c = bytes_coding (format_of layout.key_len layout.value_len H.hash)
+        in IsStoreInsert c (D.bytes store.old) key.now value.now result (D.bytes store.new) }
     ensures refused { OnErr result (store.new ≡ store.old) }
     ensures same_store { store.new ≡ D.holding store.old (D.bytes store.new) }
     ensures accepted { IsAccepted (format_of layout.key_len layout.value_len H.hash)

@@ -50,26 +50,22 @@ module _ (g : Over) (c : After-insert_sized g) where
       subst (λ B. IsFramed (bytes_coding F) (g.D.ByteStore.bytes c.args.store.now) c.args.key.now c.args.value.now c.insert_sized.result B) (sym same)
       (subst (λ B. IsFramed (bytes_coding F) B c.args.key.now c.args.value.now c.insert_sized.result c.insert_sized.new.bytes) c.bytes_mut.ensures.value c.insert_sized.ensures.framed)
 
-pub returns-clause-on_valid : goal.returns-clause-on_valid
-returns-clause-on_valid g c P is =
-    let at = (goal.at.returns-clause-on_valid g c).After-insert_sized in
+pub returns-clause-inserted : goal.returns-clause-inserted
+returns-clause-inserted g c =
+    let at = (goal.at.returns-clause-inserted g c).After-insert_sized in
     let K = bytes_coding (F g at) in
     let k = c.args.key.now in
     let v = c.args.value.now in
     let r = c.insert_sized.result in
     record {
-      former = if_former K P k v r _ (placed g at P is);
-      inserted = if_inserted K P _ k v r _ is (placed g at P is);
-      full = (λ e. framed-full K _ k v (fits g at) P is r _ e (framed g at), λ full. full-framed K _ k v (fits g at) P is r _ (placed g at P is) (framed g at) full);
+      on_valid = λ P is. record {
+        former = if_former K P k v r _ (placed g at P is);
+        inserted = if_inserted K P _ k v r _ is (placed g at P is);
+        full = (λ e. framed-full K _ k v (fits g at) P is r _ e (framed g at), λ full. full-framed K _ k v (fits g at) P is r _ (placed g at P is) (framed g at) full);
+      };
+      frame = framed g at;
+      only_full = framed-only_full K _ k v r _ (framed g at);
     }
-
-pub returns-clause-frame : goal.returns-clause-frame
-returns-clause-frame g c = framed g (goal.at.returns-clause-frame g c).After-insert_sized
-
-pub returns-clause-only_full : goal.returns-clause-only_full
-returns-clause-only_full g c =
-    let at = (goal.at.returns-clause-only_full g c).After-insert_sized in
-    framed-only_full (bytes_coding (F g at)) _ c.args.key.now c.args.value.now c.insert_sized.result _ (framed g at)
 
 pub returns-clause-refused : goal.returns-clause-refused
 returns-clause-refused g c =
