@@ -22,12 +22,16 @@ use Rattle.odht.specs.Growths.{table_len, grown_slots_of, grown_len}
 use Rattle.odht.proofs.lemmas.ViewInserts.{count_header, factor_header}
 
 -- ---- the length
--- a layout for so many items is the length
-pub grown_len-layout : (F : Format) (B : List ℕ) (s len : ℕ) → IsLayout F (max 1 (2 * header_count B)) (header_factor B) s len → grown_len F B ≡ Some len
-unfolding grown_len
-grown_len-layout F B s len layout =
+-- the length of a layout for so many items is that of the table
+pub table_len-layout : (F : Format) (n f s len : ℕ) → IsLayout F n f s len → table_len F (slots_for n f) ≡ Some len
+table_len-layout F n f s len layout =
     let short : image_len F s < 2 ^ 64 = omega (arith, layout.long, layout.fits) in
     ap (table_len F) layout.slots ∙ ap (λ t. then_some t (image_len F s)) (lt-ltb (image_len F s) (2 ^ 64) short) ∙ ap Some (sym layout.long)
+
+-- so it is the length of the grown table
+pub grown_len-layout : (F : Format) (B : List ℕ) (s len : ℕ) → IsLayout F (max 1 (2 * header_count B)) (header_factor B) s len → grown_len F B ≡ Some len
+unfolding grown_len
+grown_len-layout F B s len layout = table_len-layout F (max 1 (2 * header_count B)) (header_factor B) s len layout
 
 -- and another length is the same
 pub asked_len : (F : Format) (B : List ℕ) (s len n : ℕ) → IsLayout F (max 1 (2 * header_count B)) (header_factor B) s len → grown_len F B ≡ Some n → n ≡ image_len F s

@@ -1,13 +1,14 @@
 //! New tables whose lengths are known at run time alone.
-ghost use Rattle.std.specs.Prelude.{◌≡◌, ◌≤◌, ◌↔◌, ℕ, length, IfSome, IsNone, OnErr, OnOk, Some};
+ghost use Rattle.std.specs.Prelude.{◌≡◌, ◌≤◌, length, OnErr, OnOk};
 ghost use Rattle.std.specs.Result.{result_err};
 ghost use Rattle.odht_base.specs.Format.{format_of};
-ghost use Rattle.odht_base.specs.Image.{image_len};
-ghost use Rattle.odht_base.specs.Load.{factor_of, slots_for, IsPercent};
-ghost use Rattle.odht_header.specs.Refusals.{IsTooLarge, new_refusal};
+ghost use Rattle.odht_base.specs.Load.{factor_of, IsPercent};
+ghost use Rattle.odht_header.specs.Refusals.{new_refusal};
 ghost use Rattle.odht_raw.specs.Frame.{IsAccepted};
+ghost use Rattle.odht_raw.specs.Sized.{bytes_coding};
 ghost use Rattle.odht.specs.Dynamic.{dyn_new_refusal};
 ghost use Rattle.odht.specs.Inserts.{IsFresh};
+ghost use Rattle.odht.specs.NewTables.{new_len};
 
 use super::{DynError, DynTable};
 use crate::bytes::{ByteStore, ByteStoreMut};
@@ -27,12 +28,8 @@ impl<H: HashFn, D: ByteStore> DynTable<H, D> {
         max_load_factor_percent: u8,
     ) -> Option<usize>
         requires percent { IsPercent max_load_factor_percent }
-        ensures len { let F = format_of layout.key_len layout.value_len H.hash
-            in let f = factor_of max_load_factor_percent
-            in IfSome result
-            (λ len. (s : ℕ) × (slots_for max_item_count f ≡ Some s) × (len ≡ image_len F s)) }
-        ensures none { let F = format_of layout.key_len layout.value_len H.hash
-            in IsNone result ↔ IsTooLarge F max_item_count (factor_of max_load_factor_percent) }
+        ensures { let c = bytes_coding (format_of layout.key_len layout.value_len H.hash)
+            in result ≡ new_len c max_item_count max_load_factor_percent }
     {
         let factor = Factor::from_percent(max_load_factor_percent);
         let (_, len) = layout.table_for(max_item_count, factor)?;
