@@ -38,3 +38,5 @@ pub mod Fronts
 pub mod Finds
 -- worked examples of the definitions
 pub mod examples
+-- what comes back of a line that is the text of no pair
+pub mod PairLines

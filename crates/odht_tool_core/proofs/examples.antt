@@ -21,3 +21,5 @@ pub mod Replaced
 pub mod Slips
 -- forms of keys and values, and what bytes are read as
 pub mod Forms
+-- lines that are read as pairs
+pub mod Pairs

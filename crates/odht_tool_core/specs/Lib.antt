@@ -15,6 +15,8 @@ pub mod GroupNumbers
 pub mod InputLines
 -- words and lines that are read as keys
 pub mod Keys
+-- lines that are read as pairs
+pub mod Pairs
 -- how a command ends
 pub mod Endings
 -- what `dump --slots` writes

@@ -5,9 +5,11 @@ ghost use Rattle.std.specs.Io.KnownBytes.{IsAtEnd, Keeps};
 ghost use Rattle.std.specs.IoError.{error_kind};
 ghost use Rattle.odht_tool_core.specs.InputLines.{IsBehind, IsEnding, IsNextLine};
 ghost use Rattle.odht_tool_core.specs.InputLines.{IsTakenThrough, without_end};
+ghost use Rattle.odht_tool_core.specs.Keys.{IsReadAs};
+ghost use Rattle.odht_tool_core.specs.Pairs.{IsNextPair, IsNoPair, IsPairFault, IsPairText};
 
 use crate::failure::{Failure, LineFault};
-use crate::forms::{Forms, OwnForms};
+use crate::forms::{Form, Forms, OwnForms};
 use crate::places::{cut_at, place_of};
 use crate::text::Text;
 use std::io::{self, BufRead, ErrorKind};
@@ -123,7 +125,14 @@ pub fn read_pair<K: Text, V: Text, I: BufRead>(
     input: &mut I,
     line: &mut Vec<u8>,
     number: u64,
-) -> Result<Option<(K, V)>, Failure> {
+) -> Result<Option<(K, V)>, Failure>
+    ensures pair { let R = IsReadAs (K.is_word Form.Own) (K.stands_for Form.Own)
+        in let S = IsReadAs (V.is_word Form.Own) (V.stands_for Form.Own)
+        in IfOk result (IsNextPair R S (I.remaining input.old) (I.remaining input.new)) }
+    ensures fault { let R = IsReadAs (K.is_word Form.Own) (K.stands_for Form.Own)
+        in let S = IsReadAs (V.is_word Form.Own) (V.stands_for Form.Own)
+        in IfErr result (IsNoPair R S (I.remaining input.old) number line.new.items) }
+{
     read_pair_as(input, line, number, OwnForms)
 }
 
@@ -133,7 +142,14 @@ pub fn read_pair_as<K: Text, V: Text, F: Forms, I: BufRead>(
     line: &mut Vec<u8>,
     number: u64,
     forms: F,
-) -> Result<Option<(K, V)>, Failure> {
+) -> Result<Option<(K, V)>, Failure>
+    ensures pair { let R = IsReadAs (K.is_word (F.pair forms).0) (K.stands_for (F.pair forms).0)
+        in let S = IsReadAs (V.is_word (F.pair forms).1) (V.stands_for (F.pair forms).1)
+        in IfOk result (IsNextPair R S (I.remaining input.old) (I.remaining input.new)) }
+    ensures fault { let R = IsReadAs (K.is_word (F.pair forms).0) (K.stands_for (F.pair forms).0)
+        in let S = IsReadAs (V.is_word (F.pair forms).1) (V.stands_for (F.pair forms).1)
+        in IfErr result (IsNoPair R S (I.remaining input.old) number line.new.items) }
+{
     if !read_line(input, line).map_err(Failure::Input)? {
         return Ok(None);
     }
@@ -187,7 +203,14 @@ pub(crate) fn is_left_out<I: BufRead>(input: &mut I, line: &mut Vec<u8>) -> io::
 
 // The key and the value of a line: on either side of its first tab, or, where the text of a value is empty, of a line
 // without a tab.
-fn parse_pair<K: Text, V: Text, F: Forms>(line: &[u8], forms: F) -> Result<(K, V), LineFault> {
+fn parse_pair<K: Text, V: Text, F: Forms>(line: &[u8], forms: F) -> Result<(K, V), LineFault>
+    ensures ok { let R = IsReadAs (K.is_word (F.pair forms).0) (K.stands_for (F.pair forms).0)
+        in let S = IsReadAs (V.is_word (F.pair forms).1) (V.stands_for (F.pair forms).1)
+        in IfOk result (IsPairText R S line.now) }
+    ensures err { let R = IsReadAs (K.is_word (F.pair forms).0) (K.stands_for (F.pair forms).0)
+        in let S = IsReadAs (V.is_word (F.pair forms).1) (V.stands_for (F.pair forms).1)
+        in IfErr result (IsPairFault R S line.now) }
+{
     let (key, value) = match cut_at(line, b'\t') {
         Some(parts) => parts,
         None => {
