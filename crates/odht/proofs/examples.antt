@@ -19,3 +19,5 @@ pub mod Walks
 pub mod SameMaps
 -- what is rejected, and what an insert returns, where lengths are known at run time alone
 pub mod DynInserts
+-- the owned table of such lengths
+pub mod DynOwned

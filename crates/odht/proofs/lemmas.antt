@@ -25,3 +25,5 @@ pub mod Lookups
 pub mod DynLookups
 -- valid bytes, opened with the lengths that their header states
 pub mod DynOpens
+-- what the insert into a view says of that into a table that grows
+pub mod DynOwned

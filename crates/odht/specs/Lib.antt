@@ -31,3 +31,5 @@ pub mod Equality
 pub mod Dynamic
 -- what an insert into such a table returns and leaves
 pub mod DynInserts
+-- the owned table of such lengths, which grows
+pub mod DynOwned
