@@ -22,9 +22,11 @@
 //! ```
 
 mod growth;
+mod owned;
 mod short_bytes;
 mod writing;
 
+pub use owned::DynTableOwned;
 pub use short_bytes::ShortBytes;
 
 use crate::config::{Config, Hash, HashFn};

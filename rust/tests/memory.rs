@@ -2,7 +2,7 @@
 //! changes nothing; the other calls end as Rust's collections do; and calls that take no memory make no request.
 
 use odht::configs::U64ToU32;
-use odht::dynamic::{self, DynTable};
+use odht::dynamic::{self, DynError, DynTable, DynTableOwned};
 use odht::{
     bytes_needed, check_all, try_bytes_needed, Error, FxHashFn, HashTable, HashTableOwned,
     DEFAULT_GROUPS,
@@ -131,6 +131,29 @@ fn an_insert_that_cannot_grow_changes_nothing() {
     assert_eq!(granting(1, || table.try_insert(&13, &1)), (Ok(None), 1));
     assert_eq!((table.len(), table.get(&13)), (14, Some(1)));
     assert_eq!(granting(0, || table.try_insert(&14, &1)), (Ok(None), 0));
+}
+
+// Of lengths that are known at run time alone: the growth, a present key, and a copy.
+#[test]
+fn an_insert_of_run_time_lengths_that_cannot_grow_changes_nothing() {
+    let memory = || Some(DynError::Rejected(Error::Memory));
+    let layout = dynamic::Layout { key_len: 3, value_len: 1 };
+    let new = || DynTableOwned::<FxHashFn>::with_capacity(layout, 13, 87);
+    assert_eq!((granting(0, new).0.err(), granting(1, new).1), (memory(), 1));
+    let mut table = new().unwrap();
+    for key in 0..13 {
+        assert_eq!(granting(0, || table.insert(&[key; 3], &[key])), (Ok(None), 0));
+    }
+    let before = table.raw_bytes().to_vec();
+    let (result, made) = granting(0, || table.insert(&[13; 3], &[1]));
+    assert_eq!((result.err(), made), (memory(), 1));
+    assert_eq!(table.raw_bytes(), before);
+    let (former, made) = granting(0, || table.insert(&[12; 3], &[1]));
+    assert_eq!((former.unwrap().as_deref(), made), (Some(&[12][..]), 0));
+    assert_eq!(granting(1, || table.insert(&[13; 3], &[1])), (Ok(None), 1));
+    assert_eq!((table.len(), table.get(&[13; 3])), (14, Some(&[1][..])));
+    let copy = || DynTableOwned::<FxHashFn>::from_raw_bytes(layout, table.raw_bytes());
+    assert_eq!((granting(0, copy).0.err(), granting(1, copy).1), (memory(), 1));
 }
 
 // A list from 0 to 120 items goes through the maxima 13, 27, 55 and 111.

@@ -4,7 +4,7 @@ mod common;
 
 use common::worked::three_pairs;
 use odht::configs::U64ToU32;
-use odht::dynamic::{DynTable, Layout};
+use odht::dynamic::{DynTable, DynTableOwned, Layout};
 use odht::{bytes_needed, FxHashFn, HashFn, HashTable, HashTableOwned, UnHashFn};
 use std::panic::{catch_unwind, set_hook, AssertUnwindSafe};
 use std::sync::Mutex;
@@ -56,6 +56,7 @@ fn panics_are_told_where_the_caller_is() {
         sized.grow_into(&mut []);
         layout.bytes_needed(1, 0);
         Dyn::init_in_place(layout, vec![0; 256], 1, 0).ok();
+        DynTableOwned::<FxHashFn>::with_capacity(layout, 1, 0).ok();
         table.get_all(&[1], &mut []);
         table.insert_order(&mut []);
         table.insert_order_with(&mut [], &mut []);

@@ -4,6 +4,7 @@
 //! The tests have each of its requests for memory fail in turn, and the gate runs it with ample memory.
 #![tactic(auto)]
 
+mod dynamic;
 mod index;
 mod owned;
 mod parts;
@@ -44,6 +45,7 @@ fn run(alloc: Global, call: &str, report: &mut Report) -> bool {
         "from_raw_bytes_within" => owned::from_raw_bytes_within(alloc, report),
         "from_raw_bytes_unchecked" => owned::from_raw_bytes_unchecked(alloc, report),
         "refused_bytes" => owned::refused_bytes(alloc, report),
+        "dynamic" => dynamic::grow(alloc, report),
         "index" => index::build(alloc, report),
         "allocate" => parts::allocation(alloc, report),
         "probe_order" => parts::order(alloc, report),

@@ -5,6 +5,7 @@ mod builds;
 mod checks;
 mod collected_items;
 mod dynamic_inserts;
+mod dynamic_owned;
 mod dynamic_tables;
 mod failing_streams;
 mod first_table;

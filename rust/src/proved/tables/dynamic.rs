@@ -16,6 +16,9 @@ use std::marker::PhantomData;
 mod growth;
 mod inserts;
 mod new_tables;
+mod owned;
+
+pub use owned::DynTableOwned;
 
 /// Why bytes are not opened as a table whose lengths are known at run time alone, or such a table takes no pair.
 #[derive(Debug, PartialEq, Eq)]
