@@ -169,13 +169,14 @@ class Case:
     """A table, and the texts that the commands have to write of it."""
 
     def __init__(self, name, words, key_size, value_size, hash, percent, capacity, pairs, key_text=number,
-                 value_text=number, kinds=""):
+                 value_text=number, kinds="", is_other=False):
+        self.is_other = is_other
         self.name, self.words, self.table = name, words, Table(key_size, value_size, hash, percent, capacity)
         self.kinds = f" {kinds}" if kinds else ""
         self.key_kind = self.kinds.split(" --value")[0]
         for key, value in pairs:
             self.table.put(key, value)
-        self.hash_words = " --hash unhash" if hash is unhash and key_size == 4 else ""
+        self.hash_words = " --hash unhash" if hash is unhash and (key_size == 4 or is_other) else ""
         self.info = info_text(self.table, percent)
         self.dump = dump_text(self.table, key_text, value_text)
         self.slots = slots_text(self.table, key_text, value_text)
@@ -205,10 +206,10 @@ class Case:
             for title, args, errors in runs)
 
     def write_cases(self):
-        """The runs of all commands; `info` alone where no words build the table."""
+        """The runs of all commands; `info` alone where no words build the table, and what reads whole files of other sizes."""
         file, hash = f"{self.name}.odht", self.hash_words
         text = HEAD + self.run_text("info", f"info {file}", "", self.info)
-        if self.words:
+        if self.words or self.is_other:
             text += self.run_text("check", f"check {file}{hash}", "", f"{file}: {VALID}")
             text += self.run_text("check --whole", f"check --whole {file}{hash}", "", f"{file}: valid\n")
             if hash:
@@ -217,6 +218,7 @@ class Case:
             text += self.run_text("keys", f"keys {file}{self.key_kind}", "", self.key_lines)
             text += self.run_text("count", f"count {file}", "", f"{self.table.count()}\n")
             text += self.run_text("dump --slots", f"dump --slots {file}{self.kinds}", "", self.slots)
+        if self.words:
             text += self.run_text("get all keys, in lines that end with \\r\\n", f"get {file} -{self.kinds}", self.keys, self.dump)
             if self.kinds:
                 text += self.run_text("put what is there", f"put {file}{self.kinds}", self.dump, "")
@@ -290,7 +292,13 @@ def cases():
                 for k in [0, 1, 258, 2 ** 32, 2 ** 63, 2 ** 64 - 1]], high_first, signed, "--key u64be --value i64")
     # No ready shape has these sizes.
     yield Case("odd_sizes", "", 3, 5, fx, 60, 12,
-               [(le(k * 77 % 2 ** 24, 3), le(k, 5)) for k in range(12)], bytes.hex, bytes.hex)
+               [(le(k * 77 % 2 ** 24, 3), le(k, 5)) for k in range(12)], bytes.hex, bytes.hex, is_other=True)
+    for name, key_size, value_size, hash, count in [
+            ("no_bytes", 0, 0, fx, 1), ("empty_key", 0, 255, fx, 1), ("long_key", 255, 1, fx, 9),
+            ("long_direct", 255, 0, unhash, 9), ("short_direct", 4, 1, unhash, 9), ("words_12_5", 12, 5, unhash, 40)]:
+        yield Case(name, "", key_size, value_size, hash, 87, count,
+                   [(spread(k + 1, key_size), spread(k + 99, value_size)) for k in range(count)], bytes.hex, bytes.hex,
+                   is_other=True)
     yield Case("empty", "", 8, 4, fx, 87, 12, [])
 
 
@@ -321,7 +329,7 @@ def write_find_cases():
         if isinstance(piece, Case):
             table, places[piece.name] = piece.table, len(data)
             image = table.image()
-            checked = "valid" if piece.words or piece.name == "empty" else "-"
+            checked = "valid" if piece.words or piece.is_other or piece.name == "empty" else "-"
             columns = [len(data), len(image), table.key_size, table.value_size, table.count(), len(table.cells),
                        table.count() * 100 // len(table.cells), fits_word(table), checked]
             rows += "\t".join(str(it) for it in columns) + "\n"
@@ -339,10 +347,11 @@ def write_find_cases():
     for name in ("direct", "u64_u32", "odd_sizes"):
         at = f"inside.bin --at {places[name]}"
         text += case(f"info of {name} inside a file", f"info {at}", made[name].info)
-        if made[name].words:
+        if made[name].words or made[name].is_other:
             text += case(f"check of {name}", f"check {at}{made[name].hash_words}", f"inside.bin: {VALID}")
             text += case(f"dump of {name}", f"dump {at}", made[name].dump)
             text += case(f"dump --slots of {name}", f"dump --slots {at}", made[name].slots)
+        if made[name].words:
             key, value = made[name].dump.split("\n")[1].split("\t")
             text += case(f"get of {name}", f"get {at} {key}", f"{key}\t{value}\n")
     write_test("tool/tables/inside.cases", text)

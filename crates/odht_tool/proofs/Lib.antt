@@ -6,6 +6,8 @@ pub mod AnswerLists
 pub mod LinesTaken
 -- what a command does, from the shape of the bytes on
 pub mod Shaped
+-- bytes in which the whole check finds no error
+pub mod Passes
 -- how `count` ends
 pub mod Counts
 -- how `find` ends

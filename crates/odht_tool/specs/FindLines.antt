@@ -10,7 +10,7 @@ use Rattle.std.specs.Prelude.{◌≡◌, ℕ, List, drop, length, ◌≤◌, nat
 use Rattle.std.specs.Io.KnownBytes.{Appends, Keeps}
 use Rattle.odht_tool.specs.Outcomes.{check_word}
 use Rattle.odht_tool_core.specs.Finds.{AreTables, IsFindFailure, false_slots, row_text}
-use Rattle.odht_tool_core.specs.FoundShapes.{found_shape}
+use Rattle.odht_tool_core.specs.AnyShapes.{found_any}
 use Rattle.odht_tool_core.specs.Fronts.{table_front}
 use Rattle.odht_tool_core.specs.declared.failure.Failure.{Failure}
 use Rattle.odht_tool_core.specs.declared.failure.Failure.TheVariants.{Output}
@@ -20,7 +20,7 @@ use Rattle.odht_tool_core.specs.declared.status.Status.TheVariants.{Done, NotDon
 abbrev pub table_text : List ℕ → Option ℕ → ℕ → List ℕ
 table_text B o at =
     let T = table_front (drop at B) in
-    row_text at T (check_word o T (found_shape T None))
+    row_text at T (check_word o T (found_any T None))
 
 abbrev pub tables_text : List ℕ → Option ℕ → List ℕ → List ℕ
 tables_text B o ts = flat_map (table_text B o) ts

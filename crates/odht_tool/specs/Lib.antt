@@ -11,5 +11,7 @@ pub mod GetLines
 pub mod FindLines
 -- lines of which no pair is read
 pub mod Faults
+-- tables of lengths that are numbers
+pub mod Sizes
 -- what `keys` and `count` do
 pub mod Listings

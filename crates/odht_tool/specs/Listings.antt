@@ -2,6 +2,7 @@
 --     keys_text f xs       a line of the key of each pair, where f is the text of keys
 --     listed_outcome c f B of `keys` for bytes of the coding c: the keys that the slots hold, in slot order
 --     keys_of_shape f B s  the same of bytes of the shape s in the form f of keys
+--     keys_of_any f B s    the same of any shape: in hexadecimal digits, where it is no ready one
 --     keys_outcome B h ks  of `keys`, where the hash function h, or none, is named, and ks is said of keys
 --     counted F o B        how many items the header states, where the check of the bytes as those of the format F, by the
 --                          bound o, finds no error; else the first error
@@ -16,10 +17,12 @@ use Rattle.odht_raw.specs.Walks.{decoded_all}
 use Rattle.odht_tool.specs.Outcomes.{by_shape}
 use Rattle.odht_tool_core.specs.Endings.{Outcome, opened_outcome}
 use Rattle.odht_tool_core.specs.Endings.Outcome.{writes, fails}
-use Rattle.odht_tool_core.specs.FoundShapes.{found_shape}
-use Rattle.odht_tool_core.specs.ReadAs.{read_as}
-use Rattle.odht_tool_core.specs.ReadyShapes.{shape_format, shape_coding, typed_text}
+use Rattle.odht_tool_core.specs.AnyShapes.{any_format, found_any, read_any, other_coding}
+use Rattle.odht_tool_core.specs.ReadyShapes.{shape_coding, typed_text}
 use Rattle.odht_tool_core.specs.ShapeList.{key_part}
+use Rattle.odht_tool_core.specs.Texts.{hex_text}
+use Rattle.odht_tool_core.specs.declared.any.AnyShape.{AnyShape}
+use Rattle.odht_tool_core.specs.declared.any.AnyShape.TheVariants.{Ready, Other}
 use Rattle.odht_tool_core.specs.declared.failure.Failure.{Failure}
 use Rattle.odht_tool_core.specs.declared.failure.Failure.TheVariants.{Refused}
 use Rattle.odht_tool_core.specs.declared.forms.Form.{Form}
@@ -42,11 +45,15 @@ listed_outcome c f B = opened_outcome (view_refusal c.format B) (keys_text f (de
 abbrev pub keys_of_shape : Form → List ℕ → Shape → Outcome
 keys_of_shape f B s = listed_outcome (shape_coding s) (typed_text f (key_part s)) B
 
-abbrev pub keys_of_forms : List ℕ → Shape × GivenForms → Outcome
-keys_of_forms B x = keys_of_shape x.1.key B x.0
+abbrev pub keys_of_any : Form → List ℕ → AnyShape → Outcome
+keys_of_any f B (Ready s) = keys_of_shape f B s
+keys_of_any f B (Other s) = listed_outcome (other_coding s) hex_text B
+
+abbrev pub keys_of_forms : List ℕ → AnyShape × GivenForms → Outcome
+keys_of_forms B x = keys_of_any x.1.key B x.0
 
 abbrev pub keys_outcome : List ℕ → Option Hash → Kinds → Outcome
-keys_outcome B h ks = by_shape (read_as B h ks) (keys_of_forms B)
+keys_outcome B h ks = by_shape (read_any B h ks) (keys_of_forms B)
 
 -- ---- count
 abbrev pub count_by : Option Error → ℕ → Result ℕ Failure
@@ -63,8 +70,8 @@ abbrev pub count_written : List ℕ → Result ℕ Failure → Outcome
 count_written label (Ok n) = writes (count_line label n) Done
 count_written label (Err failure) = fails failure
 
-abbrev pub count_of_shape : List ℕ → List ℕ → Option ℕ → Shape → Outcome
-count_of_shape label B o s = count_written label (counted (shape_format s) o B)
+abbrev pub count_of_any : List ℕ → List ℕ → Option ℕ → AnyShape → Outcome
+count_of_any label B o s = count_written label (counted (any_format s) o B)
 
 abbrev pub count_outcome : List ℕ → List ℕ → Option Hash → Option ℕ → Outcome
-count_outcome label B h o = by_shape (found_shape B h) (count_of_shape label B o)
+count_outcome label B h o = by_shape (found_any B h) (count_of_any label B o)

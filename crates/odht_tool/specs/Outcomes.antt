@@ -1,4 +1,5 @@
 -- What `check` and `dump` do with the bytes of a file.
+--     check_of_any name B o s  of `check` for bytes of the shape s
 --     by_shape r f             what f says of a shape, where r is one; else the failure
 --     check_outcome name B h o of `check` of the file of this name, where the hash function h, or none, is named, and o is
 --                              the bound of searches, or there is none
@@ -12,6 +13,8 @@
 --                              and g are the texts of keys and of values
 --     dump_of_shape fs B is_slots s    of `dump`, with `--slots` or without, for bytes of the shape s in the forms fs of keys
 --                              and of values
+--     dump_of_other B is_slots s   the same of a shape that is no ready one, in hexadecimal digits
+--     dump_of_any fs B is_slots s  the same of any shape
 --     dump_outcome B h ks is_slots the same for the bytes of a file, where the hash function h, or none, is named, and ks is
 --                              said of keys and values
 use Rattle.std.specs.Prelude.{ℕ, Bool, List, ◌++◌, codes, Option, Some, None, Result, Ok, Err, is_ok, is_none, if◌then◌else◌}
@@ -26,14 +29,17 @@ use Rattle.odht_header.specs.declared.error.Error.TheVariants.{SearchTooLong}
 use Rattle.odht_raw.specs.Walks.{decoded_all}
 use Rattle.odht_tool_core.specs.Endings.{Outcome, opened_outcome}
 use Rattle.odht_tool_core.specs.Endings.Outcome.{writes, fails}
-use Rattle.odht_tool_core.specs.FoundShapes.{named_shape, hinted_hash}
+use Rattle.odht_tool_core.specs.AnyShapes.{any_format, any_hash, named_any, read_any, other_coding}
+use Rattle.odht_tool_core.specs.FoundShapes.{hinted_hash}
 use Rattle.odht_tool_core.specs.InfoTexts.{hash_name}
-use Rattle.odht_tool_core.specs.ReadAs.{read_as}
-use Rattle.odht_tool_core.specs.ReadyShapes.{shape_format, shape_coding, typed_text}
+use Rattle.odht_tool_core.specs.ReadyShapes.{shape_coding, typed_text}
 use Rattle.odht_tool_core.specs.ShapeList.{key_part, value_part}
 use Rattle.odht_tool_core.specs.Slots.{slots_outcome}
 use Rattle.odht_tool_core.specs.Refusals.{checked_text}
-use Rattle.odht_tool_core.specs.Texts.{pairs_text}
+use Rattle.odht_tool_core.specs.Texts.{hex_text, pairs_text}
+use Rattle.odht_tool_core.specs.declared.any.AnyShape.{AnyShape}
+use Rattle.odht_tool_core.specs.declared.any.AnyShape.TheVariants.{Ready, Other}
+use Rattle.odht_tool_core.specs.declared.any.OtherShape.{OtherShape}
 use Rattle.odht_tool_core.specs.declared.failure.Failure.{Failure}
 use Rattle.odht_tool_core.specs.declared.failure.Failure.TheVariants.{Refused, Memory}
 use Rattle.odht_tool_core.specs.declared.forms.Form.{Form}
@@ -48,16 +54,16 @@ by_shape (Ok s) f = f s
 by_shape (Err failure) f = fails failure
 
 -- ---- check
-abbrev pub check_of_shape : List ℕ → List ℕ → Option ℕ → Shape → Outcome
-check_of_shape name B o s =
-    let r = checked (check_refusal_by (shape_format s) o B) in
+abbrev pub check_of_any : List ℕ → List ℕ → Option ℕ → AnyShape → Outcome
+check_of_any name B o s =
+    let r = checked (check_refusal_by (any_format s) o B) in
     writes (checked_text name o r) (if is_ok r then Done else NotDone)
 
 abbrev pub check_outcome : List ℕ → List ℕ → Option Hash → Option ℕ → Outcome
-check_outcome name B h o = by_shape (named_shape B h) (check_of_shape name B o)
+check_outcome name B h o = by_shape (named_any B h) (check_of_any name B o)
 
 abbrev pub hint_of : List ℕ → Option Hash → Option Hash
-hint_of B h = if is_none h then option_and_then (hinted_hash B) (result_ok (named_shape B None)) else None
+hint_of B h = if is_none h then option_and_then (λ s. hinted_hash B (any_hash s)) (result_ok (named_any B None)) else None
 
 abbrev pub hint_text : List ℕ → Hash → List ℕ
 hint_text file h =
@@ -69,8 +75,8 @@ refusal_word None = codes "valid"
 refusal_word (Some (SearchTooLong home groups)) = codes "long"
 refusal_word (Some error) = codes "rejected"
 
-abbrev pub check_word : Option ℕ → List ℕ → Result Shape Failure → List ℕ
-check_word o B (Ok s) = refusal_word (check_refusal_by (shape_format s) o B)
+abbrev pub check_word : Option ℕ → List ℕ → Result AnyShape Failure → List ℕ
+check_word o B (Ok s) = refusal_word (check_refusal_by (any_format s) o B)
 check_word o B (Err failure) = codes "-"
 
 -- ---- put
@@ -88,8 +94,17 @@ dump_of_shape fs B is_slots s =
     let g = typed_text fs.1 (value_part s) in
     if is_slots then slots_outcome (shape_coding s) f g B else pairs_outcome (shape_coding s) f g B
 
-abbrev pub dump_of_forms : List ℕ → Bool → Shape × GivenForms → Outcome
-dump_of_forms B is_slots x = dump_of_shape (x.1.key, x.1.value) B is_slots x.0
+abbrev pub dump_of_other : List ℕ → Bool → OtherShape → Outcome
+dump_of_other B is_slots s =
+    let c = other_coding s in
+    if is_slots then slots_outcome c hex_text hex_text B else pairs_outcome c hex_text hex_text B
+
+abbrev pub dump_of_any : Form × Form → List ℕ → Bool → AnyShape → Outcome
+dump_of_any fs B is_slots (Ready s) = dump_of_shape fs B is_slots s
+dump_of_any fs B is_slots (Other s) = dump_of_other B is_slots s
+
+abbrev pub dump_of_forms : List ℕ → Bool → AnyShape × GivenForms → Outcome
+dump_of_forms B is_slots x = dump_of_any (x.1.key, x.1.value) B is_slots x.0
 
 abbrev pub dump_outcome : List ℕ → Option Hash → Kinds → Bool → Outcome
-dump_outcome B h ks is_slots = by_shape (read_as B h ks) (dump_of_forms B is_slots)
+dump_outcome B h ks is_slots = by_shape (read_any B h ks) (dump_of_forms B is_slots)

@@ -5,6 +5,7 @@
 
 mod commands;
 mod shapes;
+mod sized;
 
 use odht_tool_core::status::Status;
 use std::alloc::Global;

@@ -8,8 +8,7 @@
 --     found_shape B h      the shape that is named; but where there are items, and no hash function is named, the first
 --                          that fits, or the failure that none does
 --     other_hash h         the hash function that is not h
---     hinted_hash B s      the hash function that is not that of the shape s, where there are items and all control bytes
---                          agree with it
+--     hinted_hash B h      the hash function that is not h, where there are items and all control bytes agree with it
 use Rattle.std.specs.Prelude.{ℕ, List, Bool, not, ◌&&◌, ◌==◌, find, is_none, is_ok, slice_index, Option, None, Result, if◌then◌else◌}
 use Rattle.std.specs.Bool.{then_some}
 use Rattle.std.specs.Option.{ok_or}
@@ -48,5 +47,5 @@ abbrev pub other_hash : Hash → Hash
 other_hash Fx = Unhash
 other_hash Unhash = Fx
 
-abbrev pub hinted_hash : List ℕ → Shape → Option Hash
-hinted_hash B s = then_some (has_items B && agrees (sized_parts B) (other_hash (shape_hash s))) (other_hash (shape_hash s))
+abbrev pub hinted_hash : List ℕ → Hash → Option Hash
+hinted_hash B h = then_some (has_items B && agrees (sized_parts B) (other_hash h)) (other_hash h)

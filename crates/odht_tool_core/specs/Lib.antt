@@ -29,6 +29,8 @@ pub mod Fronts
 pub mod Finds
 -- the shape whose hash function the control bytes have
 pub mod FoundShapes
+-- the shape of a table of any sizes
+pub mod AnyShapes
 -- which files are replaced, and what permissions the new one gets
 pub mod Replaced
 -- the commands of the program and their options

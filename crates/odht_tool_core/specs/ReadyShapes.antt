@@ -110,6 +110,8 @@ same_part Nothing Nothing = true
 same_part U32 U32 = true
 same_part U64 U64 = true
 same_part (Bytes m) (Bytes n) = m == n
+same_part Nothing (Bytes n) = n == 0
+same_part (Bytes n) Nothing = n == 0
 same_part p q = false
 
 abbrev pub is_hashed_by : Option Hash → Shape → Bool

@@ -1,11 +1,13 @@
 //! The shape of a file, where its hash function is found by its control bytes.
-ghost use Rattle.std.specs.Prelude.{◌≡◌, ◌≤◌, length, slice_index, is_some, IfSome, OnSome};
+ghost use Rattle.std.specs.Prelude.{◌≡◌, ◌≤◌, length, slice_index, is_some, IfOk, IfSome, OnSome};
 ghost use Rattle.std.specs.Option.{ok_or};
 ghost use Rattle.odht_tool_core.specs.InfoNumbers.{sized_parts};
 ghost use Rattle.odht_tool_core.specs.declared.failure.Failure.TheVariants.{NoHash};
 ghost use Rattle.odht_tool_core.specs.FoundShapes.{fits, fitting_shape, found_shape, has_items};
 ghost use Rattle.odht_tool_core.specs.FoundShapes.{hinted_hash};
+ghost use Rattle.odht_tool_core.specs.AnyShapes.{HasLongKeys, fitting_any, found_any};
 
+use crate::any::{AnyShape, OtherShape, named_any};
 use crate::failure::Failure;
 use crate::shapes::{Hash, SHAPES, Shape, shape_of};
 use crate::stored::StoredTable;
@@ -59,6 +61,45 @@ fn is_fitting(shape: Shape, key_size: u8, value_size: u8, table: &StoredTable<'_
     shape.is_of(key_size, value_size, None) && table.agrees(shape.hash())
 }
 
+/// The shape of these bytes: as `named_any` has it; but where header and length fit, the header counts items and no hash
+/// function is given, the first ready shape of the header's sizes with whose hash function all control bytes agree, else
+/// another shape with the first hash function that they agree with. `NoHash` where they agree with none.
+pub fn found_any(bytes: &[u8], hash: Option<Hash>) -> Result<AnyShape, Failure>
+    ensures shape { result ≡ found_any bytes.now hash }
+    ensures long { IfOk result HasLongKeys }
+{
+    match (hash, open_with_items(bytes)) {
+        (None, Some(table)) => fitting_any(bytes, &table),
+        _ => named_any(bytes, hash),
+    }
+}
+
+// A shape of the header's sizes that fits the parts of the table.
+fn fitting_any(bytes: &[u8], table: &StoredTable<'_>) -> Result<AnyShape, Failure>
+    requires long { 32 ≤ length bytes.now }
+    requires parts { table.now ≡ sized_parts bytes.now }
+    ensures shape { result
+        ≡ fitting_any (slice_index bytes.now 5) (slice_index bytes.now 6) table.now }
+    ensures long { IfOk result HasLongKeys }
+{
+    let header = Header::of(bytes);
+    let (key_len, value_len) = (header.key_size(), header.value_size());
+    if let Some(shape) = fitting_shape(key_len, value_len, table) {
+        return Ok(AnyShape::Ready(shape));
+    }
+    match table.hash() {
+        Some(hash) => Ok(AnyShape::Other(OtherShape {
+            key_len,
+            value_len,
+            hash,
+        })),
+        None => Err(Failure::NoHash {
+            key_size: key_len,
+            value_size: value_len,
+        }),
+    }
+}
+
 // The parts of a table whose header and length fit, and whose header counts items.
 fn open_with_items(bytes: &[u8]) -> Option<StoredTable<'_>>
     ensures some { is_some result ≡ has_items bytes.now }
@@ -73,12 +114,12 @@ fn open_with_items(bytes: &[u8]) -> Option<StoredTable<'_>>
     }
 }
 
-/// The hash function that is not that of the shape, where header and length fit, the header counts items and all
-/// control bytes agree with it: then the file may be read by it, though it is rejected under this shape.
-pub fn hinted_hash(bytes: &[u8], shape: Shape) -> Option<Hash>
-    ensures { result ≡ hinted_hash bytes.now shape }
+/// The hash function that is not this one, where header and length fit, the header counts items and all
+/// control bytes agree with it: then the file may be read by it, though it is rejected under this one.
+pub fn hinted_hash(bytes: &[u8], hash: Hash) -> Option<Hash>
+    ensures { result ≡ hinted_hash bytes.now hash }
 {
-    let other = shape.hash().other();
+    let other = hash.other();
     let table = open_with_items(bytes)?;
     if table.agrees(other) {
         Some(other)

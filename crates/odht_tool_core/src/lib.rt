@@ -3,6 +3,7 @@
 #![tactic(auto)]
 
 pub mod answers;
+pub mod any;
 pub mod arguments;
 mod digits;
 mod early;
@@ -29,6 +30,7 @@ pub mod refusal;
 pub mod shapes;
 mod shown;
 mod signed;
+pub mod sized_slots;
 pub mod slots;
 pub mod status;
 mod stored;

@@ -12,13 +12,15 @@ use Rattle.odht_tool.specs.Listings.{keys_outcome}
 use Rattle.odht_tool.specs.Outcomes.{check_outcome, check_word, dump_outcome, hint_of, hint_text}
 use Rattle.odht_tool_core.specs.Endings.{IsDone}
 use Rattle.odht_tool_core.specs.Endings.Outcome.{writes, fails}
-use Rattle.odht_tool_core.specs.declared.failure.Failure.TheVariants.{Refused, NoShape, NoHash, OtherKey, Memory}
+use Rattle.odht_tool_core.specs.declared.any.AnyShape.TheVariants.{Ready}
+use Rattle.odht_tool_core.specs.declared.failure.Failure.TheVariants.{Refused, NoHash, ShortKeys, OtherKey, OtherValue, Memory}
 use Rattle.odht_tool_core.specs.declared.forms.Form.TheVariants.{Own, Signed, BigEndian}
 use Rattle.odht_tool_core.specs.declared.shapes.Hash.TheVariants.{Fx, Unhash}
-use Rattle.odht_tool_core.specs.declared.shapes.Part.TheVariants.{U32, U64}
+use Rattle.odht_tool_core.specs.declared.shapes.Part.TheVariants.{U32, U64, Bytes}
 use Rattle.odht_tool_core.specs.declared.shapes.ready.Shape.TheVariants.{DirectU32ToU32}
 use Rattle.odht_tool_core.specs.declared.status.Status.TheVariants.{Done, NotDone}
 use Rattle.odht_tool_core.proofs.examples.Forms.{kind, said, unsaid}
+use Rattle.odht_tool_core.proofs.examples.FoundShapes.{other_bytes}
 use Rattle.odht_tool_core.proofs.examples.Shapes.{one_bytes}
 
 -- ---- check
@@ -48,16 +50,18 @@ pub miscounted : check_outcome (codes "a") (overwritten_at one_bytes 8 (2 ∷ []
 unfolding opened digits
 miscounted = refl
 
--- keys of nine bytes
-pub no_shape : check_outcome (codes "a") (overwritten_at one_bytes 5 (9 ∷ [])) None (Some 128) ≡ fails (NoShape 9 4)
-unfolding opened
-no_shape = refl
+-- a table of other sizes, whose key has another home by its hash than the slot that it is in; and keys of three bytes,
+-- which are too short for a hash function
+pub any_sizes : (check_outcome (codes "a") other_bytes (Some Unhash) None ≡ writes (codes "a: Key in slot 5 is not reachable by its search\n") NotDone)
+    × (check_outcome (codes "a") (overwritten_at one_bytes 5 (3 ∷ [])) (Some Unhash) None ≡ fails (ShortKeys 3))
+unfolding opened first_longer digits
+any_sizes = (refl, refl)
 
--- what `find` says of a table, by the bound, and of one without a ready shape
-pub words : (check_word (Some 128) one_bytes (Ok DirectU32ToU32) ≡ codes "valid")
-    × (check_word (Some 0) one_bytes (Ok DirectU32ToU32) ≡ codes "long")
-    × (check_word (Some 0) (overwritten_at one_bytes 8 (2 ∷ [])) (Ok DirectU32ToU32) ≡ codes "rejected")
-    × (check_word None one_bytes (Err (NoShape 9 4)) ≡ codes "-")
+-- what `find` says of a table, by the bound, and of one that fits no hash function
+pub words : (check_word (Some 128) one_bytes (Ok (Ready DirectU32ToU32)) ≡ codes "valid")
+    × (check_word (Some 0) one_bytes (Ok (Ready DirectU32ToU32)) ≡ codes "long")
+    × (check_word (Some 0) (overwritten_at one_bytes 8 (2 ∷ [])) (Ok (Ready DirectU32ToU32)) ≡ codes "rejected")
+    × (check_word None one_bytes (Err (NoHash 9 4)) ≡ codes "-")
 unfolding opened first_longer
 words = (refl, refl, refl, refl)
 
@@ -69,6 +73,14 @@ pairs = refl
 pub slots : dump_outcome one_bytes (Some Unhash) unsaid true ≡ writes (codes "5\t0\t1\t5\t7\n") Done
 unfolding opened digits groups_to
 slots = refl
+
+-- of other sizes in hexadecimal digits, where their types are said to be so many bytes, or nothing is said of them
+pub hexadecimal : (dump_outcome other_bytes None unsaid false ≡ writes (codes "050000000700\t0000\n") Done)
+    × (dump_outcome other_bytes None (said (kind (Bytes 6) Own) (kind (Bytes 2) Own)) true ≡ writes (codes "5\t0\t1\t050000000700\t0000\n") Done)
+    × (dump_outcome other_bytes None (said (kind (Bytes 6) Own) (kind U32 Own)) true ≡ fails (OtherValue (Bytes 2)))
+    × (keys_outcome other_bytes None unsaid ≡ writes (codes "050000000700\n") Done)
+unfolding opened digits groups_to
+hexadecimal = (refl, refl, refl, refl)
 
 -- with other texts: 5 is 5 * 2^24 with its highest byte first; of another type there is none
 pub formed : (dump_outcome one_bytes (Some Unhash) (said (kind U32 BigEndian) (kind U32 Signed)) false ≡ writes (codes "83886080\t7\n") Done)

@@ -4,19 +4,22 @@ ghost use Rattle.std.specs.Io.KnownBytes.{Appends};
 ghost use Rattle.odht_base.specs.Valid.{IsValidBytes};
 ghost use Rattle.odht_header.specs.Refusals.{checked, check_refusal_by};
 ghost use Rattle.odht_tool.specs.Outcomes.{check_outcome, hint_of, hint_text};
+ghost use Rattle.odht_tool_core.specs.AnyShapes.{HasLongKeys, any_format};
 ghost use Rattle.odht_tool_core.specs.Endings.{IsDone};
 ghost use Rattle.odht_tool_core.specs.ReadyShapes.{shape_format};
 ghost use Rattle.odht_tool_core.specs.Refusals.{checked_text};
 
 use crate::shapes::for_shape;
+use crate::sized::check_other;
 use odht::config::{Coded, Config};
 use odht::error::Error;
 use odht::memory_layout::{check_all, check_all_within};
+use odht_tool_core::any::{AnyShape, named_any};
 use odht_tool_core::failure::Failure;
 use odht_tool_core::found::hinted_hash;
 use odht_tool_core::info::name_of;
 use odht_tool_core::refusal::Refusal;
-use odht_tool_core::shapes::{Hash, Shape, shape_of};
+use odht_tool_core::shapes::{Hash, Shape};
 use odht_tool_core::status::Status;
 use std::io::{self, Write};
 
@@ -33,13 +36,24 @@ pub fn check_file<O: Write>(
     ensures { IsDone (check_outcome file.now bytes.now hash bound)
         (O.contents output.old) (O.contents output.new) result }
 {
-    let shape = shape_of(bytes, hash)?;
-    let checked = check_shape(shape, bytes, bound);
+    let shape = named_any(bytes, hash)?;
+    let checked = check_any(shape, bytes, bound);
     write_checked(file, &checked, bound, output).map_err(Failure::Output)?;
     Ok(Status::of(checked.is_ok()))
 }
 
 /// The first rule that the bytes break, as a table of this shape, the bound of searches among them where there is one.
+pub fn check_any(shape: AnyShape, bytes: &[u8], bound: Option<usize>) -> Result<(), Error>
+    requires { HasLongKeys shape }
+    ensures { result ≡ checked (check_refusal_by (any_format shape) bound bytes.now) }
+{
+    match shape {
+        AnyShape::Ready(shape) => check_shape(shape, bytes, bound),
+        AnyShape::Other(other) => check_other(other, bytes, bound),
+    }
+}
+
+/// The same of a ready shape.
 pub fn check_shape(shape: Shape, bytes: &[u8], bound: Option<usize>) -> Result<(), Error>
     ensures { result ≡ checked (check_refusal_by (shape_format shape) bound bytes.now) }
 {
@@ -88,8 +102,8 @@ fn write_checked<O: Write>(
 pub fn hint_of(bytes: &[u8], hash: Option<Hash>) -> Option<Hash>
     ensures { result ≡ hint_of bytes.now hash }
 {
-    match (hash, shape_of(bytes, None)) {
-        (None, Ok(shape)) => hinted_hash(bytes, shape),
+    match (hash, named_any(bytes, None)) {
+        (None, Ok(shape)) => hinted_hash(bytes, shape.hash()),
         _ => None,
     }
 }

@@ -4,16 +4,19 @@ ghost use Rattle.std.specs.Io.KnownBytes.{Appends};
 ghost use Rattle.odht_base.specs.Decoded.{header_count};
 ghost use Rattle.odht_base.specs.Valid.{IsValidBytes};
 ghost use Rattle.odht_tool.specs.Listings.{counted, count_line, count_outcome};
+ghost use Rattle.odht_tool_core.specs.AnyShapes.{HasLongKeys, any_format};
 ghost use Rattle.odht_tool_core.specs.Endings.{IsDone};
 ghost use Rattle.odht_tool_core.specs.ReadyShapes.{shape_format};
 
 use crate::commands::check::check_bytes;
 use crate::shapes::for_shape;
+use crate::sized::count_other;
 use odht::HashTable;
 use odht::bytes::Borrowed;
 use odht::config::{Coded, Config};
+use odht_tool_core::any::AnyShape;
 use odht_tool_core::failure::Failure;
-use odht_tool_core::found::found_shape;
+use odht_tool_core::found::found_any;
 use odht_tool_core::shapes::{Hash, Shape};
 use odht_tool_core::status::{Status, of_output};
 use std::io::{self, Write};
@@ -30,12 +33,23 @@ pub fn count_file<O: Write>(
     ensures { IsDone (count_outcome label.now bytes.now hash bound)
         (O.contents output.old) (O.contents output.new) result }
 {
-    let shape = found_shape(bytes, hash)?;
-    let count = count_of(shape, bytes, bound)?;
+    let shape = found_any(bytes, hash)?;
+    let count = count_any(shape, bytes, bound)?;
     of_output(write_count(label, count, output))
 }
 
 // How many items a table of this shape has, or the first rule that it breaks.
+fn count_any(shape: AnyShape, bytes: &[u8], bound: Option<usize>) -> Result<usize, Failure>
+    requires { HasLongKeys shape }
+    ensures { result ≡ counted (any_format shape) bound bytes.now }
+{
+    match shape {
+        AnyShape::Ready(shape) => count_of(shape, bytes, bound),
+        AnyShape::Other(other) => count_other(other, bytes, bound),
+    }
+}
+
+// The same of a ready shape.
 fn count_of(shape: Shape, bytes: &[u8], bound: Option<usize>) -> Result<usize, Failure>
     ensures { result ≡ counted (shape_format shape) bound bytes.now }
 {

@@ -10,12 +10,14 @@ ghost use Rattle.odht_tool_core.specs.Endings.{IsDone};
 ghost use Rattle.odht_tool_core.specs.Texts.{pairs_text};
 
 use crate::shapes::for_shape;
+use crate::sized::listings::dump_other;
 use odht::bytes::Borrowed;
 use odht::config::{Coded, Config};
 use odht::{HashTable, Iter};
 use odht_tool_core::answers::write_pair_as;
+use odht_tool_core::any::{AnyShape, read_any};
 use odht_tool_core::failure::Failure;
-use odht_tool_core::forms::{Forms, Kinds, OwnForms, read_as};
+use odht_tool_core::forms::{Forms, GivenForms, Kinds, OwnForms};
 use odht_tool_core::shapes::{Hash, Shape};
 use odht_tool_core::slots::dump_slots_as;
 use odht_tool_core::status::{Status, of_output};
@@ -34,8 +36,25 @@ pub fn dump_file<O: Write>(
     ensures { IsDone (dump_outcome bytes.now hash kinds is_slots)
         (O.contents output.old) (O.contents output.new) result }
 {
-    let found = read_as(bytes, hash, kinds)?;
+    let found = read_any(bytes, hash, kinds)?;
     let (shape, forms) = found;
+    match shape {
+        AnyShape::Ready(shape) => dump_ready(shape, forms, bytes, is_slots, output),
+        AnyShape::Other(shape) => dump_other(shape, bytes, is_slots, output),
+    }
+}
+
+// The same of a ready shape, in these forms.
+fn dump_ready<O: Write>(
+    shape: Shape,
+    forms: GivenForms,
+    bytes: &[u8],
+    is_slots: bool,
+    output: &mut O,
+) -> Result<Status, Failure>
+    ensures { IsDone (dump_of_shape (forms.key, forms.value) bytes.now is_slots shape)
+        (O.contents output.old) (O.contents output.new) result }
+{
     if forms.are_own() {
         dump_in(shape, OwnForms, bytes, is_slots, output)
     } else {

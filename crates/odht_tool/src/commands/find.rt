@@ -5,13 +5,13 @@ ghost use Rattle.odht_tool.specs.FindLines.{table_text, tables_text, none_text, 
 ghost use Rattle.odht_tool.specs.Outcomes.{check_word};
 ghost use Rattle.odht_tool_core.specs.Endings.{IsOutputFailure};
 ghost use Rattle.odht_tool_core.specs.Finds.{AreTables, is_table};
-ghost use Rattle.odht_tool_core.specs.FoundShapes.{found_shape};
+ghost use Rattle.odht_tool_core.specs.AnyShapes.{found_any};
 
-use crate::commands::check::check_shape;
+use crate::commands::check::check_any;
 use odht::error::Error;
 use odht_tool_core::failure::Failure;
 use odht_tool_core::find::{find_tables, write_row};
-use odht_tool_core::found::found_shape;
+use odht_tool_core::found::found_any;
 use odht_tool_core::front::table_at;
 use odht_tool_core::status::Status;
 use std::alloc::Global;
@@ -74,14 +74,14 @@ fn write_table<O: Write>(
     write_row(at, table, check_word(table, bound), output)
 }
 
-// What the check says of a table; `-` where it has no ready shape.
+// What the check says of a table; `-` where its control bytes fit no hash function.
 fn check_word(table: &[u8], bound: Option<usize>) -> &'static str
-    ensures { result.now ≡ check_word bound table.now (found_shape table.now None) }
+    ensures { result.now ≡ check_word bound table.now (found_any table.now None) }
 {
-    let Ok(shape) = found_shape(table, None) else {
+    let Ok(shape) = found_any(table, None) else {
         return "-";
     };
-    match check_shape(shape, table, bound) {
+    match check_any(shape, table, bound) {
         Ok(()) => "valid",
         Err(Error::SearchTooLong { .. }) => "long",
         Err(_) => "rejected",

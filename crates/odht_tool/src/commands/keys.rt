@@ -7,11 +7,13 @@ ghost use Rattle.odht_tool.specs.Listings.{keys_text, listed_outcome, keys_of_sh
 ghost use Rattle.odht_tool_core.specs.Endings.{IsDone};
 
 use crate::shapes::for_shape;
+use crate::sized::listings::keys_other;
 use odht::bytes::Borrowed;
 use odht::config::{Coded, Config};
 use odht::{HashTable, Iter};
+use odht_tool_core::any::{AnyShape, read_any};
 use odht_tool_core::failure::Failure;
-use odht_tool_core::forms::{Forms, Kinds, OwnForms, read_as};
+use odht_tool_core::forms::{Forms, GivenForms, Kinds, OwnForms};
 use odht_tool_core::shapes::{Hash, Shape};
 use odht_tool_core::status::{Status, of_output};
 use odht_tool_core::text::Text;
@@ -27,8 +29,24 @@ pub fn keys_file<O: Write>(
     ensures { IsDone (keys_outcome bytes.now hash kinds)
         (O.contents output.old) (O.contents output.new) result }
 {
-    let found = read_as(bytes, hash, kinds)?;
+    let found = read_any(bytes, hash, kinds)?;
     let (shape, forms) = found;
+    match shape {
+        AnyShape::Ready(shape) => keys_ready(shape, forms, bytes, output),
+        AnyShape::Other(shape) => keys_other(shape, bytes, output),
+    }
+}
+
+// The same of a ready shape, in these forms.
+fn keys_ready<O: Write>(
+    shape: Shape,
+    forms: GivenForms,
+    bytes: &[u8],
+    output: &mut O,
+) -> Result<Status, Failure>
+    ensures { IsDone (keys_of_shape forms.key bytes.now shape)
+        (O.contents output.old) (O.contents output.new) result }
+{
     if forms.are_own() {
         keys_of(shape, OwnForms, bytes, output)
     } else {

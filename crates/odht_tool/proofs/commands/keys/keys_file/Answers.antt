@@ -1,7 +1,7 @@
 use Rattle.std.proofs.Common.{rules, ◌≡◌, ◌∙◌, Err, sym, subst}
-use Rattle.odht_tool.specs.Listings.{keys_of_shape, keys_of_forms}
+use Rattle.odht_tool.specs.Listings.{keys_of_any, keys_of_forms}
+use Rattle.odht_tool_core.specs.AnyShapes.{read_any}
 use Rattle.odht_tool_core.specs.Endings.{IsDone}
-use Rattle.odht_tool_core.specs.ReadAs.{read_as}
 use Rattle.odht_tool.proofs.Shaped.{without_shape, with_shape}
 use Rattle.odht_tool.proofs.commands.keys.keys_file.Goals as goal
 
@@ -11,21 +11,22 @@ returns-in_err-found g c =
     let x = c.in_err-found.field-0.0 in
     let old = g.O.Write.contents c.args.output.now in
     let failed : c.from_residual.result ≡ Err x = search rules in
-    rw failed (without_shape (read_as B c.args.hash c.args.kinds) (keys_of_forms B) old x (sym c.in_err-found.was ∙ c.read_as.ensures))
+    rw failed (without_shape (read_any B c.args.hash c.args.kinds) (keys_of_forms B) old x (sym c.in_err-found.was ∙ c.read_any.ensures.forms))
 
-pub returns-then-are_own : goal.returns-then-are_own
-returns-then-are_own g c =
+pub returns-in-Ready : goal.returns-in-Ready
+returns-in-Ready g c =
     let B = c.args.bytes.now in
     let old = g.O.Write.contents c.args.output.now in
-    let new = g.O.Write.contents c.keys_of.new.output in
+    let new = g.O.Write.contents c.keys_ready.new.output in
     let found = c.in_ok-found.found in
-    with_shape (read_as B c.args.hash c.args.kinds) (keys_of_forms B) found old new _ (sym c.in_ok-found.was ∙ c.read_as.ensures)
-    (subst (λ f. IsDone (keys_of_shape f B found.0) old new c.keys_of.result) (sym (c.are_own.ensures.key c.if-are_own.true)) c.keys_of.ensures)
+    with_shape (read_any B c.args.hash c.args.kinds) (keys_of_forms B) found old new _ (sym c.in_ok-found.was ∙ c.read_any.ensures.forms)
+    (subst (λ s. IsDone (keys_of_any found.1.key B s) old new c.keys_ready.result) (sym c.in-Ready.is) c.keys_ready.ensures)
 
-pub returns-else-are_own : goal.returns-else-are_own
-returns-else-are_own g c =
+pub returns-in-Other : goal.returns-in-Other
+returns-in-Other g c =
     let B = c.args.bytes.now in
     let old = g.O.Write.contents c.args.output.now in
-    let new = g.O.Write.contents c.keys_of-else-are_own.new.output in
-    with_shape (read_as B c.args.hash c.args.kinds) (keys_of_forms B) c.in_ok-found.found old new _ (sym c.in_ok-found.was ∙ c.read_as.ensures)
-    c.keys_of-else-are_own.ensures
+    let new = g.O.Write.contents c.keys_other.new.output in
+    let found = c.in_ok-found.found in
+    with_shape (read_any B c.args.hash c.args.kinds) (keys_of_forms B) found old new _ (sym c.in_ok-found.was ∙ c.read_any.ensures.forms)
+    (subst (λ s. IsDone (keys_of_any found.1.key B s) old new c.keys_other.result) (sym c.in-Other.is) c.keys_other.ensures)

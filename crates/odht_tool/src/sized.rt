@@ -1,0 +1,108 @@
+//! Tables of other sizes than the ready shapes have: keys and values are bytes, of lengths that the header states.
+ghost use Rattle.std.specs.Prelude.{◌≡◌, ◌≤◌, IfErr, IfOk, None, OnOk};
+ghost use Rattle.odht_base.specs.Format.{format_of};
+ghost use Rattle.odht_header.specs.Refusals.{checked, check_refusal_by, view_refusal};
+ghost use Rattle.odht_tool.specs.GetParts.{IsOpenFailure};
+ghost use Rattle.odht_tool.specs.Listings.{counted};
+ghost use Rattle.odht_tool_core.specs.AnyShapes.{other_format};
+ghost use Rattle.odht_tool_core.specs.InfoNumbers.{least_key_len};
+
+use odht::bytes::Borrowed;
+use odht::dynamic::{DynTable, Layout};
+use odht::error::Error;
+use odht::hash::HashFn;
+use odht::memory_layout::{check_opening, check_sized, check_sized_within};
+use odht::{FxHashFn, UnHashFn};
+use odht_tool_core::any::OtherShape;
+use odht_tool_core::failure::Failure;
+use odht_tool_core::shapes::Hash;
+
+pub mod listings;
+
+/// The lengths of a shape.
+pub fn layout_of(shape: OtherShape) -> Layout
+    ensures key { result.key_len ≡ shape.key_len }
+    ensures value { result.value_len ≡ shape.value_len }
+{
+    Layout {
+        key_len: shape.key_len,
+        value_len: shape.value_len,
+    }
+}
+
+/// The first rule that the bytes break, as a table of this shape, the bound of searches among them where there is one.
+pub fn check_other(shape: OtherShape, bytes: &[u8], bound: Option<usize>) -> Result<(), Error>
+    requires { least_key_len shape.hash ≤ shape.key_len }
+    ensures { result ≡ checked (check_refusal_by (other_format shape) bound bytes.now) }
+{
+    let layout = layout_of(shape);
+    match shape.hash {
+        Hash::Fx => check_lengths::<FxHashFn>(layout, bytes, bound),
+        Hash::Unhash => check_lengths::<UnHashFn>(layout, bytes, bound),
+    }
+}
+
+/// The same of these lengths and of a hash function.
+pub fn check_lengths<H: HashFn>(
+    layout: Layout,
+    bytes: &[u8],
+    bound: Option<usize>,
+) -> Result<(), Error>
+    requires { H.MIN_LEN ≤ layout.key_len }
+    ensures { let F = format_of layout.key_len layout.value_len H.hash
+        in result ≡ checked (check_refusal_by F bound bytes.now) }
+{
+    check_opening::<H>(bytes, layout)?;
+    match bound {
+        Some(groups) => check_sized_within::<H>(bytes, layout, groups),
+        None => check_sized::<H>(bytes, layout),
+    }
+}
+
+/// How many items a table of this shape has, or the first rule that it breaks.
+pub fn count_other(shape: OtherShape, bytes: &[u8], bound: Option<usize>) -> Result<usize, Failure>
+    requires { least_key_len shape.hash ≤ shape.key_len }
+    ensures { result ≡ counted (other_format shape) bound bytes.now }
+{
+    let layout = layout_of(shape);
+    match shape.hash {
+        Hash::Fx => count_lengths::<FxHashFn>(layout, bytes, bound),
+        Hash::Unhash => count_lengths::<UnHashFn>(layout, bytes, bound),
+    }
+}
+
+/// Opens the bytes as a table of these lengths.
+pub fn open_lengths<H: HashFn>(
+    layout: Layout,
+    bytes: &[u8],
+) -> Result<DynTable<H, Borrowed<'_>>, Failure>
+    requires { H.MIN_LEN ≤ layout.key_len }
+    ensures key { IfOk result (λ t. t.key_len ≡ layout.key_len) }
+    ensures value { IfOk result (λ t. t.value_len ≡ layout.value_len) }
+    ensures bytes { IfOk result (λ t. t.store.0.now ≡ bytes.now) }
+    ensures opened { let F = format_of layout.key_len layout.value_len H.hash
+        in OnOk result (view_refusal F bytes.now ≡ None) }
+    ensures err { let F = format_of layout.key_len layout.value_len H.hash
+        in IfErr result (IsOpenFailure (view_refusal F bytes.now)) }
+{
+    check_opening::<H>(bytes, layout).map_err(Failure::Refused)?;
+    Ok(DynTable::open_unchecked(layout, Borrowed::new(bytes)))
+}
+
+fn count_lengths<H: HashFn>(
+    layout: Layout,
+    bytes: &[u8],
+    bound: Option<usize>,
+) -> Result<usize, Failure>
+    requires { H.MIN_LEN ≤ layout.key_len }
+    ensures { let F = format_of layout.key_len layout.value_len H.hash
+        in result ≡ counted F bound bytes.now }
+{
+    match check_lengths::<H>(layout, bytes, bound) {
+        Ok(()) => {
+            let store = Borrowed::new(bytes);
+            Ok(DynTable::<H, Borrowed<'_>>::open_unchecked(layout, store).len())
+        }
+        Err(error) => Err(Failure::Refused(error)),
+    }
+}
