@@ -232,7 +232,7 @@ HEAD = "# Written by crates/odht_tool/data/tables.py, which reads docs/FORMAT.md
 def block(key, text):
     """A key of a case with its lines, whose ends are in sight."""
     lines = [line.replace("\t", "\\t").replace("\r", "\\r") for line in text.split("\n")[:-1]]
-    lines = [line[:-1] + "\\s" if line.endswith(" ") else line for line in lines]
+    lines = [line[:-1] + "\\s" if line.endswith(" ") else line or "\\0{-}" for line in lines]
     return f"{key}:\n" + "".join(f"    {line}\n" for line in lines) if lines else ""
 
 
