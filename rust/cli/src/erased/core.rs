@@ -5,6 +5,7 @@
 use crate::host::prelude::*;
 
 pub mod answers;
+pub mod any;
 pub mod arguments;
 mod digits;
 mod early;
@@ -31,6 +32,7 @@ pub mod refusal;
 pub mod shapes;
 mod shown;
 mod signed;
+pub mod sized_slots;
 pub mod slots;
 pub mod status;
 mod stored;

@@ -7,6 +7,7 @@ use crate::host::prelude::*;
 
 mod commands;
 mod shapes;
+mod sized;
 
 use crate::erased::core::status::Status;
 use crate::host::env;

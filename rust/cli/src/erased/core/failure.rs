@@ -24,6 +24,8 @@ pub enum Failure {
     Refused(Error),
     /// No ready shape has keys and values of so many bytes under the hash that was named.
     NoShape { key_size: u8, value_size: u8 },
+    /// The keys of a table have so many bytes, and the hash that was named needs more.
+    ShortKeys { key_size: u8 },
     /// The control bytes are not the tags of the keys under any hash function of the ready shapes of these sizes.
     NoHash { key_size: u8, value_size: u8 },
     /// Keys are said to be of another type than this, which they are of.
@@ -82,6 +84,9 @@ impl fmt::Display for Failure {
                 write!(f, "{refusal}")
             }
             Failure::NoShape { key_size, value_size } => write_no_shape(*key_size, *value_size, f),
+            Failure::ShortKeys { key_size } => {
+                write!(f, "its keys have {key_size} bytes, and unhash needs 4")
+            }
             Failure::NoHash { key_size, value_size } => write_no_hash(*key_size, *value_size, f),
             Failure::OtherKey(part) => write!(f, "--key does not fit its keys, which are {part}"),
             Failure::OtherValue(part) => {

@@ -116,8 +116,8 @@ pub fn read_as(
     Ok((shape, GivenForms { key, value }))
 }
 
-// The form of keys or values of this type of which this is said, if anything is. None where that is of another type.
-fn form_for(kind: Option<Kind>, part: Part) -> Option<Form> {
+/// The form of keys or values of this type of which this is said, if anything is. None where that is of another type.
+pub(crate) fn form_for(kind: Option<Kind>, part: Part) -> Option<Form> {
     match kind {
         None => Some(Form::Own),
         Some(kind) if part.is(kind.part) => Some(kind.form),

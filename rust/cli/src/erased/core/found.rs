@@ -1,6 +1,7 @@
 // Made by `make rust` of crates/odht_tool_core/src/found.rt.
 //! The shape of a file, where its hash function is found by its control bytes.
 
+use crate::erased::core::any::{named_any, AnyShape, OtherShape};
 use crate::erased::core::failure::Failure;
 use crate::erased::core::shapes::{shape_of, Hash, Shape, SHAPES};
 use crate::erased::core::stored::StoredTable;
@@ -38,6 +39,29 @@ fn is_fitting(shape: Shape, key_size: u8, value_size: u8, table: &StoredTable<'_
     shape.is_of(key_size, value_size, None) && table.agrees(shape.hash())
 }
 
+/// The shape of these bytes: as `named_any` has it; but where header and length fit, the header counts items and no hash
+/// function is given, the first ready shape of the header's sizes with whose hash function all control bytes agree, else
+/// another shape with the first hash function that they agree with. `NoHash` where they agree with none.
+pub fn found_any(bytes: &[u8], hash: Option<Hash>) -> Result<AnyShape, Failure> {
+    match (hash, open_with_items(bytes)) {
+        (None, Some(table)) => fitting_any(bytes, &table),
+        _ => named_any(bytes, hash),
+    }
+}
+
+// A shape of the header's sizes that fits the parts of the table.
+fn fitting_any(bytes: &[u8], table: &StoredTable<'_>) -> Result<AnyShape, Failure> {
+    let header = Header::of(bytes);
+    let (key_len, value_len) = (header.key_size(), header.value_size());
+    if let Some(shape) = fitting_shape(key_len, value_len, table) {
+        return Ok(AnyShape::Ready(shape));
+    }
+    match table.hash() {
+        Some(hash) => Ok(AnyShape::Other(OtherShape { key_len, value_len, hash })),
+        None => Err(Failure::NoHash { key_size: key_len, value_size: value_len }),
+    }
+}
+
 // The parts of a table whose header and length fit, and whose header counts items.
 fn open_with_items(bytes: &[u8]) -> Option<StoredTable<'_>> {
     let table = StoredTable::open(bytes).ok()?;
@@ -48,10 +72,10 @@ fn open_with_items(bytes: &[u8]) -> Option<StoredTable<'_>> {
     }
 }
 
-/// The hash function that is not that of the shape, where header and length fit, the header counts items and all
-/// control bytes agree with it: then the file may be read by it, though it is rejected under this shape.
-pub fn hinted_hash(bytes: &[u8], shape: Shape) -> Option<Hash> {
-    let other = shape.hash().other();
+/// The hash function that is not this one, where header and length fit, the header counts items and all
+/// control bytes agree with it: then the file may be read by it, though it is rejected under this one.
+pub fn hinted_hash(bytes: &[u8], hash: Hash) -> Option<Hash> {
+    let other = hash.other();
     let table = open_with_items(bytes)?;
     if table.agrees(other) {
         Some(other)

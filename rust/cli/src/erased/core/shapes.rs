@@ -89,13 +89,14 @@ impl Part {
         }
     }
 
-    /// Whether both are the same type.
+    /// Whether both are the same type. No bytes are nothing.
     pub(crate) fn is(self, other: Part) -> bool {
         match (self, other) {
             (Part::Nothing, Part::Nothing) | (Part::U32, Part::U32) | (Part::U64, Part::U64) => {
                 true
             }
             (Part::Bytes(size), Part::Bytes(other)) => size == other,
+            (Part::Nothing, Part::Bytes(size)) | (Part::Bytes(size), Part::Nothing) => size == 0,
             _ => false,
         }
     }
@@ -104,7 +105,7 @@ impl Part {
 impl fmt::Display for Part {
     fn fmt(&self, f: &mut fmt::Formatter<'_>) -> fmt::Result {
         match self {
-            Part::Nothing => write!(f, "none"),
+            Part::Nothing | Part::Bytes(0) => write!(f, "none"),
             Part::U32 => write!(f, "u32"),
             Part::U64 => write!(f, "u64"),
             Part::Bytes(size) => write!(f, "hex{size}"),
@@ -113,8 +114,8 @@ impl fmt::Display for Part {
 }
 
 impl Shape {
-    // The first ready shape of keys and values of so many bytes, and of the hash function, where one is given.
-    fn of_sizes(key_size: u8, value_size: u8, hash: Option<Hash>) -> Option<Shape> {
+    /// The first ready shape of keys and values of so many bytes, and of the hash function, where one is given.
+    pub(crate) fn of_sizes(key_size: u8, value_size: u8, hash: Option<Hash>) -> Option<Shape> {
         SHAPES.iter().copied().find(|shape| shape.is_of(key_size, value_size, hash))
     }
 

@@ -83,9 +83,14 @@ where
     write_pair_as(&key, &value, forms, output)
 }
 
-// Writes the number of a slot, its control byte and a number of groups, each with a tab after it.
+/// Writes the number of a slot, its control byte and a number of groups, each with a tab after it.
 #[inline(always)]
-fn write_numbers<O: Write>(slot: usize, tag: u8, groups: usize, output: &mut O) -> io::Result<()> {
+pub(crate) fn write_numbers<O: Write>(
+    slot: usize,
+    tag: u8,
+    groups: usize,
+    output: &mut O,
+) -> io::Result<()> {
     write_number(slot as u64, output)?;
     output.write_all(b"\t")?;
     write_number(u64::from(tag), output)?;

@@ -162,8 +162,8 @@ pub fn stated_len(bytes: &[u8]) -> u128 {
     HEADER_SIZE as u128 + slots * entry_size + slots + 16
 }
 
-// How many bytes the hash function needs at least.
-fn least_key_size(hash: Hash) -> usize {
+/// How many bytes the hash function needs at least.
+pub(crate) fn least_key_size(hash: Hash) -> usize {
     match hash {
         Hash::Fx => FxHashFn::MIN_LEN,
         Hash::Unhash => UnHashFn::MIN_LEN,

@@ -1,13 +1,15 @@
 // Made by `make rust` of crates/odht_tool/src/commands/check.rt.
 //! `odht check`: whether a file is a valid table.
 
+use crate::erased::core::any::{named_any, AnyShape};
 use crate::erased::core::failure::Failure;
 use crate::erased::core::found::hinted_hash;
 use crate::erased::core::info::name_of;
 use crate::erased::core::refusal::Refusal;
-use crate::erased::core::shapes::{shape_of, Hash, Shape};
+use crate::erased::core::shapes::{Hash, Shape};
 use crate::erased::core::status::Status;
 use crate::erased::tool::shapes::for_shape;
+use crate::erased::tool::sized::check_other;
 use crate::host::prelude::*;
 use crate::proved::tables::config::Config;
 use crate::proved::tables::error::Error;
@@ -24,13 +26,21 @@ pub fn check_file<O: Write>(
     bound: Option<usize>,
     output: &mut O,
 ) -> Result<Status, Failure> {
-    let shape = shape_of(bytes, hash)?;
-    let checked = check_shape(shape, bytes, bound);
+    let shape = named_any(bytes, hash)?;
+    let checked = check_any(shape, bytes, bound);
     write_checked(file, &checked, bound, output).map_err(Failure::Output)?;
     Ok(Status::of(checked.is_ok()))
 }
 
 /// The first rule that the bytes break, as a table of this shape, the bound of searches among them where there is one.
+pub fn check_any(shape: AnyShape, bytes: &[u8], bound: Option<usize>) -> Result<(), Error> {
+    match shape {
+        AnyShape::Ready(shape) => check_shape(shape, bytes, bound),
+        AnyShape::Other(other) => check_other(other, bytes, bound),
+    }
+}
+
+/// The same of a ready shape.
 pub fn check_shape(shape: Shape, bytes: &[u8], bound: Option<usize>) -> Result<(), Error> {
     for_shape!(shape, check_bytes[](bytes, bound))
 }
@@ -65,8 +75,8 @@ fn write_checked<O: Write>(
 /// The hash function to name for bytes that were rejected where none was named: the other one than that of their shape,
 /// where all control bytes agree with it.
 pub fn hint_of(bytes: &[u8], hash: Option<Hash>) -> Option<Hash> {
-    match (hash, shape_of(bytes, None)) {
-        (None, Ok(shape)) => hinted_hash(bytes, shape),
+    match (hash, named_any(bytes, None)) {
+        (None, Ok(shape)) => hinted_hash(bytes, shape.hash()),
         _ => None,
     }
 }

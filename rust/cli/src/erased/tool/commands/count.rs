@@ -1,12 +1,14 @@
 // Made by `make rust` of crates/odht_tool/src/commands/count.rt.
 //! `odht count`: how many items a table file has.
 
+use crate::erased::core::any::AnyShape;
 use crate::erased::core::failure::Failure;
-use crate::erased::core::found::found_shape;
+use crate::erased::core::found::found_any;
 use crate::erased::core::shapes::{Hash, Shape};
 use crate::erased::core::status::{of_output, Status};
 use crate::erased::tool::commands::check::check_bytes;
 use crate::erased::tool::shapes::for_shape;
+use crate::erased::tool::sized::count_other;
 use crate::host::prelude::*;
 use crate::proved::tables::bytes::Borrowed;
 use crate::proved::tables::config::Config;
@@ -22,12 +24,20 @@ pub fn count_file<O: Write>(
     bound: Option<usize>,
     output: &mut O,
 ) -> Result<Status, Failure> {
-    let shape = found_shape(bytes, hash)?;
-    let count = count_of(shape, bytes, bound)?;
+    let shape = found_any(bytes, hash)?;
+    let count = count_any(shape, bytes, bound)?;
     of_output(write_count(label, count, output))
 }
 
 // How many items a table of this shape has, or the first rule that it breaks.
+fn count_any(shape: AnyShape, bytes: &[u8], bound: Option<usize>) -> Result<usize, Failure> {
+    match shape {
+        AnyShape::Ready(shape) => count_of(shape, bytes, bound),
+        AnyShape::Other(other) => count_other(other, bytes, bound),
+    }
+}
+
+// The same of a ready shape.
 fn count_of(shape: Shape, bytes: &[u8], bound: Option<usize>) -> Result<usize, Failure> {
     for_shape!(shape, count_items[](bytes, bound))
 }

@@ -2,13 +2,15 @@
 //! `odht dump`: the pairs of a table file.
 
 use crate::erased::core::answers::write_pair_as;
+use crate::erased::core::any::{read_any, AnyShape};
 use crate::erased::core::failure::Failure;
-use crate::erased::core::forms::{read_as, Forms, Kinds, OwnForms};
+use crate::erased::core::forms::{Forms, GivenForms, Kinds, OwnForms};
 use crate::erased::core::shapes::{Hash, Shape};
 use crate::erased::core::slots::dump_slots_as;
 use crate::erased::core::status::{of_output, Status};
 use crate::erased::core::text::Text;
 use crate::erased::tool::shapes::for_shape;
+use crate::erased::tool::sized::listings::dump_other;
 use crate::host::prelude::*;
 use crate::proved::tables::bytes::Borrowed;
 use crate::proved::tables::config::Config;
@@ -24,8 +26,22 @@ pub fn dump_file<O: Write>(
     is_slots: bool,
     output: &mut O,
 ) -> Result<Status, Failure> {
-    let found = read_as(bytes, hash, kinds)?;
+    let found = read_any(bytes, hash, kinds)?;
     let (shape, forms) = found;
+    match shape {
+        AnyShape::Ready(shape) => dump_ready(shape, forms, bytes, is_slots, output),
+        AnyShape::Other(shape) => dump_other(shape, bytes, is_slots, output),
+    }
+}
+
+// The same of a ready shape, in these forms.
+fn dump_ready<O: Write>(
+    shape: Shape,
+    forms: GivenForms,
+    bytes: &[u8],
+    is_slots: bool,
+    output: &mut O,
+) -> Result<Status, Failure> {
     if forms.are_own() {
         dump_in(shape, OwnForms, bytes, is_slots, output)
     } else {

@@ -3,10 +3,10 @@
 
 use crate::erased::core::failure::Failure;
 use crate::erased::core::find::{find_tables, write_row};
-use crate::erased::core::found::found_shape;
+use crate::erased::core::found::found_any;
 use crate::erased::core::front::table_at;
 use crate::erased::core::status::Status;
-use crate::erased::tool::commands::check::check_shape;
+use crate::erased::tool::commands::check::check_any;
 use crate::host::prelude::*;
 use crate::proved::tables::error::Error;
 use crate::shim::Global;
@@ -54,12 +54,12 @@ fn write_table<O: Write>(
     write_row(at, table, check_word(table, bound), output)
 }
 
-// What the check says of a table; `-` where it has no ready shape.
+// What the check says of a table; `-` where its control bytes fit no hash function.
 fn check_word(table: &[u8], bound: Option<usize>) -> &'static str {
-    let Ok(shape) = found_shape(table, None) else {
+    let Ok(shape) = found_any(table, None) else {
         return "-";
     };
-    match check_shape(shape, table, bound) {
+    match check_any(shape, table, bound) {
         Ok(()) => "valid",
         Err(Error::SearchTooLong { .. }) => "long",
         Err(_) => "rejected",

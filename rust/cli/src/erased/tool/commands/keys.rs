@@ -1,12 +1,14 @@
 // Made by `make rust` of crates/odht_tool/src/commands/keys.rt.
 //! `odht keys`: the keys of a table file.
 
+use crate::erased::core::any::{read_any, AnyShape};
 use crate::erased::core::failure::Failure;
-use crate::erased::core::forms::{read_as, Forms, Kinds, OwnForms};
+use crate::erased::core::forms::{Forms, GivenForms, Kinds, OwnForms};
 use crate::erased::core::shapes::{Hash, Shape};
 use crate::erased::core::status::{of_output, Status};
 use crate::erased::core::text::Text;
 use crate::erased::tool::shapes::for_shape;
+use crate::erased::tool::sized::listings::keys_other;
 use crate::host::prelude::*;
 use crate::proved::tables::bytes::Borrowed;
 use crate::proved::tables::config::Config;
@@ -20,8 +22,21 @@ pub fn keys_file<O: Write>(
     kinds: Kinds,
     output: &mut O,
 ) -> Result<Status, Failure> {
-    let found = read_as(bytes, hash, kinds)?;
+    let found = read_any(bytes, hash, kinds)?;
     let (shape, forms) = found;
+    match shape {
+        AnyShape::Ready(shape) => keys_ready(shape, forms, bytes, output),
+        AnyShape::Other(shape) => keys_other(shape, bytes, output),
+    }
+}
+
+// The same of a ready shape, in these forms.
+fn keys_ready<O: Write>(
+    shape: Shape,
+    forms: GivenForms,
+    bytes: &[u8],
+    output: &mut O,
+) -> Result<Status, Failure> {
     if forms.are_own() {
         keys_of(shape, OwnForms, bytes, output)
     } else {

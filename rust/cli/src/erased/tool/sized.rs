@@ -1,0 +1,78 @@
+// Made by `make rust` of crates/odht_tool/src/sized.rt.
+//! Tables of other sizes than the ready shapes have: keys and values are bytes, of lengths that the header states.
+
+use crate::erased::core::any::OtherShape;
+use crate::erased::core::failure::Failure;
+use crate::erased::core::shapes::Hash;
+use crate::host::prelude::*;
+use crate::proved::tables::bytes::Borrowed;
+use crate::proved::tables::dynamic::{DynTable, Layout};
+use crate::proved::tables::error::Error;
+use crate::proved::tables::hash::HashFn;
+use crate::proved::tables::memory_layout::{check_opening, check_sized, check_sized_within};
+use crate::proved::tables::{FxHashFn, UnHashFn};
+
+pub mod listings;
+
+/// The lengths of a shape.
+pub fn layout_of(shape: OtherShape) -> Layout {
+    Layout { key_len: shape.key_len, value_len: shape.value_len }
+}
+
+/// The first rule that the bytes break, as a table of this shape, the bound of searches among them where there is one.
+pub fn check_other(shape: OtherShape, bytes: &[u8], bound: Option<usize>) -> Result<(), Error> {
+    let layout = layout_of(shape);
+    match shape.hash {
+        Hash::Fx => check_lengths::<FxHashFn>(layout, bytes, bound),
+        Hash::Unhash => check_lengths::<UnHashFn>(layout, bytes, bound),
+    }
+}
+
+/// The same of these lengths and of a hash function.
+pub fn check_lengths<H: HashFn>(
+    layout: Layout,
+    bytes: &[u8],
+    bound: Option<usize>,
+) -> Result<(), Error> {
+    check_opening::<H>(bytes, layout)?;
+    match bound {
+        Some(groups) => check_sized_within::<H>(bytes, layout, groups),
+        None => check_sized::<H>(bytes, layout),
+    }
+}
+
+/// How many items a table of this shape has, or the first rule that it breaks.
+pub fn count_other(
+    shape: OtherShape,
+    bytes: &[u8],
+    bound: Option<usize>,
+) -> Result<usize, Failure> {
+    let layout = layout_of(shape);
+    match shape.hash {
+        Hash::Fx => count_lengths::<FxHashFn>(layout, bytes, bound),
+        Hash::Unhash => count_lengths::<UnHashFn>(layout, bytes, bound),
+    }
+}
+
+/// Opens the bytes as a table of these lengths.
+pub fn open_lengths<H: HashFn>(
+    layout: Layout,
+    bytes: &[u8],
+) -> Result<DynTable<H, Borrowed<'_>>, Failure> {
+    check_opening::<H>(bytes, layout).map_err(Failure::Refused)?;
+    Ok(DynTable::open_unchecked(layout, Borrowed::new(bytes)))
+}
+
+fn count_lengths<H: HashFn>(
+    layout: Layout,
+    bytes: &[u8],
+    bound: Option<usize>,
+) -> Result<usize, Failure> {
+    match check_lengths::<H>(layout, bytes, bound) {
+        Ok(()) => {
+            let store = Borrowed::new(bytes);
+            Ok(DynTable::<H, Borrowed<'_>>::open_unchecked(layout, store).len())
+        }
+        Err(error) => Err(Failure::Refused(error)),
+    }
+}
