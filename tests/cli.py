@@ -151,6 +151,7 @@ def main(*words):
             print(f"FAILED {what}\n0 passed, 1 failed")
             return 1
         runs = [["tests/cases.py", program, "made=erased", "tests/tool"]]
+        runs.append(["tests/sizes.py", program])
         if os.environ.get("ODHT_TOOL"):
             runs.append(["tests/beside.py", os.environ["ODHT_TOOL"], program])
         failed = 0

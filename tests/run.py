@@ -150,6 +150,12 @@ def crate_for_rust(part):
     return part.counted(sys.executable, "tests/rust.py", env={**os.environ, "ODHT_LIB_DIR": BUILT})
 
 
+def program_of_the_kit(part):
+    tool = f"{BUILT}/odht_tool"
+    ran = [part.run(sys.executable, *words) for words in (["tests/cases.py", tool, "tests/tool"], ["tests/sizes.py", tool])]
+    return counted(max(status for status, _ in ran), "".join(printed for _, printed in ran))
+
+
 def program_of_erased_source(part):
     tool = f"{BUILT}/odht_tool" if unproved.KIT else ""
     return part.counted(sys.executable, "tests/cli.py", env={**os.environ, "ODHT_TOOL": tool})
@@ -173,7 +179,7 @@ PARTS = {
     "vectors": (["odht_vectors"], vectors),
     "word": ([f"word/{it}" for it in [*IN_RATTLE, "odht_vectors"]], with_word_search),
     "memory": (["odht_memory", "odht_table", "odht_tool"], script("tests/memory.py", BUILT)),
-    "tool": (["odht_tool"], script("tests/cases.py", f"{BUILT}/odht_tool", "tests/tool")),
+    "tool": (["odht_tool"], program_of_the_kit),
     "cli": (["odht_tool"] if unproved.KIT else [], program_of_erased_source),
     "script": (["odht_table"], script("tests/cases.py", f"{BUILT}/odht_table", "tests/script")),
     "edits": ([], script("tools/edits.py", "check")),
