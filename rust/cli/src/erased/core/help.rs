@@ -118,7 +118,7 @@ odht check FILE.. [--whole] [--hash fx|unhash] [--at OFFSET]
     more than 128 groups of control bytes breaks a rule too, so that no file takes
     long to check; with --whole it does not. The shape is the first of the file's
     key and value sizes, and of the hash function that --hash names; `odht build
-    --help` lists them.
+    --help` lists them. Other sizes are of fx, unless --hash names unhash.
 ";
 
 const COUNT: &str = "\
@@ -147,14 +147,16 @@ odht dump FILE [--slots] [--key SHAPE] [--value SHAPE] [--hash fx|unhash]
     the slot, the control byte and the number of groups that a search for the key
     looks at stand before them, with tabs too. The hash function is the one that
     all control bytes fit, unless --hash names it. Keys and values have the texts
-    of the ready shape, unless --key and --value name others, as in `odht build`.
+    of the ready shape, unless --key and --value name others, as in `odht build`;
+    where no ready shape has these sizes they are hexadecimal digits.
 ";
 
 const KEYS: &str = "\
 odht keys FILE [--key SHAPE] [--hash fx|unhash] [--at OFFSET]
     Writes each key on a line, in slot order. The hash function is the one that all
     control bytes fit, unless --hash names it. Keys have the texts of the ready
-    shape, unless --key names others, as in `odht build`.
+    shape, unless --key names others, as in `odht build`; where no ready shape has
+    these sizes they are hexadecimal digits.
 ";
 
 const FIND: &str = "\
@@ -162,9 +164,9 @@ odht find FILE [--whole]
     Prints each table that is inside a file, at whatever byte it begins: its offset,
     for --at, its length, the sizes of keys and values, the item count, the slot
     count, the load in percent, the hash function that the control bytes fit (fx,
-    unhash or both), and what the check finds: valid, rejected, long where a search
-    may read more than 128 groups of control bytes (not so with --whole), or - where
-    no ready shape has these sizes. Status 1 where there is none.
+    unhash or both), and what the check finds: valid, rejected, or long where a
+    search may read more than 128 groups of control bytes (not so with --whole).
+    Status 1 where there is none.
 ";
 
 const BUILD: &str = "\

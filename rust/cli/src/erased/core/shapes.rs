@@ -62,19 +62,18 @@ pub enum Part {
 }
 
 impl Part {
-    /// The type of this name: `u32`, `u64`, `none`, or `hex` and a number of bytes from 1 to 255.
+    /// The type of this name: `u32`, `u64`, `none`, or `hex` or `bytes:` and a number of bytes from 0 to 255.
     pub(crate) fn named(name: &str) -> Option<Part> {
         match name {
             "none" => Some(Part::Nothing),
             "u32" => Some(Part::U32),
             "u64" => Some(Part::U64),
             _ => {
-                let size = name.strip_prefix("hex")?.parse::<u8>().ok()?;
-                if size == 0 {
-                    None
-                } else {
-                    Some(Part::Bytes(size))
-                }
+                let size = match name.strip_prefix("hex") {
+                    Some(size) => size,
+                    None => name.strip_prefix("bytes:")?,
+                };
+                Some(Part::Bytes(size.parse::<u8>().ok()?))
             }
         }
     }
