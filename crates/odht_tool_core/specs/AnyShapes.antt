@@ -14,6 +14,8 @@
 --     fitting_any k v T    the first ready shape that fits the parts T; else the shape of the first hash function that all
 --                          control bytes agree with; or the failure that there is none
 --     found_any B h        the shape that is named; but where there are items, and no hash function is named, one that fits
+--     any_form s k p       the form of keys or values of the type p in the shape s, where k is said of them; only a ready shape
+--                          has others than its own
 --     read_any B h ks      the shape that is found, with its forms, where ks is said of keys and values
 use Rattle.std.specs.Prelude.{ℕ, ⊤, ◌≤◌, List, ◌&&◌, nat_lt, is_none, is_some, slice_index, Option, None, Some, Result, Ok, Err, if◌then◌else◌}
 use Rattle.std.specs.Option.{unwrap_or}
@@ -31,7 +33,9 @@ use Rattle.odht_tool_core.specs.declared.any.OtherShape.{OtherShape}
 use Rattle.odht_tool_core.specs.declared.failure.Failure.{Failure}
 use Rattle.odht_tool_core.specs.declared.failure.Failure.TheVariants.{NoHash, ShortKeys, OtherKey, OtherValue}
 use Rattle.odht_tool_core.specs.declared.forms.Form.{Form}
+use Rattle.odht_tool_core.specs.declared.forms.Form.TheVariants.{Own, Signed, BigEndian, Plain}
 use Rattle.odht_tool_core.specs.declared.forms.GivenForms.{GivenForms}
+use Rattle.odht_tool_core.specs.declared.forms.Kind.{Kind}
 use Rattle.odht_tool_core.specs.declared.forms.Kinds.{Kinds}
 use Rattle.odht_tool_core.specs.declared.shapes.Hash.{Hash}
 use Rattle.odht_tool_core.specs.declared.shapes.Hash.TheVariants.{Fx}
@@ -98,13 +102,24 @@ found_any B h =
     else named_any B h
 
 -- ---- with forms
+abbrev pub own_form : Option Form → Option Form
+own_form None = None
+own_form (Some Own) = Some Own
+own_form (Some Signed) = None
+own_form (Some BigEndian) = None
+own_form (Some Plain) = None
+
+abbrev pub any_form : AnyShape → Option Kind → Part → Option Form
+any_form (Ready s) k p = form_for k p
+any_form (Other o) k p = own_form (form_for k p)
+
 abbrev pub with_any_forms : AnyShape → Option Form → Option Form → Result (AnyShape × GivenForms) Failure
 with_any_forms s None g = Err (OtherKey (any_key s))
 with_any_forms s (Some f) None = Err (OtherValue (any_value s))
 with_any_forms s (Some f) (Some g) = Ok (s, record { key = f; value = g })
 
 abbrev pub any_formed : Kinds → Result AnyShape Failure → Result (AnyShape × GivenForms) Failure
-any_formed ks (Ok s) = with_any_forms s (form_for ks.key (any_key s)) (form_for ks.value (any_value s))
+any_formed ks (Ok s) = with_any_forms s (any_form s ks.key (any_key s)) (any_form s ks.value (any_value s))
 any_formed ks (Err failure) = Err failure
 
 abbrev pub read_any : List ℕ → Option Hash → Kinds → Result (AnyShape × GivenForms) Failure

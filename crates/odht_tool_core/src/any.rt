@@ -1,11 +1,12 @@
 //! The shape of a table of any sizes: a ready one, or the lengths of keys and values and the hash function.
 ghost use Rattle.std.specs.Prelude.{◌≡◌, IfOk};
 ghost use Rattle.odht_tool_core.specs.AnyShapes.{HasLongKeys, any_of_sizes, other_of};
-ghost use Rattle.odht_tool_core.specs.AnyShapes.{any_hash, any_key, any_value, named_any, read_any};
+ghost use Rattle.odht_tool_core.specs.AnyShapes.{any_form, any_hash, any_key, any_value, named_any};
+ghost use Rattle.odht_tool_core.specs.AnyShapes.{read_any};
 
 use crate::early::check_first;
 use crate::failure::Failure;
-use crate::forms::{GivenForms, Kinds, form_for};
+use crate::forms::{Form, GivenForms, Kind, Kinds, form_for};
 use crate::found::found_any;
 use crate::shapes::{Hash, Part, Shape};
 use crate::stored::least_key_size;
@@ -62,6 +63,21 @@ impl AnyShape {
         }
     }
 
+    // The form of keys or values of this type of which this is said, if anything is. Only a ready shape has others than
+    // its own.
+    fn form_for(self, kind: Option<Kind>, part: Part) -> Option<Form>
+        ensures { result ≡ any_form self kind part }
+    {
+        let form = form_for(kind, part);
+        match self {
+            AnyShape::Ready(_) => form,
+            AnyShape::Other(_) => match form {
+                Some(Form::Own) => Some(Form::Own),
+                _ => None,
+            },
+        }
+    }
+
     // The first ready shape of these lengths and of the hash function, where one is given; else another.
     fn of_sizes(key_len: u8, value_len: u8, hash: Option<Hash>) -> Result<AnyShape, Failure>
         ensures shape { result ≡ any_of_sizes key_len value_len hash }
@@ -105,7 +121,8 @@ pub fn named_any(bytes: &[u8], hash: Option<Hash>) -> Result<AnyShape, Failure>
 }
 
 /// The shape that the bytes of a file are read as, as `found_any` finds it, and the forms of its keys and values: those
-/// that are said, or its own. `OtherKey` or `OtherValue` where what is said is of another type.
+/// that are said, or its own. `OtherKey` or `OtherValue` where what is said is of another type, or a text that only ready
+/// shapes have.
 pub fn read_any(
     bytes: &[u8],
     hash: Option<Hash>,
@@ -115,10 +132,10 @@ pub fn read_any(
     ensures long { IfOk result (λ x. HasLongKeys x.0) }
 {
     let shape = found_any(bytes, hash)?;
-    let Some(key) = form_for(kinds.key, shape.key()) else {
+    let Some(key) = shape.form_for(kinds.key, shape.key()) else {
         return Err(Failure::OtherKey(shape.key()));
     };
-    let Some(value) = form_for(kinds.value, shape.value()) else {
+    let Some(value) = shape.form_for(kinds.value, shape.value()) else {
         return Err(Failure::OtherValue(shape.value()));
     };
     Ok((shape, GivenForms { key, value }))

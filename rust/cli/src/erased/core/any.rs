@@ -3,7 +3,7 @@
 
 use crate::erased::core::early::check_first;
 use crate::erased::core::failure::Failure;
-use crate::erased::core::forms::{form_for, GivenForms, Kinds};
+use crate::erased::core::forms::{form_for, Form, GivenForms, Kind, Kinds};
 use crate::erased::core::found::found_any;
 use crate::erased::core::shapes::{Hash, Part, Shape};
 use crate::erased::core::stored::least_key_size;
@@ -55,6 +55,19 @@ impl AnyShape {
         }
     }
 
+    // The form of keys or values of this type of which this is said, if anything is. Only a ready shape has others than
+    // its own.
+    fn form_for(self, kind: Option<Kind>, part: Part) -> Option<Form> {
+        let form = form_for(kind, part);
+        match self {
+            AnyShape::Ready(_) => form,
+            AnyShape::Other(_) => match form {
+                Some(Form::Own) => Some(Form::Own),
+                _ => None,
+            },
+        }
+    }
+
     // The first ready shape of these lengths and of the hash function, where one is given; else another.
     fn of_sizes(key_len: u8, value_len: u8, hash: Option<Hash>) -> Result<AnyShape, Failure> {
         match Shape::of_sizes(key_len, value_len, hash) {
@@ -85,17 +98,18 @@ pub fn named_any(bytes: &[u8], hash: Option<Hash>) -> Result<AnyShape, Failure> 
 }
 
 /// The shape that the bytes of a file are read as, as `found_any` finds it, and the forms of its keys and values: those
-/// that are said, or its own. `OtherKey` or `OtherValue` where what is said is of another type.
+/// that are said, or its own. `OtherKey` or `OtherValue` where what is said is of another type, or a text that only ready
+/// shapes have.
 pub fn read_any(
     bytes: &[u8],
     hash: Option<Hash>,
     kinds: Kinds,
 ) -> Result<(AnyShape, GivenForms), Failure> {
     let shape = found_any(bytes, hash)?;
-    let Some(key) = form_for(kinds.key, shape.key()) else {
+    let Some(key) = shape.form_for(kinds.key, shape.key()) else {
         return Err(Failure::OtherKey(shape.key()));
     };
-    let Some(value) = form_for(kinds.value, shape.value()) else {
+    let Some(value) = shape.form_for(kinds.value, shape.value()) else {
         return Err(Failure::OtherValue(shape.value()));
     };
     Ok((shape, GivenForms { key, value }))
