@@ -1,11 +1,12 @@
 //! Tables whose lengths of keys and values are known at run time alone, such as those of a file.
 ghost use Rattle.odht.specs.Tables.{OfTable, HasParts};
-ghost use Rattle.std.specs.Prelude.{◌≡◌, ◌≢◌, ◌≤◌, ◌↔◌, ℕ, None, All, length, slice_index};
-ghost use Rattle.std.specs.Prelude.{IfOk, IsOk, IsTrue};
+ghost use Rattle.std.specs.Prelude.{◌≡◌, ◌≢◌, ◌<◌, ◌≤◌, ◌↔◌, ℕ, None, All, length, slice_index};
+ghost use Rattle.std.specs.Prelude.{IfOk, IfErr, IsOk, IsTrue};
 ghost use Rattle.std.specs.Option.{option_copied};
 ghost use Rattle.std.specs.Result.{result_err};
 ghost use Rattle.odht_base.specs.Format.{format_of, IsFormat};
 ghost use Rattle.odht_base.specs.Valid.{IsValidBytes};
+ghost use Rattle.odht_header.specs.declared.error.Error.TheVariants.{TooShort};
 ghost use Rattle.odht_raw.specs.Frame.{IsAccepted};
 ghost use Rattle.odht_raw.specs.Sized.{HasLengthsOf};
 ghost use Rattle.odht.specs.Dynamic.{dyn_coding, dyn_format, dyn_refusal, stated_refusal};
@@ -13,6 +14,7 @@ ghost use Rattle.odht.specs.Gets.{IsGet, IsCountedGet, IsKnown};
 ghost use Rattle.odht.specs.Walks.{IsItemCount, ArePairs, AreSlots};
 ghost use Rattle.odht.specs.SearchBounds.{IsValidWithin, IsBound};
 ghost use Rattle.odht.specs.Dynamic.{dyn_store, dyn_parts};
+ghost use Rattle.odht.specs.declared.dynamic.DynError.TheVariants.{Rejected};
 
 use crate::bytes::ByteStore;
 use crate::error::Error;
@@ -95,6 +97,24 @@ impl<H: HashFn, D: ByteStore> Model for DynTable<H, D> {
         }) };
 }
 
+// The lengths of keys and values that the header at the front of the bytes states, or that they are too few for one.
+fn stated_layout(bytes: &[u8]) -> Result<Layout, DynError>
+    ensures key { IfOk result (λ l. l.key_len ≡ slice_index bytes.now 5) }
+    ensures value { IfOk result (λ l. l.value_len ≡ slice_index bytes.now 6) }
+    ensures short { IfErr result (λ _. length bytes.now < 32) }
+    ensures err { IfErr result (λ e. e ≡ Rejected (TooShort (length bytes.now))) }
+{
+    let found = bytes.len();
+    if found < HEADER_SIZE {
+        return Err(DynError::Rejected(Error::TooShort { found }));
+    }
+    let header = Header::of(bytes);
+    Ok(Layout {
+        key_len: header.key_size(),
+        value_len: header.value_size(),
+    })
+}
+
 impl<H: HashFn, D: ByteStore> DynTable<H, D> {
     /// Opens bytes as a table of these lengths, or returns the first error: `KeyTooShort` where the hash function needs
     /// longer keys; then `Rejected` with that of too few bytes, of the header, of the length, of the first ten slots, as
@@ -139,15 +159,7 @@ impl<H: HashFn, D: ByteStore> DynTable<H, D> {
             → OfTable (format_of key_len value_len H.hash) (D.bytes «data») (λ _. IsOk result) }
     {
         let bytes = data.bytes();
-        let found = bytes.len();
-        if found < HEADER_SIZE {
-            return Err(DynError::Rejected(Error::TooShort { found }));
-        }
-        let header = Header::of(bytes);
-        let layout = Layout {
-            key_len: header.key_size(),
-            value_len: header.value_size(),
-        };
+        let layout = stated_layout(bytes)?;
         match check_by_header(bytes, layout) {
             Ok(()) => DynTable::open(layout, data),
             Err(rejected) => Err(DynError::Rejected(rejected)),

@@ -123,7 +123,17 @@ impl<'a> Header<'a> {
         ensures err { result_err result
             ≡ front_header_refusal ⟦<C as Coded>⟧.coding.format found self.now }
     {
-        let layout = Layout::of::<C>();
+        self.layout_len(Layout::of::<C>(), found)
+    }
+
+    /// [`Header::table_len`] of a table of these lengths. The hash function does not matter.
+    #[inline]
+    pub fn layout_len(&self, layout: Layout, found: usize) -> Result<usize, Error>
+        ensures len { (hash : List ℕ → ℕ) → IfOk result (λ n. n
+            ≡ image_len (format_of layout.key_len layout.value_len hash) (header_slots self.now)) }
+        ensures err { (hash : List ℕ → ℕ) → result_err result ≡ front_header_refusal
+            (format_of layout.key_len layout.value_len hash) found self.now }
+    {
         self.check_fields(layout)?;
         let slot_count = self.slot_count();
         let expected = layout.len_of_slots(slot_count);

@@ -1,55 +1,24 @@
 -- A table of lengths that are known at run time alone, at the front of longer bytes: which error its header gives.
-use Rattle.std.proofs.Common.{◌≡◌, ◌≤◌, ◌∙◌, inl, inr, ℕ, min, ne_eqb, not, sym, ap, subst, List, Some, None, length, arith, lt-ltb, le-ltb, nat_lt, take, ◌++◌, refl, Option}
-use Rattle.std.specs.Prelude.{option_map, slice_index}
+use Rattle.std.proofs.Common.{◌≡◌, ◌≤◌, ◌∙◌, ℕ, sym, ap, subst, List, Some, None, Result, Ok, Err, length, arith, le-ltb, nat_lt, take, ◌++◌, refl, Option}
+use Rattle.std.specs.Prelude.{IsOk, option_map, slice_index}
 use Rattle.std.specs.Bool.{then_some}
 use Rattle.std.specs.Option.{option_or}
 use Rattle.std.specs.Result.{result_err}
-use Rattle.std.proofs.lemmas.Bool.{cases_lt}
 use Rattle.std.proofs.Math.ListN.{get_or-append}
 use Rattle.odht_base.specs.Format.{Format, IsFormat, format_of}
 use Rattle.odht_base.specs.Valid.{IsValidBytes}
-use Rattle.odht_base.specs.Image.{image_len}
-use Rattle.odht_base.specs.Decoded.{header_slots}
 use Rattle.odht_header.specs.declared.error.Error.{Error}
-use Rattle.odht_header.specs.declared.error.Error.TheVariants.{WrongLength}
-use Rattle.odht_header.specs.Refusals.{checked, field_refusal, header_refusal, front_header_refusal, length_refusal, cut_refusal, prefix_refusal}
-use Rattle.odht_header.proofs.lemmas.FirstErrors.{option_or-None, IsOk-checked, gives-None, None-gives, gives-Some, differs-false, false-differs}
-use Rattle.odht_header.proofs.lemmas.HeaderChecks.{header_refusal-fields, front_header_refusal-fields}
+use Rattle.odht_header.specs.Refusals.{checked, prefix_refusal}
+use Rattle.odht_header.proofs.lemmas.FirstErrors.{IsOk-checked}
+use Rattle.odht_header.proofs.lemmas.HeaderFits.{IsOpening-opening_refusal}
 use Rattle.odht_raw.specs.Prefixes.{IsFront, front_refusal}
 use Rattle.odht_raw.proofs.lemmas.Prefixes.{IsFront-append, IsFront-long, front_refusal-prefix, front_refusal-view, valid_front}
 use Rattle.odht_raw.proofs.lemmas.Accepted.{IsAccepted-IsValidBytes}
-use Rattle.odht_header.proofs.lemmas.HeaderFits.{IsOpening-opening_refusal}
 use Rattle.odht.proofs.lemmas.DynOpens.{stated_key, stated_value}
 use Rattle.odht.specs.Dynamic.{dyn_refusal}
 use Rattle.odht.specs.DynPrefixes.{dyn_front_refusal}
 use Rattle.odht.specs.declared.dynamic.DynError.{DynError}
 use Rattle.odht.specs.declared.dynamic.DynError.TheVariants.{KeyTooShort, Rejected}
-
-module _ (F : Format) (n : ℕ) (B : List ℕ) where
-  abbrev len : ℕ
-  len = image_len F (header_slots B)
-
-  -- the error of the length of the least of n bytes and the table's is that of n bytes which may be more
-  length_within : length_refusal F (min n len) B ≡ cut_refusal F n B
-  length_within = elim (cases_lt n len) [
-    | inl less ↦ (
-        let is : min n len ≡ n = omega (arith, less) in
-        ap (λ m. length_refusal F m B) is
-        ∙ gives-Some _ _ (ap not (ne_eqb n len (λ e. omega (arith, e, less))))
-        ∙ sym (gives-Some _ (WrongLength (header_slots B) n len) (lt-ltb n len less)))
-    | inr enough ↦ (
-        let is : min n len ≡ len = omega (arith, enough) in
-        None-gives _ _ (false-differs (min n len) len is) ∙ sym (None-gives _ (WrongLength (header_slots B) n len) (le-ltb n len enough)))
-  ]
-
-  -- so the errors of the header are the same
-  pub header_within : header_refusal F (min n len) B ≡ front_header_refusal F n B
-  header_within =
-      header_refusal-fields F (min n len) B ∙ ap (option_or (field_refusal F B)) length_within ∙ sym (front_header_refusal-fields F n B)
-
-  -- and where there is none the least is the table's
-  pub within_is : header_refusal F (min n len) B ≡ None → min n len ≡ len
-  within_is e = differs-false (min n len) len (gives-None _ _ (option_or-None _ _ (sym (header_refusal-fields F (min n len) B) ∙ e)).1)
 
 -- ---- opening a table at the front of the bytes, of keys that a hash function of ml bytes at least takes
 module _ (ml : ℕ) (F : Format) (B : List ℕ) where
@@ -76,6 +45,11 @@ valid_opens ml F f V R long valid x e =
     let opens : front_refusal F (V ++ R) ≡ None = IsOk-checked _ (valid_front F f V R valid (checked (front_refusal F (V ++ R))) (err_checked _)) in
     let none : Some x ≡ None = e ∙ ap (λ o. option_or o (option_map Rejected (front_refusal F (V ++ R)))) (long_enough ml F (V ++ R) long) ∙ ap (option_map Rejected) opens in
     cc
+
+-- so what has the errors of opening them is Ok
+pub opened : {T : Type 0} (ml : ℕ) (F : Format) → IsFormat F → (V R : List ℕ) → ml ≤ F.key_len → IsValidBytes F V → (r : Result T DynError) → result_err r ≡ dyn_front_refusal ml F (V ++ R) → IsOk r
+opened ml F f V R long valid (Ok t) e = refl
+opened ml F f V R long valid (Err x) e = absurd (valid_opens ml F f V R long valid x e)
 
 -- ---- the lengths that the header of a valid table V at the front states
 module _ (hash : List ℕ → ℕ) (key_len value_len : ℕ) (V R : List ℕ) (valid : IsValidBytes (format_of key_len value_len hash) V) where

@@ -1,20 +1,19 @@
 //! A table at the front of longer bytes, of lengths that are known at run time alone.
-ghost use Rattle.std.specs.Prelude.{◌≡◌, ◌++◌, ◌≤◌, List, ℕ, min, Ok, IfOk, IsOk};
+ghost use Rattle.std.specs.Prelude.{◌≡◌, ◌++◌, ◌≤◌, List, ℕ, Ok, IfOk, IsOk};
 ghost use Rattle.std.specs.Result.{result_err};
 ghost use Rattle.odht_base.specs.Format.{format_of};
-ghost use Rattle.odht_base.specs.Image.{image_len};
 ghost use Rattle.odht_base.specs.Valid.{IsValidBytes};
 ghost use Rattle.odht_header.specs.Refusals.{prefix_refusal};
 ghost use Rattle.odht_raw.specs.Prefixes.{IsFront};
 ghost use Rattle.odht.specs.DynPrefixes.{IsDynCut, dyn_front_refusal, stated_front_refusal};
 ghost use Rattle.odht.specs.Dynamic.{stated_format};
 
-use super::{DynError, DynTable};
+use super::{DynError, DynTable, stated_layout};
 use crate::bytes::Borrowed;
 use crate::error::Error;
 use crate::hash::HashFn;
 use crate::layout::Layout;
-use crate::memory_layout::{HEADER_SIZE, Header};
+use crate::memory_layout::sized_table_len;
 
 /// How many bytes the table of these lengths at the front of `bytes` has, by its header. What follows is not looked at,
 /// nor is any slot, and the hash function does not matter.
@@ -28,27 +27,7 @@ pub fn table_len(layout: Layout, bytes: &[u8]) -> Result<usize, Error>
     ensures err { (hash : List ℕ → ℕ) → result_err result
         ≡ prefix_refusal (format_of layout.key_len layout.value_len hash) bytes.now }
 {
-    let found = bytes.len();
-    if found < HEADER_SIZE {
-        return Err(Error::TooShort { found });
-    }
-    let header = Header::of(bytes);
-    let len = len_within(layout, header.slot_count(), found);
-    match header.check_layout(layout, len) {
-        Ok(()) => Ok(len),
-        Err(rejected) => Err(rejected),
-    }
-}
-
-// The length of a table of so many slots, or `found` where that is less: no table of them is as long then.
-fn len_within(layout: Layout, slot_count: usize, found: usize) -> usize
-    ensures { (hash : List ℕ → ℕ)
-        → result ≡ min found (image_len (format_of layout.key_len layout.value_len hash) slot_count) }
-{
-    match layout.bytes_needed(slot_count) {
-        Some(len) => len.min(found),
-        None => found,
-    }
+    sized_table_len(bytes, layout)
 }
 
 impl<'a, H: HashFn> DynTable<H, Borrowed<'a>> {
@@ -74,13 +53,7 @@ impl<'a, H: HashFn> DynTable<H, Borrowed<'a>> {
             });
         }
         match table_len(layout, bytes) {
-            Ok(len) => {
-                let (front, rest) = bytes.split_at(len);
-                match DynTable::open(layout, Borrowed::new(front)) {
-                    Ok(table) => Ok((table, rest)),
-                    Err(refused) => Err(refused),
-                }
-            }
+            Ok(len) => DynTable::open_front(layout, bytes, len),
             Err(rejected) => Err(DynError::Rejected(rejected)),
         }
     }
@@ -98,18 +71,23 @@ impl<'a, H: HashFn> DynTable<H, Borrowed<'a>> {
             → IsValidBytes (format_of key_len value_len H.hash) table
             → bytes.now ≡ table ++ rest → IsOk result }
     {
-        let found = bytes.len();
-        if found < HEADER_SIZE {
-            return Err(DynError::Rejected(Error::TooShort { found }));
-        }
-        let header = Header::of(bytes);
-        let layout = Layout {
-            key_len: header.key_size(),
-            value_len: header.value_size(),
-        };
+        let layout = stated_layout(bytes)?;
         match table_len(layout, bytes) {
-            Ok(_) => DynTable::from_prefix(layout, bytes),
+            Ok(len) => DynTable::open_front(layout, bytes, len),
             Err(rejected) => Err(DynError::Rejected(rejected)),
         }
+    }
+
+    // Opens the table of so many bytes at the front, and returns it with the bytes behind it.
+    fn open_front(layout: Layout, bytes: &'a [u8], len: usize) -> Result<(Self, &'a [u8]), DynError>
+        requires { IsFront (format_of layout.key_len layout.value_len H.hash) bytes.now len }
+        ensures ok { let F = format_of layout.key_len layout.value_len H.hash
+            in IfOk result (λ r. IsDynCut F bytes.now r.0 r.0.store.0.now r.1.now) }
+        ensures err { let F = format_of layout.key_len layout.value_len H.hash
+            in result_err result ≡ dyn_front_refusal H.MIN_LEN F bytes.now }
+    {
+        let (front, rest) = bytes.split_at(len);
+        let table = DynTable::open(layout, Borrowed::new(front))?;
+        Ok((table, rest))
     }
 }

@@ -1,44 +1,18 @@
-use Rattle.std.proofs.Common.{rules, ◌≡◌, ◌∙◌, ◌<◌, ◌≤◌, sym, ap, subst, Err, Some, lt-ltb, le-ltb, arith}
-use Rattle.std.specs.Result.{result_err}
+use Rattle.std.proofs.Common.{◌≡◌, ◌∙◌, subst}
+use Rattle.std.specs.Prelude.{IfOk}
 use Rattle.odht_base.specs.Format.{Format, format_of}
 use Rattle.odht_base.specs.Image.{image_len}
 use Rattle.odht_base.specs.Decoded.{header_slots}
-use Rattle.odht_header.specs.declared.error.Error.TheVariants.{WrongLength}
-use Rattle.odht_header.specs.Refusals.{checked, field_refusal}
-use Rattle.odht_header.proofs.lemmas.FirstErrors.{option_or-first, option_or-second, Ok-checked, Err-checked, gives-Some, None-gives}
-use Rattle.odht_header.proofs.lemmas.HeaderChecks.{front_header_refusal-fields}
+use Rattle.odht_header.specs.Refusals.{front_header_refusal}
 use Rattle.odht_header.proofs.header.Header.table_len.Goals as goal
-
-pub returns-in_err-check_fields-clause-err : goal.returns-in_err-check_fields-clause-err
-returns-in_err-check_fields-clause-err g c =
-    let F : Format = format_of g.C.EncodedKey.ByteArray.LEN g.C.EncodedValue.ByteArray.LEN g.C.H.HashFn.hash in
-    let passes = c.check_fields.ensures F.hash ∙ (λ i. checked (field_refusal (format_of (c.of-layout.ensures.key i) (c.of-layout.ensures.value i) F.hash) c.args.self.now)) in
-    let x = c.in_err-check_fields.field-0.0 in
-    let refusal : c.from_residual.result ≡ Err x = search rules in
-    ap result_err refusal ∙ sym (front_header_refusal-fields F c.args.found c.args.self.now ∙ option_or-first _ _ x (Err-checked _ x (sym c.in_err-check_fields.was ∙ passes)))
-
-pub returns-then-found-expected-clause-err : goal.returns-then-found-expected-clause-err
-returns-then-found-expected-clause-err g c =
-    let F : Format = format_of g.C.EncodedKey.ByteArray.LEN g.C.EncodedValue.ByteArray.LEN g.C.H.HashFn.hash in
-    let B = c.args.self.now in
-    let passes = c.check_fields.ensures F.hash ∙ (λ i. checked (field_refusal (format_of (c.of-layout.ensures.key i) (c.of-layout.ensures.value i) F.hash) B)) in
-    let passed = Ok-checked _ (sym c.in_ok-check_fields.was ∙ passes) in
-    let is : c.len_of_slots-expected.result ≡ image_len F (header_slots B) = c.len_of_slots-expected.ensures F.hash ∙ (λ i. image_len (format_of (c.of-layout.ensures.key i) (c.of-layout.ensures.value i) F.hash) (c.slot_count-slot_count.ensures i)) in
-    let short : c.args.found < image_len F (header_slots B) = subst (λ n. c.args.found < n) is c.if-found-expected.true in
-    (λ i. Some (WrongLength (c.slot_count-slot_count.ensures i) c.args.found (is i)))
-    ∙ sym (front_header_refusal-fields F c.args.found B ∙ option_or-second _ _ passed ∙ gives-Some _ _ (lt-ltb c.args.found (image_len F (header_slots B)) short))
-
-pub returns-clause-err : goal.returns-clause-err
-returns-clause-err g c =
-    let F : Format = format_of g.C.EncodedKey.ByteArray.LEN g.C.EncodedValue.ByteArray.LEN g.C.H.HashFn.hash in
-    let B = c.args.self.now in
-    let passes = c.check_fields.ensures F.hash ∙ (λ i. checked (field_refusal (format_of (c.of-layout.ensures.key i) (c.of-layout.ensures.value i) F.hash) B)) in
-    let passed = Ok-checked _ (sym c.in_ok-check_fields.was ∙ passes) in
-    let is : c.len_of_slots-expected.result ≡ image_len F (header_slots B) = c.len_of_slots-expected.ensures F.hash ∙ (λ i. image_len (format_of (c.of-layout.ensures.key i) (c.of-layout.ensures.value i) F.hash) (c.slot_count-slot_count.ensures i)) in
-    let long : image_len F (header_slots B) ≤ c.args.found = omega (arith, is, c.if-found-expected.false) in
-    sym (front_header_refusal-fields F c.args.found B ∙ option_or-second _ _ passed ∙ None-gives _ _ (le-ltb c.args.found (image_len F (header_slots B)) long))
 
 pub returns-clause-len : goal.returns-clause-len
 returns-clause-len g c =
     let hash = g.C.H.HashFn.hash in
-    c.len_of_slots-expected.ensures hash ∙ (λ i. image_len (format_of (c.of-layout.ensures.key i) (c.of-layout.ensures.value i) hash) (c.slot_count-slot_count.ensures i))
+    subst (λ (F : Format). IfOk c.layout_len.result (λ n. n ≡ image_len F (header_slots c.args.self.now))) (λ i. format_of (c.of.ensures.key i) (c.of.ensures.value i) hash) (c.layout_len.ensures.len hash)
+
+pub returns-clause-err : goal.returns-clause-err
+returns-clause-err g c =
+    let hash = g.C.H.HashFn.hash in
+    c.layout_len.ensures.err hash
+    ∙ (λ i. front_header_refusal (format_of (c.of.ensures.key i) (c.of.ensures.value i) hash) c.args.found c.args.self.now)

@@ -1,41 +1,22 @@
-use Rattle.std.proofs.Common.{◌≡◌, ◌∙◌, ◌≤◌, sym, ap, subst, arith, length}
-use Rattle.std.specs.Prelude.{IfOk}
+use Rattle.std.proofs.Common.{◌∙◌, subst}
+use Rattle.std.specs.Prelude.{IfOk, ◌≡◌, Ok}
 use Rattle.odht_base.specs.Format.{Format, format_of}
-use Rattle.odht_base.specs.Image.{image_len}
-use Rattle.odht_base.specs.Decoded.{header_slots}
-use Rattle.odht_header.specs.Refusals.{front_header_refusal}
-use Rattle.odht_raw.proofs.lemmas.Prefixes.{IsFront-long, answered_front, answered_only, prefix_refusal-short, prefix_refusal-header}
+use Rattle.odht_header.specs.Refusals.{prefix_refusal}
+use Rattle.odht_raw.specs.Prefixes.{IsFront}
 use Rattle.odht_raw.proofs.memory_layout.prefix.table_len.Goals as goal
-
-pub returns-then-found-lt-HEADER_SIZE-clause-only : goal.returns-then-found-lt-HEADER_SIZE-clause-only
-returns-then-found-lt-HEADER_SIZE-clause-only g c n is =
-    let F : Format = format_of g.C.EncodedKey.ByteArray.LEN g.C.EncodedValue.ByteArray.LEN g.C.H.HashFn.hash in
-    absurd (omega (arith, IsFront-long F c.args.bytes.now n is, c.if-found-lt-HEADER_SIZE.true))
-
-pub returns-then-found-lt-HEADER_SIZE-clause-err : goal.returns-then-found-lt-HEADER_SIZE-clause-err
-returns-then-found-lt-HEADER_SIZE-clause-err g c =
-    let F : Format = format_of g.C.EncodedKey.ByteArray.LEN g.C.EncodedValue.ByteArray.LEN g.C.H.HashFn.hash in
-    sym (prefix_refusal-short F c.args.bytes.now c.if-found-lt-HEADER_SIZE.true)
 
 pub returns-clause-ok : goal.returns-clause-ok
 returns-clause-ok g c =
-    let F : Format = format_of g.C.EncodedKey.ByteArray.LEN g.C.EncodedValue.ByteArray.LEN g.C.H.HashFn.hash in
-    let B = c.args.bytes.now in
-    let len = subst (λ b. IfOk c.table_len.result (λ n. n ≡ image_len F (header_slots b))) c.of.ensures c.table_len.ensures.len in
-    let err = c.table_len.ensures.err ∙ ap (front_header_refusal F (length B)) c.of.ensures in
-    answered_front F B c.table_len.result len err
+    let hash = g.C.H.HashFn.hash in
+    subst (λ (F : Format). IfOk c.sized_table_len.result (IsFront F c.args.bytes.now)) (λ i. format_of (c.of.ensures.key i) (c.of.ensures.value i) hash) (c.sized_table_len.ensures.ok hash)
 
 pub returns-clause-only : goal.returns-clause-only
-returns-clause-only g c =
-    let F : Format = format_of g.C.EncodedKey.ByteArray.LEN g.C.EncodedValue.ByteArray.LEN g.C.H.HashFn.hash in
-    let B = c.args.bytes.now in
-    let len = subst (λ b. IfOk c.table_len.result (λ n. n ≡ image_len F (header_slots b))) c.of.ensures c.table_len.ensures.len in
-    let err = c.table_len.ensures.err ∙ ap (front_header_refusal F (length B)) c.of.ensures in
-    answered_only F B c.table_len.result len err
+returns-clause-only g c n =
+    let hash = g.C.H.HashFn.hash in
+    subst (λ (F : Format). IsFront F c.args.bytes.now n → c.sized_table_len.result ≡ Ok n) (λ i. format_of (c.of.ensures.key i) (c.of.ensures.value i) hash) (c.sized_table_len.ensures.only hash n)
 
 pub returns-clause-err : goal.returns-clause-err
 returns-clause-err g c =
-    let F : Format = format_of g.C.EncodedKey.ByteArray.LEN g.C.EncodedValue.ByteArray.LEN g.C.H.HashFn.hash in
-    let B = c.args.bytes.now in
-    let long : 32 ≤ length B = omega (arith, c.if-found-lt-HEADER_SIZE.false) in
-    c.table_len.ensures.err ∙ ap (front_header_refusal F (length B)) c.of.ensures ∙ sym (prefix_refusal-header F B long)
+    let hash = g.C.H.HashFn.hash in
+    c.sized_table_len.ensures.err hash
+    ∙ (λ i. prefix_refusal (format_of (c.of.ensures.key i) (c.of.ensures.value i) hash) c.args.bytes.now)
