@@ -31,5 +31,7 @@ pub mod DynLookups
 pub mod DynOpens
 -- such a table at the front of longer bytes
 pub mod DynPrefixes
+-- an insert that a view takes is one that a table that grows takes
+pub mod OwnedInserts
 -- what the insert into a view says of that into a table that grows
 pub mod DynOwned

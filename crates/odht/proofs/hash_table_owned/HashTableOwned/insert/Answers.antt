@@ -3,7 +3,7 @@ use Rattle.std.proofs.lemmas.Result.{on_err_weaker}
 use Rattle.odht_base.specs.Format.{Format, format_of}
 use Rattle.odht_base.specs.Table.{Pair, Table}
 use Rattle.odht_base.specs.Valid.{IsImage}
-use Rattle.odht_base.proofs.lemmas.TableInserts.{insert_owned-view}
+use Rattle.odht.proofs.lemmas.OwnedInserts.{owned_of_view}
 use Rattle.odht.proofs.hash_table_owned.HashTableOwned.insert.Given.{Over}
 use Rattle.odht.proofs.hash_table_owned.HashTableOwned.insert.Goals as goal
 
@@ -13,21 +13,8 @@ format g = format_of g.C.EncodedKey.ByteArray.LEN g.C.EncodedValue.ByteArray.LEN
 
 pub returns-in-Ok-clause-in_table : goal.returns-in-Ok-clause-in_table
 returns-in-Ok-clause-in_table g c P is =
-    let F : Format = format_of g.C.EncodedKey.ByteArray.LEN g.C.EncodedValue.ByteArray.LEN g.C.H.HashFn.hash in
-    let p : Pair = record { key = g.C.EncodedKey.ByteArray.bytes (g.C.Config.encode_key c.args.key.now); value = g.C.EncodedValue.ByteArray.bytes (g.C.Config.encode_value c.args.value.now) } in
-    let here : IsImage F P c.self.inside.table = record { valid = is.valid; bytes = c.self.view_is ∙ is.bytes } in
-    let into = c.in-Ok.ensures.on_valid P here in
-    let insert = into.inserted in
-    record {
-      former = into.former;
-      inserted = record {
-        table = insert.table;
-        inserted = insert_owned-view F P p (λ e. let no = into.full.1 e in cc) ∙ insert.inserted;
-        image = insert.image;
-        maps = insert.maps;
-      };
-      at_maximum = tt;
-    }
+    let here : IsImage (format g) P c.self.inside.table = record { valid = is.valid; bytes = c.self.view_is ∙ is.bytes } in
+    owned_of_view _ P _ _ _ _ (c.in-Ok.ensures.on_valid P here)
 
 -- the bytes that were not changed are those of the table
 here : (g : Over) (P : Table) (B C D : List ℕ) → B ≡ C → C ≡ D → IsImage (format g) P D → IsImage (format g) P B
