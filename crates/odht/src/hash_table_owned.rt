@@ -6,6 +6,7 @@ ghost use Rattle.odht_base.specs.Table.{count};
 ghost use Rattle.odht_base.specs.Insert.{IsFullFor};
 ghost use Rattle.odht_base.specs.Valid.{IsValidBytes};
 ghost use Rattle.odht.specs.Lists.{EndsAfter, IsFreshAfterInserts};
+ghost use Rattle.odht.specs.LastValues.{HasLastValues};
 ghost use Rattle.odht.specs.Inserts.{IsFresh, IsInsertOwned};
 ghost use Rattle.odht.specs.Tables.{OfTable, InTable};
 ghost use Rattle.std.specs.Iterator.{IsFinite};
@@ -106,6 +107,8 @@ impl<C: Config> HashTableOwned<C> {
         requires percent { IsPercent max_load_factor_percent }
         ensures ok { IfOk result (λ t. EndsAfter I.next_gives items
             (λ xs. IsFreshAfterInserts ⟦<C as Coded>⟧.coding max_load_factor_percent xs t)) }
+        ensures last_values { IfOk result (λ t. EndsAfter I.next_gives items
+            (λ xs. HasLastValues ⟦<C as Coded>⟧.coding xs t)) }
         ensures capacity { let F = ⟦<C as Coded>⟧.coding.format
             in IsErrOf result Error.Capacity → EndsAfter I.next_gives items
             (λ xs. IsTooLarge F (length xs) (factor_of max_load_factor_percent)) }

@@ -56,8 +56,9 @@ pub fn get_all<C: Config, A: Answers<Option<C::Value>>>(
     answers: &mut A,
 )
     requires { length keys.now ≤ A.places answers.old }
-    ensures { let all = lookups_of ⟦<C as Coded>⟧.coding raw.now keys.now A.after_put
+    ensures answers { let all = lookups_of ⟦<C as Coded>⟧.coding raw.now keys.now A.after_put
         in ArePut all answers.old answers.new (length keys.now) }
+    ensures places { A.places answers.new ≡ A.places answers.old }
 {
     let from = get_batches::<C, A>(raw, keys, answers);
     for index in from..keys.len() {

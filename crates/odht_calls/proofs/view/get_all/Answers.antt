@@ -20,7 +20,7 @@ returns g c =
     let T = c.as_raw-raw.result in
     let keys = c.args.keys.now in
     let last = c.get_all.new.answers in
-    let values = puts-same K T keys put (λ s. s.values.ghost_name) (λ s i o. refl) _ last (length keys) c.get_all.ensures in
-    let found = puts-same K T keys put (λ s. s.found.ghost_name) (λ s i o. refl) _ last (length keys) c.get_all.ensures in
-    let answers = got_all K c.args.table.now.0.now T keys _ last c.get_all.ensures c.requires.values c.requires.found c.as_raw-raw.ensures.parts (ap (λ (T : TableParts). T.entries.bytes) c.as_raw-raw.ensures.bytes) (ap (λ (T : TableParts). T.entries.slots) c.as_raw-raw.ensures.bytes) in
+    let values = puts-same K T keys put (λ s. s.values.ghost_name) (λ s i o. refl) _ last (length keys) c.get_all.ensures.answers in
+    let found = puts-same K T keys put (λ s. s.found.ghost_name) (λ s i o. refl) _ last (length keys) c.get_all.ensures.answers in
+    let answers = got_all K c.args.table.now.0.now T keys _ last c.get_all.ensures.answers c.requires.values c.requires.found c.as_raw-raw.ensures.parts (ap (λ (T : TableParts). T.entries.bytes) c.as_raw-raw.ensures.bytes) (ap (λ (T : TableParts). T.entries.slots) c.as_raw-raw.ensures.bytes) in
     search (rules, values, found, answers)

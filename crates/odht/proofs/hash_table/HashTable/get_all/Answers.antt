@@ -15,7 +15,7 @@ coding g =
 
 pub returns : goal.returns
 returns g c =
-    let all = puts-answered {K = g.row.C-Key.Denot} {V = g.row.C-Value.Denot} (coding g) c.as_raw.result c.args.keys.now _ c.get_all.new.answers c.get_all.ensures c.requires in
+    let all = puts-answered {K = g.row.C-Key.Denot} {V = g.row.C-Value.Denot} (coding g) c.as_raw.result c.args.keys.now _ c.get_all.new.answers c.get_all.ensures.answers c.requires in
     let loan = all.loan in
     record {
       on_valid = λ P is. let values = all.values P (c.as_raw.ensures.parts P is) in search (rules, loan, values);

@@ -4,6 +4,7 @@ use Rattle.std.specs.Prelude.{OnOk}
 use Rattle.odht_base.specs.Load.{factor_of, slots_for}
 use Rattle.odht_header.specs.Coding.{coding_of}
 use Rattle.odht.specs.Inserts.{IsFresh}
+use Rattle.odht.specs.LastValues.{HasLastValues}
 use Rattle.odht.specs.Lists.{IsFreshAfterInserts}
 use Rattle.odht.proofs.lemmas.NewRefusals.{not_both, passed_on, either, on_err}
 use Rattle.odht.proofs.hash_table_owned.HashTableOwned.from_iterator.Goals as goal
@@ -21,6 +22,16 @@ returns-clause-ok g c =
     subst (λ r. OnOk r (IsFreshAfterInserts K p c.as_slice.result.now c.insert_all.new.self)) c.in_ok-insert_all.was (c.insert_all.ensures.fresh p made) in
     (ran.0, (after.0, (ran.1.0, ran.1.1, after.1)), subst (λ (xs : List (g.row.C-Key.Denot × g.row.C-Value.Denot)). IsFreshAfterInserts K p xs c.insert_all.new.self) slice all)
 
+pub returns-clause-last_values : goal.returns-clause-last_values
+returns-clause-last_values g c =
+    let K = coding_of g.C.EncodedKey.ByteArray.LEN g.C.EncodedKey.ByteArray.bytes g.C.EncodedKey.ByteArray.of_bytes g.C.EncodedValue.ByteArray.LEN g.C.EncodedValue.ByteArray.bytes g.C.EncodedValue.ByteArray.of_bytes g.C.H.HashFn.hash g.C.Config.encode_key g.C.Config.encode_value g.C.Config.decode_key g.C.Config.decode_value in
+    let ran = c.in_ok-items.ensures.ran in
+    let after = ran.1.2 tt in
+    let slice : c.as_slice.result.now ≡ ran.0 = c.as_slice.ensures.value ∙ ran.2.0 in
+    let all : HasLastValues K c.as_slice.result.now c.insert_all.new.self =
+    subst (λ r. OnOk r (HasLastValues K c.as_slice.result.now c.insert_all.new.self)) c.in_ok-insert_all.was (c.insert_all.ensures.last_values c.len.result c.args.max_load_factor_percent c.in_ok-table.ensures.ok) in
+    (ran.0, (after.0, (ran.1.0, ran.1.1, after.1)), subst (λ (xs : List (g.row.C-Key.Denot × g.row.C-Value.Denot)). HasLastValues K xs c.insert_all.new.self) slice all)
+
 pub collect-requires-clause-can : goal.collect-requires-clause-can
 collect-requires-clause-can g c = c.requires.can
 
@@ -33,12 +44,23 @@ with_capacity-requires-clause-percent g c κs within = c.requires.percent
 pub returns-in_err-items-clause-ok : goal.returns-in_err-items-clause-ok
 returns-in_err-items-clause-ok g c = IfOk-from_err c.from_residual.result _ c.from_residual.ensures.0
 
+pub returns-in_err-items-clause-last_values : goal.returns-in_err-items-clause-last_values
+returns-in_err-items-clause-last_values g c = IfOk-from_err c.from_residual.result _ c.from_residual.ensures.0
+
 pub returns-in_err-table-clause-ok : goal.returns-in_err-table-clause-ok
 returns-in_err-table-clause-ok g c =
     IfOk-from_err c.from_residual-in_err-table.result _ c.from_residual-in_err-table.ensures.0
 
+pub returns-in_err-table-clause-last_values : goal.returns-in_err-table-clause-last_values
+returns-in_err-table-clause-last_values g c =
+    IfOk-from_err c.from_residual-in_err-table.result _ c.from_residual-in_err-table.ensures.0
+
 pub returns-in_err-insert_all-clause-ok : goal.returns-in_err-insert_all-clause-ok
 returns-in_err-insert_all-clause-ok g c =
+    IfOk-from_err c.from_residual-in_err-insert_all.result _ c.from_residual-in_err-insert_all.ensures.0
+
+pub returns-in_err-insert_all-clause-last_values : goal.returns-in_err-insert_all-clause-last_values
+returns-in_err-insert_all-clause-last_values g c =
     IfOk-from_err c.from_residual-in_err-insert_all.result _ c.from_residual-in_err-insert_all.ensures.0
 
 pub returns-in_err-items-clause-capacity : goal.returns-in_err-items-clause-capacity
