@@ -13,6 +13,8 @@ pub mod LastValues
 pub mod Rebuilds
 -- a table that is given room for more items
 pub mod RoomForMore
+-- what lookups return
+pub mod Gets
 -- what walks give, and bounds of searches
 pub mod Walks
 -- tables that are the same map

@@ -1,6 +1,6 @@
 -- Worked examples: how long new tables are, why there is none, and what is written into their bytes. A slot of
 -- number_coding takes thirteen bytes.
-use Rattle.std.proofs.Common.{◌≡◌, ◌^◌, ℕ, refl, arith, replicate, get_or, [], ◌∷◌, Some, None, Ok, Err, inl, inr}
+use Rattle.std.proofs.Common.{◌≡◌, ◌^◌, ℕ, refl, arith, replicate, get_or, [], ◌∷◌, Some, None, Err, inl, inr}
 use Rattle.odht_base.specs.Load.{factor_of, slots_for}
 use Rattle.odht_base.proofs.examples.Configs.{my_config, pair64}
 use Rattle.odht_base.proofs.lemmas.FreeSlots.{map_of-empty}

@@ -1,4 +1,4 @@
-use Rattle.std.proofs.Common.{◌∙◌, sym, ap, subst, refl, Err, inr}
+use Rattle.std.proofs.Common.{subst}
 use Rattle.std.proofs.lemmas.Result.{IfOk-from_err, IfErr-at_err, err_from_is_err_and}
 use Rattle.std.specs.Prelude.{OnOk}
 use Rattle.odht_header.specs.Coding.{coding_of}

@@ -1,7 +1,7 @@
 use Rattle.std.proofs.Common.{◌≡◌, ◌∙◌, ℕ, List, refl}
 use Rattle.std.proofs.lemmas.Result.{on_err_weaker}
 use Rattle.odht_base.specs.Format.{Format, format_of}
-use Rattle.odht_base.specs.Table.{Pair, Table}
+use Rattle.odht_base.specs.Table.{Table}
 use Rattle.odht_base.specs.Valid.{IsImage}
 use Rattle.odht.proofs.lemmas.OwnedInserts.{owned_of_view}
 use Rattle.odht.proofs.hash_table_owned.HashTableOwned.insert.Given.{Over}

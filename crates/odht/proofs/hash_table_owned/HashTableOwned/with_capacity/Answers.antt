@@ -1,11 +1,10 @@
-use Rattle.std.proofs.Common.{◌≡◌, ◌∙◌, sym, ap, subst, refl, Some, Err}
+use Rattle.std.proofs.Common.{◌≡◌, ap, subst, Some}
 use Rattle.std.proofs.lemmas.Result.{IfOk-from_err, err_from_is_err_and}
 use Rattle.std.specs.Prelude.{option_map}
 use Rattle.odht_base.specs.Format.{Format, format_of}
 use Rattle.odht_base.specs.Load.{factor_of, slots_for}
 use Rattle.odht_base.specs.Table.{empty}
 use Rattle.odht_base.specs.Valid.{IsImage}
-use Rattle.odht_header.specs.Refusals.{IsTooLarge}
 use Rattle.odht.proofs.lemmas.NewRefusals.{fails-factor, fails-passed, fails-made}
 use Rattle.odht.proofs.hash_table_owned.HashTableOwned.with_capacity.Goals as goal
 
