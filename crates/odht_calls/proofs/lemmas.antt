@@ -28,3 +28,5 @@ pub mod Ordered
 pub mod NewBuilds
 -- the errors of a growth, and what the call answers
 pub mod Grown
+-- calls for tables of any lengths
+pub mod Layouts

@@ -21,3 +21,5 @@ pub mod Writes
 pub mod Builds
 -- the call that writes the table into which another one grows
 pub mod Grows
+-- tables whose lengths and hash function are numbers
+pub mod Layouts

@@ -2,6 +2,7 @@
 //! exports of each shape of table, in `odht_c`, hand on to them.
 #![tactic(auto)]
 
+pub mod any;
 pub mod build;
 pub mod grow;
 mod lookups;

@@ -1,0 +1,272 @@
+//! The calls that read a table of any lengths.
+ghost use Rattle.std.specs.Prelude.{◌≡◌, ◌≤◌, length, IfOk, Some};
+ghost use Rattle.std.specs.Result.{result_err};
+ghost use Rattle.odht_base.specs.Format.{format_of};
+ghost use Rattle.odht_header.specs.Refusals.{opening_refusal, view_refusal, check_refusal};
+ghost use Rattle.odht_header.specs.Refusals.{check_refusal_by};
+ghost use Rattle.odht_raw.specs.Sized.{bytes_coding};
+ghost use Rattle.odht_calls.specs.Statuses.{status_or_ok};
+ghost use Rattle.odht_calls.specs.Layouts.{AnyAnswers, SizedAnswers};
+ghost use Rattle.odht_calls.specs.Layouts.{ContainsAnswers, LayoutAnswers};
+ghost use Rattle.odht_calls.specs.Reads.{GetAnswers, LenAnswers};
+
+use super::{AnyLayout, FX, UNHASH, has_hash};
+use crate::status::{ABSENT, BAD_LAYOUT, BAD_LENGTHS, OK, status_of};
+use odht::bytes::Borrowed;
+use odht::dynamic::DynTable;
+use odht::error::Error;
+use odht::hash::{FxHashFn, HashFn, UnHashFn};
+use odht::layout::Layout;
+use odht::memory_layout::{
+    HEADER_SIZE, Header, check_by_header, check_opening, check_sized, check_sized_within,
+};
+
+// Opens the bytes by their header and length. Reads no slot.
+pub(crate) fn view<H: HashFn>(
+    layout: Layout,
+    bytes: &[u8],
+) -> Result<DynTable<H, Borrowed<'_>>, Error>
+    requires { H.MIN_LEN ≤ layout.key_len }
+    ensures ok { IfOk result (λ t. (t.key_len ≡ layout.key_len) × (t.value_len ≡ layout.value_len)
+        × (t.store.0.now ≡ bytes.now)) }
+    ensures err { let F = format_of layout.key_len layout.value_len H.hash
+        in result_err result ≡ opening_refusal F bytes.now }
+{
+    match check_by_header(bytes, layout) {
+        Ok(()) => Ok(DynTable::open_unchecked(layout, Borrowed::new(bytes))),
+        Err(refused) => Err(refused),
+    }
+}
+
+fn open_by<H: HashFn>(layout: Layout, bytes: &[u8]) -> u32
+    requires { H.MIN_LEN ≤ layout.key_len }
+    ensures { let F = format_of layout.key_len layout.value_len H.hash
+        in result ≡ status_or_ok (view_refusal F bytes.now) }
+{
+    match check_opening::<H>(bytes, layout) {
+        Ok(()) => OK,
+        Err(refused) => status_of(&refused),
+    }
+}
+
+/// OK where the header, the length and the first ten slots are accepted, else the number of the first error.
+pub fn open(layout: AnyLayout, bytes: &[u8]) -> u32
+    ensures { AnyAnswers layout result (Unit {0})
+        (λ c. result ≡ status_or_ok (view_refusal c.format bytes.now)) }
+{
+    let lengths = Layout {
+        key_len: layout.key_len,
+        value_len: layout.value_len,
+    };
+    if has_hash(layout, FX, FxHashFn::MIN_LEN) {
+        open_by::<FxHashFn>(lengths, bytes)
+    } else if has_hash(layout, UNHASH, UnHashFn::MIN_LEN) {
+        open_by::<UnHashFn>(lengths, bytes)
+    } else {
+        BAD_LAYOUT
+    }
+}
+
+fn check_by<H: HashFn>(layout: Layout, bytes: &[u8]) -> u32
+    requires { H.MIN_LEN ≤ layout.key_len }
+    ensures { let F = format_of layout.key_len layout.value_len H.hash
+        in result ≡ status_or_ok (check_refusal F bytes.now) }
+{
+    if let Err(refused) = check_opening::<H>(bytes, layout) {
+        return status_of(&refused);
+    }
+    match check_sized::<H>(bytes, layout) {
+        Ok(()) => OK,
+        Err(refused) => status_of(&refused),
+    }
+}
+
+/// OK where the bytes are valid, else the number of the first error of the whole check.
+pub fn check(layout: AnyLayout, bytes: &[u8]) -> u32
+    ensures { AnyAnswers layout result (Unit {0})
+        (λ c. result ≡ status_or_ok (check_refusal c.format bytes.now)) }
+{
+    let lengths = Layout {
+        key_len: layout.key_len,
+        value_len: layout.value_len,
+    };
+    if has_hash(layout, FX, FxHashFn::MIN_LEN) {
+        check_by::<FxHashFn>(lengths, bytes)
+    } else if has_hash(layout, UNHASH, UnHashFn::MIN_LEN) {
+        check_by::<UnHashFn>(lengths, bytes)
+    } else {
+        BAD_LAYOUT
+    }
+}
+
+fn check_within_by<H: HashFn>(layout: Layout, bytes: &[u8], groups: usize) -> u32
+    requires { H.MIN_LEN ≤ layout.key_len }
+    ensures { let F = format_of layout.key_len layout.value_len H.hash
+        in result ≡ status_or_ok (check_refusal_by F (Some groups) bytes.now) }
+{
+    if let Err(refused) = check_opening::<H>(bytes, layout) {
+        return status_of(&refused);
+    }
+    match check_sized_within::<H>(bytes, layout, groups) {
+        Ok(()) => OK,
+        Err(refused) => status_of(&refused),
+    }
+}
+
+/// OK where the bytes are valid and each home has a control byte that counts as free among the first `groups` groups of
+/// its probe order, so that no search reads more; else the number of the first error of the whole check with this
+/// bound.
+pub fn check_within(layout: AnyLayout, bytes: &[u8], groups: usize) -> u32
+    ensures { AnyAnswers layout result (Unit {0})
+        (λ c. result ≡ status_or_ok (check_refusal_by c.format (Some groups) bytes.now)) }
+{
+    let lengths = Layout {
+        key_len: layout.key_len,
+        value_len: layout.value_len,
+    };
+    if has_hash(layout, FX, FxHashFn::MIN_LEN) {
+        check_within_by::<FxHashFn>(lengths, bytes, groups)
+    } else if has_hash(layout, UNHASH, UnHashFn::MIN_LEN) {
+        check_within_by::<UnHashFn>(lengths, bytes, groups)
+    } else {
+        BAD_LAYOUT
+    }
+}
+
+fn len_by<H: HashFn>(layout: Layout, bytes: &[u8], item_count: &mut usize) -> u32
+    requires { H.MIN_LEN ≤ layout.key_len }
+    ensures { let c = bytes_coding (format_of layout.key_len layout.value_len H.hash)
+        in LenAnswers c bytes.now item_count.old result item_count.new }
+{
+    match view::<H>(layout, bytes) {
+        Ok(table) => {
+            *item_count = table.len();
+            OK
+        }
+        Err(refused) => status_of(&refused),
+    }
+}
+
+/// Writes the header's item count to `item_count`. An error leaves it unchanged.
+pub fn len(layout: AnyLayout, bytes: &[u8], item_count: &mut usize) -> u32
+    ensures { AnyAnswers layout result (item_count.new ≡ item_count.old)
+        (λ c. LenAnswers c bytes.now item_count.old result item_count.new) }
+{
+    let lengths = Layout {
+        key_len: layout.key_len,
+        value_len: layout.value_len,
+    };
+    if has_hash(layout, FX, FxHashFn::MIN_LEN) {
+        len_by::<FxHashFn>(lengths, bytes, item_count)
+    } else if has_hash(layout, UNHASH, UnHashFn::MIN_LEN) {
+        len_by::<UnHashFn>(lengths, bytes, item_count)
+    } else {
+        BAD_LAYOUT
+    }
+}
+
+fn get_by<H: HashFn>(layout: Layout, bytes: &[u8], key: &[u8], value: &mut [u8]) -> u32
+    requires { H.MIN_LEN ≤ layout.key_len }
+    ensures { let c = bytes_coding (format_of layout.key_len layout.value_len H.hash)
+        in let Long = (length key.now ≡ layout.key_len) × (length value.old ≡ layout.value_len)
+        in SizedAnswers Long result (value.new ≡ value.old)
+        (GetAnswers c bytes.now key.now value.old result value.new) }
+{
+    if key.len() != layout.key_len as usize || value.len() != layout.value_len as usize {
+        return BAD_LENGTHS;
+    }
+    let table = match view::<H>(layout, bytes) {
+        Ok(table) => table,
+        Err(refused) => return status_of(&refused),
+    };
+    match table.get(key) {
+        Some(found) => {
+            value.copy_from_slice(found);
+            OK
+        }
+        None => ABSENT,
+    }
+}
+
+/// Writes the value of a key to `value`. BAD_LENGTHS where the key or `value` has another length than the layout says.
+/// ABSENT and errors leave `value` unchanged.
+pub fn get(layout: AnyLayout, bytes: &[u8], key: &[u8], value: &mut [u8]) -> u32
+    ensures { let Long = (length key.now ≡ layout.key_len) × (length value.old ≡ layout.value_len)
+        in AnyAnswers layout result (value.new ≡ value.old)
+        (λ c. SizedAnswers Long result (value.new ≡ value.old)
+        (GetAnswers c bytes.now key.now value.old result value.new)) }
+{
+    let lengths = Layout {
+        key_len: layout.key_len,
+        value_len: layout.value_len,
+    };
+    if has_hash(layout, FX, FxHashFn::MIN_LEN) {
+        get_by::<FxHashFn>(lengths, bytes, key, value)
+    } else if has_hash(layout, UNHASH, UnHashFn::MIN_LEN) {
+        get_by::<UnHashFn>(lengths, bytes, key, value)
+    } else {
+        BAD_LAYOUT
+    }
+}
+
+fn contains_by<H: HashFn>(layout: Layout, bytes: &[u8], key: &[u8]) -> u32
+    requires { H.MIN_LEN ≤ layout.key_len }
+    ensures { let c = bytes_coding (format_of layout.key_len layout.value_len H.hash)
+        in SizedAnswers (length key.now ≡ layout.key_len) result (Unit {0})
+        (ContainsAnswers c bytes.now key.now result) }
+{
+    if key.len() != layout.key_len as usize {
+        return BAD_LENGTHS;
+    }
+    let table = match view::<H>(layout, bytes) {
+        Ok(table) => table,
+        Err(refused) => return status_of(&refused),
+    };
+    match table.get(key) {
+        Some(_) => OK,
+        None => ABSENT,
+    }
+}
+
+/// OK where the key has a value, else ABSENT. BAD_LENGTHS where the key has another length than the layout says.
+pub fn contains(layout: AnyLayout, bytes: &[u8], key: &[u8]) -> u32
+    ensures { AnyAnswers layout result (Unit {0})
+        (λ c. SizedAnswers (length key.now ≡ layout.key_len) result (Unit {0})
+        (ContainsAnswers c bytes.now key.now result)) }
+{
+    let lengths = Layout {
+        key_len: layout.key_len,
+        value_len: layout.value_len,
+    };
+    if has_hash(layout, FX, FxHashFn::MIN_LEN) {
+        contains_by::<FxHashFn>(lengths, bytes, key)
+    } else if has_hash(layout, UNHASH, UnHashFn::MIN_LEN) {
+        contains_by::<UnHashFn>(lengths, bytes, key)
+    } else {
+        BAD_LAYOUT
+    }
+}
+
+/// Writes to `layout` the lengths that the header states, where header and length of the bytes fit; the number of the
+/// hash function, which no header states, stays. Else the number of the first error, and `layout` is unchanged.
+pub fn layout_of(bytes: &[u8], layout: &mut AnyLayout) -> u32
+    ensures { LayoutAnswers bytes.now layout.old result layout.new }
+{
+    let found = bytes.len();
+    if found < HEADER_SIZE {
+        return status_of(&Error::TooShort { found });
+    }
+    let header = Header::of(bytes);
+    let stated = Layout {
+        key_len: header.key_size(),
+        value_len: header.value_size(),
+    };
+    match check_by_header(bytes, stated) {
+        Ok(()) => {
+            layout.key_len = stated.key_len;
+            layout.value_len = stated.value_len;
+            OK
+        }
+        Err(refused) => status_of(&refused),
+    }
+}
