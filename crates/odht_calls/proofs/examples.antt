@@ -35,3 +35,5 @@ pub mod HandedOut
 pub mod AfterInserts
 -- what the calls answer that build a table
 pub mod Builds
+-- layouts
+mod Layouts

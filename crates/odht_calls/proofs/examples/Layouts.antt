@@ -1,0 +1,57 @@
+-- Worked examples: layouts, and calls with them.
+use Rattle.std.proofs.Common.{◌≡◌, ℕ, List, ap, refl, lit≤, arith, Option, Some, None}
+use Rattle.odht_header.specs.Coding.{Coding}
+use Rattle.odht_calls.specs.declared.any.AnyLayout.{AnyLayout}
+use Rattle.odht_calls.specs.Layouts.{IsLayout, IsFoundBy, SizedAnswers, AnyAnswers, LayoutAnswers}
+use Rattle.odht_calls.proofs.lemmas.Layouts.{by_none}
+
+abbrev layout : ℕ → ℕ → ℕ → AnyLayout
+layout key value hash = record { key_len = key; value_len = value; hash = hash }
+
+-- ---- IsLayout
+-- keys of any length go with the hash function of rustc-hash, of four bytes and more with the other one
+pub layouts : IsLayout (layout 0 0 0) × IsLayout (layout 4 255 1)
+layouts = (record { hash = lit≤ tt; key = lit≤ tt }, record { hash = lit≤ tt; key = lit≤ tt })
+
+-- no hash function has the number 2
+pub other_hash_refused : IsLayout (layout 8 4 2) → ⊥
+other_hash_refused h = absurd (omega (arith, h.hash))
+
+-- and keys of three bytes are too short for the second
+pub short_key_refused : IsLayout (layout 3 4 1) → ⊥
+short_key_refused h = absurd (omega (arith, h.key))
+
+-- ---- IsFoundBy
+-- a key that has a value is answered with ODHT_OK, and another one with ODHT_ABSENT
+pub found_by : IsFoundBy {V = ℕ} (Some 7) 0 × IsFoundBy {V = ℕ} None 32
+found_by = (refl, refl)
+
+-- and not the other way round
+pub absent_as_found_refused : IsFoundBy {V = ℕ} None 0 → ⊥
+absent_as_found_refused h = absurd (omega (arith, h))
+
+-- ---- SizedAnswers, AnyAnswers
+-- so many bytes are as many as the layout says
+abbrev IsLong : ℕ → ℕ → Type 0
+IsLong found said = found ≡ said
+
+-- a layout that is none is answered with ODHT_BAD_LAYOUT, whatever the call answers otherwise
+pub bad_layout_answers : (A : Coding (List ℕ) (List ℕ) → Type 0) → AnyAnswers (layout 3 4 1) 38 (Unit {0}) A
+bad_layout_answers A = by_none _ _ _ A (λ h. absurd (omega (arith, h.0))) (λ h. absurd (omega (arith, h.1))) refl tt
+
+-- and not as if it were one
+pub bad_layout_done_refused : (A : Coding (List ℕ) (List ℕ) → Type 0) → AnyAnswers (layout 3 4 1) 0 (Unit {0}) A → ⊥
+bad_layout_done_refused A h = absurd (let status = (h.layout short_key_refused).0 in omega (arith, status))
+
+-- lengths that do not fit are answered with ODHT_BAD_LENGTHS
+pub bad_lengths_answer : (A : Type 0) → SizedAnswers (IsLong 7 8) 35 (Unit {0}) A
+bad_lengths_answer A = record { lengths = λ other. (refl, tt); answers = λ long. absurd (omega (arith, long)) }
+
+-- and not with ODHT_OK
+pub bad_lengths_done_refused : (A : Type 0) → SizedAnswers (IsLong 7 8) 0 (Unit {0}) A → ⊥
+bad_lengths_done_refused A h = absurd (let status = (h.lengths (λ long. absurd (omega (arith, long)))).0 in omega (arith, status))
+
+-- ---- LayoutAnswers
+-- an error leaves the layout
+pub changed_layout_refused : (B : List ℕ) → LayoutAnswers B (layout 1 2 0) 1 (layout 8 4 0) → ⊥
+changed_layout_refused B h = absurd (let same = ap (λ (l : AnyLayout). l.key_len) (h.refused (λ done. absurd (omega (arith, done)))) in omega (arith, same))
