@@ -8,7 +8,7 @@
 #include "subjects.h"
 #include "tables.h"
 
-enum { LEN = 256, STATUSES = 28, UNMADE_LEN = 1392 };
+enum { LEN = 256, STATUSES = 29, UNMADE_LEN = 1392 };
 
 /* The worked example with one byte changed. */
 static uint32_t check_with(size_t at, uint8_t byte)
@@ -184,6 +184,13 @@ static uint32_t unmade(void)
     return odht_b16_u32_insert_order(bytes, UNMADE_LEN, slots, 48);
 }
 
+static uint32_t bad_layout(void)
+{
+    odht_layout layout = { 3, 4, ODHT_HASH_UN };
+
+    return odht_any_check(layout, number_table(), LEN);
+}
+
 /* A number, and the table or call that is made for it. */
 static const struct row {
     uint32_t status;
@@ -196,6 +203,7 @@ static const struct row {
     { 14, wrong_item_count }, { 15, too_many_items }, { 16, unreachable }, { 17, init_length },
     { 18, full }, { 19, memory }, { 20, capacity }, { 21, search_too_long }, { 32, absent },
     { 33, replaced }, { 34, bad_percent }, { 35, bad_lengths }, { 36, too_small }, { 37, unmade },
+    { 38, bad_layout },
 };
 
 static void each_status_is_reached(void)

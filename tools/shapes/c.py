@@ -13,7 +13,7 @@ import header_marks
 
 FOLDERS = ["crates/odht_c/src/shapes"]
 EXPORTS = shape_list.ROOT / "crates/odht_c/exports"
-PARTS = ["head", "calls", "kinds", "table", "map", "set"]
+PARTS = ["head", "calls", "kinds", "table", "map", "set", "any"]
 HASHES = {"fx": "FxHashFn", "unhash": "UnHashFn"}
 LINE = 100
 

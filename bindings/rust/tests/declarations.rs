@@ -21,6 +21,7 @@ fn kind_in_c(parameter: &str) -> String {
         "const" => "*const",
         _ if parameter.contains(['*', '[']) => "*mut",
         "size_t" => "usize",
+        "odht_layout" => "struct",
         "uint8_t" => "u8",
         "uint32_t" => "u32",
         "uint64_t" => "u64",
@@ -40,7 +41,10 @@ fn declared_in_c(header: &str) -> BTreeMap<String, Kinds> {
         if behind.trim_start().starts_with("__asm__") {
             let answer = before.split_whitespace().last().unwrap();
             let kinds = parameters.split(',').map(kind_in_c).chain([kind_in_c(answer)]);
-            symbols.insert(name.trim_end().to_string(), kinds.collect());
+            // The calls for tables of any lengths, which this package does not have.
+            if !name.starts_with("any_") {
+                symbols.insert(name.trim_end().to_string(), kinds.collect());
+            }
         }
         before = piece;
     }

@@ -1,5 +1,6 @@
 //! The table for programs in C, and in any language that calls C.
 #![tactic(auto)]
 
+mod any;
 mod shapes;
 mod version;
