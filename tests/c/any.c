@@ -31,9 +31,9 @@ static uint8_t *empty_table(odht_layout layout, size_t len)
     uint8_t *bytes = bytes_of(len);
     size_t *needed = SIZES(0);
 
-    STATUS(odht_any_bytes_needed(layout, ITEMS, PERCENT, needed), ODHT_OK);
+    STATUS(odht_any_bytes_needed(&layout, ITEMS, PERCENT, needed), ODHT_OK);
     EQUAL(*needed, len);
-    STATUS(odht_any_init(layout, bytes, len, ITEMS, PERCENT), ODHT_OK);
+    STATUS(odht_any_init(&layout, bytes, len, ITEMS, PERCENT), ODHT_OK);
     return bytes;
 }
 
@@ -42,6 +42,7 @@ static void insert_beside(struct shape shape, uint8_t *bytes, uint8_t *expected,
                           const uint8_t *key, const uint8_t *value)
 {
     struct reading table = { expected, len, shape };
+    odht_layout layout = layout_of(shape);
     size_t slot = search_end(&table, key);
     uint8_t *former = bytes_of(shape.value);
     uint8_t *known = bytes_of(shape.value);
@@ -51,24 +52,25 @@ static void insert_beside(struct shape shape, uint8_t *bytes, uint8_t *expected,
         status = ODHT_REPLACED;
         memcpy(known, value_in(&table, slot), shape.value);
     }
-    STATUS(odht_any_contains(layout_of(shape), bytes, len, key, shape.key),
+    STATUS(odht_any_contains(&layout, bytes, len, key, shape.key),
            status == ODHT_OK ? ODHT_ABSENT : ODHT_OK);
-    STATUS(odht_any_insert(layout_of(shape), bytes, len, key, shape.key, value, shape.value, former,
+    STATUS(odht_any_insert(&layout, bytes, len, key, shape.key, value, shape.value, former,
                            shape.value),
            status);
     SAME_BYTES(former, known, shape.value);
     place_pair(expected, len, shape, key, value);
     SAME_BYTES(bytes, expected, len);
-    STATUS(odht_any_get(layout_of(shape), bytes, len, key, shape.key, former, shape.value),
+    STATUS(odht_any_get(&layout, bytes, len, key, shape.key, former, shape.value),
            ODHT_OK);
     SAME_BYTES(former, value, shape.value);
-    STATUS(odht_any_contains(layout_of(shape), bytes, len, key, shape.key), ODHT_OK);
+    STATUS(odht_any_contains(&layout, bytes, len, key, shape.key), ODHT_OK);
 }
 
 /* The growth of a table, beside the second writing, in a buffer with a byte more than it needs. */
 static void grow_beside(struct shape shape, const uint8_t *bytes, size_t len)
 {
     struct reading table = { bytes, len, shape };
+    odht_layout layout = layout_of(shape);
     size_t grown = image_len(shape, 2 * SLOTS);
     uint8_t *out = bytes_of(grown + 1);
     uint8_t *expected = bytes_of(grown);
@@ -76,10 +78,10 @@ static void grow_beside(struct shape shape, const uint8_t *bytes, size_t len)
 
     place_nothing(expected, shape, 2 * SLOTS, factor_of(&table));
     place_all(expected, grown, &table);
-    STATUS(odht_any_grow(layout_of(shape), bytes, len, out, grown - 1, needed), ODHT_TOO_SMALL);
+    STATUS(odht_any_grow(&layout, bytes, len, out, grown - 1, needed), ODHT_TOO_SMALL);
     EQUAL(*needed, grown);
     ALL_BYTES(out, grown + 1, FILL);
-    STATUS(odht_any_grow(layout_of(shape), bytes, len, out, grown + 1, needed), ODHT_OK);
+    STATUS(odht_any_grow(&layout, bytes, len, out, grown + 1, needed), ODHT_OK);
     SAME_BYTES(out, expected, grown);
     ALL_BYTES(out + grown, 1, FILL);
 }
@@ -104,11 +106,11 @@ static void one_table(struct shape shape, struct random *random)
         random_bytes(random, value, shape.value);
         insert_beside(shape, bytes, expected, len, key, value);
     }
-    STATUS(odht_any_len(layout, bytes, len, count), ODHT_OK);
+    STATUS(odht_any_len(&layout, bytes, len, count), ODHT_OK);
     EQUAL(*count, ITEMS);
-    STATUS(odht_any_open(layout, bytes, len), ODHT_OK);
-    STATUS(odht_any_check(layout, bytes, len), ODHT_OK);
-    STATUS(odht_any_check_within(layout, bytes, len, 1), ODHT_OK);
+    STATUS(odht_any_open(&layout, bytes, len), ODHT_OK);
+    STATUS(odht_any_check(&layout, bytes, len), ODHT_OK);
+    STATUS(odht_any_check_within(&layout, bytes, len, 1), ODHT_OK);
     STATUS(odht_any_layout_of(bytes, len, &stated), ODHT_OK);
     SAME_BYTES(&stated, &layout, sizeof layout);
     if (shape.value <= 4)
@@ -149,7 +151,7 @@ static void tables_are_those_of_the_shapes(void)
         STATUS(calls->init(expected, len, ITEMS, PERCENT), ODHT_OK);
         STATUS(calls->insert_all(expected, len, keys, ITEMS, values, ITEMS, accepted), ODHT_OK);
         for (size_t item = 0; item < ITEMS; item++)
-            STATUS(odht_any_insert(layout, bytes, len, keys + item * calls->shape.key,
+            STATUS(odht_any_insert(&layout, bytes, len, keys + item * calls->shape.key,
                                    calls->shape.key, values + item * calls->shape.value,
                                    calls->shape.value, NULL, 0),
                    ODHT_OK);
@@ -166,7 +168,7 @@ static void a_full_table_takes_no_new_key(void)
     /* at 20 percent its sixteen slots take three items */
     change(bytes, (const struct change[]){ { 28, 0x33 }, { 29, 0x33 }, END_OF_CHANGES });
     change(same, (const struct change[]){ { 28, 0x33 }, { 29, 0x33 }, END_OF_CHANGES });
-    STATUS(odht_any_insert(layout, bytes, NUMBERS_LEN, BYTES(9, 0, 0, 0, 0, 0, 0, 0), 8,
+    STATUS(odht_any_insert(&layout, bytes, NUMBERS_LEN, BYTES(9, 0, 0, 0, 0, 0, 0, 0), 8,
                            BYTES(1, 0, 0, 0), 4, NULL, 0),
            ODHT_FULL);
     SAME_BYTES(bytes, same, NUMBERS_LEN);
@@ -182,19 +184,19 @@ static void each_answers(odht_layout layout, uint32_t status)
     const uint8_t *key = bytes_of(layout.key_len);
     size_t *len = SIZES(5);
 
-    STATUS(odht_any_bytes_needed(layout, 3, 50, len), status);
-    STATUS(odht_any_init(layout, bytes, NUMBERS_LEN, 3, 50), status);
-    STATUS(odht_any_open(layout, bytes, NUMBERS_LEN), status);
-    STATUS(odht_any_check(layout, bytes, NUMBERS_LEN), status);
-    STATUS(odht_any_check_within(layout, bytes, NUMBERS_LEN, 1), status);
-    STATUS(odht_any_len(layout, bytes, NUMBERS_LEN, len), status);
-    STATUS(odht_any_get(layout, bytes, NUMBERS_LEN, key, layout.key_len, value, layout.value_len),
+    STATUS(odht_any_bytes_needed(&layout, 3, 50, len), status);
+    STATUS(odht_any_init(&layout, bytes, NUMBERS_LEN, 3, 50), status);
+    STATUS(odht_any_open(&layout, bytes, NUMBERS_LEN), status);
+    STATUS(odht_any_check(&layout, bytes, NUMBERS_LEN), status);
+    STATUS(odht_any_check_within(&layout, bytes, NUMBERS_LEN, 1), status);
+    STATUS(odht_any_len(&layout, bytes, NUMBERS_LEN, len), status);
+    STATUS(odht_any_get(&layout, bytes, NUMBERS_LEN, key, layout.key_len, value, layout.value_len),
            status);
-    STATUS(odht_any_contains(layout, bytes, NUMBERS_LEN, key, layout.key_len), status);
-    STATUS(odht_any_insert(layout, bytes, NUMBERS_LEN, key, layout.key_len, value,
+    STATUS(odht_any_contains(&layout, bytes, NUMBERS_LEN, key, layout.key_len), status);
+    STATUS(odht_any_insert(&layout, bytes, NUMBERS_LEN, key, layout.key_len, value,
                            layout.value_len, value, layout.value_len),
            status);
-    STATUS(odht_any_grow(layout, bytes, NUMBERS_LEN, out, 512, len), status);
+    STATUS(odht_any_grow(&layout, bytes, NUMBERS_LEN, out, 512, len), status);
     EQUAL(*len, 5);
     SAME_BYTES(bytes, same, NUMBERS_LEN);
     ALL_BYTES(out, 512, FILL);
@@ -227,15 +229,15 @@ static void keys_and_values_of_other_lengths_are_rejected(void)
         uint8_t *former = bytes_of(former_len);
 
         in_case("row", row);
-        STATUS(odht_any_insert(numbers, bytes, NUMBERS_LEN, key, key_len, value, value_len, former,
+        STATUS(odht_any_insert(&numbers, bytes, NUMBERS_LEN, key, key_len, value, value_len, former,
                                former_len),
                ODHT_BAD_LENGTHS);
         ALL_BYTES(former, former_len, FILL);
         if (former_len == 4)
-            STATUS(odht_any_get(numbers, bytes, NUMBERS_LEN, key, key_len, value, value_len),
+            STATUS(odht_any_get(&numbers, bytes, NUMBERS_LEN, key, key_len, value, value_len),
                    ODHT_BAD_LENGTHS);
         ALL_BYTES(value, value_len, FILL);
-        STATUS(odht_any_contains(numbers, bytes, NUMBERS_LEN, key, key_len),
+        STATUS(odht_any_contains(&numbers, bytes, NUMBERS_LEN, key, key_len),
                key_len == 8 ? ODHT_ABSENT : ODHT_BAD_LENGTHS);
     }
     SAME_BYTES(bytes, same, NUMBERS_LEN);
@@ -256,16 +258,16 @@ static void spoiled_bytes_have_the_errors_of_the_shape(void)
             in_case("byte and bit", 10 * at + bit);
             bytes[at] ^= (uint8_t)(1 << bit);
             freeze(bytes);
-            STATUS(odht_any_open(numbers, bytes, NUMBERS_LEN),
+            STATUS(odht_any_open(&numbers, bytes, NUMBERS_LEN),
                    odht_u64_u32_open(bytes, NUMBERS_LEN));
-            STATUS(odht_any_check(numbers, bytes, NUMBERS_LEN),
+            STATUS(odht_any_check(&numbers, bytes, NUMBERS_LEN),
                    odht_u64_u32_check(bytes, NUMBERS_LEN));
-            STATUS(odht_any_check_within(numbers, bytes, NUMBERS_LEN, 1),
+            STATUS(odht_any_check_within(&numbers, bytes, NUMBERS_LEN, 1),
                    odht_u64_u32_check_within(bytes, NUMBERS_LEN, 1));
-            STATUS(odht_any_len(numbers, bytes, NUMBERS_LEN, &count[0]),
+            STATUS(odht_any_len(&numbers, bytes, NUMBERS_LEN, &count[0]),
                    odht_u64_u32_len(bytes, NUMBERS_LEN, &count[1]));
             EQUAL(count[0], count[1]);
-            STATUS(odht_any_get(numbers, bytes, NUMBERS_LEN, key, 8, value, 4),
+            STATUS(odht_any_get(&numbers, bytes, NUMBERS_LEN, key, 8, value, 4),
                    odht_u64_u32_get(bytes, NUMBERS_LEN, 5, expected));
             SAME_BYTES(value, expected, 4);
             drop_buffers_since(before);
@@ -291,13 +293,13 @@ static void what_is_not_wanted_may_be_null(void)
     uint8_t *bytes = number_table();
     const uint8_t *key = BYTES(5, 0, 0, 0, 0, 0, 0, 0);
 
-    STATUS(odht_any_bytes_needed(numbers, 3, 50, NULL), ODHT_OK);
-    STATUS(odht_any_len(numbers, bytes, NUMBERS_LEN, NULL), ODHT_OK);
-    STATUS(odht_any_open(numbers, NULL, 0), ODHT_TOO_SHORT);
-    STATUS(odht_any_get(numbers, bytes, NUMBERS_LEN, key, 8, NULL, 0), ODHT_OK);
-    STATUS(odht_any_insert(numbers, bytes, NUMBERS_LEN, key, 8, BYTES(1, 2, 3, 4), 4, NULL, 0),
+    STATUS(odht_any_bytes_needed(&numbers, 3, 50, NULL), ODHT_OK);
+    STATUS(odht_any_len(&numbers, bytes, NUMBERS_LEN, NULL), ODHT_OK);
+    STATUS(odht_any_open(&numbers, NULL, 0), ODHT_TOO_SHORT);
+    STATUS(odht_any_get(&numbers, bytes, NUMBERS_LEN, key, 8, NULL, 0), ODHT_OK);
+    STATUS(odht_any_insert(&numbers, bytes, NUMBERS_LEN, key, 8, BYTES(1, 2, 3, 4), 4, NULL, 0),
            ODHT_REPLACED);
-    STATUS(odht_any_grow(numbers, bytes, NUMBERS_LEN, NULL, 0, NULL), ODHT_TOO_SMALL);
+    STATUS(odht_any_grow(&numbers, bytes, NUMBERS_LEN, NULL, 0, NULL), ODHT_TOO_SMALL);
 }
 #endif
 

@@ -188,7 +188,7 @@ static uint32_t bad_layout(void)
 {
     odht_layout layout = { 3, 4, ODHT_HASH_UN };
 
-    return odht_any_check(layout, number_table(), LEN);
+    return odht_any_check(&layout, number_table(), LEN);
 }
 
 /* A number, and the table or call that is made for it. */

@@ -19,34 +19,34 @@ typedef struct odht_layout {
 
 /* OK: *len is the length in bytes of a table for so many items. BAD_PERCENT, CAPACITY: *len is unchanged. */
 ODHT_CALL(uint32_t, any_bytes_needed,
-    (odht_layout layout, size_t max_item_count, uint8_t percent, size_t *len),
+    (const odht_layout *layout, size_t max_item_count, uint8_t percent, size_t *len),
     size_t unwanted = 0;
     return odht_symbol_any_bytes_needed(layout, max_item_count, percent, len ? len : &unwanted);)
 
 /* OK: the bytes are an empty table. BAD_PERCENT, CAPACITY, INIT_LENGTH: unchanged. */
 ODHT_CALL(uint32_t, any_init,
-    (odht_layout layout, uint8_t *bytes, size_t bytes_len, size_t max_item_count, uint8_t percent),
+    (const odht_layout *layout, uint8_t *bytes, size_t bytes_len, size_t max_item_count, uint8_t percent),
     return odht_symbol_any_init(
         layout, odht_write_uint8_t(bytes, bytes_len), bytes_len, max_item_count, percent);)
 
 /* OK: calls can be made on the bytes. An error, @OPENING@. As fast for every table. */
-ODHT_CALL(uint32_t, any_open, (odht_layout layout, const uint8_t *bytes, size_t bytes_len),
+ODHT_CALL(uint32_t, any_open, (const odht_layout *layout, const uint8_t *bytes, size_t bytes_len),
     return odht_symbol_any_open(layout, odht_read_uint8_t(bytes, bytes_len), bytes_len);)
 
 /* OK: the bytes are valid to the last one. An error, @CHECK@. Goes over all slots. */
-ODHT_CALL(uint32_t, any_check, (odht_layout layout, const uint8_t *bytes, size_t bytes_len),
+ODHT_CALL(uint32_t, any_check, (const odht_layout *layout, const uint8_t *bytes, size_t bytes_len),
     return odht_symbol_any_check(layout, odht_read_uint8_t(bytes, bytes_len), bytes_len);)
 
 /* OK: they are, and from each slot a free one comes within so many groups, so that no search reads more. An error,
    @CHECK@, or SEARCH_TOO_LONG. */
 ODHT_CALL(uint32_t, any_check_within,
-    (odht_layout layout, const uint8_t *bytes, size_t bytes_len, size_t groups),
+    (const odht_layout *layout, const uint8_t *bytes, size_t bytes_len, size_t groups),
     return odht_symbol_any_check_within(
         layout, odht_read_uint8_t(bytes, bytes_len), bytes_len, groups);)
 
 /* OK: *count is the header's count of items. An error, @HEADER@: it is unchanged. */
 ODHT_CALL(uint32_t, any_len,
-    (odht_layout layout, const uint8_t *bytes, size_t bytes_len, size_t *count),
+    (const odht_layout *layout, const uint8_t *bytes, size_t bytes_len, size_t *count),
     size_t unwanted = 0;
     return odht_symbol_any_len(
         layout, odht_read_uint8_t(bytes, bytes_len), bytes_len, count ? count : &unwanted);)
@@ -59,32 +59,32 @@ ODHT_CALL(uint32_t, any_layout_of,
 
 /* OK: the value is written. ABSENT, or an error, @HEADER@: it is unchanged. Where value is NULL it is not wanted. */
 ODHT_CALL(uint32_t, any_get,
-    (odht_layout layout, const uint8_t *bytes, size_t bytes_len, const uint8_t *key, size_t key_len,
+    (const odht_layout *layout, const uint8_t *bytes, size_t bytes_len, const uint8_t *key, size_t key_len,
         uint8_t *value, size_t value_len),
     if (!value) {
         uint8_t unwanted[255] = { 0 };
         return odht_symbol_any_get(layout, odht_read_uint8_t(bytes, bytes_len), bytes_len,
-            odht_read_uint8_t(key, key_len), key_len, unwanted, layout.value_len);
+            odht_read_uint8_t(key, key_len), key_len, unwanted, layout->value_len);
     }
     return odht_symbol_any_get(layout, odht_read_uint8_t(bytes, bytes_len), bytes_len,
         odht_read_uint8_t(key, key_len), key_len, value, value_len);)
 
 /* OK: the key is there. ABSENT, or an error, @HEADER@. */
 ODHT_CALL(uint32_t, any_contains,
-    (odht_layout layout, const uint8_t *bytes, size_t bytes_len, const uint8_t *key, size_t key_len),
+    (const odht_layout *layout, const uint8_t *bytes, size_t bytes_len, const uint8_t *key, size_t key_len),
     return odht_symbol_any_contains(layout, odht_read_uint8_t(bytes, bytes_len), bytes_len,
         odht_read_uint8_t(key, key_len), key_len);)
 
 /* OK: the key was new. REPLACED: the former value is written, unless former is NULL. FULL, or an error, @HEADER@:
    nothing changes. */
 ODHT_CALL(uint32_t, any_insert,
-    (odht_layout layout, uint8_t *bytes, size_t bytes_len, const uint8_t *key, size_t key_len,
+    (const odht_layout *layout, uint8_t *bytes, size_t bytes_len, const uint8_t *key, size_t key_len,
         const uint8_t *value, size_t value_len, uint8_t *former, size_t former_len),
     if (!former) {
         uint8_t unwanted[255] = { 0 };
         return odht_symbol_any_insert(layout, odht_write_uint8_t(bytes, bytes_len), bytes_len,
             odht_read_uint8_t(key, key_len), key_len, odht_read_uint8_t(value, value_len),
-            value_len, unwanted, layout.value_len);
+            value_len, unwanted, layout->value_len);
     }
     return odht_symbol_any_insert(layout, odht_write_uint8_t(bytes, bytes_len), bytes_len,
         odht_read_uint8_t(key, key_len), key_len, odht_read_uint8_t(value, value_len), value_len,
@@ -93,7 +93,7 @@ ODHT_CALL(uint32_t, any_insert,
 /* OK: the first *len bytes of out are the grown table. TOO_SMALL: out_len is below *len, and out is unchanged. An error,
    @HEADER@, LOAD_FACTOR_TOO_SMALL, CAPACITY: *len is unchanged too. */
 ODHT_CALL(uint32_t, any_grow,
-    (odht_layout layout, const uint8_t *bytes, size_t bytes_len, uint8_t *out, size_t out_len,
+    (const odht_layout *layout, const uint8_t *bytes, size_t bytes_len, uint8_t *out, size_t out_len,
         size_t *len),
     size_t unwanted = 0;
     return odht_symbol_any_grow(layout, odht_read_uint8_t(bytes, bytes_len), bytes_len,

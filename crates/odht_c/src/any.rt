@@ -18,50 +18,50 @@ use odht_calls::any::{AnyLayout, read, write};
 /// is unchanged.
 #[unsafe(no_mangle)]
 pub extern "C" fn odht_any_bytes_needed(
-    layout: AnyLayout,
+    layout: &AnyLayout,
     max_item_count: usize,
     max_load_factor_percent: u8,
     len: &mut usize,
 ) -> u32
-    ensures { AnyAnswers layout result (len.new ≡ len.old)
+    ensures { AnyAnswers layout.now result (len.new ≡ len.old)
         (λ c. BytesNeededAnswers c max_item_count max_load_factor_percent len.old result len.new) }
 {
-    write::bytes_needed(layout, max_item_count, max_load_factor_percent, len)
+    write::bytes_needed(*layout, max_item_count, max_load_factor_percent, len)
 }
 
 /// Makes an empty table for so many items in the bytes, whatever they hold: status 0. `BAD_PERCENT`, `CAPACITY`, or
 /// `INIT_LENGTH` where the bytes are more or fewer than it needs; then they are unchanged. One pass over the bytes.
 #[unsafe(no_mangle)]
 pub extern "C" fn odht_any_init(
-    layout: AnyLayout,
+    layout: &AnyLayout,
     bytes: &mut [u8],
     max_item_count: usize,
     max_load_factor_percent: u8,
 ) -> u32
-    ensures { AnyAnswers layout result (bytes.new ≡ bytes.old)
+    ensures { AnyAnswers layout.now result (bytes.new ≡ bytes.old)
         (λ c. InitAnswers c max_item_count max_load_factor_percent bytes.old result bytes.new) }
 {
-    write::init(layout, bytes, max_item_count, max_load_factor_percent)
+    write::init(*layout, bytes, max_item_count, max_load_factor_percent)
 }
 
 /// 0 where the bytes can be opened, or the number of the first error: of too few bytes, of the header, of the length, of
 /// the first ten slots. The cost does not depend on the number of slots.
 #[unsafe(no_mangle)]
-pub extern "C" fn odht_any_open(layout: AnyLayout, bytes: &[u8]) -> u32
-    ensures { AnyAnswers layout result (Unit {0})
+pub extern "C" fn odht_any_open(layout: &AnyLayout, bytes: &[u8]) -> u32
+    ensures { AnyAnswers layout.now result (Unit {0})
         (λ c. result ≡ status_or_ok (view_refusal c.format bytes.now)) }
 {
-    read::open(layout, bytes)
+    read::open(*layout, bytes)
 }
 
 /// 0 exactly where the bytes are valid, or the number of the first error of the whole check. One pass over the slots,
 /// and for each occupied one a read of the control bytes of its key's probe order up to it.
 #[unsafe(no_mangle)]
-pub extern "C" fn odht_any_check(layout: AnyLayout, bytes: &[u8]) -> u32
-    ensures { AnyAnswers layout result (Unit {0})
+pub extern "C" fn odht_any_check(layout: &AnyLayout, bytes: &[u8]) -> u32
+    ensures { AnyAnswers layout.now result (Unit {0})
         (λ c. result ≡ status_or_ok (check_refusal c.format bytes.now)) }
 {
-    read::check(layout, bytes)
+    read::check(*layout, bytes)
 }
 
 /// `check` with a bound of searches: 0 exactly where the bytes are valid and each home has a free slot in the first
@@ -69,21 +69,21 @@ pub extern "C" fn odht_any_check(layout: AnyLayout, bytes: &[u8]) -> u32
 /// `SEARCH_TOO_LONG`, which comes before `UNREACHABLE`. At most `groups` reads of sixteen control bytes a slot for the
 /// bound, and as many for the searches.
 #[unsafe(no_mangle)]
-pub extern "C" fn odht_any_check_within(layout: AnyLayout, bytes: &[u8], groups: usize) -> u32
-    ensures { AnyAnswers layout result (Unit {0})
+pub extern "C" fn odht_any_check_within(layout: &AnyLayout, bytes: &[u8], groups: usize) -> u32
+    ensures { AnyAnswers layout.now result (Unit {0})
         (λ c. result ≡ status_or_ok (check_refusal_by c.format (Some groups) bytes.now)) }
 {
-    read::check_within(layout, bytes, groups)
+    read::check_within(*layout, bytes, groups)
 }
 
 /// Writes the header's item count to `item_count`: status 0. Or an error of the header or length; then `item_count` is
 /// unchanged.
 #[unsafe(no_mangle)]
-pub extern "C" fn odht_any_len(layout: AnyLayout, bytes: &[u8], item_count: &mut usize) -> u32
-    ensures { AnyAnswers layout result (item_count.new ≡ item_count.old)
+pub extern "C" fn odht_any_len(layout: &AnyLayout, bytes: &[u8], item_count: &mut usize) -> u32
+    ensures { AnyAnswers layout.now result (item_count.new ≡ item_count.old)
         (λ c. LenAnswers c bytes.now item_count.old result item_count.new) }
 {
-    read::len(layout, bytes, item_count)
+    read::len(*layout, bytes, item_count)
 }
 
 /// Writes to `layout` the lengths of keys and values that the header states: status 0. The number of the hash function
@@ -98,24 +98,24 @@ pub extern "C" fn odht_any_layout_of(bytes: &[u8], layout: &mut AnyLayout) -> u3
 /// Writes the value of a key to `value`: status 0. `ABSENT` where there is none, `BAD_LENGTHS` where the key or `value`
 /// has another length than the layout says, or an error of the header or length; then `value` is unchanged.
 #[unsafe(no_mangle)]
-pub extern "C" fn odht_any_get(layout: AnyLayout, bytes: &[u8], key: &[u8], value: &mut [u8]) -> u32
-    ensures { let Long = (length key.now ≡ layout.key_len) × (length value.old ≡ layout.value_len)
-        in AnyAnswers layout result (value.new ≡ value.old)
+pub extern "C" fn odht_any_get(layout: &AnyLayout, bytes: &[u8], key: &[u8], value: &mut [u8]) -> u32
+    ensures { let Long = (length key.now ≡ layout.now.key_len) × (length value.old ≡ layout.now.value_len)
+        in AnyAnswers layout.now result (value.new ≡ value.old)
         (λ c. SizedAnswers Long result (value.new ≡ value.old)
         (GetAnswers c bytes.now key.now value.old result value.new)) }
 {
-    read::get(layout, bytes, key, value)
+    read::get(*layout, bytes, key, value)
 }
 
 /// 0 where the key has a value, `ABSENT` where it has none; `BAD_LENGTHS` where the key has another length than the
 /// layout says, or an error of the header or length.
 #[unsafe(no_mangle)]
-pub extern "C" fn odht_any_contains(layout: AnyLayout, bytes: &[u8], key: &[u8]) -> u32
-    ensures { AnyAnswers layout result (Unit {0})
-        (λ c. SizedAnswers (length key.now ≡ layout.key_len) result (Unit {0})
+pub extern "C" fn odht_any_contains(layout: &AnyLayout, bytes: &[u8], key: &[u8]) -> u32
+    ensures { AnyAnswers layout.now result (Unit {0})
+        (λ c. SizedAnswers (length key.now ≡ layout.now.key_len) result (Unit {0})
         (ContainsAnswers c bytes.now key.now result)) }
 {
-    read::contains(layout, bytes, key)
+    read::contains(*layout, bytes, key)
 }
 
 /// Gives the key this value: status 0 where the key was new, `REPLACED` where it had a value, which is written to
@@ -123,19 +123,19 @@ pub extern "C" fn odht_any_contains(layout: AnyLayout, bytes: &[u8], key: &[u8])
 /// another length than the layout says, or an error of the header or length; then nothing changes.
 #[unsafe(no_mangle)]
 pub extern "C" fn odht_any_insert(
-    layout: AnyLayout,
+    layout: &AnyLayout,
     bytes: &mut [u8],
     key: &[u8],
     value: &[u8],
     former: &mut [u8],
 ) -> u32
-    ensures { let Long = (length key.now ≡ layout.key_len) × (length value.now ≡ layout.value_len)
-        × (length former.old ≡ layout.value_len)
+    ensures { let Long = (length key.now ≡ layout.now.key_len) × (length value.now ≡ layout.now.value_len)
+        × (length former.old ≡ layout.now.value_len)
         in let Same = (bytes.new ≡ bytes.old) × (former.new ≡ former.old)
-        in AnyAnswers layout result Same (λ c. SizedAnswers Long result Same
+        in AnyAnswers layout.now result Same (λ c. SizedAnswers Long result Same
         (InsertAnswers c bytes.old key.now value.now former.old result bytes.new former.new)) }
 {
-    write::insert(layout, bytes, key, value, former)
+    write::insert(*layout, bytes, key, value, former)
 }
 
 /// Writes the table that the one in `bytes` grows into at its maximum to the front of `out`, and its length in bytes to
@@ -145,13 +145,13 @@ pub extern "C" fn odht_any_insert(
 /// Allocates nothing. One pass over both tables; each item is hashed once.
 #[unsafe(no_mangle)]
 pub extern "C" fn odht_any_grow(
-    layout: AnyLayout,
+    layout: &AnyLayout,
     bytes: &[u8],
     out: &mut [u8],
     len: &mut usize,
 ) -> u32
-    ensures { AnyAnswers layout result ((out.new ≡ out.old) × (len.new ≡ len.old))
+    ensures { AnyAnswers layout.now result ((out.new ≡ out.old) × (len.new ≡ len.old))
         (λ c. GrowAnswers c bytes.now out.old len.old result out.new len.new) }
 {
-    write::grow(layout, bytes, out, len)
+    write::grow(*layout, bytes, out, len)
 }
