@@ -37,3 +37,5 @@ pub mod AfterInserts
 pub mod Builds
 -- layouts
 mod Layouts
+-- keys and values that lie one after the other
+pub mod Pieces

@@ -30,3 +30,7 @@ pub mod NewBuilds
 pub mod Grown
 -- calls for tables of any lengths
 pub mod Layouts
+-- keys and values that lie one after the other
+pub mod Pieces
+-- lists of them: lookups, inserts and walks
+pub mod AnyLists

@@ -23,3 +23,5 @@ pub mod Builds
 pub mod Grows
 -- tables whose lengths and hash function are numbers
 pub mod Layouts
+-- keys and values that lie one after the other in bytes
+pub mod Pieces

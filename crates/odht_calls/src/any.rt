@@ -2,7 +2,10 @@
 //! layout.
 ghost use Rattle.std.specs.Prelude.{◌≡◌, ◌≤◌, ◌↔◌, IsTrue};
 
+pub mod lists;
+mod pieces;
 pub mod read;
+pub mod walk;
 pub mod write;
 
 /// What a caller in C knows of a table: how many bytes a key and a value have, and the number of the hash function.

@@ -8,15 +8,17 @@ ghost use Rattle.odht_raw.specs.Sized.{bytes_coding};
 ghost use Rattle.odht_calls.specs.Statuses.{status_or_ok};
 ghost use Rattle.odht_calls.specs.Layouts.{AnyAnswers, SizedAnswers};
 ghost use Rattle.odht_calls.specs.Layouts.{ContainsAnswers, LayoutAnswers};
-ghost use Rattle.odht_calls.specs.Reads.{GetAnswers, LenAnswers};
+ghost use Rattle.odht_calls.specs.Prefixes.{TableLenAnswers};
+ghost use Rattle.odht_calls.specs.Reads.{GetAnswers, LenAnswers, SizesAnswers};
 
 use super::{AnyLayout, FX, UNHASH, has_hash};
 use crate::status::{ABSENT, BAD_LAYOUT, BAD_LENGTHS, OK, status_of};
 use odht::bytes::Borrowed;
-use odht::dynamic::DynTable;
+use odht::dynamic::{self, DynTable};
 use odht::error::Error;
 use odht::hash::{FxHashFn, HashFn, UnHashFn};
 use odht::layout::Layout;
+use odht::load::max_item_count_for;
 use odht::memory_layout::{
     HEADER_SIZE, Header, check_by_header, check_opening, check_sized, check_sized_within,
 };
@@ -160,6 +162,103 @@ pub fn len(layout: AnyLayout, bytes: &[u8], item_count: &mut usize) -> u32
         len_by::<FxHashFn>(lengths, bytes, item_count)
     } else if has_hash(layout, UNHASH, UnHashFn::MIN_LEN) {
         len_by::<UnHashFn>(lengths, bytes, item_count)
+    } else {
+        BAD_LAYOUT
+    }
+}
+
+fn sizes_by<H: HashFn>(
+    layout: Layout,
+    bytes: &[u8],
+    slot_count: &mut usize,
+    max_item_count: &mut usize,
+    max_load_factor_percent: &mut u8,
+) -> u32
+    requires { H.MIN_LEN ≤ layout.key_len }
+    ensures { SizesAnswers (format_of layout.key_len layout.value_len H.hash) bytes.now
+        slot_count.old max_item_count.old max_load_factor_percent.old result
+        slot_count.new max_item_count.new max_load_factor_percent.new }
+{
+    if let Err(refused) = view::<H>(layout, bytes) {
+        return status_of(&refused);
+    }
+    let header = Header::of(bytes);
+    let slots = header.slot_count();
+    let factor = header.max_load_factor();
+    *slot_count = slots;
+    *max_item_count = max_item_count_for(slots, factor);
+    *max_load_factor_percent = factor.to_percent() as u8;
+    OK
+}
+
+/// Writes the slot count, the maximum item count and the load factor in percent of slots, rounded down, by the header.
+/// An error leaves all three unchanged.
+pub fn sizes(
+    layout: AnyLayout,
+    bytes: &[u8],
+    slot_count: &mut usize,
+    max_item_count: &mut usize,
+    max_load_factor_percent: &mut u8,
+) -> u32
+    ensures { let Same = (slot_count.new ≡ slot_count.old)
+        × (max_item_count.new ≡ max_item_count.old)
+        × (max_load_factor_percent.new ≡ max_load_factor_percent.old)
+        in AnyAnswers layout result Same (λ c. SizesAnswers c.format bytes.now
+        slot_count.old max_item_count.old max_load_factor_percent.old result
+        slot_count.new max_item_count.new max_load_factor_percent.new) }
+{
+    let lengths = Layout {
+        key_len: layout.key_len,
+        value_len: layout.value_len,
+    };
+    if has_hash(layout, FX, FxHashFn::MIN_LEN) {
+        sizes_by::<FxHashFn>(
+            lengths,
+            bytes,
+            slot_count,
+            max_item_count,
+            max_load_factor_percent,
+        )
+    } else if has_hash(layout, UNHASH, UnHashFn::MIN_LEN) {
+        sizes_by::<UnHashFn>(
+            lengths,
+            bytes,
+            slot_count,
+            max_item_count,
+            max_load_factor_percent,
+        )
+    } else {
+        BAD_LAYOUT
+    }
+}
+
+fn table_len_by<H: HashFn>(layout: Layout, bytes: &[u8], len: &mut usize) -> u32
+    ensures { TableLenAnswers (format_of layout.key_len layout.value_len H.hash) bytes.now len.old
+        result len.new }
+{
+    match dynamic::table_len(layout, bytes) {
+        Ok(found) => {
+            *len = found;
+            OK
+        }
+        Err(refused) => status_of(&refused),
+    }
+}
+
+/// Writes to `len` how many bytes the table at the front of the bytes has, by its header; what follows is not looked at,
+/// nor is any slot. An error leaves `len` unchanged: one of the header, or of fewer bytes than the table has.
+pub fn table_len(layout: AnyLayout, bytes: &[u8], len: &mut usize) -> u32
+    ensures { AnyAnswers layout result (len.new ≡ len.old)
+        (λ c. TableLenAnswers c.format bytes.now len.old result len.new) }
+{
+    let lengths = Layout {
+        key_len: layout.key_len,
+        value_len: layout.value_len,
+    };
+    if has_hash(layout, FX, FxHashFn::MIN_LEN) {
+        table_len_by::<FxHashFn>(lengths, bytes, len)
+    } else if has_hash(layout, UNHASH, UnHashFn::MIN_LEN) {
+        table_len_by::<UnHashFn>(lengths, bytes, len)
     } else {
         BAD_LAYOUT
     }

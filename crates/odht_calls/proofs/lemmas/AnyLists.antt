@@ -1,0 +1,149 @@
+-- Calls for many keys of a table of any lengths: lookups so far, inserts so far, and walks over pairs that are bytes.
+use Rattle.std.proofs.Common.{◌≡◌, ◌≤◌, ◌<◌, ◌+◌, ◌*◌, ◌∙◌, ◌++◌, inl, inr, ℕ, zero, suc, sym, ap, subst, refl, arith, List, [], ◌∷◌, All, Bor, Option, Some, None, Result, drop, set, map, length, length-drop, slice_get}
+use Rattle.std.specs.Prelude.{filter_map, IfOk, IfSome}
+use Rattle.std.specs.Option.{option_copied}
+use Rattle.std.proofs.Math.Nat.{eq-or-lt_of_le}
+use Rattle.std.proofs.lemmas.List.Elements.{All-head, All-tail, All-nil, All-cons}
+use Rattle.std.proofs.lemmas.Option.{slice_get_within}
+use Rattle.odht_base.specs.Decoded.{decoded_table, decoded_cells, entries_of, controls_of, header_slots}
+use Rattle.odht_base.specs.Format.{Format, IsFormat, format_of}
+use Rattle.odht_base.specs.SlotWalks.{numbered, slots_from}
+use Rattle.odht_base.specs.Table.{Pair, Cells, Table}
+use Rattle.odht_base.proofs.lemmas.ByteRanges.{length-bytes_at}
+use Rattle.odht_base.specs.Valid.{IsImage}
+use Rattle.odht_base.proofs.lemmas.Options.{some_same}
+use Rattle.odht_header.specs.Coding.{Coding, HasStored}
+use Rattle.odht_header.specs.declared.error.Error.{Error}
+use Rattle.odht_raw.specs.Frame.{IsAccepted, IsFramed}
+use Rattle.odht_raw.specs.Runs.{IsOnePlaced}
+use Rattle.odht_raw.specs.Sized.{HasLengthsOf, bytes_coding, sized_parts}
+use Rattle.odht_raw.proofs.lemmas.Accepted.{accepted_len}
+use Rattle.odht_raw.proofs.lemmas.SizedWalks.{walk_sized}
+use Rattle.odht.specs.DynInserts.{IsStoreInsert}
+use Rattle.odht.specs.Gets.{IsGet}
+use Rattle.odht.proofs.lemmas.Lookups.{slice_get-set_same, slice_get-set_other}
+use Rattle.odht.proofs.lemmas.ViewInserts.{if_inserted, if_former, framed-full, full-framed, framed-only_full}
+use Rattle.odht_calls.specs.Lookups.{flag_of, with_found}
+use Rattle.odht_calls.specs.Pieces.{pieces}
+use Rattle.odht_calls.specs.Reads.{IsGotAt, GetAllAnswers}
+use Rattle.odht_calls.specs.Statuses.{AreAsLong, done}
+use Rattle.odht_calls.proofs.lemmas.Arrays.{set-next_of}
+use Rattle.odht_calls.proofs.lemmas.Layouts.{stored_len}
+use Rattle.odht_calls.proofs.lemmas.Pieces.{length-pieces}
+use Rattle.odht_calls.proofs.lemmas.Refused.{not_none}
+
+-- ---- lookups of the first i keys, into values that were vs: the values and flags are vs' and fs' then
+pub record AreGotUpTo {K V : Type 0} (c : Coding K V) (B : List ℕ) (keys : List K) (vs : List V) (i : ℕ) (vs' : List V) (fs' : List ℕ) : Type 0 where
+  pub answers : (j : ℕ) (k : K) → j < i → slice_get keys j ≡ Some k → (o : Option V) × IsGotAt o (slice_get vs j) (slice_get fs' j) (slice_get vs' j) × IsGet c B k o
+  pub rest : (j : ℕ) → i ≤ j → slice_get vs' j ≡ slice_get vs j
+
+module _ {K V : Type 0} (c : Coding K V) (B : List ℕ) (keys : List K) (vs : List V) where
+  -- none at first
+  pub none_got : (fs : List ℕ) → AreGotUpTo c B keys vs 0 vs fs
+  none_got fs = record { answers = λ j k low at. absurd (omega (arith, low)); rest = λ j low. refl }
+
+  -- what is at another index stays
+  values_there : (vs' : List V) (i j : ℕ) (o : Option V) → (j ≡ i → ⊥) → slice_get (with_found vs' i o) j ≡ slice_get vs' j
+  values_there vs' i j None other = refl
+  values_there vs' i j (Some v) other = slice_get-set_other vs' i j v other
+
+  -- the answer is at its index
+  got_here : (vs' : List V) (fs' : List ℕ) (i : ℕ) (o : Option V) → i < length vs' → i < length fs' → slice_get vs' i ≡ slice_get vs i
+      → IsGotAt o (slice_get vs i) (slice_get (set fs' i (flag_of o)) i) (slice_get (with_found vs' i o) i)
+  got_here vs' fs' i None lv lf was = (slice_get-set_same fs' i 0 lf, was)
+  got_here vs' fs' i (Some v) lv lf was = (slice_get-set_same fs' i 1 lf, slice_get-set_same vs' i v lv)
+
+  -- and one more
+  pub one_more_got : (i : ℕ) (vs' : List V) (fs' : List ℕ) (k : K) (o : Option V) → AreGotUpTo c B keys vs i vs' fs' → i < length vs' → i < length fs'
+      → slice_get keys i ≡ Some k → IsGet c B k o → AreGotUpTo c B keys vs (i + 1) (with_found vs' i o) (set fs' i (flag_of o))
+  one_more_got i vs' fs' k o so_far lv lf key got = record {
+    answers = λ j z low at. elim (eq-or-lt_of_le (omega (arith, low))) [
+      | inl e ↦ (
+        o,
+        subst (λ n. IsGotAt o (slice_get vs n) (slice_get (set fs' i (flag_of o)) n) (slice_get (with_found vs' i o) n)) (sym e) (got_here vs' fs' i o lv lf (so_far.rest i (omega arith))),
+        subst (λ q. IsGet c B q o) (some_same k z (sym key ∙ ap (slice_get keys) (sym e) ∙ at)) got,
+      )
+      | inr less ↦ (
+          let was = so_far.answers j z less at in
+          let other : j ≡ i → ⊥ = λ e. omega (arith, e, less) in (
+            was.0,
+            subst (λ x. IsGotAt was.0 (slice_get vs j) x (slice_get (with_found vs' i o) j)) (sym (slice_get-set_other fs' i j (flag_of o) other))
+                (subst (λ x. IsGotAt was.0 (slice_get vs j) (slice_get fs' j) x) (sym (values_there vs' i j o other)) was.1),
+            was.2,
+          ))
+    ];
+    rest = λ j low. values_there vs' i j o (λ e. omega (arith, e, low)) ∙ so_far.rest j (omega (arith, low));
+  }
+
+  -- those of all keys are the answer
+  pub all_got : (fs : List ℕ) (vs' : List V) (fs' : List ℕ) → IsAccepted c.format B → AreAsLong (length keys) (length vs) (length fs)
+      → AreGotUpTo c B keys vs (length keys) vs' fs' → GetAllAnswers c B keys vs fs done vs' fs'
+  all_got fs vs' fs' accepted equal all = record {
+    lengths = λ other. absurd (other equal);
+    refused = λ e long is. not_none _ e is accepted;
+    accepted = λ long is. refl;
+    on_valid = λ P i k long is at. (
+        let here = all.answers i k (slice_get_within keys i k at) at in
+        subst (λ o. IsGotAt o (slice_get vs i) (slice_get fs' i) (slice_get vs' i)) (here.2.on_valid P is) here.1);
+    on_any = λ i k long is at. (
+        let here = all.answers i k (slice_get_within keys i k at) at in
+        (here.0, here.1, here.2.on_any));
+  }
+
+-- a value that a lookup of bytes answers is as long as the format says
+pub answer_len : (F : Format) (B : List ℕ) → IsAccepted F B → (k : List ℕ) (o : Option (Bor (List ℕ))) → IfSome (option_copied o) (HasStored (bytes_coding F) B k) → IfSome o (λ v. length v.now ≡ F.value_len)
+answer_len F B accepted k None stored = tt
+answer_len F B accepted k (Some v) stored = stored_len F B accepted k v.now stored
+
+-- ---- an insert of a key and a value of the lengths of the format is what a table's insert is
+pub sized_insert : (F : Format) → IsFormat F → (B k v : List ℕ) (r : Result (Option (List ℕ)) Error) (B' : List ℕ)
+    → ((P : Table) → IsImage F P B → IfOk r (λ old. IsOnePlaced (bytes_coding F) P k v old B')) → IsFramed (bytes_coding F) B k v r B' → IsStoreInsert (bytes_coding F) B k v r B'
+sized_insert F fits B k v r B' placed framed =
+    let K = bytes_coding F in
+    record {
+      on_valid = λ P is. record {
+        former = if_former K P k v r B' (placed P is);
+        inserted = if_inserted K P B k v r B' is (placed P is);
+        full = (λ e. framed-full K B k v fits P is r B' e framed, λ full. full-framed K B k v fits P is r B' (placed P is) framed full);
+      };
+      frame = framed;
+      only_full = framed-only_full K B k v r B' framed;
+    }
+
+-- ---- pairs of accepted bytes have the lengths of the format
+module _ (T : Pair → Type 0) where
+  -- what holds of the pairs of cells holds of them with their numbers
+  numbered_all : (i : ℕ) (cs : Cells) → All T (filter_map (λ c. c) cs) → All (λ (x : ℕ × Pair). T x.1) (numbered i cs)
+  numbered_all i [] h = All-nil (λ (x : ℕ × Pair). T x.1)
+  numbered_all i (None ∷ cs) h = numbered_all (i + 1) cs h
+  numbered_all i (Some p ∷ cs) h =
+      All-cons (λ (x : ℕ × Pair). T x.1) (i, p) (numbered (i + 1) cs) (All-head T p (filter_map (λ c. c) cs) h) (numbered_all (i + 1) cs (All-tail T p (filter_map (λ c. c) cs) h))
+
+  -- and from a cell on
+  pub numbered_from : (i n : ℕ) (cs : Cells) → All T (filter_map (λ c. c) cs) → All (λ (x : ℕ × Pair). T x.1) (numbered i (drop n cs))
+  numbered_from i zero cs h = numbered_all i cs h
+  numbered_from i (suc n) [] h = All-nil (λ (x : ℕ × Pair). T x.1)
+  numbered_from i (suc n) (None ∷ cs) h = numbered_from i n cs h
+  numbered_from i (suc n) (Some p ∷ cs) h = numbered_from i n cs (All-tail T p (filter_map (λ c. c) cs) h)
+
+-- so those from a slot on
+pub slots_sized : (kl vl : ℕ) (h : List ℕ → ℕ) (B : List ℕ) (at : ℕ) → IsAccepted (format_of kl vl h) B → All (λ (x : ℕ × Pair). HasLengthsOf kl vl x.1) (slots_from (decoded_table (format_of kl vl h) B) at)
+slots_sized kl vl h B at accepted =
+    let F : Format = format_of kl vl h in
+    let S = sized_parts kl vl (header_slots B) (entries_of F B) (controls_of F B) in
+    let whole = accepted_len F B accepted in
+    let long : length (entries_of F B) ≡ header_slots B * (kl + vl) = length-bytes_at B 32 (header_slots B * (kl + vl)) (omega (arith, whole)) in
+    let mirrored : length (controls_of F B) ≡ header_slots B + 16 = length-drop (32 + header_slots B * (kl + vl)) B ∙ omega (arith, whole) in
+    numbered_from (HasLengthsOf kl vl) at at (decoded_cells F (entries_of F B) (controls_of F B)) (walk_sized S h long mirrored)
+
+-- ---- walks
+-- the bytes of an item of a walk
+abbrev pub read : ℕ × (Bor (List ℕ) × Bor (List ℕ)) → ℕ × (List ℕ × List ℕ)
+read x = (x.0, (x.1.0.now, x.1.1.now))
+
+-- one more item is in an array of pieces
+pub one_more_piece : (len n w : ℕ) (f : ℕ × (List ℕ × List ℕ) → List ℕ) (ys : List (ℕ × (List ℕ × List ℕ))) (y : ℕ × (List ℕ × List ℕ)) (old now new : List ℕ)
+    → w ≡ length ys → w < n → pieces len n now ≡ map f ys ++ drop w (pieces len n old) → pieces len n new ≡ set (pieces len n now) w (f y)
+    → pieces len n new ≡ map f (ys ++ y ∷ []) ++ drop (w + 1) (pieces len n old)
+one_more_piece len n w f ys y old now new long room so_far put =
+    put ∙ set-next_of f ys (pieces len n old) (pieces len n now) y w long (omega (arith, room, length-pieces len n old)) so_far

@@ -1,0 +1,66 @@
+-- Keys and values that lie one after the other in bytes, and the calls for tables of any lengths that take or write them.
+--     pieces len n B       the first n pieces of B in turn, of len bytes each
+--     ArePieces kl vl n ks vs  ks are n keys of kl bytes, and vs are n values of vl bytes
+--     Each of the calls answers what that of a shape does, of the keys and values that the bytes have (`Pieces..`), in
+--     the format F:
+--     PiecesWalkAnswers F B at n ks vs m s at' ks' vs' m'   a walk into bytes for n keys and n values
+--     PiecesGetAllAnswers F B n ks vs fs s vs' fs'          lookups of n keys
+--     PiecesInsertAllAnswers F B n ks vs m s B' m'          inserts of n pairs in turn
+--     Where there are more or fewer bytes it answers bad_lengths, and nothing is written (`Sized..`); and before that,
+--     where the layout l is none, bad_layout, and nothing is written (`Any..`).
+use Rattle.std.specs.Prelude.{◌≡◌, ℕ, ◌*◌, zero, suc, List, [], ◌∷◌, length, take, drop}
+use Rattle.odht_base.specs.Format.{Format}
+use Rattle.odht_raw.specs.Sized.{bytes_coding}
+use Rattle.odht_calls.specs.declared.any.AnyLayout.{AnyLayout}
+use Rattle.odht_calls.specs.Layouts.{AnyAnswers, SizedAnswers}
+use Rattle.odht_calls.specs.Reads.{GetAllAnswers}
+use Rattle.odht_calls.specs.Walks.{WalkAnswers}
+use Rattle.odht_calls.specs.Writes.{InsertAllAnswers}
+
+abbrev pub pieces : ℕ → ℕ → List ℕ → List (List ℕ)
+pieces len zero B = []
+pieces len (suc n) B = take len B ∷ pieces len n (drop len B)
+
+pub record ArePieces (kl vl n : ℕ) (ks vs : List ℕ) : Type 0 where
+  pub keys : length ks ≡ n * kl
+  pub values : length vs ≡ n * vl
+
+-- ---- walks
+abbrev pub PiecesWalkAnswers : Format → List ℕ → ℕ → ℕ → List ℕ → List ℕ → ℕ → ℕ → ℕ → List ℕ → List ℕ → ℕ → Type 0
+PiecesWalkAnswers F B at n ks vs m s at' ks' vs' m' =
+    WalkAnswers (bytes_coding F) B at (pieces F.key_len n ks) (pieces F.value_len n vs) m s at' (pieces F.key_len n ks') (pieces F.value_len n vs') m'
+
+abbrev pub SizedWalkAnswers : Format → List ℕ → ℕ → ℕ → List ℕ → List ℕ → ℕ → ℕ → ℕ → List ℕ → List ℕ → ℕ → Type 0
+SizedWalkAnswers F B at n ks vs m s at' ks' vs' m' =
+    SizedAnswers (ArePieces F.key_len F.value_len n ks vs) s ((at' ≡ at) × (ks' ≡ ks) × (vs' ≡ vs) × (m' ≡ m))
+    (PiecesWalkAnswers F B at n ks vs m s at' ks' vs' m')
+
+abbrev pub AnyWalkAnswers : AnyLayout → List ℕ → ℕ → ℕ → List ℕ → List ℕ → ℕ → ℕ → ℕ → List ℕ → List ℕ → ℕ → Type 0
+AnyWalkAnswers l B at n ks vs m s at' ks' vs' m' =
+    AnyAnswers l s ((at' ≡ at) × (ks' ≡ ks) × (vs' ≡ vs) × (m' ≡ m)) (λ c. SizedWalkAnswers c.format B at n ks vs m s at' ks' vs' m')
+
+-- ---- lookups of many keys
+abbrev pub PiecesGetAllAnswers : Format → List ℕ → ℕ → List ℕ → List ℕ → List ℕ → ℕ → List ℕ → List ℕ → Type 0
+PiecesGetAllAnswers F B n ks vs fs s vs' fs' =
+    GetAllAnswers (bytes_coding F) B (pieces F.key_len n ks) (pieces F.value_len n vs) fs s (pieces F.value_len n vs') fs'
+
+abbrev pub SizedGetAllAnswers : Format → List ℕ → ℕ → List ℕ → List ℕ → List ℕ → ℕ → List ℕ → List ℕ → Type 0
+SizedGetAllAnswers F B n ks vs fs s vs' fs' =
+    SizedAnswers (ArePieces F.key_len F.value_len n ks vs × (length fs ≡ n)) s ((vs' ≡ vs) × (fs' ≡ fs)) (PiecesGetAllAnswers F B n ks vs fs s vs' fs')
+
+abbrev pub AnyGetAllAnswers : AnyLayout → List ℕ → ℕ → List ℕ → List ℕ → List ℕ → ℕ → List ℕ → List ℕ → Type 0
+AnyGetAllAnswers l B n ks vs fs s vs' fs' =
+    AnyAnswers l s ((vs' ≡ vs) × (fs' ≡ fs)) (λ c. SizedGetAllAnswers c.format B n ks vs fs s vs' fs')
+
+-- ---- inserts of many pairs
+abbrev pub PiecesInsertAllAnswers : Format → List ℕ → ℕ → List ℕ → List ℕ → ℕ → ℕ → List ℕ → ℕ → Type 0
+PiecesInsertAllAnswers F B n ks vs m s B' m' =
+    InsertAllAnswers (bytes_coding F) B (pieces F.key_len n ks) (pieces F.value_len n vs) m s B' m'
+
+abbrev pub SizedInsertAllAnswers : Format → List ℕ → ℕ → List ℕ → List ℕ → ℕ → ℕ → List ℕ → ℕ → Type 0
+SizedInsertAllAnswers F B n ks vs m s B' m' =
+    SizedAnswers (ArePieces F.key_len F.value_len n ks vs) s ((B' ≡ B) × (m' ≡ m)) (PiecesInsertAllAnswers F B n ks vs m s B' m')
+
+abbrev pub AnyInsertAllAnswers : AnyLayout → List ℕ → ℕ → List ℕ → List ℕ → ℕ → ℕ → List ℕ → ℕ → Type 0
+AnyInsertAllAnswers l B n ks vs m s B' m' =
+    AnyAnswers l s ((B' ≡ B) × (m' ≡ m)) (λ c. SizedInsertAllAnswers c.format B n ks vs m s B' m')

@@ -1,0 +1,160 @@
+//! The calls for many keys of a table of any lengths: lookups, and inserts in turn.
+ghost use Rattle.std.specs.Prelude.{◌≡◌, ◌≤◌, length};
+ghost use Rattle.odht_base.specs.Format.{format_of};
+ghost use Rattle.odht_calls.specs.Pieces.{ArePieces, PiecesGetAllAnswers, SizedGetAllAnswers};
+ghost use Rattle.odht_calls.specs.Pieces.{AnyGetAllAnswers};
+ghost use Rattle.odht_calls.specs.Pieces.{PiecesInsertAllAnswers, SizedInsertAllAnswers};
+ghost use Rattle.odht_calls.specs.Pieces.{AnyInsertAllAnswers};
+
+use super::pieces::{are_pieces, piece, put_answer};
+use super::read::view;
+use super::{AnyLayout, FX, UNHASH, has_hash};
+use crate::status::{BAD_LAYOUT, BAD_LENGTHS, OK, status_of};
+use odht::hash::{FxHashFn, HashFn, UnHashFn};
+use odht::layout::Layout;
+use odht::memory_layout::insert_sized;
+
+// The lookups of `count` keys.
+fn get_pieces<H: HashFn>(
+    layout: Layout,
+    bytes: &[u8],
+    count: usize,
+    keys: &[u8],
+    values: &mut [u8],
+    found: &mut [u8],
+) -> u32
+    requires hashes { H.MIN_LEN ≤ layout.key_len }
+    requires arrays { ArePieces layout.key_len layout.value_len count keys.now values.old }
+    requires found { length found.old ≡ count }
+    ensures { PiecesGetAllAnswers (format_of layout.key_len layout.value_len H.hash) bytes.now
+        count keys.now values.old found.old result values.new found.new }
+{
+    let table = match view::<H>(layout, bytes) {
+        Ok(table) => table,
+        Err(refused) => return status_of(&refused),
+    };
+    for index in 0..count {
+        let answer = table.get(piece(keys, layout.key_len, index));
+        put_answer(values, found, layout.value_len, index, answer);
+    }
+    OK
+}
+
+fn get_all_by<H: HashFn>(
+    layout: Layout,
+    bytes: &[u8],
+    count: usize,
+    keys: &[u8],
+    values: &mut [u8],
+    found: &mut [u8],
+) -> u32
+    requires { H.MIN_LEN ≤ layout.key_len }
+    ensures { SizedGetAllAnswers (format_of layout.key_len layout.value_len H.hash) bytes.now
+        count keys.now values.old found.old result values.new found.new }
+{
+    if !are_pieces(layout, count, keys, values) || found.len() != count {
+        return BAD_LENGTHS;
+    }
+    get_pieces::<H>(layout, bytes, count, keys, values, found)
+}
+
+/// Looks up `count` keys: at the index of a key that is found, its value is written to `values` and 1 to `found`; at any
+/// other index 0 is written to `found`. BAD_LENGTHS where the arrays are not for so many keys, values and flags. An
+/// error leaves both unchanged.
+pub fn get_all(
+    layout: AnyLayout,
+    bytes: &[u8],
+    count: usize,
+    keys: &[u8],
+    values: &mut [u8],
+    found: &mut [u8],
+) -> u32
+    ensures { AnyGetAllAnswers layout bytes.now
+        count keys.now values.old found.old result values.new found.new }
+{
+    let lengths = Layout {
+        key_len: layout.key_len,
+        value_len: layout.value_len,
+    };
+    if has_hash(layout, FX, FxHashFn::MIN_LEN) {
+        get_all_by::<FxHashFn>(lengths, bytes, count, keys, values, found)
+    } else if has_hash(layout, UNHASH, UnHashFn::MIN_LEN) {
+        get_all_by::<UnHashFn>(lengths, bytes, count, keys, values, found)
+    } else {
+        BAD_LAYOUT
+    }
+}
+
+// The inserts of `count` pairs.
+fn insert_pieces<H: HashFn>(
+    layout: Layout,
+    bytes: &mut [u8],
+    count: usize,
+    keys: &[u8],
+    values: &[u8],
+    accepted: &mut usize,
+) -> u32
+    requires hashes { H.MIN_LEN ≤ layout.key_len }
+    requires arrays { ArePieces layout.key_len layout.value_len count keys.now values.now }
+    ensures { PiecesInsertAllAnswers (format_of layout.key_len layout.value_len H.hash) bytes.old
+        count keys.now values.now accepted.old result bytes.new accepted.new }
+{
+    if let Err(refused) = view::<H>(layout, bytes) {
+        return status_of(&refused);
+    }
+    for index in 0..count {
+        let key = piece(keys, layout.key_len, index);
+        let value = piece(values, layout.value_len, index);
+        if let Err(refused) = insert_sized::<H>(bytes, layout, key, value) {
+            *accepted = index;
+            return status_of(&refused);
+        }
+    }
+    *accepted = count;
+    OK
+}
+
+fn insert_all_by<H: HashFn>(
+    layout: Layout,
+    bytes: &mut [u8],
+    count: usize,
+    keys: &[u8],
+    values: &[u8],
+    accepted: &mut usize,
+) -> u32
+    requires { H.MIN_LEN ≤ layout.key_len }
+    ensures { SizedInsertAllAnswers (format_of layout.key_len layout.value_len H.hash) bytes.old
+        count keys.now values.now accepted.old result bytes.new accepted.new }
+{
+    if !are_pieces(layout, count, keys, values) {
+        return BAD_LENGTHS;
+    }
+    insert_pieces::<H>(layout, bytes, count, keys, values, accepted)
+}
+
+/// Inserts `count` pairs in order, up to the first whose insert fails with FULL, and writes to `accepted` how many were
+/// inserted. BAD_LENGTHS where the arrays are not for so many keys and values. It and an error of the header or length
+/// leave everything unchanged.
+pub fn insert_all(
+    layout: AnyLayout,
+    bytes: &mut [u8],
+    count: usize,
+    keys: &[u8],
+    values: &[u8],
+    accepted: &mut usize,
+) -> u32
+    ensures { AnyInsertAllAnswers layout bytes.old
+        count keys.now values.now accepted.old result bytes.new accepted.new }
+{
+    let lengths = Layout {
+        key_len: layout.key_len,
+        value_len: layout.value_len,
+    };
+    if has_hash(layout, FX, FxHashFn::MIN_LEN) {
+        insert_all_by::<FxHashFn>(lengths, bytes, count, keys, values, accepted)
+    } else if has_hash(layout, UNHASH, UnHashFn::MIN_LEN) {
+        insert_all_by::<UnHashFn>(lengths, bytes, count, keys, values, accepted)
+    } else {
+        BAD_LAYOUT
+    }
+}

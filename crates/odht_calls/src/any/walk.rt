@@ -1,0 +1,99 @@
+//! Walks over a table of any lengths that write its pairs to arrays, a part at a time.
+ghost use Rattle.std.specs.Prelude.{◌≤◌};
+ghost use Rattle.odht_base.specs.Format.{format_of};
+ghost use Rattle.odht_calls.specs.Pieces.{ArePieces, PiecesWalkAnswers, SizedWalkAnswers};
+ghost use Rattle.odht_calls.specs.Pieces.{AnyWalkAnswers};
+
+use super::pieces::{are_pieces, put_piece};
+use super::read::view;
+use super::{AnyLayout, FX, UNHASH, has_hash};
+use crate::status::{BAD_LAYOUT, BAD_LENGTHS, OK, TOO_SMALL, status_of};
+use odht::hash::{FxHashFn, HashFn, UnHashFn};
+use odht::layout::Layout;
+use odht::memory_layout::Header;
+
+// The walk into bytes for `room` keys and `room` values.
+fn walk_pieces<H: HashFn>(
+    layout: Layout,
+    bytes: &[u8],
+    cursor: &mut usize,
+    room: usize,
+    keys: &mut [u8],
+    values: &mut [u8],
+    item_count: &mut usize,
+) -> u32
+    requires hashes { H.MIN_LEN ≤ layout.key_len }
+    requires arrays { ArePieces layout.key_len layout.value_len room keys.old values.old }
+    ensures { PiecesWalkAnswers (format_of layout.key_len layout.value_len H.hash) bytes.now
+        cursor.old room keys.old values.old item_count.old result cursor.new keys.new values.new
+        item_count.new }
+{
+    let table = match view::<H>(layout, bytes) {
+        Ok(table) => table,
+        Err(refused) => return status_of(&refused),
+    };
+    let mut written = 0;
+    for (slot, (key, value)) in table.iter_from(*cursor) {
+        if written >= room {
+            *cursor = slot;
+            *item_count = written;
+            return TOO_SMALL;
+        }
+        put_piece(keys, layout.key_len, written, key);
+        put_piece(values, layout.value_len, written, value);
+        written += 1;
+    }
+    *cursor = Header::of(bytes).slot_count();
+    *item_count = written;
+    OK
+}
+
+fn walk_by<H: HashFn>(
+    layout: Layout,
+    bytes: &[u8],
+    cursor: &mut usize,
+    room: usize,
+    keys: &mut [u8],
+    values: &mut [u8],
+    item_count: &mut usize,
+) -> u32
+    requires { H.MIN_LEN ≤ layout.key_len }
+    ensures { SizedWalkAnswers (format_of layout.key_len layout.value_len H.hash) bytes.now
+        cursor.old room keys.old values.old item_count.old result cursor.new keys.new values.new
+        item_count.new }
+{
+    if !are_pieces(layout, room, keys, values) {
+        return BAD_LENGTHS;
+    }
+    walk_pieces::<H>(layout, bytes, cursor, room, keys, values, item_count)
+}
+
+/// Writes the keys and values in the slots from `cursor` on to the arrays, in slot order, as many as fit, and to
+/// `item_count` how many. `cursor` is then the slot of the first pair that did not fit (TOO_SMALL), or the slot count
+/// where none is left (OK). The arrays take `room` pairs; BAD_LENGTHS where they have more or fewer bytes. An error
+/// leaves everything unchanged.
+pub fn walk(
+    layout: AnyLayout,
+    bytes: &[u8],
+    cursor: &mut usize,
+    room: usize,
+    keys: &mut [u8],
+    values: &mut [u8],
+    item_count: &mut usize,
+) -> u32
+    ensures { AnyWalkAnswers layout bytes.now
+        cursor.old room keys.old values.old item_count.old result cursor.new keys.new values.new
+        item_count.new }
+{
+    let lengths = Layout {
+        key_len: layout.key_len,
+        value_len: layout.value_len,
+    };
+    if has_hash(layout, FX, FxHashFn::MIN_LEN) {
+        walk_by::<FxHashFn>(lengths, bytes, cursor, room, keys, values, item_count)
+    } else if has_hash(layout, UNHASH, UnHashFn::MIN_LEN) {
+        walk_by::<UnHashFn>(lengths, bytes, cursor, room, keys, values, item_count)
+    } else {
+        BAD_LAYOUT
+    }
+}
