@@ -5,6 +5,7 @@
 #include "buffers.h"
 #include "calls.h"
 #include "keys.h"
+#include "layouts.h"
 #include "odht.h"
 #include "placing.h"
 #include "random.h"
@@ -12,12 +13,11 @@
 #include "subjects.h"
 #include "tables.h"
 
-enum { LONGEST = 64, ITEMS = 8, PERCENT = 60, SLOTS = 16, NUMBERS_LEN = 256 };
+enum { LONGEST = 64, NUMBERS_LEN = 256 };
 
 static const odht_layout numbers = { 8, 4, ODHT_HASH_FX };
 
-/* The layout of a shape. */
-static odht_layout layout_of(struct shape shape)
+odht_layout layout_of(struct shape shape)
 {
     odht_layout layout = { (uint8_t)shape.key, (uint8_t)shape.value,
                            shape.hash == FX ? ODHT_HASH_FX : ODHT_HASH_UN };
@@ -25,8 +25,7 @@ static odht_layout layout_of(struct shape shape)
     return layout;
 }
 
-/* An empty table of sixteen slots. */
-static uint8_t *empty_table(odht_layout layout, size_t len)
+uint8_t *empty_table(odht_layout layout, size_t len)
 {
     uint8_t *bytes = bytes_of(len);
     size_t *needed = SIZES(0);
@@ -190,6 +189,11 @@ static void each_answers(odht_layout layout, uint32_t status)
     STATUS(odht_any_check(&layout, bytes, NUMBERS_LEN), status);
     STATUS(odht_any_check_within(&layout, bytes, NUMBERS_LEN, 1), status);
     STATUS(odht_any_len(&layout, bytes, NUMBERS_LEN, len), status);
+    STATUS(odht_any_sizes(&layout, bytes, NUMBERS_LEN, len, len, value), status);
+    STATUS(odht_any_table_len(&layout, bytes, NUMBERS_LEN, len), status);
+    STATUS(odht_any_get_all(&layout, bytes, NUMBERS_LEN, 0, out, 0, out, 0, out, 0), status);
+    STATUS(odht_any_insert_all(&layout, bytes, NUMBERS_LEN, 0, out, 0, out, 0, len), status);
+    STATUS(odht_any_walk(&layout, bytes, NUMBERS_LEN, len, 0, out, 0, out, 0, len), status);
     STATUS(odht_any_get(&layout, bytes, NUMBERS_LEN, key, layout.key_len, value, layout.value_len),
            status);
     STATUS(odht_any_contains(&layout, bytes, NUMBERS_LEN, key, layout.key_len), status);

@@ -3,9 +3,17 @@
  *
  * The calls odht_any_* take the lengths of keys and values, and the hash function, as a layout, and keys and values as
  * pointers to so many bytes. They read and write the same bytes as the calls of a shape of these lengths, and answer
- * the same. BAD_LAYOUT is answered first, where no hash function has this number, or keys are shorter than it needs:
- * ODHT_HASH_UN needs four bytes. BAD_LENGTHS comes next, where a key or a value that is passed has another length than
- * the layout says. With both, nothing is written.
+ * the same; what is said above of odht_S_NAME goes for odht_any_NAME. Two answers come before all others, and with both
+ * nothing is written:
+ *
+ * - BAD_LAYOUT: no hash function has the number of the layout, or its keys are shorter than the function needs.
+ *   ODHT_HASH_UN needs four bytes.
+ * - BAD_LENGTHS, then: a key or a value that is passed has another length than the layout says. Of many, keys_len is
+ *   not count times (for a walk: room times) the length of a key, values_len is not so many times that of a value, or
+ *   found_len is not count.
+ *
+ * All lengths of keys and values are in bytes here, also those of many, which lie one after the other. A layout is never
+ * NULL. A set has values of no bytes: pass NULL and 0 for them.
  */
 typedef struct odht_layout {
     uint8_t key_len;   /* of each key, in bytes */
@@ -51,6 +59,25 @@ ODHT_CALL(uint32_t, any_len,
     return odht_symbol_any_len(
         layout, odht_read_uint8_t(bytes, bytes_len), bytes_len, count ? count : &unwanted);)
 
+/* OK: the numbers of the header: how many slots, how many items these take at most, and the load factor in percent,
+   rounded down. An error, @HEADER@: they are unchanged. */
+ODHT_CALL(uint32_t, any_sizes,
+    (const odht_layout *layout, const uint8_t *bytes, size_t bytes_len, size_t *slots,
+        size_t *max_item_count, uint8_t *percent),
+    size_t unwanted_slots = 0;
+    size_t unwanted_count = 0;
+    uint8_t unwanted_percent = 0;
+    return odht_symbol_any_sizes(layout, odht_read_uint8_t(bytes, bytes_len), bytes_len,
+        slots ? slots : &unwanted_slots, max_item_count ? max_item_count : &unwanted_count,
+        percent ? percent : &unwanted_percent);)
+
+/* OK: *len is how many bytes the table at the front of the bytes has. An error, @HEADER@: it is unchanged. */
+ODHT_CALL(uint32_t, any_table_len,
+    (const odht_layout *layout, const uint8_t *bytes, size_t bytes_len, size_t *len),
+    size_t unwanted = 0;
+    return odht_symbol_any_table_len(
+        layout, odht_read_uint8_t(bytes, bytes_len), bytes_len, len ? len : &unwanted);)
+
 /* OK: the lengths of the layout are those that the header states; its hash function, which no header states, is as
    before. An error, @HEADER@: it is unchanged. */
 ODHT_CALL(uint32_t, any_layout_of,
@@ -75,6 +102,26 @@ ODHT_CALL(uint32_t, any_contains,
     return odht_symbol_any_contains(layout, odht_read_uint8_t(bytes, bytes_len), bytes_len,
         odht_read_uint8_t(key, key_len), key_len);)
 
+/* OK: found[i] is 1 and value i the value of key i, or found[i] is 0 and value i unchanged. An error, @HEADER@: both
+   arrays are unchanged. */
+ODHT_CALL(uint32_t, any_get_all,
+    (const odht_layout *layout, const uint8_t *bytes, size_t bytes_len, size_t count,
+        const uint8_t *keys, size_t keys_len, uint8_t *values, size_t values_len, uint8_t *found,
+        size_t found_len),
+    return odht_symbol_any_get_all(layout, odht_read_uint8_t(bytes, bytes_len), bytes_len, count,
+        odht_read_uint8_t(keys, keys_len), keys_len, odht_write_uint8_t(values, values_len),
+        values_len, odht_write_uint8_t(found, found_len), found_len);)
+
+/* OK: the last *count pairs, from slot *cursor on, where the arrays take room pairs. TOO_SMALL: the arrays are full,
+   there are more, and *cursor is where to continue. An error, @HEADER@: nothing is written. */
+ODHT_CALL(uint32_t, any_walk,
+    (const odht_layout *layout, const uint8_t *bytes, size_t bytes_len, size_t *cursor, size_t room,
+        uint8_t *keys, size_t keys_len, uint8_t *values, size_t values_len, size_t *count),
+    size_t unwanted = 0;
+    return odht_symbol_any_walk(layout, odht_read_uint8_t(bytes, bytes_len), bytes_len, cursor,
+        room, odht_write_uint8_t(keys, keys_len), keys_len, odht_write_uint8_t(values, values_len),
+        values_len, count ? count : &unwanted);)
+
 /* OK: the key was new. REPLACED: the former value is written, unless former is NULL. FULL, or an error, @HEADER@:
    nothing changes. */
 ODHT_CALL(uint32_t, any_insert,
@@ -89,6 +136,15 @@ ODHT_CALL(uint32_t, any_insert,
     return odht_symbol_any_insert(layout, odht_write_uint8_t(bytes, bytes_len), bytes_len,
         odht_read_uint8_t(key, key_len), key_len, odht_read_uint8_t(value, value_len), value_len,
         former, former_len);)
+
+/* OK or FULL: *accepted pairs are inserted. An error, @HEADER@: nothing changes. */
+ODHT_CALL(uint32_t, any_insert_all,
+    (const odht_layout *layout, uint8_t *bytes, size_t bytes_len, size_t count, const uint8_t *keys,
+        size_t keys_len, const uint8_t *values, size_t values_len, size_t *accepted),
+    size_t unwanted = 0;
+    return odht_symbol_any_insert_all(layout, odht_write_uint8_t(bytes, bytes_len), bytes_len,
+        count, odht_read_uint8_t(keys, keys_len), keys_len, odht_read_uint8_t(values, values_len),
+        values_len, accepted ? accepted : &unwanted);)
 
 /* OK: the first *len bytes of out are the grown table. TOO_SMALL: out_len is below *len, and out is unchanged. An error,
    @HEADER@, LOAD_FACTOR_TOO_SMALL, CAPACITY: *len is unchanged too. */

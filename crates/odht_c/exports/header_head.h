@@ -36,7 +36,7 @@
  * - Where ODHT_TAKES_NULL is 1, that is with GCC and Clang for ELF, NULL may be passed
  *   for a slice of length 0, and for an out-parameter of a single number or value that
  *   the caller does not want (former, value, accepted, count, len, slot, and the three of
- *   odht_*_sizes), which is then not written. A key, a view and cursor are never NULL.
+ *   odht_*_sizes), which is then not written. A key, a view, a layout and cursor are never NULL.
  *   Where it is 0 no pointer is NULL, also where the length beside it is 0, and sets have
  *   no calls with keys.
  *

@@ -7,11 +7,13 @@ ghost use Rattle.odht_header.specs.Refusals.{view_refusal, check_refusal, check_
 ghost use Rattle.odht_calls.specs.Statuses.{status_or_ok};
 ghost use Rattle.odht_calls.specs.Layouts.{AnyAnswers, SizedAnswers};
 ghost use Rattle.odht_calls.specs.Layouts.{ContainsAnswers, LayoutAnswers};
-ghost use Rattle.odht_calls.specs.Reads.{GetAnswers, LenAnswers};
+ghost use Rattle.odht_calls.specs.Pieces.{AnyWalkAnswers, AnyGetAllAnswers, AnyInsertAllAnswers};
+ghost use Rattle.odht_calls.specs.Prefixes.{TableLenAnswers};
+ghost use Rattle.odht_calls.specs.Reads.{GetAnswers, LenAnswers, SizesAnswers};
 ghost use Rattle.odht_calls.specs.Writes.{BytesNeededAnswers, InitAnswers, InsertAnswers};
 ghost use Rattle.odht_calls.specs.Grows.{GrowAnswers};
 
-use odht_calls::any::{AnyLayout, read, write};
+use odht_calls::any::{AnyLayout, lists, read, walk, write};
 
 /// Writes to `len` how many bytes a new table for so many items has: status 0. `BAD_PERCENT` where the load factor is
 /// not from 1 to 100 percent, `CAPACITY` where no slot count is enough or the length does not fit `usize`; then `len`
@@ -86,6 +88,43 @@ pub extern "C" fn odht_any_len(layout: &AnyLayout, bytes: &[u8], item_count: &mu
     read::len(*layout, bytes, item_count)
 }
 
+/// Writes the header's slot count, how many items these slots take at most, and the header's load factor in percent,
+/// rounded down: status 0. Or an error of the header or length; then nothing is written.
+#[unsafe(no_mangle)]
+pub extern "C" fn odht_any_sizes(
+    layout: &AnyLayout,
+    bytes: &[u8],
+    slot_count: &mut usize,
+    max_item_count: &mut usize,
+    max_load_factor_percent: &mut u8,
+) -> u32
+    ensures { let Same = (slot_count.new ≡ slot_count.old)
+        × (max_item_count.new ≡ max_item_count.old)
+        × (max_load_factor_percent.new ≡ max_load_factor_percent.old)
+        in AnyAnswers layout.now result Same (λ c. SizesAnswers c.format bytes.now
+        slot_count.old max_item_count.old max_load_factor_percent.old result
+        slot_count.new max_item_count.new max_load_factor_percent.new) }
+{
+    read::sizes(
+        *layout,
+        bytes,
+        slot_count,
+        max_item_count,
+        max_load_factor_percent,
+    )
+}
+
+/// Writes to `len` how many bytes the table at the front of the bytes has, by its header: status 0. What follows the
+/// table is not looked at, nor is any slot. Or an error of the header, or `WRONG_LENGTH` where there are fewer bytes
+/// than the table has; then `len` is unchanged.
+#[unsafe(no_mangle)]
+pub extern "C" fn odht_any_table_len(layout: &AnyLayout, bytes: &[u8], len: &mut usize) -> u32
+    ensures { AnyAnswers layout.now result (len.new ≡ len.old)
+        (λ c. TableLenAnswers c.format bytes.now len.old result len.new) }
+{
+    read::table_len(*layout, bytes, len)
+}
+
 /// Writes to `layout` the lengths of keys and values that the header states: status 0. The number of the hash function
 /// stays, since no header states it. Or an error of the header or length; then `layout` is unchanged.
 #[unsafe(no_mangle)]
@@ -98,8 +137,14 @@ pub extern "C" fn odht_any_layout_of(bytes: &[u8], layout: &mut AnyLayout) -> u3
 /// Writes the value of a key to `value`: status 0. `ABSENT` where there is none, `BAD_LENGTHS` where the key or `value`
 /// has another length than the layout says, or an error of the header or length; then `value` is unchanged.
 #[unsafe(no_mangle)]
-pub extern "C" fn odht_any_get(layout: &AnyLayout, bytes: &[u8], key: &[u8], value: &mut [u8]) -> u32
-    ensures { let Long = (length key.now ≡ layout.now.key_len) × (length value.old ≡ layout.now.value_len)
+pub extern "C" fn odht_any_get(
+    layout: &AnyLayout,
+    bytes: &[u8],
+    key: &[u8],
+    value: &mut [u8],
+) -> u32
+    ensures { let Long = (length key.now ≡ layout.now.key_len)
+        × (length value.old ≡ layout.now.value_len)
         in AnyAnswers layout.now result (value.new ≡ value.old)
         (λ c. SizedAnswers Long result (value.new ≡ value.old)
         (GetAnswers c bytes.now key.now value.old result value.new)) }
@@ -118,6 +163,46 @@ pub extern "C" fn odht_any_contains(layout: &AnyLayout, bytes: &[u8], key: &[u8]
     read::contains(*layout, bytes, key)
 }
 
+/// Looks up `count` keys, which lie in `keys` one after the other: status 0, and at each index `found` is 1 and the value
+/// is written, or `found` is 0 and the value is unchanged. `BAD_LENGTHS` where `keys`, `values` or `found` have another
+/// length than so many keys, values and flags, or an error of the header or length; then nothing is written.
+#[unsafe(no_mangle)]
+pub extern "C" fn odht_any_get_all(
+    layout: &AnyLayout,
+    bytes: &[u8],
+    count: usize,
+    keys: &[u8],
+    values: &mut [u8],
+    found: &mut [u8],
+) -> u32
+    ensures { AnyGetAllAnswers layout.now bytes.now
+        count keys.now values.old found.old result values.new found.new }
+{
+    lists::get_all(*layout, bytes, count, keys, values, found)
+}
+
+/// Writes the keys and values in the slots from `cursor` on (0 at first), in slot order, as many as fit, and to
+/// `item_count` how many. Status 0 where these are all; `TOO_SMALL` where the arrays are full and there are more.
+/// Either way `cursor` is then the slot to continue at: the pairs from there on are those that are left. `BAD_LENGTHS`
+/// where `keys` or `values` have another length than `room` of them, or an error of the header or length; then nothing
+/// is written.
+#[unsafe(no_mangle)]
+pub extern "C" fn odht_any_walk(
+    layout: &AnyLayout,
+    bytes: &[u8],
+    cursor: &mut usize,
+    room: usize,
+    keys: &mut [u8],
+    values: &mut [u8],
+    item_count: &mut usize,
+) -> u32
+    ensures { AnyWalkAnswers layout.now bytes.now
+        cursor.old room keys.old values.old item_count.old result cursor.new keys.new values.new
+        item_count.new }
+{
+    walk::walk(*layout, bytes, cursor, room, keys, values, item_count)
+}
+
 /// Gives the key this value: status 0 where the key was new, `REPLACED` where it had a value, which is written to
 /// `former`. `FULL` at the maximum where the key is absent, `BAD_LENGTHS` where the key, the value or `former` has
 /// another length than the layout says, or an error of the header or length; then nothing changes.
@@ -129,13 +214,32 @@ pub extern "C" fn odht_any_insert(
     value: &[u8],
     former: &mut [u8],
 ) -> u32
-    ensures { let Long = (length key.now ≡ layout.now.key_len) × (length value.now ≡ layout.now.value_len)
+    ensures { let Long = (length key.now ≡ layout.now.key_len)
+        × (length value.now ≡ layout.now.value_len)
         × (length former.old ≡ layout.now.value_len)
         in let Same = (bytes.new ≡ bytes.old) × (former.new ≡ former.old)
         in AnyAnswers layout.now result Same (λ c. SizedAnswers Long result Same
         (InsertAnswers c bytes.old key.now value.now former.old result bytes.new former.new)) }
 {
     write::insert(*layout, bytes, key, value, former)
+}
+
+/// Inserts `count` pairs, whose keys and values lie one after the other, in order: status 0, or `FULL` at the first that
+/// does not fit; and writes to `accepted` how many were inserted. `BAD_LENGTHS` where `keys` or `values` have another
+/// length than so many of them, or an error of the header or length; then nothing changes.
+#[unsafe(no_mangle)]
+pub extern "C" fn odht_any_insert_all(
+    layout: &AnyLayout,
+    bytes: &mut [u8],
+    count: usize,
+    keys: &[u8],
+    values: &[u8],
+    accepted: &mut usize,
+) -> u32
+    ensures { AnyInsertAllAnswers layout.now bytes.old
+        count keys.now values.now accepted.old result bytes.new accepted.new }
+{
+    lists::insert_all(*layout, bytes, count, keys, values, accepted)
 }
 
 /// Writes the table that the one in `bytes` grows into at its maximum to the front of `out`, and its length in bytes to
