@@ -21,7 +21,6 @@ fn kind_in_c(parameter: &str) -> String {
         "const" => "*const",
         _ if parameter.contains(['*', '[']) => "*mut",
         "size_t" => "usize",
-        "odht_layout" => "struct",
         "uint8_t" => "u8",
         "uint32_t" => "u32",
         "uint64_t" => "u64",
@@ -41,10 +40,7 @@ fn declared_in_c(header: &str) -> BTreeMap<String, Kinds> {
         if behind.trim_start().starts_with("__asm__") {
             let answer = before.split_whitespace().last().unwrap();
             let kinds = parameters.split(',').map(kind_in_c).chain([kind_in_c(answer)]);
-            // The calls for tables of any lengths, which this package does not have.
-            if !name.starts_with("any_") {
-                symbols.insert(name.trim_end().to_string(), kinds.collect());
-            }
+            symbols.insert(name.trim_end().to_string(), kinds.collect());
         }
         before = piece;
     }
@@ -66,6 +62,18 @@ fn passed(written: &str) -> String {
     }
 }
 
+/// The calls that are declared in a piece of src/sys.rs, each under the name of its module and its own.
+fn calls_in(piece: &str, module: &str) -> BTreeMap<String, Kinds> {
+    let calls = piece.split("pub fn ").skip(1).map(|call| {
+        let (name, behind) = call.split_once('(').unwrap();
+        let (parameters, answer) = behind.split_once(") -> ").unwrap();
+        let parts = parameters.split(',').filter(|part| !part.trim().is_empty());
+        let kinds = parts.chain([answer.split_once(';').unwrap().0]).map(kind_in_rust).collect();
+        (format!("{module}_{name}"), kinds)
+    });
+    calls.collect()
+}
+
 /// The calls of a shape by the template of src/sys.rs.
 fn calls_of_shape(template: &str, line: &str) -> BTreeMap<String, Kinds> {
     let (names, behind) = line.trim().split_once(": ").unwrap();
@@ -76,21 +84,17 @@ fn calls_of_shape(template: &str, line: &str) -> BTreeMap<String, Kinds> {
     let template = template
         .replace("passed!($key_kind $key)", &passed(key))
         .replace("$(value: passed!($value_kind $value),)?", &value);
-    let calls = template.split("pub fn ").skip(1).map(|call| {
-        let (name, behind) = call.split_once('(').unwrap();
-        let (parameters, answer) = behind.split_once(") -> ").unwrap();
-        let parts = parameters.split(',').filter(|part| !part.trim().is_empty());
-        let kinds = parts.chain([answer.split_once(';').unwrap().0]).map(kind_in_rust).collect();
-        (format!("{module}_{name}"), kinds)
-    });
-    calls.collect()
+    calls_in(&template, module)
 }
 
-/// The symbols that src/sys.rs declares for the shapes of src/shapes.rs, in the same way, and the number of shapes.
+/// The symbols that src/sys.rs declares in the same way, for tables of any lengths and for the shapes of src/shapes.rs,
+/// and the number of shapes.
 fn declared_in_rust() -> (usize, BTreeMap<String, Kinds>) {
-    let template = include_str!("../src/sys.rs").split_once("macro_rules! declare").unwrap().1;
+    let (before, template) = include_str!("../src/sys.rs").split_once("macro_rules! declare").unwrap();
     let lines: Vec<&str> = include_str!("../src/shapes.rs").lines().filter(|line| line.ends_with("\";")).collect();
-    (lines.len(), lines.into_iter().flat_map(|line| calls_of_shape(template, line)).collect())
+    let mut declared = calls_in(before.split_once("pub mod any").unwrap().1, "any");
+    declared.extend(lines.iter().flat_map(|line| calls_of_shape(template, line)));
+    (lines.len(), declared)
 }
 
 #[test]
@@ -100,6 +104,6 @@ fn the_header_declares_the_same() {
         return;
     };
     let (shapes, declared) = declared_in_rust();
-    assert_eq!(declared.len(), shapes * 24);
+    assert_eq!(declared.len(), shapes * 24 + 16);
     assert_eq!(declared, declared_in_c(&header));
 }
