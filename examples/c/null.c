@@ -78,6 +78,33 @@ static void null_values_of_bytes(void)
     EXPECT(odht_b16_b16_get_all(bytes, 576, NULL, 0, NULL, 0, NULL, 0), ODHT_OK);
 }
 
+/* Tables of any lengths: keys of three bytes and no values, so 32 + 16 * 3 + 32 bytes. */
+static void null_any(void)
+{
+    const odht_layout layout = {3, 0, ODHT_HASH_FX};
+    const uint8_t *key = hashes;
+    uint8_t bytes[112];
+    size_t cursor = 0;
+
+    EXPECT(odht_any_open(&layout, NULL, 0), ODHT_TOO_SHORT);
+    EXPECT(odht_any_check(&layout, NULL, 0), ODHT_TOO_SHORT);
+    EXPECT(odht_any_check_within(&layout, NULL, 0, ODHT_DEFAULT_GROUPS), ODHT_TOO_SHORT);
+    EXPECT(odht_any_bytes_needed(&layout, 13, 87, NULL), ODHT_OK);
+    EXPECT(odht_any_init(&layout, NULL, 0, 13, 87), ODHT_INIT_LENGTH);
+    EXPECT(odht_any_init(&layout, bytes, 112, 13, 87), ODHT_OK);
+    EXPECT(odht_any_len(&layout, bytes, 112, NULL), ODHT_OK);
+    EXPECT(odht_any_sizes(&layout, bytes, 112, NULL, NULL, NULL), ODHT_OK);
+    EXPECT(odht_any_table_len(&layout, bytes, 112, NULL), ODHT_OK);
+    EXPECT(odht_any_insert(&layout, bytes, 112, key, 3, NULL, 0, NULL, 0), ODHT_OK);
+    EXPECT(odht_any_insert_all(&layout, bytes, 112, 1, key + 3, 3, NULL, 0, NULL), ODHT_OK);
+    EXPECT(odht_any_insert_all(&layout, bytes, 112, 0, NULL, 0, NULL, 0, NULL), ODHT_OK);
+    EXPECT(odht_any_get(&layout, bytes, 112, key, 3, NULL, 0), ODHT_OK);
+    EXPECT(odht_any_contains(&layout, bytes, 112, NULL, 0), ODHT_BAD_LENGTHS);
+    EXPECT(odht_any_get_all(&layout, bytes, 112, 0, NULL, 0, NULL, 0, NULL, 0), ODHT_OK);
+    EXPECT(odht_any_walk(&layout, bytes, 112, &cursor, 0, NULL, 0, NULL, 0, NULL), ODHT_TOO_SMALL);
+    EXPECT(odht_any_grow(&layout, bytes, 112, NULL, 0, NULL), ODHT_TOO_SMALL);
+}
+
 /* A pointer to a function points to the inline function, which takes NULL. */
 static void null_through_pointer(void)
 {
@@ -93,6 +120,7 @@ int main(void)
     null_b16_u32();
     null_builds();
     null_values_of_bytes();
+    null_any();
     null_through_pointer();
     printf("%u answers are as they must be\n", compared);
     return EXIT_SUCCESS;

@@ -1,0 +1,137 @@
+/*
+ * Tables of lengths that no ready shape has: keys of twelve bytes, the numbers of parts, and values of five, how many
+ * there are and where. A table takes 32 bytes, and for each slot an entry of seventeen and a control byte, of which the
+ * first sixteen are repeated.
+ */
+#include <stdint.h>
+#include <stdio.h>
+#include <stdlib.h>
+#include <string.h>
+
+#include "odht.h"
+#include "expect.h"
+
+enum { KEY = 12, VALUE = 5, PARTS = 20, LENGTH = 32 + 32 * (KEY + VALUE) + 48 };
+enum { GROWN = 32 + 64 * (KEY + VALUE) + 80, ROOM = 8 };
+
+static const odht_layout layout = {KEY, VALUE, ODHT_HASH_FX};
+
+/* The number of a part, and what is known of it: in two digits. */
+static void write_part(unsigned part, uint8_t *key, uint8_t *value)
+{
+    memcpy(key, "part-number-", KEY);
+    memcpy(value, "rack-", VALUE);
+    key[KEY - 2] = value[VALUE - 2] = (uint8_t)('0' + part / 10);
+    key[KEY - 1] = value[VALUE - 1] = (uint8_t)('0' + part % 10);
+}
+
+/* One part after the other. */
+static void fills(uint8_t *bytes)
+{
+    uint8_t key[KEY];
+    uint8_t value[VALUE];
+    uint8_t former[VALUE];
+    size_t length = 0;
+
+    EXPECT(odht_any_bytes_needed(&layout, PARTS, 87, &length), ODHT_OK);
+    EXPECT(length, LENGTH);
+    EXPECT(odht_any_init(&layout, bytes, LENGTH, PARTS, 87), ODHT_OK);
+    for (unsigned part = 0; part < PARTS; part++) {
+        write_part(part, key, value);
+        EXPECT(odht_any_insert(&layout, bytes, LENGTH, key, KEY, value, VALUE, NULL, 0), ODHT_OK);
+    }
+    write_part(7, key, value);
+    EXPECT(odht_any_insert(&layout, bytes, LENGTH, key, KEY, (const uint8_t *)"sold!", VALUE, former,
+               VALUE),
+        ODHT_REPLACED);
+    EXPECT(memcmp(former, value, VALUE), 0);
+    EXPECT(odht_any_check(&layout, bytes, LENGTH), ODHT_OK);
+}
+
+/* A lookup, and what is answered to keys and buffers of other lengths. */
+static void looks_up(const uint8_t *bytes)
+{
+    uint8_t key[KEY];
+    uint8_t value[VALUE];
+    uint8_t expected[VALUE];
+
+    write_part(19, key, expected);
+    EXPECT(odht_any_get(&layout, bytes, LENGTH, key, KEY, value, VALUE), ODHT_OK);
+    EXPECT(memcmp(value, expected, VALUE), 0);
+    EXPECT(odht_any_get(&layout, bytes, LENGTH, key, KEY - 1, value, VALUE), ODHT_BAD_LENGTHS);
+    EXPECT(odht_any_get(&layout, bytes, LENGTH, key, KEY, value, VALUE - 1), ODHT_BAD_LENGTHS);
+    write_part(20, key, expected);
+    EXPECT(odht_any_contains(&layout, bytes, LENGTH, key, KEY), ODHT_ABSENT);
+}
+
+/* A file says which lengths its table has, and not which hash function. */
+static void reads_the_lengths(const uint8_t *bytes)
+{
+    odht_layout stated = {0, 0, ODHT_HASH_FX};
+    odht_layout none = {3, VALUE, ODHT_HASH_UN};
+
+    EXPECT(odht_any_layout_of(bytes, LENGTH, &stated), ODHT_OK);
+    EXPECT(stated.key_len, KEY);
+    EXPECT(stated.value_len, VALUE);
+    EXPECT(odht_any_open(&stated, bytes, LENGTH), ODHT_OK);
+    EXPECT(odht_any_open(&none, bytes, LENGTH), ODHT_BAD_LAYOUT);
+}
+
+/* Each part comes once, some of them at a time. */
+static void walks(const uint8_t *bytes)
+{
+    uint8_t keys[ROOM * KEY];
+    uint8_t values[ROOM * VALUE];
+    unsigned seen = 0;
+    size_t cursor = 0;
+    size_t count = 0;
+    uint32_t status;
+
+    do {
+        status = odht_any_walk(&layout, bytes, LENGTH, &cursor, ROOM, keys, sizeof keys, values,
+            sizeof values, &count);
+        for (size_t at = 0; at < count; at++)
+            seen += (unsigned)(keys[at * KEY + KEY - 2] - '0') * 10 + keys[at * KEY + KEY - 1] - '0';
+    } while (status == ODHT_TOO_SMALL);
+    EXPECT(status, ODHT_OK);
+    EXPECT(seen, PARTS * (PARTS - 1) / 2);
+}
+
+/* Many at once, after a growth into larger bytes. */
+static void grows(const uint8_t *bytes, uint8_t *grown)
+{
+    uint8_t keys[2 * KEY];
+    uint8_t values[2 * VALUE];
+    uint8_t found[2];
+    size_t length = 0;
+    size_t accepted = 0;
+
+    EXPECT(odht_any_grow(&layout, bytes, LENGTH, grown, GROWN, &length), ODHT_OK);
+    EXPECT(length, GROWN);
+    write_part(30, keys, values);
+    write_part(31, keys + KEY, values + VALUE);
+    EXPECT(odht_any_insert_all(&layout, grown, GROWN, 2, keys, sizeof keys, values, sizeof values,
+               &accepted),
+        ODHT_OK);
+    EXPECT(accepted, 2);
+    write_part(40, keys, values);
+    EXPECT(odht_any_get_all(&layout, grown, GROWN, 2, keys, sizeof keys, values, sizeof values, found,
+               sizeof found),
+        ODHT_OK);
+    EXPECT(found[0] * 10 + found[1], 1);
+    EXPECT(odht_any_check(&layout, grown, GROWN), ODHT_OK);
+}
+
+int main(void)
+{
+    uint8_t bytes[LENGTH];
+    uint8_t grown[GROWN];
+
+    fills(bytes);
+    looks_up(bytes);
+    reads_the_lengths(bytes);
+    walks(bytes);
+    grows(bytes, grown);
+    printf("%u answers are as they must be\n", compared);
+    return EXIT_SUCCESS;
+}
