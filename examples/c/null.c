@@ -89,6 +89,9 @@ static void null_any(void)
     EXPECT(odht_any_open(&layout, NULL, 0), ODHT_TOO_SHORT);
     EXPECT(odht_any_check(&layout, NULL, 0), ODHT_TOO_SHORT);
     EXPECT(odht_any_check_within(&layout, NULL, 0, ODHT_DEFAULT_GROUPS), ODHT_TOO_SHORT);
+    EXPECT(odht_any_open_at(&layout, NULL, 0, NULL), ODHT_TOO_SHORT);
+    EXPECT(odht_any_check_at(&layout, NULL, 0, NULL), ODHT_TOO_SHORT);
+    EXPECT(odht_any_check_within_at(&layout, NULL, 0, ODHT_DEFAULT_GROUPS, NULL), ODHT_TOO_SHORT);
     EXPECT(odht_any_bytes_needed(&layout, 13, 87, NULL), ODHT_OK);
     EXPECT(odht_any_init(&layout, NULL, 0, 13, 87), ODHT_INIT_LENGTH);
     EXPECT(odht_any_init(&layout, bytes, 112, 13, 87), ODHT_OK);

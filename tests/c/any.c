@@ -188,6 +188,9 @@ static void each_answers(odht_layout layout, uint32_t status)
     STATUS(odht_any_open(&layout, bytes, NUMBERS_LEN), status);
     STATUS(odht_any_check(&layout, bytes, NUMBERS_LEN), status);
     STATUS(odht_any_check_within(&layout, bytes, NUMBERS_LEN, 1), status);
+    STATUS(odht_any_open_at(&layout, bytes, NUMBERS_LEN, len), status);
+    STATUS(odht_any_check_at(&layout, bytes, NUMBERS_LEN, len), status);
+    STATUS(odht_any_check_within_at(&layout, bytes, NUMBERS_LEN, 1, len), status);
     STATUS(odht_any_len(&layout, bytes, NUMBERS_LEN, len), status);
     STATUS(odht_any_sizes(&layout, bytes, NUMBERS_LEN, len, len, value), status);
     STATUS(odht_any_table_len(&layout, bytes, NUMBERS_LEN, len), status);
@@ -247,6 +250,22 @@ static void keys_and_values_of_other_lengths_are_rejected(void)
     SAME_BYTES(bytes, same, NUMBERS_LEN);
 }
 
+/* Where the first error is, by the calls for any lengths and by those of a shape. */
+static void places_are_those_of_the_shape(const uint8_t *bytes)
+{
+    size_t *slots = SIZES(9, 9);
+
+    STATUS(odht_any_open_at(&numbers, bytes, NUMBERS_LEN, &slots[0]),
+           odht_u64_u32_open_at(bytes, NUMBERS_LEN, &slots[1]));
+    EQUAL(slots[0], slots[1]);
+    STATUS(odht_any_check_at(&numbers, bytes, NUMBERS_LEN, &slots[0]),
+           odht_u64_u32_check_at(bytes, NUMBERS_LEN, &slots[1]));
+    EQUAL(slots[0], slots[1]);
+    STATUS(odht_any_check_within_at(&numbers, bytes, NUMBERS_LEN, 1, &slots[0]),
+           odht_u64_u32_check_within_at(bytes, NUMBERS_LEN, 1, &slots[1]));
+    EQUAL(slots[0], slots[1]);
+}
+
 static void spoiled_bytes_have_the_errors_of_the_shape(void)
 {
     const uint8_t *key = BYTES(5, 0, 0, 0, 0, 0, 0, 0);
@@ -268,6 +287,7 @@ static void spoiled_bytes_have_the_errors_of_the_shape(void)
                    odht_u64_u32_check(bytes, NUMBERS_LEN));
             STATUS(odht_any_check_within(&numbers, bytes, NUMBERS_LEN, 1),
                    odht_u64_u32_check_within(bytes, NUMBERS_LEN, 1));
+            places_are_those_of_the_shape(bytes);
             STATUS(odht_any_len(&numbers, bytes, NUMBERS_LEN, &count[0]),
                    odht_u64_u32_len(bytes, NUMBERS_LEN, &count[1]));
             EQUAL(count[0], count[1]);

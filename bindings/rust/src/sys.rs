@@ -72,6 +72,24 @@ pub mod any {
         #[link_name = "odht_any_check_within"]
         pub fn check_within(layout: *const Layout, bytes: *const u8, bytes_len: usize, groups: usize) -> u32;
 
+        /// Whether bytes can be used as a table, and where the first error is.
+        #[link_name = "odht_any_open_at"]
+        pub fn open_at(layout: *const Layout, bytes: *const u8, bytes_len: usize, slot: *mut usize) -> u32;
+
+        /// Whether bytes are valid, and where the first error is.
+        #[link_name = "odht_any_check_at"]
+        pub fn check_at(layout: *const Layout, bytes: *const u8, bytes_len: usize, slot: *mut usize) -> u32;
+
+        /// The same with a bound of searches.
+        #[link_name = "odht_any_check_within_at"]
+        pub fn check_within_at(
+            layout: *const Layout,
+            bytes: *const u8,
+            bytes_len: usize,
+            groups: usize,
+            slot: *mut usize,
+        ) -> u32;
+
         /// The header's item count.
         #[link_name = "odht_any_len"]
         pub fn len(layout: *const Layout, bytes: *const u8, bytes_len: usize, count: *mut usize) -> u32;

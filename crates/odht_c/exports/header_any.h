@@ -52,6 +52,25 @@ ODHT_CALL(uint32_t, any_check_within,
     return odht_symbol_any_check_within(
         layout, odht_read_uint8_t(bytes, bytes_len), bytes_len, groups);)
 
+/* As open, check and check_within, and *slot is where the first error is; ODHT_NO_SLOT where it is in no slot, and with
+   OK. BAD_LAYOUT: it is unchanged. */
+ODHT_CALL(uint32_t, any_open_at,
+    (const odht_layout *layout, const uint8_t *bytes, size_t bytes_len, size_t *slot),
+    size_t unwanted = 0;
+    return odht_symbol_any_open_at(
+        layout, odht_read_uint8_t(bytes, bytes_len), bytes_len, slot ? slot : &unwanted);)
+ODHT_CALL(uint32_t, any_check_at,
+    (const odht_layout *layout, const uint8_t *bytes, size_t bytes_len, size_t *slot),
+    size_t unwanted = 0;
+    return odht_symbol_any_check_at(
+        layout, odht_read_uint8_t(bytes, bytes_len), bytes_len, slot ? slot : &unwanted);)
+ODHT_CALL(uint32_t, any_check_within_at,
+    (const odht_layout *layout, const uint8_t *bytes, size_t bytes_len, size_t groups,
+        size_t *slot),
+    size_t unwanted = 0;
+    return odht_symbol_any_check_within_at(
+        layout, odht_read_uint8_t(bytes, bytes_len), bytes_len, groups, slot ? slot : &unwanted);)
+
 /* OK: *count is the header's count of items. An error, @HEADER@: it is unchanged. */
 ODHT_CALL(uint32_t, any_len,
     (const odht_layout *layout, const uint8_t *bytes, size_t bytes_len, size_t *count),

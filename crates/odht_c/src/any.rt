@@ -7,13 +7,14 @@ ghost use Rattle.odht_header.specs.Refusals.{view_refusal, check_refusal, check_
 ghost use Rattle.odht_calls.specs.Statuses.{status_or_ok};
 ghost use Rattle.odht_calls.specs.Layouts.{AnyAnswers, SizedAnswers};
 ghost use Rattle.odht_calls.specs.Layouts.{ContainsAnswers, LayoutAnswers};
+ghost use Rattle.odht_calls.specs.Places.{PlaceAnswers};
 ghost use Rattle.odht_calls.specs.Pieces.{AnyWalkAnswers, AnyGetAllAnswers, AnyInsertAllAnswers};
 ghost use Rattle.odht_calls.specs.Prefixes.{TableLenAnswers};
 ghost use Rattle.odht_calls.specs.Reads.{GetAnswers, LenAnswers, SizesAnswers};
 ghost use Rattle.odht_calls.specs.Writes.{BytesNeededAnswers, InitAnswers, InsertAnswers};
 ghost use Rattle.odht_calls.specs.Grows.{GrowAnswers};
 
-use odht_calls::any::{AnyLayout, lists, read, walk, write};
+use odht_calls::any::{AnyLayout, lists, places, read, walk, write};
 
 /// Writes to `len` how many bytes a new table for so many items has: status 0. `BAD_PERCENT` where the load factor is
 /// not from 1 to 100 percent, `CAPACITY` where no slot count is enough or the length does not fit `usize`; then `len`
@@ -46,8 +47,8 @@ pub extern "C" fn odht_any_init(
     write::init(*layout, bytes, max_item_count, max_load_factor_percent)
 }
 
-/// 0 where the bytes can be opened, or the number of the first error: of too few bytes, of the header, of the length, of
-/// the first ten slots. The cost does not depend on the number of slots.
+/// 0 where the bytes can be opened, or the number of the first error: of too few bytes, of the header, of the length,
+/// of the first ten slots. The cost does not depend on the number of slots.
 #[unsafe(no_mangle)]
 pub extern "C" fn odht_any_open(layout: &AnyLayout, bytes: &[u8]) -> u32
     ensures { AnyAnswers layout.now result (Unit {0})
@@ -76,6 +77,43 @@ pub extern "C" fn odht_any_check_within(layout: &AnyLayout, bytes: &[u8], groups
         (λ c. result ≡ status_or_ok (check_refusal_by c.format (Some groups) bytes.now)) }
 {
     read::check_within(*layout, bytes, groups)
+}
+
+/// `open`, and writes to `slot` where the first error is: the slot, or `NO_SLOT`, the largest number, of an error of
+/// the header or length and with status 0; with `BAD_LAYOUT` it is unchanged. The cost does not depend on the number of
+/// slots.
+#[unsafe(no_mangle)]
+pub extern "C" fn odht_any_open_at(layout: &AnyLayout, bytes: &[u8], slot: &mut usize) -> u32
+    ensures { AnyAnswers layout.now result (slot.new ≡ slot.old)
+        (λ c. PlaceAnswers (view_refusal c.format bytes.now) result slot.new) }
+{
+    places::open_at(*layout, bytes, slot)
+}
+
+/// `check`, and writes to `slot` where the first error is: the slot of an error of an entry, a control byte or a key
+/// that is not reachable; of `MIRROR_MISMATCH` the index of the mirror's byte; or `NO_SLOT`, the largest number, of any
+/// other error and with status 0; with `BAD_LAYOUT` it is unchanged. The cost is that of `check`.
+#[unsafe(no_mangle)]
+pub extern "C" fn odht_any_check_at(layout: &AnyLayout, bytes: &[u8], slot: &mut usize) -> u32
+    ensures { AnyAnswers layout.now result (slot.new ≡ slot.old)
+        (λ c. PlaceAnswers (check_refusal c.format bytes.now) result slot.new) }
+{
+    places::check_at(*layout, bytes, slot)
+}
+
+/// `check_within`, and writes to `slot` where the first error is, as `check_at` does; of `SEARCH_TOO_LONG` the slot
+/// where the searches begin. The cost is that of `check_within`.
+#[unsafe(no_mangle)]
+pub extern "C" fn odht_any_check_within_at(
+    layout: &AnyLayout,
+    bytes: &[u8],
+    groups: usize,
+    slot: &mut usize,
+) -> u32
+    ensures { AnyAnswers layout.now result (slot.new ≡ slot.old)
+        (λ c. PlaceAnswers (check_refusal_by c.format (Some groups) bytes.now) result slot.new) }
+{
+    places::check_within_at(*layout, bytes, groups, slot)
 }
 
 /// Writes the header's item count to `item_count`: status 0. Or an error of the header or length; then `item_count` is
@@ -163,9 +201,9 @@ pub extern "C" fn odht_any_contains(layout: &AnyLayout, bytes: &[u8], key: &[u8]
     read::contains(*layout, bytes, key)
 }
 
-/// Looks up `count` keys, which lie in `keys` one after the other: status 0, and at each index `found` is 1 and the value
-/// is written, or `found` is 0 and the value is unchanged. `BAD_LENGTHS` where `keys`, `values` or `found` have another
-/// length than so many keys, values and flags, or an error of the header or length; then nothing is written.
+/// Looks up `count` keys, which lie in `keys` one after the other: status 0, and at each index `found` is 1 and the
+/// value is written, or `found` is 0 and the value is unchanged. `BAD_LENGTHS` where `keys`, `values` or `found` have
+/// another length than so many keys, values and flags, or an error of the header or length; then nothing is written.
 #[unsafe(no_mangle)]
 pub extern "C" fn odht_any_get_all(
     layout: &AnyLayout,
@@ -224,9 +262,9 @@ pub extern "C" fn odht_any_insert(
     write::insert(*layout, bytes, key, value, former)
 }
 
-/// Inserts `count` pairs, whose keys and values lie one after the other, in order: status 0, or `FULL` at the first that
-/// does not fit; and writes to `accepted` how many were inserted. `BAD_LENGTHS` where `keys` or `values` have another
-/// length than so many of them, or an error of the header or length; then nothing changes.
+/// Inserts `count` pairs, whose keys and values lie one after the other, in order: status 0, or `FULL` at the first
+/// that does not fit; and writes to `accepted` how many were inserted. `BAD_LENGTHS` where `keys` or `values` have
+/// another length than so many of them, or an error of the header or length; then nothing changes.
 #[unsafe(no_mangle)]
 pub extern "C" fn odht_any_insert_all(
     layout: &AnyLayout,

@@ -4,6 +4,7 @@ ghost use Rattle.std.specs.Prelude.{◌≡◌, ◌≤◌, ◌↔◌, IsTrue};
 
 pub mod lists;
 mod pieces;
+pub mod places;
 pub mod read;
 pub mod walk;
 pub mod write;

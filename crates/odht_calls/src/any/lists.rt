@@ -58,9 +58,9 @@ fn get_all_by<H: HashFn>(
     get_pieces::<H>(layout, bytes, count, keys, values, found)
 }
 
-/// Looks up `count` keys: at the index of a key that is found, its value is written to `values` and 1 to `found`; at any
-/// other index 0 is written to `found`. BAD_LENGTHS where the arrays are not for so many keys, values and flags. An
-/// error leaves both unchanged.
+/// Looks up `count` keys: at the index of a key that is found, its value is written to `values` and 1 to `found`; at
+/// any other index 0 is written to `found`. BAD_LENGTHS where the arrays are not for so many keys, values and flags. It
+/// and any other error leave both unchanged.
 pub fn get_all(
     layout: AnyLayout,
     bytes: &[u8],

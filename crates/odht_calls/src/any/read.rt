@@ -3,7 +3,7 @@ ghost use Rattle.std.specs.Prelude.{◌≡◌, ◌≤◌, length, IfOk, Some};
 ghost use Rattle.std.specs.Result.{result_err};
 ghost use Rattle.odht_base.specs.Format.{format_of};
 ghost use Rattle.odht_header.specs.Refusals.{opening_refusal, view_refusal, check_refusal};
-ghost use Rattle.odht_header.specs.Refusals.{check_refusal_by};
+ghost use Rattle.odht_header.specs.Refusals.{check_refusal_by, checked};
 ghost use Rattle.odht_raw.specs.Sized.{bytes_coding};
 ghost use Rattle.odht_calls.specs.Statuses.{status_or_ok};
 ghost use Rattle.odht_calls.specs.Layouts.{AnyAnswers, SizedAnswers};
@@ -69,15 +69,22 @@ pub fn open(layout: AnyLayout, bytes: &[u8]) -> u32
     }
 }
 
+// The first error of the whole check.
+pub(crate) fn whole<H: HashFn>(layout: Layout, bytes: &[u8]) -> Result<(), Error>
+    requires { H.MIN_LEN ≤ layout.key_len }
+    ensures { let F = format_of layout.key_len layout.value_len H.hash
+        in result ≡ checked (check_refusal F bytes.now) }
+{
+    check_opening::<H>(bytes, layout)?;
+    check_sized::<H>(bytes, layout)
+}
+
 fn check_by<H: HashFn>(layout: Layout, bytes: &[u8]) -> u32
     requires { H.MIN_LEN ≤ layout.key_len }
     ensures { let F = format_of layout.key_len layout.value_len H.hash
         in result ≡ status_or_ok (check_refusal F bytes.now) }
 {
-    if let Err(refused) = check_opening::<H>(bytes, layout) {
-        return status_of(&refused);
-    }
-    match check_sized::<H>(bytes, layout) {
+    match whole::<H>(layout, bytes) {
         Ok(()) => OK,
         Err(refused) => status_of(&refused),
     }
@@ -101,15 +108,26 @@ pub fn check(layout: AnyLayout, bytes: &[u8]) -> u32
     }
 }
 
+// The first error of the whole check with a bound of searches.
+pub(crate) fn whole_within<H: HashFn>(
+    layout: Layout,
+    bytes: &[u8],
+    groups: usize,
+) -> Result<(), Error>
+    requires { H.MIN_LEN ≤ layout.key_len }
+    ensures { let F = format_of layout.key_len layout.value_len H.hash
+        in result ≡ checked (check_refusal_by F (Some groups) bytes.now) }
+{
+    check_opening::<H>(bytes, layout)?;
+    check_sized_within::<H>(bytes, layout, groups)
+}
+
 fn check_within_by<H: HashFn>(layout: Layout, bytes: &[u8], groups: usize) -> u32
     requires { H.MIN_LEN ≤ layout.key_len }
     ensures { let F = format_of layout.key_len layout.value_len H.hash
         in result ≡ status_or_ok (check_refusal_by F (Some groups) bytes.now) }
 {
-    if let Err(refused) = check_opening::<H>(bytes, layout) {
-        return status_of(&refused);
-    }
-    match check_sized_within::<H>(bytes, layout, groups) {
+    match whole_within::<H>(layout, bytes, groups) {
         Ok(()) => OK,
         Err(refused) => status_of(&refused),
     }
@@ -245,8 +263,8 @@ fn table_len_by<H: HashFn>(layout: Layout, bytes: &[u8], len: &mut usize) -> u32
     }
 }
 
-/// Writes to `len` how many bytes the table at the front of the bytes has, by its header; what follows is not looked at,
-/// nor is any slot. An error leaves `len` unchanged: one of the header, or of fewer bytes than the table has.
+/// Writes to `len` how many bytes the table at the front of the bytes has, by its header; what follows is not looked
+/// at, nor is any slot. An error leaves `len` unchanged: one of the header, or of fewer bytes than the table has.
 pub fn table_len(layout: AnyLayout, bytes: &[u8], len: &mut usize) -> u32
     ensures { AnyAnswers layout result (len.new ≡ len.old)
         (λ c. TableLenAnswers c.format bytes.now len.old result len.new) }
