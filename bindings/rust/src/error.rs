@@ -103,6 +103,8 @@ errors! {
     BadLengths = 35 "bad lengths",
     /// An output buffer is too short for the result.
     TooSmall = 36 "too small",
+    /// No hash function has this number, or keys are too short for it.
+    BadLayout = 38 "bad layout",
     // errors: up to here
 }
 

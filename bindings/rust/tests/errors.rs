@@ -3,11 +3,11 @@
 mod common;
 
 use common::{changed, worked_example};
-use odht_ffi::{bytes_needed, Builder, Error, Table, TableMut, B16, B16U32, U64U32, U64U64};
+use odht_ffi::{bytes_needed, sys, Builder, Error, Table, TableMut, B16, B16U32, U64U32, U64U64};
 
 /// The numbers and texts of include/odht.h.
 // ERRORS: made of errors.txt by make exports
-const ERRORS: [(u32, Error, &str); 24] = [
+const ERRORS: [(u32, Error, &str); 25] = [
     (1, Error::TooShort, "too short"),
     (2, Error::WrongTag, "wrong tag"),
     (3, Error::WrongVersion, "wrong version"),
@@ -32,6 +32,7 @@ const ERRORS: [(u32, Error, &str); 24] = [
     (34, Error::BadPercent, "bad percent"),
     (35, Error::BadLengths, "bad lengths"),
     (36, Error::TooSmall, "too small"),
+    (38, Error::BadLayout, "bad layout"),
 ];
 // ERRORS: up to here
 
@@ -195,6 +196,20 @@ fn slices_can_be_too_short() {
     let builder: Builder<U64U32> = [(1, 2)].into_iter().collect();
     assert_eq!(builder.build_growing_into(&mut out), Err(Error::TooSmall));
     assert_eq!(out, [9; 255]);
+}
+
+/// Three bytes are too few for the hash function of keys that are hashes.
+#[test]
+fn keys_too_short_for_the_hash_function() {
+    let bytes = worked_example();
+    let open = |key_len, hash| {
+        let layout = sys::Layout { key_len, value_len: 4, hash };
+        // SAFETY: the layout and the bytes are there until the call returns.
+        unsafe { sys::any::open(&layout, bytes.as_ptr(), bytes.len()) }
+    };
+    assert_eq!(open(8, 0), 0);
+    assert_eq!(Error::from_number(open(3, 1)), Error::BadLayout);
+    assert_eq!(Error::from_number(open(8, 2)), Error::BadLayout);
 }
 
 /// The lines of include/odht.h that begin with a word, each without it.
