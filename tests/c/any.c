@@ -204,6 +204,7 @@ static void each_answers(odht_layout layout, uint32_t status)
                            layout.value_len, value, layout.value_len),
            status);
     STATUS(odht_any_grow(&layout, bytes, NUMBERS_LEN, out, 512, len), status);
+    STATUS(odht_any_build(&layout, 0, out, 0, out, 0, 87, bytes, NUMBERS_LEN, len), status);
     EQUAL(*len, 5);
     SAME_BYTES(bytes, same, NUMBERS_LEN);
     ALL_BYTES(out, 512, FILL);

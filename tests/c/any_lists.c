@@ -86,6 +86,33 @@ static void length_beside(const struct reading *table)
     EQUAL(*len, 9);
 }
 
+/* The build of these pairs, in a buffer with a byte more than it needs. */
+static void build_beside(struct shape shape, const uint8_t *keys, const uint8_t *values)
+{
+    odht_layout layout = layout_of(shape);
+    size_t len = image_len(shape, SLOTS);
+    uint8_t *out = bytes_of(len + 1);
+    uint8_t *expected = bytes_of(len);
+    size_t *needed = SIZES(0);
+
+    place_nothing(expected, shape, SLOTS, factor_of_percent(PERCENT));
+    for (size_t item = 0; item < ITEMS; item++)
+        place_pair(expected, len, shape, keys + item * shape.key, values + item * shape.value);
+    STATUS(odht_any_build(&layout, ITEMS, keys, ITEMS * shape.key, values, ITEMS * shape.value, PERCENT,
+                          out, len - 1, needed),
+           ODHT_TOO_SMALL);
+    EQUAL(*needed, len);
+    ALL_BYTES(out, len + 1, FILL);
+    STATUS(odht_any_build(&layout, ITEMS, keys, ITEMS * shape.key, values, ITEMS * shape.value, PERCENT,
+                          out, len + 1, needed),
+           ODHT_OK);
+    SAME_BYTES(out, expected, len);
+    ALL_BYTES(out + len, 1, FILL);
+    STATUS(odht_any_build(&layout, ITEMS, keys, ITEMS * shape.key, values, ITEMS * shape.value, 101,
+                          out, len, needed),
+           ODHT_BAD_PERCENT);
+}
+
 static void one_list(struct shape shape, struct random *random)
 {
     odht_layout layout = layout_of(shape);
@@ -110,6 +137,7 @@ static void one_list(struct shape shape, struct random *random)
     look_up_beside(&table, keys, random);
     walk_beside(&table);
     length_beside(&table);
+    build_beside(shape, keys, values);
 }
 
 static void lists_are_those_of_a_second_writing(void)

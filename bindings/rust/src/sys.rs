@@ -193,6 +193,21 @@ pub mod any {
             accepted: *mut usize,
         ) -> u32;
 
+        /// A table with slots for as many items as there are pairs.
+        #[link_name = "odht_any_build"]
+        pub fn build(
+            layout: *const Layout,
+            count: usize,
+            keys: *const u8,
+            keys_len: usize,
+            values: *const u8,
+            values_len: usize,
+            percent: u8,
+            out: *mut u8,
+            out_len: usize,
+            len: *mut usize,
+        ) -> u32;
+
         /// The table that this one grows into at its maximum.
         #[link_name = "odht_any_grow"]
         pub fn grow(

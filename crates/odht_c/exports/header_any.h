@@ -173,3 +173,14 @@ ODHT_CALL(uint32_t, any_grow,
     size_t unwanted = 0;
     return odht_symbol_any_grow(layout, odht_read_uint8_t(bytes, bytes_len), bytes_len,
         odht_write_uint8_t(out, out_len), out_len, len ? len : &unwanted);)
+
+/* OK: the table of so many pairs is the first *len bytes of out. TOO_SMALL: out_len is below *len, the length of the
+   table. CAPACITY, BAD_PERCENT: *len is unchanged. With all but OK out is unchanged. */
+ODHT_CALL(uint32_t, any_build,
+    (const odht_layout *layout, size_t count, const uint8_t *keys, size_t keys_len,
+        const uint8_t *values, size_t values_len, uint8_t percent, uint8_t *out, size_t out_len,
+        size_t *len),
+    size_t unwanted = 0;
+    return odht_symbol_any_build(layout, count, odht_read_uint8_t(keys, keys_len), keys_len,
+        odht_read_uint8_t(values, values_len), values_len, percent, odht_write_uint8_t(out, out_len),
+        out_len, len ? len : &unwanted);)

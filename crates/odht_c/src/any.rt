@@ -9,12 +9,13 @@ ghost use Rattle.odht_calls.specs.Layouts.{AnyAnswers, SizedAnswers};
 ghost use Rattle.odht_calls.specs.Layouts.{ContainsAnswers, LayoutAnswers};
 ghost use Rattle.odht_calls.specs.Places.{PlaceAnswers};
 ghost use Rattle.odht_calls.specs.Pieces.{AnyWalkAnswers, AnyGetAllAnswers, AnyInsertAllAnswers};
+ghost use Rattle.odht_calls.specs.Pieces.{AnyBuildAnswers};
 ghost use Rattle.odht_calls.specs.Prefixes.{TableLenAnswers};
 ghost use Rattle.odht_calls.specs.Reads.{GetAnswers, LenAnswers, SizesAnswers};
 ghost use Rattle.odht_calls.specs.Writes.{BytesNeededAnswers, InitAnswers, InsertAnswers};
 ghost use Rattle.odht_calls.specs.Grows.{GrowAnswers};
 
-use odht_calls::any::{AnyLayout, lists, places, read, walk, write};
+use odht_calls::any::{AnyLayout, build, lists, places, read, walk, write};
 
 /// Writes to `len` how many bytes a new table for so many items has: status 0. `BAD_PERCENT` where the load factor is
 /// not from 1 to 100 percent, `CAPACITY` where no slot count is enough or the length does not fit `usize`; then `len`
@@ -296,4 +297,35 @@ pub extern "C" fn odht_any_grow(
         (λ c. GrowAnswers c bytes.now out.old len.old result out.new len.new) }
 {
     write::grow(*layout, bytes, out, len)
+}
+
+/// Builds a table of `count` pairs, whose keys and values lie one after the other, at the front of `out`, and writes its
+/// length in bytes to `len`: status 0. It has slots for as many items as there are pairs, so it never grows; of equal
+/// keys the last value counts. `TOO_SMALL` where `out` is shorter than the table: then only `len` is written.
+/// `BAD_LENGTHS` where `keys` or `values` have another length than so many of them, `BAD_PERCENT` where the load factor
+/// is not from 1 to 100 percent, `CAPACITY` only where no slot count is enough or the length does not fit `usize`; then
+/// nothing is written. After the table `out` is unchanged. Allocates nothing. One pass over the bytes, then one insert
+/// for each pair.
+#[unsafe(no_mangle)]
+pub extern "C" fn odht_any_build(
+    layout: &AnyLayout,
+    count: usize,
+    keys: &[u8],
+    values: &[u8],
+    max_load_factor_percent: u8,
+    out: &mut [u8],
+    len: &mut usize,
+) -> u32
+    ensures { AnyBuildAnswers layout.now count keys.now values.now max_load_factor_percent
+        out.old len.old result out.new len.new }
+{
+    build::build(
+        *layout,
+        count,
+        keys,
+        values,
+        max_load_factor_percent,
+        out,
+        len,
+    )
 }

@@ -6,11 +6,13 @@
 --     PiecesWalkAnswers F B at n ks vs m s at' ks' vs' m'   a walk into bytes for n keys and n values
 --     PiecesGetAllAnswers F B n ks vs fs s vs' fs'          lookups of n keys
 --     PiecesInsertAllAnswers F B n ks vs m s B' m'          inserts of n pairs in turn
+--     PiecesBuildAnswers F n ks vs p out len s out' len'    a table of n pairs at p percent
 --     Where there are more or fewer bytes it answers bad_lengths, and nothing is written (`Sized..`); and before that,
 --     where the layout l is none, bad_layout, and nothing is written (`Any..`).
 use Rattle.std.specs.Prelude.{◌≡◌, ℕ, ◌*◌, zero, suc, List, [], ◌∷◌, length, take, drop}
 use Rattle.odht_base.specs.Format.{Format}
 use Rattle.odht_raw.specs.Sized.{bytes_coding}
+use Rattle.odht_calls.specs.Builds.{BuildAnswers}
 use Rattle.odht_calls.specs.declared.any.AnyLayout.{AnyLayout}
 use Rattle.odht_calls.specs.Layouts.{AnyAnswers, SizedAnswers}
 use Rattle.odht_calls.specs.Reads.{GetAllAnswers}
@@ -64,3 +66,16 @@ SizedInsertAllAnswers F B n ks vs m s B' m' =
 abbrev pub AnyInsertAllAnswers : AnyLayout → List ℕ → ℕ → List ℕ → List ℕ → ℕ → ℕ → List ℕ → ℕ → Type 0
 AnyInsertAllAnswers l B n ks vs m s B' m' =
     AnyAnswers l s ((B' ≡ B) × (m' ≡ m)) (λ c. SizedInsertAllAnswers c.format B n ks vs m s B' m')
+
+-- ---- builds
+abbrev pub PiecesBuildAnswers : Format → ℕ → List ℕ → List ℕ → ℕ → List ℕ → ℕ → ℕ → List ℕ → ℕ → Type 0
+PiecesBuildAnswers F n ks vs p out len s out' len' =
+    BuildAnswers (bytes_coding F) (pieces F.key_len n ks) (pieces F.value_len n vs) p out len s out' len'
+
+abbrev pub SizedBuildAnswers : Format → ℕ → List ℕ → List ℕ → ℕ → List ℕ → ℕ → ℕ → List ℕ → ℕ → Type 0
+SizedBuildAnswers F n ks vs p out len s out' len' =
+    SizedAnswers (ArePieces F.key_len F.value_len n ks vs) s ((out' ≡ out) × (len' ≡ len)) (PiecesBuildAnswers F n ks vs p out len s out' len')
+
+abbrev pub AnyBuildAnswers : AnyLayout → ℕ → List ℕ → List ℕ → ℕ → List ℕ → ℕ → ℕ → List ℕ → ℕ → Type 0
+AnyBuildAnswers l n ks vs p out len s out' len' =
+    AnyAnswers l s ((out' ≡ out) × (len' ≡ len)) (λ c. SizedBuildAnswers c.format n ks vs p out len s out' len')

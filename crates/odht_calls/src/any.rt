@@ -2,6 +2,7 @@
 //! layout.
 ghost use Rattle.std.specs.Prelude.{◌≡◌, ◌≤◌, ◌↔◌, IsTrue};
 
+pub mod build;
 pub mod lists;
 mod pieces;
 pub mod places;

@@ -2,7 +2,7 @@
 use Rattle.std.proofs.Common.{◌≡◌, ℕ, List, [], ◌∷◌, refl, lit≤, arith}
 use Rattle.odht_calls.specs.declared.any.AnyLayout.{AnyLayout}
 use Rattle.odht_calls.specs.Layouts.{IsLayout}
-use Rattle.odht_calls.specs.Pieces.{pieces, ArePieces, AnyWalkAnswers, AnyGetAllAnswers, AnyInsertAllAnswers}
+use Rattle.odht_calls.specs.Pieces.{pieces, ArePieces, AnyWalkAnswers, AnyGetAllAnswers, AnyInsertAllAnswers, AnyBuildAnswers}
 use Rattle.odht_calls.proofs.lemmas.Layouts.{by_fx}
 
 -- keys of three bytes with values of one byte
@@ -41,7 +41,7 @@ one_refused h = absurd (omega (arith, h.keys))
 pub short_keys_refused : ArePieces 3 1 2 values values → ⊥
 short_keys_refused h = absurd (omega (arith, h.keys))
 
--- ---- AnyWalkAnswers, AnyGetAllAnswers, AnyInsertAllAnswers
+-- ---- AnyWalkAnswers, AnyGetAllAnswers, AnyInsertAllAnswers, AnyBuildAnswers
 -- to too few keys each call answers ODHT_BAD_LENGTHS, and writes nothing
 pub short_walk : (B : List ℕ) → AnyWalkAnswers layout B 4 2 values values 9 35 4 values values 9
 short_walk B = by_fx _ _ _ _ (refl, lit≤ tt) (record { lengths = λ other. (refl, (refl, refl, refl, refl)); answers = λ long. absurd (short_keys_refused long) })
@@ -52,6 +52,9 @@ short_lookups B = by_fx _ _ _ _ (refl, lit≤ tt) (record { lengths = λ other. 
 pub short_inserts : (B : List ℕ) → AnyInsertAllAnswers layout B 2 values values 9 35 B 9
 short_inserts B = by_fx _ _ _ _ (refl, lit≤ tt) (record { lengths = λ other. (refl, (refl, refl)); answers = λ long. absurd (short_keys_refused long) })
 
+pub short_build : AnyBuildAnswers layout 2 values values 87 [] 9 35 [] 9
+short_build = by_fx _ _ _ _ (refl, lit≤ tt) (record { lengths = λ other. (refl, (refl, refl)); answers = λ long. absurd (short_keys_refused long) })
+
 -- and not with another cursor, flag or count
 pub moved_cursor_refused : (B : List ℕ) → AnyWalkAnswers layout B 4 2 values values 9 35 5 values values 9 → ⊥
 moved_cursor_refused B h = absurd (let same = ((h.answers is_layout).lengths short_keys_refused).1.0 in omega (arith, same))
@@ -61,3 +64,6 @@ written_count_refused B h = absurd (let same = ((h.answers is_layout).lengths sh
 
 pub short_lookups_done_refused : (B : List ℕ) → AnyGetAllAnswers layout B 2 values values (0 ∷ 0 ∷ []) 0 values (0 ∷ 0 ∷ []) → ⊥
 short_lookups_done_refused B h = absurd (let status = ((h.answers is_layout).lengths (λ long. absurd (short_keys_refused long.0))).0 in omega (arith, status))
+
+pub short_build_done_refused : AnyBuildAnswers layout 2 values values 87 [] 9 0 [] 9 → ⊥
+short_build_done_refused h = absurd (let status = ((h.answers is_layout).lengths short_keys_refused).0 in omega (arith, status))

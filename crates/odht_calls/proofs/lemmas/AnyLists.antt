@@ -1,21 +1,24 @@
 -- Calls for many keys of a table of any lengths: lookups so far, inserts so far, and walks over pairs that are bytes.
-use Rattle.std.proofs.Common.{◌≡◌, ◌≤◌, ◌<◌, ◌+◌, ◌*◌, ◌∙◌, ◌++◌, inl, inr, ℕ, zero, suc, sym, ap, subst, refl, arith, List, [], ◌∷◌, All, Bor, Option, Some, None, Result, drop, set, map, length, length-drop, slice_get}
+use Rattle.std.proofs.Common.{◌≡◌, ◌≤◌, ◌<◌, ◌+◌, ◌*◌, ◌∙◌, ◌++◌, inl, inr, ℕ, zero, suc, suc-mul, take, get_or, length-take-le, sym, ap, subst, refl, arith, List, [], ◌∷◌, All, Bor, Option, Some, None, Result, drop, set, map, length, length-drop, slice_get}
 use Rattle.std.specs.Prelude.{filter_map, IfOk, IfSome}
 use Rattle.std.specs.Option.{option_copied}
 use Rattle.std.proofs.Math.Nat.{eq-or-lt_of_le}
+use Rattle.std.specs.List.{zip}
+use Rattle.std.proofs.lemmas.List.{get_or-take, get_or-drop, get_or_default}
 use Rattle.std.proofs.lemmas.List.Elements.{All-head, All-tail, All-nil, All-cons}
 use Rattle.std.proofs.lemmas.Option.{slice_get_within}
 use Rattle.odht_base.specs.Decoded.{decoded_table, decoded_cells, entries_of, controls_of, header_slots}
 use Rattle.odht_base.specs.Format.{Format, IsFormat, format_of}
+use Rattle.odht_base.specs.Numbers.{IsBytes}
 use Rattle.odht_base.specs.SlotWalks.{numbered, slots_from}
 use Rattle.odht_base.specs.Table.{Pair, Cells, Table}
 use Rattle.odht_base.proofs.lemmas.ByteRanges.{length-bytes_at}
-use Rattle.odht_base.specs.Valid.{IsImage}
+use Rattle.odht_base.specs.Valid.{IsImage, IsPairOf}
 use Rattle.odht_base.proofs.lemmas.Options.{some_same}
-use Rattle.odht_header.specs.Coding.{Coding, HasStored}
+use Rattle.odht_header.specs.Coding.{Coding, HasStored, encoded}
 use Rattle.odht_header.specs.declared.error.Error.{Error}
 use Rattle.odht_raw.specs.Frame.{IsAccepted, IsFramed}
-use Rattle.odht_raw.specs.Runs.{IsOnePlaced}
+use Rattle.odht_raw.specs.Runs.{IsOnePlaced, encoded_all}
 use Rattle.odht_raw.specs.Sized.{HasLengthsOf, bytes_coding, sized_parts}
 use Rattle.odht_raw.proofs.lemmas.Accepted.{accepted_len}
 use Rattle.odht_raw.proofs.lemmas.SizedWalks.{walk_sized}
@@ -147,3 +150,29 @@ pub one_more_piece : (len n w : ℕ) (f : ℕ × (List ℕ × List ℕ) → List
     → pieces len n new ≡ map f (ys ++ y ∷ []) ++ drop (w + 1) (pieces len n old)
 one_more_piece len n w f ys y old now new long room so_far put =
     put ∙ set-next_of f ys (pieces len n old) (pieces len n now) y w long (omega (arith, room, length-pieces len n old)) so_far
+
+-- ---- pieces are bytes
+-- the first of them
+bytes_of_piece : (len : ℕ) (B : List ℕ) → len ≤ length B → ((i : ℕ) → get_or B i 0 < 256) → IsBytes len (take len B)
+bytes_of_piece len B long small =
+    let whole = length-take-le len B long in
+    record {
+      len = whole;
+      each = λ k d h. subst (λ x. x < 256) (sym (get_or-take len B k d (omega (arith, h, whole)) ∙ get_or_default B k d 0 (omega (arith, h, whole, long)))) (small k);
+    }
+
+-- each of them
+pub pieces_bytes : (len n : ℕ) (B : List ℕ) → n * len ≤ length B → ((i : ℕ) → get_or B i 0 < 256) → All (IsBytes len) (pieces len n B)
+pieces_bytes len zero B long small = All-nil (IsBytes len)
+pieces_bytes len (suc n) B long small =
+    let e = suc-mul n len in
+    All-cons (IsBytes len) (take len B) (pieces len n (drop len B)) (bytes_of_piece len B (omega (arith, e, long)) small)
+    (pieces_bytes len n (drop len B) (omega (arith, e, long, length-drop len B)) (λ i. subst (λ x. x < 256) (sym (get_or-drop len B i 0)) (small (len + i))))
+
+-- and so are the pairs of two lists of them
+pub pairs_bytes : (F : Format) (ks vs : List (List ℕ)) → All (IsBytes F.key_len) ks → All (IsBytes F.value_len) vs → All (IsPairOf F) (encoded_all (bytes_coding F) (zip ks vs))
+pairs_bytes F [] vs a b = All-nil (IsPairOf F)
+pairs_bytes F (k ∷ ks) [] a b = All-nil (IsPairOf F)
+pairs_bytes F (k ∷ ks) (v ∷ vs) a b =
+    All-cons (IsPairOf F) (encoded (bytes_coding F) k v) (encoded_all (bytes_coding F) (zip ks vs)) (record { key = All-head (IsBytes F.key_len) k ks a; value = All-head (IsBytes F.value_len) v vs b })
+    (pairs_bytes F ks vs (All-tail (IsBytes F.key_len) k ks a) (All-tail (IsBytes F.value_len) v vs b))

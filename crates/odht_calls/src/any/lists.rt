@@ -86,7 +86,7 @@ pub fn get_all(
 }
 
 // The inserts of `count` pairs.
-fn insert_pieces<H: HashFn>(
+pub(crate) fn insert_pieces<H: HashFn>(
     layout: Layout,
     bytes: &mut [u8],
     count: usize,

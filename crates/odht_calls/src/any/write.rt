@@ -63,7 +63,7 @@ pub fn bytes_needed(
     }
 }
 
-fn init_by<H: HashFn>(
+pub(crate) fn init_by<H: HashFn>(
     layout: Layout,
     bytes: &mut [u8],
     max_item_count: usize,

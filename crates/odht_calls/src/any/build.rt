@@ -1,0 +1,137 @@
+//! A table of any lengths that is built from pairs, in the caller's bytes.
+ghost use Rattle.std.specs.Prelude.{◌≡◌, ◌≤◌, None, length};
+ghost use Rattle.std.specs.List.{zip};
+ghost use Rattle.odht_base.specs.Format.{format_of};
+ghost use Rattle.odht_base.specs.Load.{factor_of, IsPercent};
+ghost use Rattle.odht_header.specs.Refusals.{new_refusal};
+ghost use Rattle.odht_raw.specs.Sized.{bytes_coding};
+ghost use Rattle.odht.specs.Lists.{IsFreshAfterInserts};
+ghost use Rattle.odht_calls.specs.Pieces.{pieces, ArePieces, PiecesBuildAnswers};
+ghost use Rattle.odht_calls.specs.Pieces.{SizedBuildAnswers, AnyBuildAnswers};
+
+use super::lists::insert_pieces;
+use super::pieces::are_pieces;
+use super::write::init_by;
+use super::{AnyLayout, FX, UNHASH, has_hash};
+use crate::status::{BAD_LAYOUT, BAD_LENGTHS, BAD_PERCENT, CAPACITY, OK, TOO_SMALL};
+use odht::bytes::Borrowed;
+use odht::dynamic::DynTable;
+use odht::hash::{FxHashFn, HashFn, UnHashFn};
+use odht::layout::Layout;
+use odht::load::Percent;
+
+// Makes an empty table in the bytes, whatever they hold, and inserts the pairs in order: there is room for each.
+fn insert_into_new<H: HashFn>(
+    layout: Layout,
+    bytes: &mut [u8],
+    percent: u8,
+    count: usize,
+    keys: &[u8],
+    values: &[u8],
+)
+    requires hashes { H.MIN_LEN ≤ layout.key_len }
+    requires arrays { ArePieces layout.key_len layout.value_len count keys.now values.now }
+    requires percent { IsPercent percent }
+    requires fits { new_refusal (format_of layout.key_len layout.value_len H.hash) count
+        (factor_of percent) (length bytes.old) ≡ None }
+    ensures { IsFreshAfterInserts (bytes_coding (format_of layout.key_len layout.value_len H.hash))
+        percent (zip (pieces layout.key_len count keys.now)
+        (pieces layout.value_len count values.now)) bytes.new }
+{
+    let mut accepted = 0;
+    let _ = init_by::<H>(layout, bytes, count, percent);
+    let _ = insert_pieces::<H>(layout, bytes, count, keys, values, &mut accepted);
+}
+
+// The build of `count` pairs.
+fn build_pieces<H: HashFn>(
+    layout: Layout,
+    count: usize,
+    keys: &[u8],
+    values: &[u8],
+    max_load_factor_percent: u8,
+    out: &mut [u8],
+    len: &mut usize,
+) -> u32
+    requires hashes { H.MIN_LEN ≤ layout.key_len }
+    requires arrays { ArePieces layout.key_len layout.value_len count keys.now values.now }
+    ensures { PiecesBuildAnswers (format_of layout.key_len layout.value_len H.hash) count keys.now
+        values.now max_load_factor_percent out.old len.old result out.new len.new }
+{
+    let Some(percent) = Percent::new(max_load_factor_percent) else {
+        return BAD_PERCENT;
+    };
+    let Some(needed) = DynTable::<H, Borrowed<'_>>::bytes_needed(layout, count, percent.value())
+    else {
+        return CAPACITY;
+    };
+    *len = needed;
+    if out.len() < needed {
+        return TOO_SMALL;
+    }
+    insert_into_new::<H>(
+        layout,
+        &mut out[..needed],
+        percent.value(),
+        count,
+        keys,
+        values,
+    );
+    OK
+}
+
+fn build_by<H: HashFn>(
+    layout: Layout,
+    count: usize,
+    keys: &[u8],
+    values: &[u8],
+    max_load_factor_percent: u8,
+    out: &mut [u8],
+    len: &mut usize,
+) -> u32
+    requires { H.MIN_LEN ≤ layout.key_len }
+    ensures { SizedBuildAnswers (format_of layout.key_len layout.value_len H.hash) count keys.now
+        values.now max_load_factor_percent out.old len.old result out.new len.new }
+{
+    if !are_pieces(layout, count, keys, values) {
+        return BAD_LENGTHS;
+    }
+    build_pieces::<H>(
+        layout,
+        count,
+        keys,
+        values,
+        max_load_factor_percent,
+        out,
+        len,
+    )
+}
+
+/// Builds a table of `count` pairs at the front of `out`, with slots for as many items as there are pairs, and writes its
+/// length in bytes to `len`. BAD_LENGTHS, BAD_PERCENT and CAPACITY leave both unchanged, TOO_SMALL leaves `out`
+/// unchanged. Allocates nothing.
+pub fn build(
+    layout: AnyLayout,
+    count: usize,
+    keys: &[u8],
+    values: &[u8],
+    max_load_factor_percent: u8,
+    out: &mut [u8],
+    len: &mut usize,
+) -> u32
+    ensures { AnyBuildAnswers layout count keys.now values.now max_load_factor_percent
+        out.old len.old result out.new len.new }
+{
+    let lengths = Layout {
+        key_len: layout.key_len,
+        value_len: layout.value_len,
+    };
+    let percent = max_load_factor_percent;
+    if has_hash(layout, FX, FxHashFn::MIN_LEN) {
+        build_by::<FxHashFn>(lengths, count, keys, values, percent, out, len)
+    } else if has_hash(layout, UNHASH, UnHashFn::MIN_LEN) {
+        build_by::<UnHashFn>(lengths, count, keys, values, percent, out, len)
+    } else {
+        BAD_LAYOUT
+    }
+}
