@@ -31,3 +31,5 @@ pub mod WalkedSlots
 pub mod WaitingSlots
 -- the passes in which an order takes slots
 pub mod PassesOfSlots
+-- parts that are read by position
+pub mod ReadParts

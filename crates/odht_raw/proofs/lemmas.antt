@@ -109,3 +109,5 @@ pub mod Passes
 pub mod ProbedSlots
 -- and what passes say of a table
 pub mod PassOrders
+-- the parts of a table that are read by position
+pub mod Reads

@@ -56,3 +56,5 @@ pub mod Sized
 pub mod SizedMut
 -- the passes in which an order of inserts takes the slots, as they are found by walks
 pub mod Passes
+-- a search in the parts of a table that are read by position
+pub mod Reads

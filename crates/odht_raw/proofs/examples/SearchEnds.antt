@@ -18,10 +18,10 @@ use Rattle.odht_raw.proofs.examples.FrameRefusals.{occupied_controls, slot_five_
 
 -- ---- in any parts
 -- the entries of sixteen slots: 5 beside 7 in slot 3, and zeros elsewhere; and the same bytes as entries of three slots
-abbrev five_in_three : ℕ → EntryBytes
+abbrev pub five_in_three : ℕ → EntryBytes
 five_in_three slots = record { slots = slots; bytes = overwritten_at (replicate 128 0) 24 (5 ∷ 0 ∷ 0 ∷ 0 ∷ 7 ∷ []) }
 
-abbrev five : List ℕ
+abbrev pub five : List ℕ
 five = le_bytes 4 5
 
 -- a key is found in its slot

@@ -31,7 +31,7 @@ module _ (F : Format) (B : List ℕ) (n : ℕ) (h : 32 ≤ n) where
   header_slots-take = ap num (bytes_at-take_front B 16 8 n (omega (arith, h)))
 
   -- and the header's fields
-  field_refusal-take : field_refusal F (take n B) ≡ field_refusal F B
+  pub field_refusal-take : field_refusal F (take n B) ≡ field_refusal F B
   unfolding field_refusal
   field_refusal-take =
       λ i. first_of
