@@ -25,3 +25,5 @@ pub mod DynInserts
 pub mod DynOwned
 -- lists and fronts of such tables
 pub mod DynLists
+-- tables that are read by position
+pub mod FileTables

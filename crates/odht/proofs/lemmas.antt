@@ -35,3 +35,5 @@ pub mod DynPrefixes
 pub mod OwnedInserts
 -- what the insert into a view says of that into a table that grows
 pub mod DynOwned
+-- tables that are read by position
+pub mod Files

@@ -37,3 +37,5 @@ pub mod DynPrefixes
 pub mod DynLists
 -- the owned table of such lengths, which grows
 pub mod DynOwned
+-- tables that are read by position
+pub mod Files

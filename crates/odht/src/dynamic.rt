@@ -28,6 +28,7 @@ pub use crate::raw_table::ShortBytes;
 use crate::raw_table::{SizedIter, SizedSlots, SizedTable};
 use std::marker::{Model, PhantomData};
 
+mod file;
 mod growth;
 mod inserts;
 mod lists;
@@ -36,6 +37,7 @@ mod new_tables;
 mod owned;
 mod prefix;
 
+pub use file::{FileError, FileTable};
 pub use owned::DynTableOwned;
 pub use prefix::table_len;
 

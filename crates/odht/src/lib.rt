@@ -10,7 +10,7 @@ pub use iter::{Iter, Slots};
 pub use odht_base::hash::{FxHashFn, HashFn, UnHashFn};
 pub use odht_base::{bytes, hash, load, swisstable_group_query};
 pub use odht_raw::config::{Config, Lossless};
-pub use odht_raw::{config, error, items, layout, memory_layout, raw_table};
+pub use odht_raw::{config, error, items, layout, memory_layout, raw_table, read_at};
 
 pub mod configs;
 pub mod dynamic;
