@@ -21,6 +21,7 @@
 //! # Ok::<(), odht::dynamic::DynError>(())
 //! ```
 
+mod file;
 mod growth;
 mod lists;
 mod owned;
@@ -28,6 +29,7 @@ mod prefix;
 mod short_bytes;
 mod writing;
 
+pub use file::{FileError, FileTable, ReadAt, ReadError};
 pub use owned::DynTableOwned;
 pub use short_bytes::ShortBytes;
 

@@ -6,7 +6,7 @@ mod common;
 mod vector_files;
 
 use common::configs::Plain;
-use odht::dynamic::{DynTable, Layout};
+use odht::dynamic::{DynTable, FileTable, Layout};
 use odht::{
     check_all_within, try_bytes_needed, Error, FxHashFn, HashFn, HashTable, HashTableOwned,
     UnHashFn,
@@ -102,6 +102,15 @@ fn by_numbers<const K: usize, const V: usize, H: HashFn>(
     DynTable::open_as_stated(table.raw_bytes()).expect("the bytes of a view")
 }
 
+// The same table, read by position behind other bytes.
+fn where_it_lies<const K: usize, const V: usize, H: HashFn>(
+    table: &View<K, V, H>,
+) -> FileTable<H, Vec<u8>> {
+    let (layout, bytes) = (Layout::of::<Plain<K, V, H>>(), table.raw_bytes());
+    let source = [&b"other bytes"[..], bytes].concat();
+    FileTable::open_at(layout, source, 11, bytes.len()).expect("the bytes of a view")
+}
+
 // A call on a view, which is opened.
 fn look<const K: usize, const V: usize, H: HashFn>(
     case: &Case<'_>,
@@ -138,6 +147,8 @@ fn look<const K: usize, const V: usize, H: HashFn>(
             assert_eq!(table.contains_key(&key), value.is_some());
             let counted = (value.as_ref().map(|it| &it[..]), groups);
             assert_eq!(by_numbers(table).get_counted(&key), counted);
+            let (lying, groups) = where_it_lies(table).get_counted(&key).expect("each read");
+            assert_eq!((lying.as_deref(), groups), counted);
             Answer::words([value_or(value), groups.to_string()])
         }
         _ => return None,

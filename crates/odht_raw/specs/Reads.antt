@@ -8,8 +8,8 @@
 --     IsFoundWithin s r        the slot of a key that is found is below s
 --     IsLooking F p k t b      a search for the key k with the tag t is at the slots from b on
 --     IsGroupLook F E bs b k r r is what a look at the sixteen slots from b on finds, whose control bytes are bs: on a
---                              placed table the answer of the search if it ends there (`on_placed`), on any parts such an
---                              end (`slot`), and None where the search goes on from each slot (`none`)
+--                              placed table the answer of the search if it ends there (`on_placed`), on any parts such
+--                              an end (`slot`), and None where the search goes on from each slot (`none`)
 --     read_groups p B n        the control bytes at the place p, of which n groups were read
 use Rattle.std.specs.Prelude.{⊤, ◌≡◌, ℕ, ◌+◌, ◌*◌, ◌<◌, ◌≤◌, List, length, Option, IfSome, IsNone}
 use Rattle.odht_base.specs.Bytes.{bytes_at}

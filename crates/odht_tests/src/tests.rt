@@ -8,6 +8,7 @@ mod dynamic_inserts;
 mod dynamic_lists;
 mod dynamic_tables;
 mod failing_streams;
+mod file_tables;
 mod first_table;
 mod full_tables;
 mod index;

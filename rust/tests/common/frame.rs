@@ -4,7 +4,7 @@
 use super::configs::Plain;
 use super::random::Random;
 use super::reading::{Format, Hash, Reading};
-use odht::dynamic::{DynError, DynTable, Layout};
+use odht::dynamic::{DynError, DynTable, FileError, FileTable, Layout};
 use odht::{check_all, check_all_within, table_len, Error, FxHashFn};
 use odht::{HashFn, HashTable, HashTableOwned, UnHashFn};
 
@@ -70,16 +70,21 @@ fn lengths_as_numbers<const K: usize, const V: usize, H: Named>(
     let layout = Layout { key_len: K as u8, value_len: V as u8 };
     let opened = DynTable::<H, _>::open(layout, reading.bytes);
     let stated = DynTable::<H, _>::open_as_stated(reading.bytes);
+    let lying = FileTable::<H, _>::open(layout, reading.bytes, reading.bytes.len());
     let (table, view) = match (opened, View::<K, V, H>::try_from_raw_bytes(reading.bytes)) {
         (Ok(table), Ok(view)) => (table, view),
         (opened, view) => {
-            assert_eq!(opened.err(), view.err().map(DynError::Rejected));
+            let rejected = |error: &Error| Some(DynError::Rejected(error.clone()));
+            let error = view.as_ref().err();
+            assert_eq!(lying.err(), error.and_then(rejected).map(FileError::Table));
+            assert_eq!(opened.err(), error.and_then(rejected));
             assert!(stated.map_or(true, |table| table.layout() != layout));
             return;
         }
     };
     assert_eq!(stated.unwrap().layout(), layout);
-    assert_eq!(table.len(), view.len());
+    let lying = lying.unwrap();
+    assert_eq!((table.len(), lying.len()), (view.len(), view.len()));
     assert_eq!(table.check_rest(), view.check_all());
     assert_eq!(table.verify(), view.verify());
     let groups = random.below(reading.slots() / 16 + 2);
@@ -92,7 +97,10 @@ fn lengths_as_numbers<const K: usize, const V: usize, H: Named>(
     for _ in 0..10 {
         let key: [u8; K] = some_key(reading, random);
         let (value, groups) = view.get_counted(&key);
-        assert_eq!(table.get_counted(&key), (value.as_ref().map(|it| &it[..]), groups));
+        let counted = (value.as_ref().map(|it| &it[..]), groups);
+        assert_eq!(table.get_counted(&key), counted);
+        let (value, groups) = lying.get_counted(&key).unwrap();
+        assert_eq!((value.as_deref(), groups), counted);
         assert_eq!(table.get_counted(&[&key[..], &[0]].concat()), (None, 0));
     }
 }

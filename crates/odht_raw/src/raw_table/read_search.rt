@@ -5,7 +5,8 @@ ghost use Rattle.odht_base.specs.Bytes.{bytes_at};
 ghost use Rattle.odht_base.specs.Format.{format_of};
 ghost use Rattle.odht_base.specs.Load.{IsSlotCount};
 ghost use Rattle.odht_raw.specs.Reads.{read_entries, read_groups, read_key};
-ghost use Rattle.odht_raw.specs.Reads.{IsPlaceFitting, IsHeldBy, IsGroupLook, IsFoundWithin, IsLooking};
+ghost use Rattle.odht_raw.specs.Reads.{IsPlaceFitting, IsHeldBy, IsGroupLook};
+ghost use Rattle.odht_raw.specs.Reads.{IsFoundWithin, IsLooking};
 ghost use Rattle.odht_raw.specs.Searches.{IsSearch};
 
 use super::{EntryMetadata, ProbeSeq, Search, tag_of};
@@ -30,9 +31,9 @@ pub struct ReadPlace {
 /// Searches for the key as [`search`](super::search) does, and says how many groups were read. It reads each group of
 /// the probe order at most once, up to the one where the search ends, and of each slot that is reported there the key.
 ///
-/// Where the source gives the bytes of one list throughout, which is long enough to have the parts, the result is that of
-/// the search in the parts of this list, or the error of a read that failed. Whatever the reads give, a key that is found
-/// is in one of the slots, and no more groups are read than there are.
+/// Where the source gives the bytes of one list throughout, which is long enough to have the parts, the result is that
+/// of the search in the parts of this list, or the error of a read that failed. Whatever the reads give, a key that is
+/// found is in one of the slots, and no more groups are read than there are.
 pub fn search_read<S: ReadAt, H: HashFn>(
     source: &S,
     place: &ReadPlace,
