@@ -18,7 +18,7 @@ use std::marker::{Model, PhantomData};
 
 mod reads;
 
-/// Why a table that is read by position was not opened, or a lookup in it has no answer.
+/// Why a table that is read by position was not opened, or a lookup in it has no result.
 #[derive(Debug, PartialEq, Eq, Drop)]
 pub enum FileError {
     /// The bytes were not read.
@@ -30,9 +30,9 @@ pub enum FileError {
 /// A table that is read by position from a source of bytes: its header when it is opened, and for each lookup the
 /// groups of control bytes up to the end of the search, the keys whose tag fits, and the value. No memory is allocated.
 ///
-/// Where the source gives the bytes of one list throughout, each answer is that of [`DynTable`](super::DynTable) over
-/// them, or the error of a read that failed. Where they change between reads, a lookup may answer what no table had at
-/// one time, but it does no harm, and reads no more groups than the table had when it was opened.
+/// Where the source gives the bytes of one list throughout, each call returns what that of [`DynTable`](super::DynTable)
+/// over them returns, or the error of a read that failed. Where they change between reads, a lookup may return what no
+/// table had at one time, but it does no harm, and reads no more groups than the table had when it was opened.
 ///
 /// A contract speaks of it as of the source, the offset, the lengths, and the counts of the header.
 #[derive(Drop)]
@@ -143,7 +143,7 @@ impl<H: HashFn, S: ReadAt + Drop> FileTable<H, S> {
         self.items
     }
 
-    /// The value of a key, or None, as [`DynTable::get`](super::DynTable::get) of the table's bytes answers it.
+    /// The value of a key, or None, as [`DynTable::get`](super::DynTable::get) of the table's bytes returns it.
     ///
     /// The first error: `Table` with `WrongKeyLength` where the key has another length than the table's keys, and
     /// nothing is read; then `Read` with that of a read.
