@@ -88,7 +88,7 @@ struct Failing {
 impl ReadAt for Failing {
     ghost gives = { λ s B. ⊥ };
 
-    ghost fails = { λ s e. ⊤ };
+    ghost fails = { λ s e. Unit {0} };
 
     fn read_at(&self, _offset: u64, _out: &mut [u8]) -> Result<usize, ReadError> {
         Err(ReadError::Failed { code: self.code })
