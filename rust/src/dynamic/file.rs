@@ -90,8 +90,9 @@ impl<S: ReadAt> read_at::ReadAt for Source<S> {
 /// A table that is read by position from a source, such as a file: its header and first slots when it is opened, and for
 /// each lookup the groups of control bytes up to the end of the search, the keys whose tag fits, and the value.
 ///
-/// Where the source gives the same bytes throughout, each answer is that of a [`DynTable`](super::DynTable) over them.
-/// Where they change meanwhile, a lookup may answer what no table had at one time; nothing worse comes of it.
+/// Where the source gives the same bytes throughout, each call returns what that of a [`DynTable`](super::DynTable) over
+/// them returns. Where they change meanwhile, a lookup may return what no table had at one time; nothing worse comes of
+/// it.
 ///
 /// ```
 /// use odht::dynamic::{FileError, FileTable, Layout};
@@ -158,8 +159,8 @@ impl<H: HashFn, S: ReadAt> FileTable<H, S> {
     ///
     /// # Errors
     ///
-    /// `Table` with [`WrongKeyLength`](super::DynError::WrongKeyLength) where the key has another length than the table's keys,
-    /// and nothing is read; then `Read` with that of a read.
+    /// `Table` with [`WrongKeyLength`](super::DynError::WrongKeyLength) where the key has another length than the
+    /// table's keys, and nothing is read; then `Read` with that of a read.
     pub fn get(&self, key: &[u8]) -> Result<Option<ShortBytes>, FileError> {
         Ok(self.table.get(key)?.map(ShortBytes))
     }

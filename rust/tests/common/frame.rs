@@ -74,7 +74,7 @@ fn lengths_as_numbers<const K: usize, const V: usize, H: Named>(
     let (table, view) = match (opened, View::<K, V, H>::try_from_raw_bytes(reading.bytes)) {
         (Ok(table), Ok(view)) => (table, view),
         (opened, view) => {
-            let rejected = |error: &Error| Some(DynError::Rejected(error.clone()));
+            let rejected = |error: &Error| Some(DynError::Rejected(*error));
             let error = view.as_ref().err();
             assert_eq!(lying.err(), error.and_then(rejected).map(FileError::Table));
             assert_eq!(opened.err(), error.and_then(rejected));
