@@ -28,7 +28,7 @@ GROUPS = [
     ("Configurations", ["odht_header/src/config.rt", "odht/src/configs"]),
     ("Errors", ["odht_header/src/error.rt"]),
     ("Headers and lengths", ["odht_header/src/header", "odht_header/src/sizes.rt", "odht_header/src/layout.rt"]),
-    ("The bytes of a table", ["odht_raw/src/memory_layout", "odht_raw/src/items.rt"]),
+    ("The bytes of a table", ["odht_raw/src/memory_layout", "odht_raw/src/items.rt", "odht_raw/src/read_at.rt"]),
     ("The parts of a table", ["odht_raw/src/raw_table"]),
     ("The view", ["odht/src/hash_table.rt", "odht/src/hash_table/"]),
     ("The table that grows", ["odht/src/hash_table_owned"]),
