@@ -22,7 +22,8 @@ pub enum ReadError {
 ///
 /// In a contract `gives s B` says that each read of the source `s` that succeeds gives bytes of the list `B`, and some
 /// where there are more. It holds of no list where the bytes change between reads: then a read promises only how many
-/// bytes it gives. `fails s e` says that a read of `s` may return the error `e`.
+/// bytes it gives. `fails s e` says that a read of `s` may return the error `e`. Of a file nothing proves `gives`: the
+/// clauses of std's own `read_at` say only how many bytes come.
 pub trait ReadAt {
     ghost use Rattle.odht_raw.specs.declared.read_at.ReadError.{ReadError};
 

@@ -32,7 +32,8 @@ pub enum FileError {
 ///
 /// Where the source gives the bytes of one list throughout, each call returns what that of [`DynTable`](super::DynTable)
 /// over them returns, or the error of a read that failed. Where they change between reads, a lookup may return what no
-/// table had at one time, but it does no harm, and reads no more groups than the table had when it was opened.
+/// table had at one time, but it does no harm, and reads no more groups than the table had when it was opened. That a
+/// file gives the same bytes throughout is not proved, here or elsewhere: it is for the caller to know.
 ///
 /// A contract speaks of it as of the source, the offset, the lengths, and the counts of the header.
 #[derive(Drop)]
