@@ -15,6 +15,7 @@ pub mod found;
 pub mod front;
 mod groups;
 pub mod help;
+pub mod hexadecimal;
 mod histogram;
 pub mod info;
 pub mod inside;

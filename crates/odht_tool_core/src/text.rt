@@ -252,8 +252,8 @@ fn parse_long<const N: usize>(word: &[u8]) -> Option<[u8; N]>
     Some(bytes)
 }
 
-// Whether each byte is a hexadecimal digit, of either case.
-fn are_digits(word: &[u8]) -> bool
+/// Whether each byte is a hexadecimal digit, of either case.
+pub(crate) fn are_digits(word: &[u8]) -> bool
     ensures { IsTrue result ↔ AllPass is_ascii_hexdigit word.now }
 {
     word.iter().all(|digit| digit.is_ascii_hexdigit())
@@ -265,9 +265,9 @@ fn max_of(a: u8, b: u8) -> u8
     if a < b { b } else { a }
 }
 
-// The number of a hexadecimal digit of either case, and 16 of any other byte.
+/// The number of a hexadecimal digit of either case, and 16 of any other byte.
 #[inline(always)]
-fn digit_value(byte: u8) -> u8
+pub(crate) fn digit_value(byte: u8) -> u8
     ensures bound { result ≤ 16 }
     ensures digit { result < 16 → IsTrue (is_ascii_hexdigit byte) }
     ensures value { result < 16 → to_ascii_lowercase byte ≡ digit_glyph false result }
