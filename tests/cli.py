@@ -37,6 +37,10 @@ COMMANDS += [
     (["put", "table"], LINES),
     (["build", "made", "--key", "u64", "--value", "u32"], LINES),
     (["build", "-", "--key", "hex32", "--value", "none"], b"00" * 32 + b"\n"),
+    (["get", "other", "000000", "0a0b0c"], b""),
+    (["get", "other", "-"], b"000000\n"),
+    (["put", "other"], b"0a0b0c\t0102030405\n"),
+    (["build", "made", "--key", "hex3", "--value", "hex5"], b"0a0b0c\t0102030405\n" * 2),
 ]
 # more requests than any of these makes
 MOST = 60
@@ -101,6 +105,7 @@ def run_failing(words, given, request, preloaded):
     with tempfile.TemporaryDirectory() as room:
         os.mkdir(f"{room}/files")
         shutil.copy(f"{TABLES}/u64_u32.odht", f"{room}/files/table")
+        shutil.copy(f"{TABLES}/odd_sizes.odht", f"{room}/files/other")
         before = files_in(f"{room}/files")
         given = before["table"] if given is None else given
         env = {**os.environ, "LD_PRELOAD": preloaded, "ODHT_FAIL_REQUEST": str(request)}

@@ -3,8 +3,8 @@
 
   tests/sizes.py PROGRAM
 
-The tables, and what `check`, `count`, `dump` and `keys` write of them, are computed by docs/FORMAT.md alone
-(crates/odht_tool/data/tables.py). Where a ready shape has the lengths the texts are its own, and the table is left out:
+The tables, and what `check`, `count`, `dump`, `keys` and `get` write of them, are computed by docs/FORMAT.md alone
+(crates/odht_tool/data/tables.py); `build` of some pairs and `put` of the others make the same bytes. Where a ready shape has the lengths the texts are its own, and the table is left out:
 tests/tool has those. The last line counts the runs.
 """
 import os
@@ -32,15 +32,20 @@ def sizes():
 
 
 def runs(case, name):
-    """The words of each run, and what it has to write."""
-    hash = f"--hash={name}"
-    yield ["check", "x", hash], f"x: {tables.VALID}"
-    yield ["count", "x", hash], f"{case.table.count()}\n"
-    yield ["dump", "x", hash], case.dump
-    yield ["dump", "x"], case.dump
-    yield ["dump", "x", hash, "--slots"], case.slots
-    yield ["keys", "x", hash], case.key_lines
-    yield ["keys", "x", f"--key=bytes:{case.table.key_size}"], case.key_lines
+    """The words of each run, its lines, and what it has to write. The last two make the file `y`."""
+    hash, key, value = f"--hash={name}", f"--key=bytes:{case.table.key_size}", f"--value=hex{case.table.value_size}"
+    yield ["check", "x", hash], "", f"x: {tables.VALID}"
+    yield ["count", "x", hash], "", f"{case.table.count()}\n"
+    yield ["dump", "x", hash], "", case.dump
+    yield ["dump", "x"], "", case.dump
+    yield ["dump", "x", hash, "--slots"], "", case.slots
+    yield ["keys", "x", hash], "", case.key_lines
+    yield ["keys", "x", key], "", case.key_lines
+    yield ["get", "x", hash, *case.key_lines.split("\n")[:-1]], "", case.dump
+    yield ["get", "x", "-", hash, key, value], case.key_lines.upper(), case.dump
+    lines = case.pairs.splitlines(True)
+    yield ["build", "y", key, value, hash, f"--capacity={len(lines)}"], "".join(lines[:len(lines) // 2]), ""
+    yield ["put", "y", hash], "".join(lines[len(lines) // 2:]), ""
 
 
 def main(program):
@@ -54,13 +59,18 @@ def main(program):
             case = tables.Case("x", "", key_size, value_size, hash, 87, count, pairs, bytes.hex, bytes.hex)
             with open(f"{room}/x", "wb") as file:
                 file.write(case.table.image())
-            for words, wanted in runs(case, "fx" if hash is tables.fx else "unhash"):
-                ran = subprocess.run([program, *words], cwd=room, capture_output=True)
+            for words, lines, wanted in runs(case, hash.__name__):
+                ran = subprocess.run([program, *words], cwd=room, capture_output=True, input=lines.encode())
                 if (ran.returncode, ran.stdout, ran.stderr) == (0, wanted.encode(), b""):
                     passed += 1
                 else:
                     failed += 1
                     print(f"FAILED keys of {key_size} and values of {value_size} bytes: {' '.join(words)}: {ran}")
+            with open(f"{room}/y", "rb") as file:
+                if file.read() != case.table.image():
+                    failed += 1
+                    print(f"FAILED keys of {key_size} and values of {value_size} bytes: the bytes that are made")
+            os.remove(f"{room}/y")
     print(f"{passed} passed, {failed} failed")
     return 1 if failed else 0
 

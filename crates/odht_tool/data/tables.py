@@ -210,10 +210,10 @@ class Case:
             for title, args, errors in runs)
 
     def write_cases(self):
-        """The runs of all commands; `info` alone where no words build the table, and what reads whole files of other sizes."""
+        """The runs of all commands; `info` alone where no words build the table."""
         file, hash = f"{self.name}.odht", self.hash_words
         text = HEAD + self.run_text("info", f"info {file}", "", self.info)
-        if self.words or self.is_other:
+        if self.words:
             text += self.run_text("check", f"check {file}{hash}", "", f"{file}: {VALID}")
             text += self.run_text("check --whole", f"check --whole {file}{hash}", "", f"{file}: valid\n")
             if hash:
@@ -222,9 +222,8 @@ class Case:
             text += self.run_text("keys", f"keys {file}{self.key_kind}", "", self.key_lines)
             text += self.run_text("count", f"count {file}", "", f"{self.table.count()}\n")
             text += self.run_text("dump --slots", f"dump --slots {file}{self.kinds}", "", self.slots)
-        if self.words:
             text += self.run_text("get all keys, in lines that end with \\r\\n", f"get {file} -{self.kinds}", self.keys, self.dump)
-            if self.kinds:
+            if self.kinds or self.is_other:
                 text += self.run_text("put what is there", f"put {file}{self.kinds}", self.dump, "")
             text += self.run_text("build", f"build {file} {self.words}", self.pairs, "", "after")
         write_test(f"tool/tables/{self.name}.cases", text)
@@ -300,12 +299,13 @@ def cases():
                [(k.encode().ljust(16, b"\0"), v.encode().ljust(16, b"\0")) for k, v in words], plain, plain,
                "--key text:16 --value text:16")
     # No ready shape has these sizes.
-    yield Case("odd_sizes", "", 3, 5, fx, 60, 12,
+    yield Case("odd_sizes", "--key hex3 --value bytes:5 --percent 60", 3, 5, fx, 60, 12,
                [(le(k * 77 % 2 ** 24, 3), le(k, 5)) for k in range(12)], bytes.hex, bytes.hex, is_other=True)
     for name, key_size, value_size, hash, count in [
             ("no_bytes", 0, 0, fx, 1), ("empty_key", 0, 255, fx, 1), ("long_key", 255, 1, fx, 9),
             ("long_direct", 255, 0, unhash, 9), ("short_direct", 4, 1, unhash, 9), ("words_12_5", 12, 5, unhash, 40)]:
-        yield Case(name, "", key_size, value_size, hash, 87, count,
+        words = f"--key bytes:{key_size} --value hex{value_size} --hash {hash.__name__} --capacity {count}"
+        yield Case(name, words, key_size, value_size, hash, 87, count,
                    [(spread(k + 1, key_size), spread(k + 99, value_size)) for k in range(count)], bytes.hex, bytes.hex,
                    is_other=True)
     yield Case("empty", "", 8, 4, fx, 87, 12, [])
@@ -338,7 +338,7 @@ def write_find_cases():
         if isinstance(piece, Case):
             table, places[piece.name] = piece.table, len(data)
             image = table.image()
-            checked = "valid" if piece.words or piece.is_other or piece.name == "empty" else "-"
+            checked = "valid" if piece.words or piece.name == "empty" else "-"
             columns = [len(data), len(image), table.key_size, table.value_size, table.count(), len(table.cells),
                        table.count() * 100 // len(table.cells), fits_word(table), checked]
             rows += "\t".join(str(it) for it in columns) + "\n"
@@ -356,11 +356,10 @@ def write_find_cases():
     for name in ("direct", "u64_u32", "odd_sizes"):
         at = f"inside.bin --at {places[name]}"
         text += case(f"info of {name} inside a file", f"info {at}", made[name].info)
-        if made[name].words or made[name].is_other:
+        if made[name].words:
             text += case(f"check of {name}", f"check {at}{made[name].hash_words}", f"inside.bin: {VALID}")
             text += case(f"dump of {name}", f"dump {at}", made[name].dump)
             text += case(f"dump --slots of {name}", f"dump --slots {at}", made[name].slots)
-        if made[name].words:
             key, value = made[name].dump.split("\n")[1].split("\t")
             text += case(f"get of {name}", f"get {at} {key}", f"{key}\t{value}\n")
     write_test("tool/tables/inside.cases", text)

@@ -4,6 +4,8 @@ pub mod KeyAnswers
 pub mod AnswerLists
 -- the lines that a loop has taken
 pub mod LinesTaken
+-- pairs that are inserted in turn
+pub mod OwnedRuns
 -- what a command does, from the shape of the bytes on
 pub mod Shaped
 -- bytes in which the whole check finds no error

@@ -17,7 +17,7 @@ use Rattle.odht_tool_core.specs.Misreads.{misread_text}
 use Rattle.odht_tool_core.specs.Texts.{answers_text}
 use Rattle.odht_tool_core.specs.declared.misread.Wanted.{Wanted}
 use Rattle.odht_tool_core.specs.declared.keys.NextKey.TheVariants.{Key as is_key}
-use Rattle.odht_tool.specs.declared.commands.get.TheConstants.{BATCH}
+use Rattle.odht_tool.specs.declared.lookups.TheConstants.{BATCH}
 use Rattle.odht_tool_core.specs.declared.failure.Failure.{Failure}
 use Rattle.odht_tool_core.specs.declared.failure.Failure.TheVariants.{Memory, Input, Misread, Output}
 use Rattle.odht_tool_core.specs.declared.failure.LineFault.TheVariants.{Key}

@@ -14,6 +14,8 @@
 --                          input has these bytes, which may be known
 --     AreLinesGot c f g R p B input old new r the same of opening too
 --     lines_of_shape fs B input old new r s   the same of bytes of the shape s in the forms fs of keys and of values
+--     lines_of_other B input old new r o      the same of bytes of the shape o, which is no ready one, in hexadecimal digits
+--     lines_of_any fs B input old new r s     the same of any shape
 --     AreFileLinesGot B h ks input old new r  the same of the bytes of a file, where the hash function h, or none, is named,
 --                          and ks is said of keys and values
 -- Nothing is said of answers where the bytes of the input are not known.
@@ -22,12 +24,17 @@ use Rattle.std.specs.Io.KnownBytes.{Keeps}
 use Rattle.std.specs.Str.Lines.{lines}
 use Rattle.odht_header.specs.Coding.{Coding}
 use Rattle.odht_header.specs.Refusals.{view_refusal}
-use Rattle.odht_tool.specs.Gets.{IsAnswered, IsTextOf, by_shape}
+use Rattle.odht_tool.specs.Gets.{IsAnswered, IsHexOf, IsTextOf, by_shape}
 use Rattle.odht_tool_core.specs.Keys.{IsTextOfNone}
-use Rattle.odht_tool_core.specs.Misreads.{misread_text, typed_wanted}
+use Rattle.odht_tool_core.specs.AnyShapes.{other_coding}
+use Rattle.odht_tool_core.specs.Misreads.{misread_text, typed_wanted, hex_wanted}
 use Rattle.odht_tool_core.specs.ReadyShapes.{typed_text, shape_coding}
 use Rattle.odht_tool_core.specs.ShapeList.{key_part, value_part}
-use Rattle.odht_tool.specs.declared.commands.get.TheConstants.{BATCH}
+use Rattle.odht_tool_core.specs.Texts.{hex_text}
+use Rattle.odht_tool.specs.declared.lookups.TheConstants.{BATCH}
+use Rattle.odht_tool_core.specs.declared.any.AnyShape.{AnyShape}
+use Rattle.odht_tool_core.specs.declared.any.AnyShape.TheVariants.{Ready, Other}
+use Rattle.odht_tool_core.specs.declared.any.OtherShape.{OtherShape}
 use Rattle.odht_tool_core.specs.declared.failure.Failure.{Failure}
 use Rattle.odht_tool_core.specs.declared.failure.Failure.TheVariants.{Refused, Input, Misread, Output, Memory}
 use Rattle.odht_tool_core.specs.declared.failure.LineFault.TheVariants.{Key}
@@ -89,8 +96,16 @@ lines_of_shape fs B input old new r s =
     let k = key_part s in
     AreLinesGot (shape_coding s) (typed_text fs.0 k) (typed_text fs.1 (value_part s)) (IsTextOf fs.0 k) (typed_wanted fs.0 k) B input old new r
 
-abbrev pub lines_of_forms : List ℕ → Option (List ℕ) → Option (List ℕ) → Option (List ℕ) → Result Status Failure → Shape × GivenForms → Type 0
-lines_of_forms B input old new r x = lines_of_shape (x.1.key, x.1.value) B input old new r x.0
+abbrev pub lines_of_other : List ℕ → Option (List ℕ) → Option (List ℕ) → Option (List ℕ) → Result Status Failure → OtherShape → Type 0
+lines_of_other B input old new r o =
+    AreLinesGot (other_coding o) hex_text hex_text (IsHexOf o.key_len) (hex_wanted o.key_len) B input old new r
+
+abbrev pub lines_of_any : Form × Form → List ℕ → Option (List ℕ) → Option (List ℕ) → Option (List ℕ) → Result Status Failure → AnyShape → Type 0
+lines_of_any fs B input old new r (Ready s) = lines_of_shape fs B input old new r s
+lines_of_any fs B input old new r (Other o) = lines_of_other B input old new r o
+
+abbrev pub lines_of_forms : List ℕ → Option (List ℕ) → Option (List ℕ) → Option (List ℕ) → Result Status Failure → AnyShape × GivenForms → Type 0
+lines_of_forms B input old new r x = lines_of_any (x.1.key, x.1.value) B input old new r x.0
 
 abbrev pub AreFileLinesGot : List ℕ → Option Hash → Kinds → Option (List ℕ) → Option (List ℕ) → Option (List ℕ) → Result Status Failure → Type 0
 AreFileLinesGot B h ks input old new r = by_shape B h ks old new r (lines_of_forms B input old new r)

@@ -8,6 +8,9 @@
 --                          bytes old to new; f and g are the texts of keys and of values
 --     AreWordsGot c f g R p B ws old new r what `get` returns, r, and writes for the words ws, where p is wanted of keys
 --     words_of_shape fs B ws old new r s   the same of bytes of the shape s in the forms fs of keys and of values
+--     IsHexOf n w x        the word w is the two hexadecimal digits of each of the n bytes x
+--     words_of_other B ws old new r o      the same of bytes of the shape o, which is no ready one, in hexadecimal digits
+--     words_of_any fs B ws old new r s     the same of any shape
 --     AreFileWordsGot B h ks ws old new r  the same of the bytes of a file, where the hash function h, or none, is named,
 --                          and ks is said of keys and values
 use Rattle.std.specs.Prelude.{◌≡◌, Bool, ℕ, List, length, map, is_some, Option, Some, None, Result, Ok, Err, MatchResult, if◌then◌else◌}
@@ -19,11 +22,14 @@ use Rattle.odht_base.specs.Valid.{IsImage}
 use Rattle.odht_header.specs.Coding.{Coding, value_for}
 use Rattle.odht_header.specs.Refusals.{view_refusal}
 use Rattle.odht_tool_core.specs.Keys.{IsReadAs, TellsFault}
-use Rattle.odht_tool_core.specs.ReadAs.{read_as}
+use Rattle.odht_tool_core.specs.AnyShapes.{read_any, other_coding}
 use Rattle.odht_tool_core.specs.ReadyShapes.{Typed, IsTypedWord, StandsFor, typed_text, shape_coding}
 use Rattle.odht_tool_core.specs.ShapeList.{key_part, value_part}
-use Rattle.odht_tool_core.specs.Misreads.{typed_wanted}
-use Rattle.odht_tool_core.specs.Texts.{answers_text}
+use Rattle.odht_tool_core.specs.Misreads.{typed_wanted, hex_wanted}
+use Rattle.odht_tool_core.specs.Texts.{IsHexWord, WritesBytes, answers_text, hex_text}
+use Rattle.odht_tool_core.specs.declared.any.AnyShape.{AnyShape}
+use Rattle.odht_tool_core.specs.declared.any.AnyShape.TheVariants.{Ready, Other}
+use Rattle.odht_tool_core.specs.declared.any.OtherShape.{OtherShape}
 use Rattle.odht_tool_core.specs.declared.failure.Failure.{Failure}
 use Rattle.odht_tool_core.specs.declared.failure.Failure.TheVariants.{Refused, Output, Memory, Misread}
 use Rattle.odht_tool_core.specs.declared.forms.Form.{Form}
@@ -74,12 +80,22 @@ words_of_shape fs B ws old new r s =
     let k = key_part s in
     AreWordsGot (shape_coding s) (typed_text fs.0 k) (typed_text fs.1 (value_part s)) (IsTextOf fs.0 k) (typed_wanted fs.0 k) B ws old new r
 
--- with no shape there is its failure
-abbrev pub by_shape : List ℕ → Option Hash → Kinds → Option (List ℕ) → Option (List ℕ) → Result Status Failure → (Shape × GivenForms → Type 0) → Type 0
-by_shape B h ks old new r P = MatchResult (read_as B h ks) P (λ failure. (r ≡ Err failure) × Keeps old new)
+abbrev pub IsHexOf : ℕ → List ℕ → List ℕ → Type 0
+IsHexOf n = IsReadAs (IsHexWord n) WritesBytes
 
-abbrev pub words_of_forms : List ℕ → List (List ℕ) → Option (List ℕ) → Option (List ℕ) → Result Status Failure → Shape × GivenForms → Type 0
-words_of_forms B ws old new r x = words_of_shape (x.1.key, x.1.value) B ws old new r x.0
+abbrev pub words_of_other : List ℕ → List (List ℕ) → Option (List ℕ) → Option (List ℕ) → Result Status Failure → OtherShape → Type 0
+words_of_other B ws old new r o = AreWordsGot (other_coding o) hex_text hex_text (IsHexOf o.key_len) (hex_wanted o.key_len) B ws old new r
+
+abbrev pub words_of_any : Form × Form → List ℕ → List (List ℕ) → Option (List ℕ) → Option (List ℕ) → Result Status Failure → AnyShape → Type 0
+words_of_any fs B ws old new r (Ready s) = words_of_shape fs B ws old new r s
+words_of_any fs B ws old new r (Other o) = words_of_other B ws old new r o
+
+-- with no shape there is its failure
+abbrev pub by_shape : List ℕ → Option Hash → Kinds → Option (List ℕ) → Option (List ℕ) → Result Status Failure → (AnyShape × GivenForms → Type 0) → Type 0
+by_shape B h ks old new r P = MatchResult (read_any B h ks) P (λ failure. (r ≡ Err failure) × Keeps old new)
+
+abbrev pub words_of_forms : List ℕ → List (List ℕ) → Option (List ℕ) → Option (List ℕ) → Result Status Failure → AnyShape × GivenForms → Type 0
+words_of_forms B ws old new r x = words_of_any (x.1.key, x.1.value) B ws old new r x.0
 
 abbrev pub AreFileWordsGot : List ℕ → Option Hash → Kinds → List (List ℕ) → Option (List ℕ) → Option (List ℕ) → Result Status Failure → Type 0
 AreFileWordsGot B h ks ws old new r = by_shape B h ks old new r (words_of_forms B ws old new r)

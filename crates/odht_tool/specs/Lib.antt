@@ -9,6 +9,8 @@ pub mod GetParts
 pub mod GetLines
 -- what a command writes and returns: `find`
 pub mod FindLines
+-- pairs that are inserted into a table that grows
+pub mod Inserted
 -- lines of which no pair is read
 pub mod Faults
 -- tables of lengths that are numbers

@@ -4,6 +4,8 @@
 #![tactic(auto)]
 
 mod commands;
+mod inserts;
+mod lookups;
 mod shapes;
 mod sized;
 

@@ -17,6 +17,8 @@ use odht_tool_core::any::OtherShape;
 use odht_tool_core::failure::Failure;
 use odht_tool_core::shapes::Hash;
 
+pub mod builds;
+pub mod gets;
 pub mod listings;
 
 /// The lengths of a shape.

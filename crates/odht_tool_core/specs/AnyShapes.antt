@@ -14,10 +14,14 @@
 --     fitting_any k v T    the first ready shape that fits the parts T; else the shape of the first hash function that all
 --                          control bytes agree with; or the failure that there is none
 --     found_any B h        the shape that is named; but where there are items, and no hash function is named, one that fits
+--     is_hex k             keys or values of which k is said are bytes, or nothing, in hexadecimal digits
+--     any_of_kinds k v h   the shape of keys and values of which k and v are said, and of the hash function h, where one is
+--                          named: the first ready one of their types, else another one of bytes in hexadecimal digits,
+--                          where no ready one has these lengths, and keys are long enough
 --     any_form s k p       the form of keys or values of the type p in the shape s, where k is said of them; only a ready shape
 --                          has others than its own
 --     read_any B h ks      the shape that is found, with its forms, where ks is said of keys and values
-use Rattle.std.specs.Prelude.{ℕ, ⊤, ◌≤◌, List, ◌&&◌, nat_lt, is_none, is_some, slice_index, Option, None, Some, Result, Ok, Err, if◌then◌else◌}
+use Rattle.std.specs.Prelude.{ℕ, ⊤, ◌≤◌, List, Bool, true, false, ◌&&◌, nat_lt, is_none, is_some, slice_index, Option, None, Some, Result, Ok, Err, if◌then◌else◌}
 use Rattle.std.specs.Option.{unwrap_or}
 use Rattle.odht_base.specs.Format.{Format, format_of}
 use Rattle.odht_header.specs.Coding.{Coding}
@@ -25,7 +29,7 @@ use Rattle.odht_raw.specs.Sized.{bytes_coding}
 use Rattle.odht_tool_core.specs.FoundShapes.{has_items, fitting_shape}
 use Rattle.odht_tool_core.specs.InfoNumbers.{SizedParts, sized_parts, least_key_len, found_hash}
 use Rattle.odht_tool_core.specs.ReadAs.{form_for}
-use Rattle.odht_tool_core.specs.ReadyShapes.{hash_of, shape_format, shape_of_sizes, early_refusal}
+use Rattle.odht_tool_core.specs.ReadyShapes.{hash_of, shape_format, shape_of_parts, shape_of_sizes, typed_len, early_refusal}
 use Rattle.odht_tool_core.specs.ShapeList.{key_part, value_part, shape_hash}
 use Rattle.odht_tool_core.specs.declared.any.AnyShape.{AnyShape}
 use Rattle.odht_tool_core.specs.declared.any.AnyShape.TheVariants.{Ready, Other}
@@ -33,14 +37,14 @@ use Rattle.odht_tool_core.specs.declared.any.OtherShape.{OtherShape}
 use Rattle.odht_tool_core.specs.declared.failure.Failure.{Failure}
 use Rattle.odht_tool_core.specs.declared.failure.Failure.TheVariants.{NoHash, ShortKeys, OtherKey, OtherValue}
 use Rattle.odht_tool_core.specs.declared.forms.Form.{Form}
-use Rattle.odht_tool_core.specs.declared.forms.Form.TheVariants.{Own, Signed, BigEndian, Plain}
+use Rattle.odht_tool_core.specs.declared.forms.Form.TheVariants.{Own, Signed, BigEndian, Plain, Hex}
 use Rattle.odht_tool_core.specs.declared.forms.GivenForms.{GivenForms}
 use Rattle.odht_tool_core.specs.declared.forms.Kind.{Kind}
 use Rattle.odht_tool_core.specs.declared.forms.Kinds.{Kinds}
 use Rattle.odht_tool_core.specs.declared.shapes.Hash.{Hash}
 use Rattle.odht_tool_core.specs.declared.shapes.Hash.TheVariants.{Fx}
 use Rattle.odht_tool_core.specs.declared.shapes.Part.{Part}
-use Rattle.odht_tool_core.specs.declared.shapes.Part.TheVariants.{Bytes}
+use Rattle.odht_tool_core.specs.declared.shapes.Part.TheVariants.{Nothing, U32, U64, Bytes}
 use Rattle.odht_tool_core.specs.declared.shapes.ready.Shape.{Shape}
 use Rattle.odht_tool_core.specs.declared.shapes.ready.Shape.TheVariants.{U64ToU32}
 
@@ -50,6 +54,19 @@ other_format o = format_of o.key_len o.value_len (hash_of o.hash)
 abbrev pub HasLongKeys : AnyShape → Type 0
 HasLongKeys (Ready s) = ⊤
 HasLongKeys (Other o) = least_key_len o.hash ≤ o.key_len
+
+abbrev pub is_own : Form → Bool
+is_own Own = true
+is_own Signed = false
+is_own BigEndian = false
+is_own Plain = false
+is_own (Hex n) = false
+
+abbrev pub is_hex_part : Part → Bool
+is_hex_part Nothing = true
+is_hex_part U32 = false
+is_hex_part U64 = false
+is_hex_part (Bytes n) = true
 
 abbrev pub any_key : AnyShape → Part
 any_key (Ready s) = key_part s
@@ -101,6 +118,24 @@ found_any B h =
     if is_none h && has_items B then fitting_any (slice_index B 5) (slice_index B 6) (sized_parts B)
     else named_any B h
 
+-- ---- that is named
+abbrev pub is_hex : Kind → Bool
+is_hex k = is_hex_part k.part && is_own k.form
+
+abbrev pub other_alone : Result AnyShape Failure → Option AnyShape
+other_alone (Ok (Ready s)) = None
+other_alone (Ok (Other o)) = Some (Other o)
+other_alone (Err failure) = None
+
+abbrev pub of_kinds_or : Option AnyShape → Option Shape → Option AnyShape
+of_kinds_or o None = o
+of_kinds_or o (Some s) = Some (Ready s)
+
+abbrev pub any_of_kinds : Kind → Kind → Option Hash → Option AnyShape
+any_of_kinds k v h =
+    let other = if is_hex k && is_hex v then other_alone (any_of_sizes (typed_len k.part) (typed_len v.part) h) else None in
+    of_kinds_or other (shape_of_parts k.part v.part h)
+
 -- ---- with forms
 abbrev pub own_form : Option Form → Option Form
 own_form None = None
@@ -108,6 +143,7 @@ own_form (Some Own) = Some Own
 own_form (Some Signed) = None
 own_form (Some BigEndian) = None
 own_form (Some Plain) = None
+own_form (Some (Hex n)) = None
 
 abbrev pub any_form : AnyShape → Option Kind → Part → Option Form
 any_form (Ready s) k p = form_for k p

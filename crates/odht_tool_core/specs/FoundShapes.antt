@@ -1,29 +1,19 @@
--- The shape that the bytes B of a file are read as, where the hash function is found by their control bytes.
---     named_shape B h      the shape of the sizes in the header, and of the hash function h where one is named; or the
---                          failure that there is none
+-- The ready shape that the bytes B of a file are read as, where the hash function is found by their control bytes.
 --     has_items B          header and length fit, and the header counts items
 --     fits k v T s         the shape s has keys of k and values of v bytes, and all control bytes of the parts T agree with
 --                          its hash function
 --     fitting_shape k v T  the first ready shape that fits, if there is one
---     found_shape B h      the shape that is named; but where there are items, and no hash function is named, the first
---                          that fits, or the failure that none does
 --     other_hash h         the hash function that is not h
 --     hinted_hash B h      the hash function that is not h, where there are items and all control bytes agree with it
-use Rattle.std.specs.Prelude.{ℕ, List, Bool, not, ◌&&◌, ◌==◌, find, is_none, is_ok, slice_index, Option, None, Result, if◌then◌else◌}
+use Rattle.std.specs.Prelude.{ℕ, List, Bool, not, ◌&&◌, ◌==◌, find, is_none, Option, None}
 use Rattle.std.specs.Bool.{then_some}
-use Rattle.std.specs.Option.{ok_or}
 use Rattle.odht_base.specs.Decoded.{header_count}
 use Rattle.odht_tool_core.specs.InfoNumbers.{SizedParts, sized_parts, info_refusal, agrees}
-use Rattle.odht_tool_core.specs.ReadyShapes.{is_shape_of, shape_of_bytes}
+use Rattle.odht_tool_core.specs.ReadyShapes.{is_shape_of}
 use Rattle.odht_tool_core.specs.ShapeList.{shape_hash, ready_shapes}
-use Rattle.odht_tool_core.specs.declared.failure.Failure.{Failure}
-use Rattle.odht_tool_core.specs.declared.failure.Failure.TheVariants.{NoShape, NoHash}
 use Rattle.odht_tool_core.specs.declared.shapes.Hash.{Hash}
 use Rattle.odht_tool_core.specs.declared.shapes.Hash.TheVariants.{Fx, Unhash}
 use Rattle.odht_tool_core.specs.declared.shapes.ready.Shape.{Shape}
-
-abbrev pub named_shape : List ℕ → Option Hash → Result Shape Failure
-named_shape B h = ok_or (shape_of_bytes B h) (NoShape (slice_index B 5) (slice_index B 6))
 
 abbrev pub has_items : List ℕ → Bool
 has_items B = is_none (info_refusal B) && not (header_count B == 0)
@@ -34,13 +24,6 @@ fits k v T s = is_shape_of k v None s && agrees T (shape_hash s)
 
 abbrev pub fitting_shape : ℕ → ℕ → SizedParts → Option Shape
 fitting_shape k v T = find (fits k v T) ready_shapes
-
-abbrev pub found_shape : List ℕ → Option Hash → Result Shape Failure
-found_shape B h =
-    let k = slice_index B 5 in
-    let v = slice_index B 6 in
-    if is_none h && has_items B && is_ok (named_shape B h) then ok_or (fitting_shape k v (sized_parts B)) (NoHash k v)
-    else named_shape B h
 
 -- ---- the hint of `check`
 abbrev pub other_hash : Hash → Hash

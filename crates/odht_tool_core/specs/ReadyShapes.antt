@@ -16,9 +16,7 @@
 --     shape_of_sizes k v h the first ready shape of this kind, if there is one
 --     early_refusal B      the error of opening the bytes B that comes before those of the key and value sizes, if there
 --                          is one; it is the same for each shape
---     shape_of_bytes B h   the shape that the bytes B are read as: that of the sizes in the header, and of the hash
---                          function where one is named; with an early error that of u64 to u32, since any will do
-use Rattle.std.specs.Prelude.{◌≡◌, ℕ, List, [], ◌∷◌, Bool, true, false, ◌&&◌, ◌==◌, nat_lt, length, slice_index, find, is_some, Option, Some, if◌then◌else◌}
+use Rattle.std.specs.Prelude.{◌≡◌, ℕ, List, [], ◌∷◌, Bool, true, false, ◌&&◌, ◌==◌, nat_lt, length, find, Option}
 use Rattle.std.specs.Int.{w32, w64, to_le_bytes, from_le_bytes}
 use Rattle.std.specs.Option.{option_or, option_map_or}
 use Rattle.odht_base.specs.Format.{Format, format_of}
@@ -36,7 +34,6 @@ use Rattle.odht_tool_core.specs.declared.shapes.Hash.TheVariants.{Fx, Unhash}
 use Rattle.odht_tool_core.specs.declared.shapes.Part.{Part}
 use Rattle.odht_tool_core.specs.declared.shapes.Part.TheVariants.{Nothing, U32, U64, Bytes}
 use Rattle.odht_tool_core.specs.declared.shapes.ready.Shape.{Shape}
-use Rattle.odht_tool_core.specs.declared.shapes.ready.Shape.TheVariants.{U64ToU32}
 
 -- ---- types of keys and values
 abbrev pub Typed : Part → Type 0
@@ -134,6 +131,3 @@ early_refusal B =
     option_or
     (nat_lt (length B) 32 gives TooShort (length B))
     (first_of (tag_refusal B ∷ version_refusal B ∷ wrong_size B 4 EntryMetadata 1 ∷ []))
-
-abbrev pub shape_of_bytes : List ℕ → Option Hash → Option Shape
-shape_of_bytes B h = if is_some (early_refusal B) then Some U64ToU32 else shape_of_sizes (slice_index B 5) (slice_index B 6) h

@@ -1,6 +1,6 @@
 //! The shape of a table of any sizes: a ready one, or the lengths of keys and values and the hash function.
-ghost use Rattle.std.specs.Prelude.{◌≡◌, IfOk};
-ghost use Rattle.odht_tool_core.specs.AnyShapes.{HasLongKeys, any_of_sizes, other_of};
+ghost use Rattle.std.specs.Prelude.{◌≡◌, IfOk, IfSome};
+ghost use Rattle.odht_tool_core.specs.AnyShapes.{HasLongKeys, any_of_kinds, any_of_sizes, other_of};
 ghost use Rattle.odht_tool_core.specs.AnyShapes.{any_form, any_hash, any_key, any_value, named_any};
 ghost use Rattle.odht_tool_core.specs.AnyShapes.{read_any};
 
@@ -60,6 +60,26 @@ impl AnyShape {
         match self {
             AnyShape::Ready(shape) => shape.value(),
             AnyShape::Other(other) => Part::Bytes(other.value_len),
+        }
+    }
+
+    /// The shape of keys and values that are said to be these, and of the hash function, where one is given: the first
+    /// ready one of their types; else, of bytes in hexadecimal digits, another one, of `fx` where none is given. None where
+    /// a ready shape of other types has as many bytes, since a file is read as that, or the hash function needs longer
+    /// keys.
+    pub(crate) fn of_kinds(key: Kind, value: Kind, hash: Option<Hash>) -> Option<AnyShape>
+        ensures shape { result ≡ any_of_kinds key value hash }
+        ensures long { IfSome result HasLongKeys }
+    {
+        if let Some(shape) = Shape::of_parts(key.part, value.part, hash) {
+            return Some(AnyShape::Ready(shape));
+        }
+        if !key.is_hex() || !value.is_hex() {
+            return None;
+        }
+        match AnyShape::of_sizes(key.part.size(), value.part.size(), hash) {
+            Ok(AnyShape::Other(other)) => Some(AnyShape::Other(other)),
+            _ => None,
         }
     }
 

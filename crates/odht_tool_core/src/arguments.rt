@@ -1,7 +1,8 @@
 //! The arguments that the program is called with.
 
+use crate::any::AnyShape;
 use crate::forms::{GivenForms, Kinds};
-use crate::shapes::{Hash, Shape};
+use crate::shapes::Hash;
 use odht_base::load::Percent;
 use std::alloc::Global;
 
@@ -16,7 +17,7 @@ pub use topics::{Setting, Topic};
 /// The options of `build`.
 #[derive(Clone, Copy)]
 pub struct BuildOptions {
-    pub shape: Shape,
+    pub shape: AnyShape,
     pub forms: GivenForms,
     /// For how many items room is made at first.
     pub capacity: usize,

@@ -32,6 +32,7 @@ pub mod refusal;
 pub mod shapes;
 mod shown;
 mod signed;
+mod sized_bytes;
 pub mod sized_slots;
 pub mod slots;
 pub mod status;

@@ -1,15 +1,10 @@
 //! The shapes of tables that the commands read and write: the types of keys and values, and the hash function.
-ghost use Rattle.std.specs.Prelude.{◌≡◌, slice_index};
-ghost use Rattle.std.specs.Option.{ok_or};
+ghost use Rattle.std.specs.Prelude.{◌≡◌};
 ghost use Rattle.odht_tool_core.specs.ReadyShapes.{typed_len, same_part, same_hash, is_hashed_by};
 ghost use Rattle.odht_tool_core.specs.ReadyShapes.{has_parts, shape_of_parts, is_shape_of};
-ghost use Rattle.odht_tool_core.specs.ReadyShapes.{shape_of_sizes, shape_of_bytes};
-ghost use Rattle.odht_tool_core.specs.declared.failure.Failure.TheVariants.{NoShape};
+ghost use Rattle.odht_tool_core.specs.ReadyShapes.{shape_of_sizes};
 ghost use Rattle.odht_tool_core.specs.FoundShapes.{other_hash};
 
-use crate::early::check_first;
-use crate::failure::Failure;
-use odht_header::header::Header;
 use std::fmt;
 
 mod ready;
@@ -180,21 +175,4 @@ impl Shape {
             None => true,
         }
     }
-}
-
-/// The ready shape of these bytes, by the key and value sizes in the header. Where the check fails before it comes to
-/// the sizes, some shape is returned: opening has the same error for each.
-pub fn shape_of(bytes: &[u8], hash: Option<Hash>) -> Result<Shape, Failure>
-    ensures { let sizes = NoShape (slice_index bytes.now 5) (slice_index bytes.now 6)
-        in result ≡ ok_or (shape_of_bytes bytes.now hash) sizes }
-{
-    if check_first(bytes).is_err() {
-        return Ok(Shape::U64ToU32);
-    }
-    let header = Header::of(bytes);
-    let (key_size, value_size) = (header.key_size(), header.value_size());
-    Shape::of_sizes(key_size, value_size, hash).ok_or(Failure::NoShape {
-        key_size,
-        value_size,
-    })
 }

@@ -26,7 +26,7 @@ use crate::signed::{parse_signed, write_signed};
 use std::io::{self, Write};
 
 /// A key or a value that has a text in each form.
-pub trait Text: Copy {
+pub trait Text: Sized + Drop {
     ghost use Rattle.odht_tool_core.specs.declared.forms.Form.{Form};
 
     ghost text: { Form → Self → List ℕ };
@@ -64,14 +64,14 @@ impl Text for u32 {
 
     fn wanted(form: Form) -> Wanted {
         match form {
-            Form::Own | Form::BigEndian | Form::Plain => Wanted::U32,
             Form::Signed => Wanted::I32,
+            _ => Wanted::U32,
         }
     }
 
     fn parse(word: &[u8], form: Form) -> Option<u32> {
         match form {
-            Form::Own | Form::Plain => u32::try_from(parse_number(word)?).ok(),
+            Form::Own | Form::Plain | Form::Hex(_) => u32::try_from(parse_number(word)?).ok(),
             Form::Signed => u32::try_from(parse_signed(word, u64::from(u32::MAX))?).ok(),
             Form::BigEndian => {
                 let number = u32::try_from(parse_number(word)?).ok()?;
@@ -83,7 +83,7 @@ impl Text for u32 {
     #[inline(always)]
     fn write<W: Write>(&self, form: Form, output: &mut W) -> io::Result<()> {
         match form {
-            Form::Own | Form::Plain => write_number(u64::from(*self), output),
+            Form::Own | Form::Plain | Form::Hex(_) => write_number(u64::from(*self), output),
             Form::Signed => write_signed(u64::from(*self), u64::from(u32::MAX), output),
             Form::BigEndian => write_number(u64::from(self.swap_bytes()), output),
         }
@@ -101,14 +101,14 @@ impl Text for u64 {
 
     fn wanted(form: Form) -> Wanted {
         match form {
-            Form::Own | Form::BigEndian | Form::Plain => Wanted::U64,
             Form::Signed => Wanted::I64,
+            _ => Wanted::U64,
         }
     }
 
     fn parse(word: &[u8], form: Form) -> Option<u64> {
         match form {
-            Form::Own | Form::Plain => parse_number(word),
+            Form::Own | Form::Plain | Form::Hex(_) => parse_number(word),
             Form::Signed => parse_signed(word, u64::MAX),
             Form::BigEndian => {
                 let number = parse_number(word)?;
@@ -120,7 +120,7 @@ impl Text for u64 {
     #[inline(always)]
     fn write<W: Write>(&self, form: Form, output: &mut W) -> io::Result<()> {
         match form {
-            Form::Own | Form::Plain => write_number(*self, output),
+            Form::Own | Form::Plain | Form::Hex(_) => write_number(*self, output),
             Form::Signed => write_signed(*self, u64::MAX, output),
             Form::BigEndian => write_number(self.swap_bytes(), output),
         }

@@ -28,7 +28,7 @@ use Rattle.odht_tool_core.specs.ReadyShapes.{shape_coding, typed_text}
 use Rattle.odht_tool_core.specs.declared.misread.Wanted.{Wanted}
 use Rattle.odht_tool_core.specs.Texts.{answers_text}
 use Rattle.odht_tool_core.specs.declared.forms.Form.TheVariants.{Own}
-use Rattle.odht_tool_core.specs.declared.failure.Failure.TheVariants.{Refused, NoShape, Input, Misread, Output, Memory}
+use Rattle.odht_tool_core.specs.declared.failure.Failure.TheVariants.{Refused, ShortKeys, Input, Misread, Output, Memory}
 use Rattle.odht_tool_core.specs.declared.failure.LineFault.TheVariants.{Key}
 use Rattle.odht_tool_core.specs.declared.shapes.Hash.TheVariants.{Unhash}
 use Rattle.odht_tool_core.specs.declared.shapes.Part.TheVariants.{U32}
@@ -41,7 +41,7 @@ use Rattle.odht_tool.proofs.examples.Gots.{no_refusal}
 use Rattle.odht_tool_core.proofs.examples.Forms.{unsaid}
 use Rattle.odht_tool_core.proofs.examples.Shapes.{one_item, one_bytes}
 
-abbrev C : Coding ℕ ℕ
+abbrev pub C : Coding ℕ ℕ
 C = shape_coding DirectU32ToU32
 
 abbrev f : ℕ → List ℕ
@@ -55,7 +55,7 @@ a_number = typed_wanted Own U32
 
 -- ---- the answers to keys
 -- the bytes are those of this table alone
-one_image : IsImage direct_config one_item one_bytes
+pub one_image : IsImage direct_config one_item one_bytes
 unfolding opened
 one_image = record {
   valid = record {
@@ -351,11 +351,11 @@ pub not_refused : (input old new : Option (List ℕ)) → lines_of_shape (Own, O
 not_refused input old new h = let no = no_refusal in cc
 
 -- of bytes with no shape nothing is read
-pub no_shape : (input : Option (List ℕ)) → AreFileLinesGot (overwritten_at one_bytes 5 (9 ∷ [])) None unsaid input (Some (codes "a")) (Some (codes "a")) (Err (NoShape 9 4))
+pub no_shape : (input : Option (List ℕ)) → AreFileLinesGot (overwritten_at one_bytes 5 (3 ∷ [])) (Some Unhash) unsaid input (Some (codes "a")) (Some (codes "a")) (Err (ShortKeys 3))
 unfolding opened
 no_shape input = (refl, refl)
 
-pub shape_missed : (input old new : Option (List ℕ)) → AreFileLinesGot one_bytes (Some Unhash) unsaid input old new (Err (NoShape 4 4)) → ⊥
+pub shape_missed : (input old new : Option (List ℕ)) → AreFileLinesGot one_bytes (Some Unhash) unsaid input old new (Err (ShortKeys 4)) → ⊥
 unfolding opened
 shape_missed input old new h = h.1
 

@@ -1,15 +1,22 @@
 -- Worked examples: what `get` writes and returns.
-use Rattle.std.proofs.Common.{◌≡◌, ℕ, refl, [], ◌∷◌, Some, None, Err}
+use Rattle.std.proofs.Common.{◌≡◌, ℕ, arith, refl, [], ◌∷◌, Some, None, Err}
+use Rattle.std.specs.Char.{is_ascii_hexdigit}
 use Rattle.std.specs.Prelude.{codes}
+use Rattle.std.proofs.lemmas.List.Sums.{AllPass-from_list_all}
 use Rattle.odht_header.specs.Refusals.{view_refusal}
 use Rattle.odht_header.proofs.examples.Apart.{unequal_lists}
 use Rattle.odht_header.proofs.examples.Opened.{opened}
-use Rattle.odht_tool.specs.Gets.{answered_status, words_of_shape}
+use Rattle.odht_tool.specs.GetLines.{lines_of_any, lines_of_other}
+use Rattle.odht_tool.specs.Gets.{IsHexOf, answered_status, words_of_any, words_of_other, words_of_shape}
+use Rattle.odht_tool_core.specs.AnyShapes.{other_format}
 use Rattle.odht_tool_core.specs.ReadyShapes.{shape_format}
+use Rattle.odht_tool_core.specs.declared.any.AnyShape.TheVariants.{Ready, Other}
 use Rattle.odht_tool_core.specs.declared.forms.Form.TheVariants.{Own}
 use Rattle.odht_tool_core.specs.declared.failure.Failure.TheVariants.{Memory}
+use Rattle.odht_tool_core.specs.declared.shapes.Hash.TheVariants.{Unhash}
 use Rattle.odht_tool_core.specs.declared.shapes.ready.Shape.TheVariants.{DirectU32ToU32}
 use Rattle.odht_tool_core.specs.declared.status.Status.TheVariants.{Done, NotDone}
+use Rattle.odht_tool_core.proofs.examples.FoundShapes.{other, other_bytes}
 use Rattle.odht_tool_core.proofs.examples.Shapes.{one_bytes}
 
 -- the status is `NotDone` where a key is absent
@@ -29,3 +36,33 @@ no_memory = (no_refusal, refl)
 
 pub written_without_memory : words_of_shape (Own, Own) one_bytes (codes "5" ∷ []) (Some (codes "a")) (Some (codes "ab")) (Err Memory) DirectU32ToU32 → ⊥
 written_without_memory h = unequal_lists (codes "ab") (codes "a") refl h.1
+
+-- ---- of other sizes
+-- a word has two digits, of either case, for each byte; no other byte's, and none is left over
+pub hexadecimal : IsHexOf 2 (codes "0aFf") (10 ∷ 255 ∷ [])
+hexadecimal = ((refl, AllPass-from_list_all is_ascii_hexdigit (codes "0aFf") refl), refl)
+
+pub digits_of_another : IsHexOf 2 (codes "0aff") (10 ∷ 254 ∷ []) → ⊥
+digits_of_another h = unequal_lists _ _ refl h.1
+
+pub digit_left_over : IsHexOf 1 (codes "0af") (10 ∷ []) → ⊥
+digit_left_over h = omega (arith, h.0.0)
+
+-- the bytes open as those of six and two
+pub other_opens : view_refusal (other_format (other 6 2 Unhash)) other_bytes ≡ None
+unfolding opened
+other_opens = refl
+
+-- so without memory nothing is written, for words as for lines
+pub other_without_memory : words_of_other other_bytes (codes "5" ∷ []) (Some (codes "a")) (Some (codes "a")) (Err Memory) (other 6 2 Unhash)
+    × words_of_any (Own, Own) other_bytes (codes "5" ∷ []) (Some (codes "a")) (Some (codes "a")) (Err Memory) (Other (other 6 2 Unhash))
+    × lines_of_other other_bytes None (Some (codes "a")) (Some (codes "a")) (Err Memory) (other 6 2 Unhash)
+    × lines_of_any (Own, Own) other_bytes None (Some (codes "a")) (Some (codes "a")) (Err Memory) (Other (other 6 2 Unhash))
+other_without_memory = ((other_opens, refl), (other_opens, refl), (other_opens, tt), (other_opens, tt))
+
+-- and of a ready shape it is what is said of this
+pub ready_without_memory : words_of_any (Own, Own) one_bytes (codes "5" ∷ []) (Some (codes "a")) (Some (codes "a")) (Err Memory) (Ready DirectU32ToU32)
+ready_without_memory = no_memory
+
+pub other_written_without_memory : words_of_other other_bytes (codes "5" ∷ []) (Some (codes "a")) (Some (codes "ab")) (Err Memory) (other 6 2 Unhash) → ⊥
+other_written_without_memory h = unequal_lists (codes "ab") (codes "a") refl h.1

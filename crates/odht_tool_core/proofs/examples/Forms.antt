@@ -7,14 +7,18 @@ use Rattle.std.specs.Fmt.{digits}
 use Rattle.std.specs.Int.{w32, w64}
 use Rattle.odht_header.proofs.examples.Apart.{unequal_lists}
 use Rattle.odht_header.proofs.examples.Opened.{opened}
-use Rattle.odht_tool_core.specs.Forms.{count_of, number_text}
-use Rattle.odht_tool_core.specs.ReadAs.{form_for, read_as}
+use Rattle.odht_tool_core.specs.AnyShapes.{read_any}
+use Rattle.odht_tool_core.specs.Forms.{count_of, form_len, number_text}
+use Rattle.odht_tool_core.specs.Misreads.{hex_wanted}
+use Rattle.odht_tool_core.specs.ReadAs.{form_for}
 use Rattle.odht_tool_core.specs.Signed.{signed_text, signed_value}
 use Rattle.odht_tool_core.specs.declared.failure.Failure.TheVariants.{OtherKey, OtherValue}
+use Rattle.odht_tool_core.specs.declared.any.AnyShape.TheVariants.{Ready}
 use Rattle.odht_tool_core.specs.declared.forms.Form.{Form}
-use Rattle.odht_tool_core.specs.declared.forms.Form.TheVariants.{Own, Signed, BigEndian}
+use Rattle.odht_tool_core.specs.declared.forms.Form.TheVariants.{Own, Signed, BigEndian, Hex}
 use Rattle.odht_tool_core.specs.declared.forms.Kind.{Kind}
 use Rattle.odht_tool_core.specs.declared.forms.Kinds.{Kinds}
+use Rattle.odht_tool_core.specs.declared.misread.Wanted.TheVariants.{Nothing as WantedNothing, Bytes as WantedBytes}
 use Rattle.odht_tool_core.specs.declared.shapes.Hash.TheVariants.{Unhash}
 use Rattle.odht_tool_core.specs.declared.shapes.Part.{Part}
 use Rattle.odht_tool_core.specs.declared.shapes.Part.TheVariants.{Nothing, U32, U64, Bytes}
@@ -84,10 +88,15 @@ pub forms : (form_for None U64 ≡ Some Own)
 forms = (refl, refl, refl, refl, refl)
 
 -- of a table from numbers to numbers of four bytes
-pub read : (read_as one_bytes (Some Unhash) unsaid ≡ Ok (DirectU32ToU32, record { key = Own; value = Own }))
-    × (read_as one_bytes (Some Unhash) (said (kind U32 Signed) (kind U32 BigEndian)) ≡ Ok (DirectU32ToU32, record { key = Signed; value = BigEndian }))
-    × (read_as one_bytes (Some Unhash) (said (kind U64 Signed) (kind U32 Own)) ≡ Err (OtherKey U32))
-    × (read_as one_bytes (Some Unhash) (said (kind U32 Own) (kind (Bytes 4) Own)) ≡ Err (OtherValue U32))
-    × (read_as one_bytes (Some Unhash) (said (kind U64 Own) (kind U64 Own)) ≡ Err (OtherKey U32))
+pub read : (read_any one_bytes (Some Unhash) unsaid ≡ Ok (Ready DirectU32ToU32, record { key = Own; value = Own }))
+    × (read_any one_bytes (Some Unhash) (said (kind U32 Signed) (kind U32 BigEndian)) ≡ Ok (Ready DirectU32ToU32, record { key = Signed; value = BigEndian }))
+    × (read_any one_bytes (Some Unhash) (said (kind U64 Signed) (kind U32 Own)) ≡ Err (OtherKey U32))
+    × (read_any one_bytes (Some Unhash) (said (kind U32 Own) (kind (Bytes 4) Own)) ≡ Err (OtherValue U32))
+    × (read_any one_bytes (Some Unhash) (said (kind U64 Own) (kind U64 Own)) ≡ Err (OtherKey U32))
 unfolding opened
 read = (refl, refl, refl, refl, refl)
+
+-- ---- bytes of a length that is known at run time alone
+-- what is wanted of none is nothing
+pub sized : (form_len (Hex 12) ≡ 12) × (form_len Own ≡ 0) × (hex_wanted 12 ≡ WantedBytes 12) × (hex_wanted 0 ≡ WantedNothing)
+sized = (refl, refl, refl, refl)

@@ -12,7 +12,7 @@ use Rattle.odht_header.specs.declared.error.Part.TheVariants.{Header}
 use Rattle.odht_header.proofs.examples.Opened.{opened}
 use Rattle.odht_tool_core.specs.GroupNumbers.{groups_to, groups_to_free}
 use Rattle.odht_tool_core.specs.InfoNumbers.{SizedParts, sized_parts, info_refusal, rest_refusal, agrees, found_hash, occupied, group_numbers, found_groups, longest_miss, tallies, largest, nearest_percent, IsHistogram, AreNumbers, IsInfoFailure}
-use Rattle.odht_tool_core.specs.declared.failure.Failure.TheVariants.{Refused, Memory, NoShape}
+use Rattle.odht_tool_core.specs.declared.failure.Failure.TheVariants.{Refused, Memory, NoHash}
 use Rattle.odht_tool_core.specs.declared.histogram.Histogram.{Histogram}
 use Rattle.odht_tool_core.specs.declared.numbers.Numbers.{Numbers}
 use Rattle.odht_tool_core.specs.declared.shapes.Hash.TheVariants.{Fx, Unhash}
@@ -155,5 +155,5 @@ pub refused_without_error : IsInfoFailure one_bytes (Refused (TooShort 2)) → �
 unfolding opened
 refused_without_error e = cc (e)
 
-pub no_shape : IsInfoFailure one_bytes (NoShape 4 4) → ⊥
-no_shape e = e
+pub no_hash : IsInfoFailure one_bytes (NoHash 4 4) → ⊥
+no_hash e = e

@@ -1,15 +1,13 @@
--- Worked examples: the ready shapes, and the shape that bytes are read as.
+-- Worked examples: the ready shapes.
 --     one_bytes            a table of sixteen slots with the value 7 for the key 5, both numbers of four bytes; the hash
 --                          of the key is the key, and it is in slot 5
 use Rattle.std.proofs.Common.{◌≡◌, ℕ, refl, List, [], ◌∷◌, Some, None, map, set, replicate}
 use Rattle.std.specs.Prelude.{codes}
 use Rattle.odht_base.proofs.examples.Configs.{my_config, test_config, direct_config, pair32}
-use Rattle.odht_base.specs.Bytes.{overwritten_at}
 use Rattle.odht_base.specs.Image.{image}
 use Rattle.odht_base.specs.Load.{factor_of}
 use Rattle.odht_base.specs.Table.{Table}
-use Rattle.odht_header.proofs.examples.Opened.{opened}
-use Rattle.odht_tool_core.specs.ReadyShapes.{typed_len, typed_bytes, typed_of, typed_text, shape_format, shape_of_parts, shape_of_sizes, shape_of_bytes}
+use Rattle.odht_tool_core.specs.ReadyShapes.{typed_len, typed_bytes, typed_of, typed_text, shape_format, shape_of_parts, shape_of_sizes}
 use Rattle.odht_tool_core.specs.ShapeList.{key_part, value_part, shape_hash, ready_shapes}
 use Rattle.odht_tool_core.specs.declared.forms.Form.TheVariants.{Own}
 use Rattle.odht_tool_core.specs.declared.shapes.Hash.TheVariants.{Fx, Unhash}
@@ -54,12 +52,3 @@ pub parts : (map (λ s. shape_of_parts (key_part s) (value_part s) (Some (shape_
     × (shape_of_parts (Bytes 4) U32 None ≡ None)
     × (shape_of_parts U64 (Bytes 4) None ≡ None)
 parts = (refl, refl, refl, refl)
-
--- bytes of four and four; with another key size there is no shape, but with a wrong tag before it some shape will do
-pub of_bytes : (shape_of_bytes one_bytes None ≡ Some U32ToU32)
-    × (shape_of_bytes one_bytes (Some Unhash) ≡ Some DirectU32ToU32)
-    × (shape_of_bytes (overwritten_at one_bytes 5 (9 ∷ [])) None ≡ None)
-    × (shape_of_bytes (overwritten_at (overwritten_at one_bytes 5 (9 ∷ [])) 0 (0 ∷ [])) None ≡ Some U64ToU32)
-    × (shape_of_bytes [] (Some Unhash) ≡ Some U64ToU32)
-unfolding opened
-of_bytes = (refl, refl, refl, refl, refl)

@@ -1,9 +1,10 @@
 //! A command of which some words are parsed.
 use super::topics::{Setting, Topic};
 use super::{BuildOptions, Command, CommandMisuse, Keys, Misuse, Reading, Request, is_stream};
+use crate::any::AnyShape;
 use crate::digits::parse_number;
 use crate::forms::{GivenForms, Kind, Kinds};
-use crate::shapes::{Hash, Shape};
+use crate::shapes::Hash;
 use odht_base::load::Percent;
 use odht_raw::memory_layout::DEFAULT_GROUPS;
 use std::alloc::Global;
@@ -241,7 +242,7 @@ impl Draft {
         let Some(value) = self.kinds.value else {
             return Err(CommandMisuse::Missing("--value"));
         };
-        let Some(shape) = Shape::of_parts(key.part, value.part, self.hash) else {
+        let Some(shape) = AnyShape::of_kinds(key, value, self.hash) else {
             return Err(CommandMisuse::NoShape);
         };
         Ok(Command::Build(BuildOptions {

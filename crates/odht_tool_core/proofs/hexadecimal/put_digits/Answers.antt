@@ -1,4 +1,4 @@
-use Rattle.std.proofs.Common.{◌≡◌, ◌∙◌, ◌*◌, ◌+◌, ◌%◌, ◌<◌, length, take, take_all, sym, ap, subst, arith, [], ◌∷◌, ◌++◌}
+use Rattle.std.proofs.Common.{◌≡◌, ◌∙◌, ◌*◌, ◌+◌, ◌%◌, ◌<◌, length, take, sym, ap, subst, arith, [], ◌∷◌, ◌++◌}
 use Rattle.std.proofs.lemmas.List.{take_more_set, length-set}
 use Rattle.odht_tool_core.specs.Texts.{WritesBytes}
 use Rattle.odht_tool_core.proofs.Words.{one_more}

@@ -2,7 +2,7 @@ use Rattle.std.proofs.Common.{map, subst}
 use Rattle.std.specs.List.{AllZip}
 use Rattle.std.specs.Prelude.{IfOk, IfErr, string_bytes}
 use Rattle.odht_tool_core.specs.Keys.{IsReadAs, TellsFault}
-use Rattle.odht_tool.proofs.commands.get.keys_of_words.Goals as goal
+use Rattle.odht_tool.proofs.lookups.keys_of_words.Goals as goal
 
 -- the form that is handed on is that of keys
 pub returns-clause-keys : goal.returns-clause-keys

@@ -1,37 +1,32 @@
 use Rattle.std.proofs.Common.{rules, ◌≡◌, ◌∙◌, ◌+◌, ◌&&◌, [], ◌∷◌, ◌++◌, length, inl, inr, Ok, Err, refl, sym, ap, subst, arith}
-use Rattle.odht_header.specs.Coding.{coding_of}
 use Rattle.odht_tool.specs.GetLines.{AreLinesAnswered}
 use Rattle.odht_tool.specs.GetParts.{AreKeysAnswered, IsKeysFailure, IsFlushed, IsReadKey, IsLineFailure}
 use Rattle.odht_tool.specs.Gets.{found_status}
 use Rattle.odht_tool_core.specs.Keys.{IsReadAs}
 use Rattle.odht_tool.proofs.LinesTaken.{none_taken, one_taken, batch_at_most, batch_answered, lines_answered, line_failed, keys_failed}
-use Rattle.odht_tool.proofs.commands.get.answer_lines.Goals as goal
-use Rattle.odht_tool.proofs.commands.get.answer_lines.Goals.{else-loop-number-test, then-loop-number-test+in_ok-read+in-None, then-is_last_found, else-is_last_found}
+use Rattle.odht_tool.proofs.lookups.answer_lines.Goals as goal
+use Rattle.odht_tool.proofs.lookups.answer_lines.Goals.{else-loop-number-test, then-loop-number-test+in_ok-read+in-None, then-is_last_found, else-is_last_found}
 
 pub loop-number-init : goal.loop-number-init
 loop-number-init g c =
-    let C = coding_of g.C.EncodedKey.ByteArray.LEN g.C.EncodedKey.ByteArray.bytes g.C.EncodedKey.ByteArray.of_bytes
-    g.C.EncodedValue.ByteArray.LEN g.C.EncodedValue.ByteArray.bytes g.C.EncodedValue.ByteArray.of_bytes
-    g.C.H.HashFn.hash g.C.Config.encode_key g.C.Config.encode_value g.C.Config.decode_key g.C.Config.decode_value in
-    let f = g.C.Key.Text.text (g.F.Forms.pair c.args.forms).0 in
-    let h = g.C.Value.Text.text (g.F.Forms.pair c.args.forms).1 in
-    let R = IsReadAs (g.C.Key.Text.is_word (g.F.Forms.pair c.args.forms).0) (g.C.Key.Text.stands_for (g.F.Forms.pair c.args.forms).0) in
-    let p = g.C.Key.Text.wants (g.F.Forms.pair c.args.forms).0 in
-    let B = c.args.table.now.0.now in
+    let C = g.T.Lookups.coding c.args.table.now in
+    let f = g.T.Key.Text.text (g.F.Forms.pair c.args.forms).0 in
+    let h = g.T.Value.Text.text (g.F.Forms.pair c.args.forms).1 in
+    let R = IsReadAs (g.T.Key.Text.is_word (g.F.Forms.pair c.args.forms).0) (g.T.Key.Text.stands_for (g.F.Forms.pair c.args.forms).0) in
+    let p = g.T.Key.Text.wants (g.F.Forms.pair c.args.forms).0 in
+    let B = g.T.Lookups.bytes c.args.table.now in
     let input = g.I.Read.remaining c.args.input.now in
     let old = g.O.Write.contents c.args.output.now in
     (none_taken C f h R B input old c.new-keys.result.items c.new-keys.ensures.items, omega (arith, ap length c.new-keys.ensures.items))
 
 pub returns-in_err-read : goal.returns-in_err-read
 returns-in_err-read g c =
-    let C = coding_of g.C.EncodedKey.ByteArray.LEN g.C.EncodedKey.ByteArray.bytes g.C.EncodedKey.ByteArray.of_bytes
-    g.C.EncodedValue.ByteArray.LEN g.C.EncodedValue.ByteArray.bytes g.C.EncodedValue.ByteArray.of_bytes
-    g.C.H.HashFn.hash g.C.Config.encode_key g.C.Config.encode_value g.C.Config.decode_key g.C.Config.decode_value in
-    let f = g.C.Key.Text.text (g.F.Forms.pair c.args.forms).0 in
-    let h = g.C.Value.Text.text (g.F.Forms.pair c.args.forms).1 in
-    let R = IsReadAs (g.C.Key.Text.is_word (g.F.Forms.pair c.args.forms).0) (g.C.Key.Text.stands_for (g.F.Forms.pair c.args.forms).0) in
-    let p = g.C.Key.Text.wants (g.F.Forms.pair c.args.forms).0 in
-    let B = c.args.table.now.0.now in
+    let C = g.T.Lookups.coding c.args.table.now in
+    let f = g.T.Key.Text.text (g.F.Forms.pair c.args.forms).0 in
+    let h = g.T.Value.Text.text (g.F.Forms.pair c.args.forms).1 in
+    let R = IsReadAs (g.T.Key.Text.is_word (g.F.Forms.pair c.args.forms).0) (g.T.Key.Text.stands_for (g.F.Forms.pair c.args.forms).0) in
+    let p = g.T.Key.Text.wants (g.F.Forms.pair c.args.forms).0 in
+    let B = g.T.Lookups.bytes c.args.table.now in
     let input = g.I.Read.remaining c.args.input.now in
     let old = g.O.Write.contents c.args.output.now in
     let now = g.I.Read.remaining c.loop-number.input in
@@ -47,14 +42,12 @@ returns-in_err-read g c =
 
 pub returns-in_err-is_all_found-in-Some : goal.returns-in_err-is_all_found-in-Some
 returns-in_err-is_all_found-in-Some g c =
-    let C = coding_of g.C.EncodedKey.ByteArray.LEN g.C.EncodedKey.ByteArray.bytes g.C.EncodedKey.ByteArray.of_bytes
-    g.C.EncodedValue.ByteArray.LEN g.C.EncodedValue.ByteArray.bytes g.C.EncodedValue.ByteArray.of_bytes
-    g.C.H.HashFn.hash g.C.Config.encode_key g.C.Config.encode_value g.C.Config.decode_key g.C.Config.decode_value in
-    let f = g.C.Key.Text.text (g.F.Forms.pair c.args.forms).0 in
-    let h = g.C.Value.Text.text (g.F.Forms.pair c.args.forms).1 in
-    let R = IsReadAs (g.C.Key.Text.is_word (g.F.Forms.pair c.args.forms).0) (g.C.Key.Text.stands_for (g.F.Forms.pair c.args.forms).0) in
-    let p = g.C.Key.Text.wants (g.F.Forms.pair c.args.forms).0 in
-    let B = c.args.table.now.0.now in
+    let C = g.T.Lookups.coding c.args.table.now in
+    let f = g.T.Key.Text.text (g.F.Forms.pair c.args.forms).0 in
+    let h = g.T.Value.Text.text (g.F.Forms.pair c.args.forms).1 in
+    let R = IsReadAs (g.T.Key.Text.is_word (g.F.Forms.pair c.args.forms).0) (g.T.Key.Text.stands_for (g.F.Forms.pair c.args.forms).0) in
+    let p = g.T.Key.Text.wants (g.F.Forms.pair c.args.forms).0 in
+    let B = g.T.Lookups.bytes c.args.table.now in
     let input = g.I.Read.remaining c.args.input.now in
     let old = g.O.Write.contents c.args.output.now in
     let now = g.I.Read.remaining c.loop-number.input in
@@ -74,14 +67,12 @@ returns-in_err-is_all_found-in-Some g c =
 
 pub loop-number-preserved : goal.loop-number-preserved
 loop-number-preserved g c =
-    let C = coding_of g.C.EncodedKey.ByteArray.LEN g.C.EncodedKey.ByteArray.bytes g.C.EncodedKey.ByteArray.of_bytes
-    g.C.EncodedValue.ByteArray.LEN g.C.EncodedValue.ByteArray.bytes g.C.EncodedValue.ByteArray.of_bytes
-    g.C.H.HashFn.hash g.C.Config.encode_key g.C.Config.encode_value g.C.Config.decode_key g.C.Config.decode_value in
-    let f = g.C.Key.Text.text (g.F.Forms.pair c.args.forms).0 in
-    let h = g.C.Value.Text.text (g.F.Forms.pair c.args.forms).1 in
-    let R = IsReadAs (g.C.Key.Text.is_word (g.F.Forms.pair c.args.forms).0) (g.C.Key.Text.stands_for (g.F.Forms.pair c.args.forms).0) in
-    let p = g.C.Key.Text.wants (g.F.Forms.pair c.args.forms).0 in
-    let B = c.args.table.now.0.now in
+    let C = g.T.Lookups.coding c.args.table.now in
+    let f = g.T.Key.Text.text (g.F.Forms.pair c.args.forms).0 in
+    let h = g.T.Value.Text.text (g.F.Forms.pair c.args.forms).1 in
+    let R = IsReadAs (g.T.Key.Text.is_word (g.F.Forms.pair c.args.forms).0) (g.T.Key.Text.stands_for (g.F.Forms.pair c.args.forms).0) in
+    let p = g.T.Key.Text.wants (g.F.Forms.pair c.args.forms).0 in
+    let B = g.T.Lookups.bytes c.args.table.now in
     let input = g.I.Read.remaining c.args.input.now in
     let old = g.O.Write.contents c.args.output.now in
     let now = g.I.Read.remaining c.loop-number.input in
@@ -101,14 +92,12 @@ loop-number-preserved g c =
 
 pub returns-in_err-is_last_found : goal.returns-in_err-is_last_found
 returns-in_err-is_last_found g c =
-    let C = coding_of g.C.EncodedKey.ByteArray.LEN g.C.EncodedKey.ByteArray.bytes g.C.EncodedKey.ByteArray.of_bytes
-    g.C.EncodedValue.ByteArray.LEN g.C.EncodedValue.ByteArray.bytes g.C.EncodedValue.ByteArray.of_bytes
-    g.C.H.HashFn.hash g.C.Config.encode_key g.C.Config.encode_value g.C.Config.decode_key g.C.Config.decode_value in
-    let f = g.C.Key.Text.text (g.F.Forms.pair c.args.forms).0 in
-    let h = g.C.Value.Text.text (g.F.Forms.pair c.args.forms).1 in
-    let R = IsReadAs (g.C.Key.Text.is_word (g.F.Forms.pair c.args.forms).0) (g.C.Key.Text.stands_for (g.F.Forms.pair c.args.forms).0) in
-    let p = g.C.Key.Text.wants (g.F.Forms.pair c.args.forms).0 in
-    let B = c.args.table.now.0.now in
+    let C = g.T.Lookups.coding c.args.table.now in
+    let f = g.T.Key.Text.text (g.F.Forms.pair c.args.forms).0 in
+    let h = g.T.Value.Text.text (g.F.Forms.pair c.args.forms).1 in
+    let R = IsReadAs (g.T.Key.Text.is_word (g.F.Forms.pair c.args.forms).0) (g.T.Key.Text.stands_for (g.F.Forms.pair c.args.forms).0) in
+    let p = g.T.Key.Text.wants (g.F.Forms.pair c.args.forms).0 in
+    let B = g.T.Lookups.bytes c.args.table.now in
     let input = g.I.Read.remaining c.args.input.now in
     let old = g.O.Write.contents c.args.output.now in
     let now = g.I.Read.remaining c.loop-number.input in
@@ -127,14 +116,12 @@ returns-in_err-is_last_found g c =
 
 pub returns : goal.returns
 returns g c =
-    let C = coding_of g.C.EncodedKey.ByteArray.LEN g.C.EncodedKey.ByteArray.bytes g.C.EncodedKey.ByteArray.of_bytes
-    g.C.EncodedValue.ByteArray.LEN g.C.EncodedValue.ByteArray.bytes g.C.EncodedValue.ByteArray.of_bytes
-    g.C.H.HashFn.hash g.C.Config.encode_key g.C.Config.encode_value g.C.Config.decode_key g.C.Config.decode_value in
-    let f = g.C.Key.Text.text (g.F.Forms.pair c.args.forms).0 in
-    let h = g.C.Value.Text.text (g.F.Forms.pair c.args.forms).1 in
-    let R = IsReadAs (g.C.Key.Text.is_word (g.F.Forms.pair c.args.forms).0) (g.C.Key.Text.stands_for (g.F.Forms.pair c.args.forms).0) in
-    let p = g.C.Key.Text.wants (g.F.Forms.pair c.args.forms).0 in
-    let B = c.args.table.now.0.now in
+    let C = g.T.Lookups.coding c.args.table.now in
+    let f = g.T.Key.Text.text (g.F.Forms.pair c.args.forms).0 in
+    let h = g.T.Value.Text.text (g.F.Forms.pair c.args.forms).1 in
+    let R = IsReadAs (g.T.Key.Text.is_word (g.F.Forms.pair c.args.forms).0) (g.T.Key.Text.stands_for (g.F.Forms.pair c.args.forms).0) in
+    let p = g.T.Key.Text.wants (g.F.Forms.pair c.args.forms).0 in
+    let B = g.T.Lookups.bytes c.args.table.now in
     let input = g.I.Read.remaining c.args.input.now in
     let old = g.O.Write.contents c.args.output.now in
     let now = g.I.Read.remaining c.loop-number.input in

@@ -1,7 +1,7 @@
 use Rattle.std.proofs.Common.{subst}
 use Rattle.std.specs.Prelude.{IfOk}
 use Rattle.odht_tool_core.specs.Keys.{IsReadAs, IsNextKey, IsNoKeyLine}
-use Rattle.odht_tool.proofs.commands.get.key_of_line.Goals as goal
+use Rattle.odht_tool.proofs.lookups.key_of_line.Goals as goal
 
 -- the form that is handed on is that of keys
 pub returns-clause-next : goal.returns-clause-next

@@ -1,0 +1,85 @@
+//! Inserts into the tables of configurations, and of lengths that are known at run time alone.
+ghost use Rattle.std.specs.Prelude.{OnOk};
+ghost use Rattle.odht.specs.Dynamic.{dyn_coding};
+ghost use Rattle.odht_tool.specs.Inserted.{AreInserted};
+
+use super::Inserts;
+use odht::HashTableOwned;
+use odht::config::{Coded, Config};
+use odht::dynamic::{DynTableOwned, ShortBytes};
+use odht::hash::HashFn;
+use odht_tool_core::failure::Failure;
+use odht_tool_core::text::Text;
+
+impl<C: Config> Inserts for HashTableOwned<C>
+where
+    C::Key: Text,
+    C::Value: Text,
+{
+    type Key = C::Key;
+
+    type Value = C::Value;
+
+    ghost coding = { λ table. ⟦<C as Coded>⟧.coding };
+
+    ghost bytes = { λ table. table };
+
+    fn insert_pairs(&mut self, pairs: &[(C::Key, C::Value)]) -> Result<(), Failure> {
+        insert_all(self, pairs)
+    }
+
+    fn all_bytes(&self) -> &[u8] {
+        self.raw_bytes()
+    }
+}
+
+fn insert_all<C: Config>(
+    table: &mut HashTableOwned<C>,
+    pairs: &[(C::Key, C::Value)],
+) -> Result<(), Failure>
+    ensures { OnOk result
+        (AreInserted ⟦<C as Coded>⟧.coding table.old pairs.now table.new) }
+{
+    let (_, inserted) = table.insert_all(pairs);
+    match inserted {
+        Ok(()) => Ok(()),
+        Err(_) => Err(Failure::Memory),
+    }
+}
+
+impl<H: HashFn> Inserts for DynTableOwned<H> {
+    type Key = ShortBytes;
+
+    type Value = ShortBytes;
+
+    ghost use Rattle.odht.specs.Dynamic.{dyn_coding};
+
+    ghost coding = { λ table. dyn_coding table H.hash };
+
+    ghost bytes = { λ table. table.store };
+
+    fn insert_pairs(&mut self, pairs: &[(ShortBytes, ShortBytes)]) -> Result<(), Failure> {
+        insert_each(self, pairs)
+    }
+
+    fn all_bytes(&self) -> &[u8] {
+        self.raw_bytes()
+    }
+}
+
+fn insert_each<H: HashFn>(
+    table: &mut DynTableOwned<H>,
+    pairs: &[(ShortBytes, ShortBytes)],
+) -> Result<(), Failure>
+    ensures { OnOk result (AreInserted (dyn_coding table.old H.hash) table.old.store
+        pairs.now table.new.store) }
+{
+    for index in 0..pairs.len() {
+        let (key, value) = &pairs[index];
+        // Keys and values of the lines have the lengths of the table.
+        if let Err(_) = table.insert(key.as_slice(), value.as_slice()) {
+            return Err(Failure::Memory);
+        }
+    }
+    Ok(())
+}

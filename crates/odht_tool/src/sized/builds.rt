@@ -1,0 +1,176 @@
+//! `odht build` and `odht put` of tables of other sizes than the ready shapes have.
+ghost use Rattle.std.specs.Prelude.{◌≡◌, ◌≤◌, None, IfErr, IfOk};
+ghost use Rattle.odht_base.specs.Format.{format_of};
+ghost use Rattle.odht_header.specs.Refusals.{check_refusal_by};
+ghost use Rattle.odht_tool.specs.Outcomes.{copy_failure};
+ghost use Rattle.odht_tool_core.specs.InfoNumbers.{least_key_len};
+ghost use Rattle.odht.specs.Dynamic.{dyn_store};
+ghost use Rattle.odht.specs.DynOwned.{IsDynWith};
+ghost use Rattle.odht.specs.Inserts.{IsFresh};
+
+use crate::inserts::{insert_into_file, insert_into_stream};
+use crate::sized::gets::forms_of;
+use crate::sized::{check_lengths, layout_of};
+use odht::dynamic::{DynError, DynTableOwned, Layout};
+use odht::hash::HashFn;
+use odht::load::Percent;
+use odht::{FxHashFn, UnHashFn};
+use odht_tool_core::any::OtherShape;
+use odht_tool_core::arguments::{BuildOptions, is_stream};
+use odht_tool_core::failure::Failure;
+use odht_tool_core::shapes::Hash;
+use odht_tool_core::status::Status;
+use odht_tool_core::targets::Target;
+use std::alloc::Global;
+use std::io::{BufRead, Write};
+use std::os::fd::AsFd;
+use std::rt::{Clock, Files};
+
+/// `odht build` of a table of a shape.
+pub fn build_other<R: Files + AllocGlobal + Clock, I: BufRead, O: Write, E: Write>(
+    rt: &R,
+    file: &str,
+    shape: OtherShape,
+    options: BuildOptions,
+    input: &mut I,
+    output: &mut O,
+    errors: &mut E,
+) -> Result<Status, Failure>
+where
+    R::File: AsFd,
+{
+    let layout = layout_of(shape);
+    match shape.hash {
+        Hash::Fx => {
+            build_lengths::<FxHashFn, R, I, O, E>(rt, file, layout, options, input, output, errors)
+        }
+        Hash::Unhash => {
+            build_lengths::<UnHashFn, R, I, O, E>(rt, file, layout, options, input, output, errors)
+        }
+    }
+}
+
+fn build_lengths<H: HashFn, R: Files + AllocGlobal + Clock, I: BufRead, O: Write, E: Write>(
+    rt: &R,
+    file: &str,
+    layout: Layout,
+    options: BuildOptions,
+    input: &mut I,
+    output: &mut O,
+    errors: &mut E,
+) -> Result<Status, Failure>
+where
+    R::File: AsFd,
+{
+    let (forms, has_progress) = (forms_of(layout), options.has_progress);
+    if is_stream(file) {
+        let table = make_lengths::<H>(rt.alloc(), layout, options.capacity, options.percent)?;
+        insert_into_stream(rt, table, forms, has_progress, input, output, errors)
+    } else {
+        let target = Target::find(rt, file, options.breaks_links)?;
+        let table = make_lengths::<H>(rt.alloc(), layout, options.capacity, options.percent)?;
+        insert_into_file(rt, target, table, forms, has_progress, input, errors)
+    }
+}
+
+fn make_lengths<H: HashFn>(
+    alloc: Global,
+    layout: Layout,
+    capacity: usize,
+    percent: Percent,
+) -> Result<DynTableOwned<H>, Failure>
+    ensures { let F = format_of layout.key_len layout.value_len H.hash
+        in IfOk result
+        (IsDynWith layout.key_len layout.value_len (IsFresh F capacity percent)) }
+{
+    DynTableOwned::with_capacity(alloc, layout, capacity, percent.value()).map_err(failure_of)
+}
+
+// The failure for an error of a new table.
+fn failure_of(error: DynError) -> Failure {
+    match error {
+        DynError::KeyTooShort { key_len, .. } => Failure::ShortKeys { key_size: key_len },
+        DynError::Rejected(error) => Failure::of_table(error),
+        _ => Failure::Memory,
+    }
+}
+
+/// `odht put` of bytes of a shape.
+pub fn put_other<R: Files + AllocGlobal + Clock, I: BufRead, E: Write>(
+    rt: &R,
+    target: Target,
+    shape: OtherShape,
+    bytes: Vec<u8>,
+    bound: Option<usize>,
+    has_progress: bool,
+    input: &mut I,
+    errors: &mut E,
+) -> Result<Status, Failure>
+where
+    R::File: AsFd,
+    requires { least_key_len shape.hash ≤ shape.key_len }
+{
+    let layout = layout_of(shape);
+    match shape.hash {
+        Hash::Fx => put_lengths::<FxHashFn, R, I, E>(
+            rt,
+            target,
+            layout,
+            bytes,
+            bound,
+            has_progress,
+            input,
+            errors,
+        ),
+        Hash::Unhash => put_lengths::<UnHashFn, R, I, E>(
+            rt,
+            target,
+            layout,
+            bytes,
+            bound,
+            has_progress,
+            input,
+            errors,
+        ),
+    }
+}
+
+// The bytes are freed once the table has a copy.
+fn put_lengths<H: HashFn, R: Files + AllocGlobal + Clock, I: BufRead, E: Write>(
+    rt: &R,
+    target: Target,
+    layout: Layout,
+    bytes: Vec<u8>,
+    bound: Option<usize>,
+    has_progress: bool,
+    input: &mut I,
+    errors: &mut E,
+) -> Result<Status, Failure>
+where
+    R::File: AsFd,
+    requires { H.MIN_LEN ≤ layout.key_len }
+{
+    let table = copy_lengths::<H>(rt.alloc(), layout, bytes, bound)?;
+    let forms = forms_of(layout);
+    insert_into_file(rt, target, table, forms, has_progress, input, errors)
+}
+
+fn copy_lengths<H: HashFn>(
+    alloc: Global,
+    layout: Layout,
+    bytes: Vec<u8>,
+    bound: Option<usize>,
+) -> Result<DynTableOwned<H>, Failure>
+    requires { H.MIN_LEN ≤ layout.key_len }
+    ensures ok { IfOk result
+        (λ table. table ≡ dyn_store layout.key_len layout.value_len bytes.items) }
+    ensures valid { IfOk result (λ _. let F = format_of layout.key_len layout.value_len H.hash
+        in check_refusal_by F bound bytes.items ≡ None) }
+    ensures err { IfErr result (λ failure. let F = format_of layout.key_len layout.value_len H.hash
+        in failure ≡ copy_failure F bound bytes.items) }
+{
+    let bytes = bytes.as_slice();
+    check_lengths::<H>(layout, bytes, bound).map_err(Failure::Refused)?;
+    // The bytes are valid, so that memory alone may be lacking.
+    DynTableOwned::from_raw_bytes(alloc, layout, bytes).map_err(|_| Failure::Memory)
+}

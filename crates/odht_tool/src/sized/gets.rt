@@ -1,0 +1,105 @@
+//! `odht get` of tables of other sizes than the ready shapes have.
+ghost use Rattle.std.specs.Prelude.{◌≡◌, ◌≤◌, map, string_bytes};
+ghost use Rattle.odht_base.specs.Format.{format_of};
+ghost use Rattle.odht_raw.specs.Sized.{bytes_coding};
+ghost use Rattle.odht_tool.specs.Gets.{AreWordsGot, IsHexOf, words_of_other};
+ghost use Rattle.odht_tool.specs.GetLines.{AreLinesGot, lines_of_other};
+ghost use Rattle.odht_tool_core.specs.InfoNumbers.{least_key_len};
+ghost use Rattle.odht_tool_core.specs.Misreads.{hex_wanted};
+ghost use Rattle.odht_tool_core.specs.Texts.{hex_text};
+
+use crate::lookups::{answer_lines, answer_words};
+use crate::sized::{layout_of, open_lengths};
+use odht::dynamic::Layout;
+use odht::hash::HashFn;
+use odht::{FxHashFn, UnHashFn};
+use odht_tool_core::any::OtherShape;
+use odht_tool_core::failure::Failure;
+use odht_tool_core::forms::HexForms;
+use odht_tool_core::shapes::Hash;
+use odht_tool_core::status::Status;
+use std::alloc::Global;
+use std::io::{BufRead, Write};
+
+/// `odht get` of bytes of a shape, for the words of the command line.
+pub fn get_words_other<O: Write>(
+    alloc: Global,
+    shape: OtherShape,
+    bytes: &[u8],
+    words: &[String],
+    output: &mut O,
+) -> Result<Status, Failure>
+    requires { least_key_len shape.hash ≤ shape.key_len }
+    ensures { words_of_other bytes.now (map string_bytes words.now)
+        (O.contents output.old) (O.contents output.new) result shape }
+{
+    let layout = layout_of(shape);
+    match shape.hash {
+        Hash::Fx => get_words_sized::<FxHashFn, O>(alloc, layout, bytes, words, output),
+        Hash::Unhash => get_words_sized::<UnHashFn, O>(alloc, layout, bytes, words, output),
+    }
+}
+
+/// `odht get` of bytes of a shape, for the lines of an input.
+pub fn get_lines_other<I: BufRead, O: Write>(
+    alloc: Global,
+    shape: OtherShape,
+    bytes: &[u8],
+    input: &mut I,
+    output: &mut O,
+) -> Result<Status, Failure>
+    requires { least_key_len shape.hash ≤ shape.key_len }
+    ensures { lines_of_other bytes.now (I.remaining input.old)
+        (O.contents output.old) (O.contents output.new) result shape }
+{
+    let layout = layout_of(shape);
+    match shape.hash {
+        Hash::Fx => get_lines_sized::<FxHashFn, I, O>(alloc, layout, bytes, input, output),
+        Hash::Unhash => get_lines_sized::<UnHashFn, I, O>(alloc, layout, bytes, input, output),
+    }
+}
+
+fn get_words_sized<H: HashFn, O: Write>(
+    alloc: Global,
+    layout: Layout,
+    bytes: &[u8],
+    words: &[String],
+    output: &mut O,
+) -> Result<Status, Failure>
+    requires { H.MIN_LEN ≤ layout.key_len }
+    ensures { let c = bytes_coding (format_of layout.key_len layout.value_len H.hash)
+        in AreWordsGot c hex_text hex_text (IsHexOf layout.key_len) (hex_wanted layout.key_len)
+        bytes.now (map string_bytes words.now)
+        (O.contents output.old) (O.contents output.new) result }
+{
+    let table = open_lengths::<H>(layout, bytes)?;
+    answer_words(alloc, &table, forms_of(layout), words, output)
+}
+
+fn get_lines_sized<H: HashFn, I: BufRead, O: Write>(
+    alloc: Global,
+    layout: Layout,
+    bytes: &[u8],
+    input: &mut I,
+    output: &mut O,
+) -> Result<Status, Failure>
+    requires { H.MIN_LEN ≤ layout.key_len }
+    ensures { let c = bytes_coding (format_of layout.key_len layout.value_len H.hash)
+        in AreLinesGot c hex_text hex_text (IsHexOf layout.key_len) (hex_wanted layout.key_len)
+        bytes.now (I.remaining input.old)
+        (O.contents output.old) (O.contents output.new) result }
+{
+    let table = open_lengths::<H>(layout, bytes)?;
+    answer_lines(alloc, &table, forms_of(layout), input, output)
+}
+
+/// The forms of keys and values of these lengths.
+pub fn forms_of(layout: Layout) -> HexForms
+    ensures key { result.key_len ≡ layout.key_len }
+    ensures value { result.value_len ≡ layout.value_len }
+{
+    HexForms {
+        key_len: layout.key_len,
+        value_len: layout.value_len,
+    }
+}
