@@ -117,7 +117,7 @@ fn write_no_hash<W: fmt::Write>(
 ) -> fmt::Result {
     write!(
         f,
-        "the control bytes fit no hash function of ready shapes with keys of {key_size} and values of {value_size} bytes; `odht check` and `odht info` say more"
+        "the control bytes fit no hash function with keys of {key_size} and values of {value_size} bytes; `odht check` and `odht info` say more"
     )
 }
 
