@@ -10,7 +10,6 @@ use common::writing::Writing;
 use odht::dynamic::{DynError, FileError, FileTable, Layout, ReadAt, ReadError};
 use odht::{Error, FxHashFn, UnHashFn};
 use std::cell::Cell;
-use std::fs::{self, File};
 
 const LAYOUT: Layout = Layout { key_len: 8, value_len: 3 };
 
@@ -210,7 +209,9 @@ fn a_source_that_boasts_has_failed() {
 }
 
 #[test]
+#[cfg(all(feature = "std", unix))]
 fn a_file_is_read_where_the_table_lies() {
+    use std::fs::{self, File};
     let pairs = pairs();
     let bytes = table_of(&pairs);
     let path = std::env::temp_dir().join(format!("odht_file_tables_{}", std::process::id()));
