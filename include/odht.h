@@ -51,7 +51,7 @@
  * - Where ODHT_TAKES_NULL is 1, that is with GCC and Clang for ELF, NULL may be passed
  *   for a slice of length 0, and for an out-parameter of a single number or value that
  *   the caller does not want (former, value, accepted, count, len, slot, and the three of
- *   odht_*_sizes), which is then not written. A key, a view and cursor are never NULL.
+ *   odht_*_sizes), which is then not written. A key, a view, a layout and cursor are never NULL.
  *   Where it is 0 no pointer is NULL, also where the length beside it is 0, and sets have
  *   no calls with keys.
  *
@@ -183,7 +183,8 @@ enum odht_status {
     ODHT_BAD_PERCENT = 34,                /* 0 percent, or more than 100 */
     ODHT_BAD_LENGTHS = 35,                /* arrays of different lengths, or not of one element for each item */
     ODHT_TOO_SMALL = 36,                  /* an output buffer is too short for the result */
-    ODHT_UNMADE = 37                      /* no list of inserts makes the table */
+    ODHT_UNMADE = 37,                     /* no list of inserts makes the table */
+    ODHT_BAD_LAYOUT = 38                  /* no hash function of this number, or keys that are too short for it */
 };
 
 /* A short text for a status, such as "wrong length". */
@@ -218,6 +219,7 @@ static inline const char *odht_status_name(uint32_t status)
     case ODHT_BAD_LENGTHS: return "bad lengths";
     case ODHT_TOO_SMALL: return "too small";
     case ODHT_UNMADE: return "unmade";
+    case ODHT_BAD_LAYOUT: return "bad layout";
     default: return "unknown status";
     }
 }
@@ -879,6 +881,192 @@ ODHT_NODISCARD extern uint32_t odht_version(void);
         return odht_symbol_##S##_build_growing( \
             K##_READ(k, keys, keys_len), keys_len, &nothing, keys_len, \
             odht_write_uint8_t(out, out_len), out_len, len ? len : &unwanted);)
+
+/* ---- Tables of any lengths ----
+ *
+ * The calls odht_any_* take the lengths of keys and values, and the hash function, as a layout, and keys and values as
+ * pointers to so many bytes. They read and write the same bytes as the calls of a shape of these lengths, and answer
+ * the same; what is said above of odht_S_NAME goes for odht_any_NAME. Two answers come before all others, and with both
+ * nothing is written:
+ *
+ * - BAD_LAYOUT: no hash function has the number of the layout, or its keys are shorter than the function needs.
+ *   ODHT_HASH_UN needs four bytes.
+ * - BAD_LENGTHS, then: a key or a value that is passed has another length than the layout says. Of many, keys_len is
+ *   not count times (for a walk: room times) the length of a key, values_len is not so many times that of a value, or
+ *   found_len is not count.
+ *
+ * All lengths of keys and values are in bytes here, also those of many, which lie one after the other. A layout is never
+ * NULL. A set has values of no bytes: pass NULL and 0 for them.
+ */
+typedef struct odht_layout {
+    uint8_t key_len;   /* of each key, in bytes */
+    uint8_t value_len; /* of each value, in bytes; 0 of a set */
+    uint8_t hash;      /* ODHT_HASH_FX or ODHT_HASH_UN */
+} odht_layout;
+
+/* The hash functions: that of rustc-hash, and the last four bytes of a key, for keys that are hashes. */
+#define ODHT_HASH_FX 0
+#define ODHT_HASH_UN 1
+
+/* OK: *len is the length in bytes of a table for so many items. BAD_PERCENT, CAPACITY: *len is unchanged. */
+ODHT_CALL(uint32_t, any_bytes_needed,
+    (const odht_layout *layout, size_t max_item_count, uint8_t percent, size_t *len),
+    size_t unwanted = 0;
+    return odht_symbol_any_bytes_needed(layout, max_item_count, percent, len ? len : &unwanted);)
+
+/* OK: the bytes are an empty table. BAD_PERCENT, CAPACITY, INIT_LENGTH: unchanged. */
+ODHT_CALL(uint32_t, any_init,
+    (const odht_layout *layout, uint8_t *bytes, size_t bytes_len, size_t max_item_count, uint8_t percent),
+    return odht_symbol_any_init(
+        layout, odht_write_uint8_t(bytes, bytes_len), bytes_len, max_item_count, percent);)
+
+/* OK: calls can be made on the bytes. An error, 1 to 9. As fast for every table. */
+ODHT_CALL(uint32_t, any_open, (const odht_layout *layout, const uint8_t *bytes, size_t bytes_len),
+    return odht_symbol_any_open(layout, odht_read_uint8_t(bytes, bytes_len), bytes_len);)
+
+/* OK: the bytes are valid to the last one. An error, 1 to 16. Goes over all slots. */
+ODHT_CALL(uint32_t, any_check, (const odht_layout *layout, const uint8_t *bytes, size_t bytes_len),
+    return odht_symbol_any_check(layout, odht_read_uint8_t(bytes, bytes_len), bytes_len);)
+
+/* OK: they are, and from each slot a free one comes within so many groups, so that no search reads more. An error,
+   1 to 16, or SEARCH_TOO_LONG. */
+ODHT_CALL(uint32_t, any_check_within,
+    (const odht_layout *layout, const uint8_t *bytes, size_t bytes_len, size_t groups),
+    return odht_symbol_any_check_within(
+        layout, odht_read_uint8_t(bytes, bytes_len), bytes_len, groups);)
+
+/* As open, check and check_within, and *slot is where the first error is; ODHT_NO_SLOT where it is in no slot, and with
+   OK. BAD_LAYOUT: it is unchanged. */
+ODHT_CALL(uint32_t, any_open_at,
+    (const odht_layout *layout, const uint8_t *bytes, size_t bytes_len, size_t *slot),
+    size_t unwanted = 0;
+    return odht_symbol_any_open_at(
+        layout, odht_read_uint8_t(bytes, bytes_len), bytes_len, slot ? slot : &unwanted);)
+ODHT_CALL(uint32_t, any_check_at,
+    (const odht_layout *layout, const uint8_t *bytes, size_t bytes_len, size_t *slot),
+    size_t unwanted = 0;
+    return odht_symbol_any_check_at(
+        layout, odht_read_uint8_t(bytes, bytes_len), bytes_len, slot ? slot : &unwanted);)
+ODHT_CALL(uint32_t, any_check_within_at,
+    (const odht_layout *layout, const uint8_t *bytes, size_t bytes_len, size_t groups,
+        size_t *slot),
+    size_t unwanted = 0;
+    return odht_symbol_any_check_within_at(
+        layout, odht_read_uint8_t(bytes, bytes_len), bytes_len, groups, slot ? slot : &unwanted);)
+
+/* OK: *count is the header's count of items. An error, 1 to 7: it is unchanged. */
+ODHT_CALL(uint32_t, any_len,
+    (const odht_layout *layout, const uint8_t *bytes, size_t bytes_len, size_t *count),
+    size_t unwanted = 0;
+    return odht_symbol_any_len(
+        layout, odht_read_uint8_t(bytes, bytes_len), bytes_len, count ? count : &unwanted);)
+
+/* OK: the numbers of the header: how many slots, how many items these take at most, and the load factor in percent,
+   rounded down. An error, 1 to 7: they are unchanged. */
+ODHT_CALL(uint32_t, any_sizes,
+    (const odht_layout *layout, const uint8_t *bytes, size_t bytes_len, size_t *slots,
+        size_t *max_item_count, uint8_t *percent),
+    size_t unwanted_slots = 0;
+    size_t unwanted_count = 0;
+    uint8_t unwanted_percent = 0;
+    return odht_symbol_any_sizes(layout, odht_read_uint8_t(bytes, bytes_len), bytes_len,
+        slots ? slots : &unwanted_slots, max_item_count ? max_item_count : &unwanted_count,
+        percent ? percent : &unwanted_percent);)
+
+/* OK: *len is how many bytes the table at the front of the bytes has. An error, 1 to 7: it is unchanged. */
+ODHT_CALL(uint32_t, any_table_len,
+    (const odht_layout *layout, const uint8_t *bytes, size_t bytes_len, size_t *len),
+    size_t unwanted = 0;
+    return odht_symbol_any_table_len(
+        layout, odht_read_uint8_t(bytes, bytes_len), bytes_len, len ? len : &unwanted);)
+
+/* OK: the lengths of the layout are those that the header states; its hash function, which no header states, is as
+   before. An error, 1 to 7: it is unchanged. */
+ODHT_CALL(uint32_t, any_layout_of,
+    (const uint8_t *bytes, size_t bytes_len, odht_layout *layout),
+    return odht_symbol_any_layout_of(odht_read_uint8_t(bytes, bytes_len), bytes_len, layout);)
+
+/* OK: the value is written. ABSENT, or an error, 1 to 7: it is unchanged. Where value is NULL it is not wanted. */
+ODHT_CALL(uint32_t, any_get,
+    (const odht_layout *layout, const uint8_t *bytes, size_t bytes_len, const uint8_t *key, size_t key_len,
+        uint8_t *value, size_t value_len),
+    if (!value) {
+        uint8_t unwanted[255] = { 0 };
+        return odht_symbol_any_get(layout, odht_read_uint8_t(bytes, bytes_len), bytes_len,
+            odht_read_uint8_t(key, key_len), key_len, unwanted, layout->value_len);
+    }
+    return odht_symbol_any_get(layout, odht_read_uint8_t(bytes, bytes_len), bytes_len,
+        odht_read_uint8_t(key, key_len), key_len, value, value_len);)
+
+/* OK: the key is there. ABSENT, or an error, 1 to 7. */
+ODHT_CALL(uint32_t, any_contains,
+    (const odht_layout *layout, const uint8_t *bytes, size_t bytes_len, const uint8_t *key, size_t key_len),
+    return odht_symbol_any_contains(layout, odht_read_uint8_t(bytes, bytes_len), bytes_len,
+        odht_read_uint8_t(key, key_len), key_len);)
+
+/* OK: found[i] is 1 and value i the value of key i, or found[i] is 0 and value i unchanged. An error, 1 to 7: both
+   arrays are unchanged. */
+ODHT_CALL(uint32_t, any_get_all,
+    (const odht_layout *layout, const uint8_t *bytes, size_t bytes_len, size_t count,
+        const uint8_t *keys, size_t keys_len, uint8_t *values, size_t values_len, uint8_t *found,
+        size_t found_len),
+    return odht_symbol_any_get_all(layout, odht_read_uint8_t(bytes, bytes_len), bytes_len, count,
+        odht_read_uint8_t(keys, keys_len), keys_len, odht_write_uint8_t(values, values_len),
+        values_len, odht_write_uint8_t(found, found_len), found_len);)
+
+/* OK: the last *count pairs, from slot *cursor on, where the arrays take room pairs. TOO_SMALL: the arrays are full,
+   there are more, and *cursor is where to continue. An error, 1 to 7: nothing is written. */
+ODHT_CALL(uint32_t, any_walk,
+    (const odht_layout *layout, const uint8_t *bytes, size_t bytes_len, size_t *cursor, size_t room,
+        uint8_t *keys, size_t keys_len, uint8_t *values, size_t values_len, size_t *count),
+    size_t unwanted = 0;
+    return odht_symbol_any_walk(layout, odht_read_uint8_t(bytes, bytes_len), bytes_len, cursor,
+        room, odht_write_uint8_t(keys, keys_len), keys_len, odht_write_uint8_t(values, values_len),
+        values_len, count ? count : &unwanted);)
+
+/* OK: the key was new. REPLACED: the former value is written, unless former is NULL. FULL, or an error, 1 to 7:
+   nothing changes. */
+ODHT_CALL(uint32_t, any_insert,
+    (const odht_layout *layout, uint8_t *bytes, size_t bytes_len, const uint8_t *key, size_t key_len,
+        const uint8_t *value, size_t value_len, uint8_t *former, size_t former_len),
+    if (!former) {
+        uint8_t unwanted[255] = { 0 };
+        return odht_symbol_any_insert(layout, odht_write_uint8_t(bytes, bytes_len), bytes_len,
+            odht_read_uint8_t(key, key_len), key_len, odht_read_uint8_t(value, value_len),
+            value_len, unwanted, layout->value_len);
+    }
+    return odht_symbol_any_insert(layout, odht_write_uint8_t(bytes, bytes_len), bytes_len,
+        odht_read_uint8_t(key, key_len), key_len, odht_read_uint8_t(value, value_len), value_len,
+        former, former_len);)
+
+/* OK or FULL: *accepted pairs are inserted. An error, 1 to 7: nothing changes. */
+ODHT_CALL(uint32_t, any_insert_all,
+    (const odht_layout *layout, uint8_t *bytes, size_t bytes_len, size_t count, const uint8_t *keys,
+        size_t keys_len, const uint8_t *values, size_t values_len, size_t *accepted),
+    size_t unwanted = 0;
+    return odht_symbol_any_insert_all(layout, odht_write_uint8_t(bytes, bytes_len), bytes_len,
+        count, odht_read_uint8_t(keys, keys_len), keys_len, odht_read_uint8_t(values, values_len),
+        values_len, accepted ? accepted : &unwanted);)
+
+/* OK: the first *len bytes of out are the grown table. TOO_SMALL: out_len is below *len, and out is unchanged. An error,
+   1 to 7, LOAD_FACTOR_TOO_SMALL, CAPACITY: *len is unchanged too. */
+ODHT_CALL(uint32_t, any_grow,
+    (const odht_layout *layout, const uint8_t *bytes, size_t bytes_len, uint8_t *out, size_t out_len,
+        size_t *len),
+    size_t unwanted = 0;
+    return odht_symbol_any_grow(layout, odht_read_uint8_t(bytes, bytes_len), bytes_len,
+        odht_write_uint8_t(out, out_len), out_len, len ? len : &unwanted);)
+
+/* OK: the table of so many pairs is the first *len bytes of out. TOO_SMALL: out_len is below *len, the length of the
+   table. CAPACITY, BAD_PERCENT: *len is unchanged. With all but OK out is unchanged. */
+ODHT_CALL(uint32_t, any_build,
+    (const odht_layout *layout, size_t count, const uint8_t *keys, size_t keys_len,
+        const uint8_t *values, size_t values_len, uint8_t percent, uint8_t *out, size_t out_len,
+        size_t *len),
+    size_t unwanted = 0;
+    return odht_symbol_any_build(layout, count, odht_read_uint8_t(keys, keys_len), keys_len,
+        odht_read_uint8_t(values, values_len), values_len, percent, odht_write_uint8_t(out, out_len),
+        out_len, len ? len : &unwanted);)
 
 /* Each shape. */
 ODHT_DECLARE_MAP(u32_u32, ODHT_NUMBER, 32, ODHT_NUMBER, 32)

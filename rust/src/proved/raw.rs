@@ -8,3 +8,4 @@ pub use crate::proved::header::{config, error, layout};
 pub mod items;
 pub mod memory_layout;
 pub mod raw_table;
+pub mod read_at;

@@ -7,7 +7,7 @@
 pub use crate::proved::base::hash::{FxHashFn, HashFn, UnHashFn};
 pub use crate::proved::base::{bytes, hash, load, swisstable_group_query};
 pub use crate::proved::raw::config::Config;
-pub use crate::proved::raw::{config, error, items, layout, memory_layout, raw_table};
+pub use crate::proved::raw::{config, error, items, layout, memory_layout, raw_table, read_at};
 pub use hash_table::{bytes_needed, HashTable};
 pub use hash_table_owned::HashTableOwned;
 pub use iter::{Iter, Slots};

@@ -2,6 +2,7 @@
 //! The calls for C, for every configuration: what each returns, and what it leaves in the arrays of its caller. The
 //! exports of each shape of table, in `odht_c`, hand on to them.
 
+pub mod any;
 pub mod build;
 pub mod grow;
 mod lookups;

@@ -6,6 +6,8 @@
 use crate::host::prelude::*;
 
 mod commands;
+mod inserts;
+mod lookups;
 mod shapes;
 mod sized;
 

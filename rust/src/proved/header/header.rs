@@ -84,7 +84,12 @@ impl<'a> Header<'a> {
     /// The length is computed in 128 bits, so a forged slot count cannot make it wrap. Constant time.
     #[inline]
     pub fn table_len<C: Config>(&self, found: usize) -> Result<usize, Error> {
-        let layout = Layout::of::<C>();
+        self.layout_len(Layout::of::<C>(), found)
+    }
+
+    /// [`Header::table_len`] of a table of these lengths. The hash function does not matter.
+    #[inline]
+    pub fn layout_len(&self, layout: Layout, found: usize) -> Result<usize, Error> {
         self.check_fields(layout)?;
         let slot_count = self.slot_count();
         let expected = layout.len_of_slots(slot_count);

@@ -13,6 +13,7 @@ pub use crate::proved::tables::raw_table::ShortBytes;
 use crate::proved::tables::raw_table::{SizedIter, SizedSlots, SizedTable};
 use std::marker::PhantomData;
 
+mod file;
 mod growth;
 mod inserts;
 mod lists;
@@ -21,6 +22,7 @@ mod new_tables;
 mod owned;
 mod prefix;
 
+pub use file::{FileError, FileTable};
 pub use owned::DynTableOwned;
 pub use prefix::table_len;
 
@@ -63,6 +65,16 @@ pub struct DynTable<H: HashFn, D: ByteStore> {
     hash: PhantomData<H>,
 }
 
+// The lengths of keys and values that the header at the front of the bytes states, or that they are too few for one.
+fn stated_layout(bytes: &[u8]) -> Result<Layout, DynError> {
+    let found = bytes.len();
+    if found < HEADER_SIZE {
+        return Err(DynError::Rejected(Error::TooShort { found }));
+    }
+    let header = Header::of(bytes);
+    Ok(Layout { key_len: header.key_size(), value_len: header.value_size() })
+}
+
 impl<H: HashFn, D: ByteStore> DynTable<H, D> {
     /// Opens bytes as a table of these lengths, or returns the first error: `KeyTooShort` where the hash function needs
     /// longer keys; then `Rejected` with that of too few bytes, of the header, of the length, of the first ten slots, as
@@ -88,12 +100,7 @@ impl<H: HashFn, D: ByteStore> DynTable<H, D> {
     /// a table of another one is rejected where one of the first ten slots is occupied and has another tag.
     pub fn open_as_stated(data: D) -> Result<Self, DynError> {
         let bytes = data.bytes();
-        let found = bytes.len();
-        if found < HEADER_SIZE {
-            return Err(DynError::Rejected(Error::TooShort { found }));
-        }
-        let header = Header::of(bytes);
-        let layout = Layout { key_len: header.key_size(), value_len: header.value_size() };
+        let layout = stated_layout(bytes)?;
         match check_by_header(bytes, layout) {
             Ok(()) => DynTable::open(layout, data),
             Err(rejected) => Err(DynError::Rejected(rejected)),

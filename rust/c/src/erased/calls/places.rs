@@ -26,7 +26,7 @@ fn slot_of(error: &Error) -> usize {
 }
 
 // Writes to `slot` where an error is. Returns the error's number.
-fn refused_at(error: &Error, slot: &mut usize) -> u32 {
+pub(crate) fn refused_at(error: &Error, slot: &mut usize) -> u32 {
     *slot = slot_of(error);
     status_of(error)
 }

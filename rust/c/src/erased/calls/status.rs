@@ -34,6 +34,9 @@ pub const TOO_SMALL: u32 = 36;
 /// No list of inserts makes the table.
 pub const UNMADE: u32 = 37;
 
+/// No hash function has the number of a layout, or its keys are too short for the one that has.
+pub const BAD_LAYOUT: u32 = 38;
+
 /// The status of an error.
 pub(crate) fn status_of(error: &Error) -> u32 {
     match error {

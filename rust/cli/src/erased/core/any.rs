@@ -55,6 +55,23 @@ impl AnyShape {
         }
     }
 
+    /// The shape of keys and values that are said to be these, and of the hash function, where one is given: the first
+    /// ready one of their types; else, of bytes in hexadecimal digits, another one, of `fx` where none is given. None where
+    /// a ready shape of other types has as many bytes, since a file is read as that, or the hash function needs longer
+    /// keys.
+    pub(crate) fn of_kinds(key: Kind, value: Kind, hash: Option<Hash>) -> Option<AnyShape> {
+        if let Some(shape) = Shape::of_parts(key.part, value.part, hash) {
+            return Some(AnyShape::Ready(shape));
+        }
+        if !key.is_hex() || !value.is_hex() {
+            return None;
+        }
+        match AnyShape::of_sizes(key.part.size(), value.part.size(), hash) {
+            Ok(AnyShape::Other(other)) => Some(AnyShape::Other(other)),
+            _ => None,
+        }
+    }
+
     // The form of keys or values of this type of which this is said, if anything is. Only a ready shape has others than
     // its own.
     fn form_for(self, kind: Option<Kind>, part: Part) -> Option<Form> {

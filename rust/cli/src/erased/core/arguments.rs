@@ -1,8 +1,9 @@
 // Made by `make rust` of crates/odht_tool_core/src/arguments.rt.
 //! The arguments that the program is called with.
 
+use crate::erased::core::any::AnyShape;
 use crate::erased::core::forms::{GivenForms, Kinds};
-use crate::erased::core::shapes::{Hash, Shape};
+use crate::erased::core::shapes::Hash;
 use crate::host::prelude::*;
 use crate::proved::base::load::Percent;
 use crate::shim::Global;
@@ -18,7 +19,7 @@ pub use topics::{Setting, Topic};
 /// The options of `build`.
 #[derive(Clone, Copy)]
 pub struct BuildOptions {
-    pub shape: Shape,
+    pub shape: AnyShape,
     pub forms: GivenForms,
     /// For how many items room is made at first.
     pub capacity: usize,

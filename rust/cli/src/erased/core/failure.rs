@@ -22,11 +22,9 @@ pub enum Failure {
     Beside(String),
     /// The bytes are no table, or not one of this shape.
     Refused(Error),
-    /// No ready shape has keys and values of so many bytes under the hash that was named.
-    NoShape { key_size: u8, value_size: u8 },
     /// The keys of a table have so many bytes, and the hash that was named needs more.
     ShortKeys { key_size: u8 },
-    /// The control bytes are not the tags of the keys under any hash function of the ready shapes of these sizes.
+    /// The control bytes are not the tags of the keys under any hash function.
     NoHash { key_size: u8, value_size: u8 },
     /// Keys are said to be of another type than this, which they are of.
     OtherKey(Part),
@@ -83,7 +81,6 @@ impl fmt::Display for Failure {
                 let refusal = Refusal(*error);
                 write!(f, "{refusal}")
             }
-            Failure::NoShape { key_size, value_size } => write_no_shape(*key_size, *value_size, f),
             Failure::ShortKeys { key_size } => {
                 write!(f, "its keys have {key_size} bytes, and unhash needs 4")
             }
@@ -109,17 +106,10 @@ impl fmt::Display for Failure {
     }
 }
 
-fn write_no_shape(key_size: u8, value_size: u8, f: &mut fmt::Formatter<'_>) -> fmt::Result {
-    write!(
-        f,
-        "no ready shape has keys of {key_size} and values of {value_size} bytes under this hash; `odht info` takes any"
-    )
-}
-
 fn write_no_hash(key_size: u8, value_size: u8, f: &mut fmt::Formatter<'_>) -> fmt::Result {
     write!(
         f,
-        "the control bytes fit no hash function of ready shapes with keys of {key_size} and values of {value_size} bytes; `odht check` and `odht info` say more"
+        "the control bytes fit no hash function with keys of {key_size} and values of {value_size} bytes; `odht check` and `odht info` say more"
     )
 }
 

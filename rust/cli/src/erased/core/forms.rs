@@ -1,9 +1,7 @@
 // Made by `make rust` of crates/odht_tool_core/src/forms.rt.
 //! The forms of keys and values: other texts than those that their shape has for them.
 
-use crate::erased::core::failure::Failure;
-use crate::erased::core::found::found_shape;
-use crate::erased::core::shapes::{Hash, Part, Shape};
+use crate::erased::core::shapes::Part;
 use crate::host::prelude::*;
 
 /// How a key or a value is written and read.
@@ -17,6 +15,18 @@ pub enum Form {
     BigEndian,
     /// Bytes that are a plain text, with zeros behind it.
     Plain,
+    /// So many bytes in hexadecimal digits, where their type does not say how many.
+    Hex(u8),
+}
+
+impl Form {
+    /// How many bytes it is of; none where that is for their type to say.
+    pub fn len(self) -> u8 {
+        match self {
+            Form::Hex(len) => len,
+            _ => 0,
+        }
+    }
 }
 
 /// The forms of keys and of values.
@@ -63,6 +73,25 @@ impl Forms for GivenForms {
     }
 }
 
+/// The forms of bytes in hexadecimal digits, of these lengths.
+#[derive(Clone, Copy)]
+pub struct HexForms {
+    /// That of keys.
+    pub key_len: u8,
+    /// That of values.
+    pub value_len: u8,
+}
+
+impl Forms for HexForms {
+    fn key(self) -> Form {
+        Form::Hex(self.key_len)
+    }
+
+    fn value(self) -> Form {
+        Form::Hex(self.value_len)
+    }
+}
+
 impl GivenForms {
     /// Whether both are the shape's own.
     pub fn are_own(self) -> bool {
@@ -81,6 +110,14 @@ pub struct Kind {
 }
 
 impl Kind {
+    /// Whether it is bytes, or nothing, in hexadecimal digits.
+    pub(crate) fn is_hex(self) -> bool {
+        match (self.part, self.form) {
+            (Part::Nothing | Part::Bytes(_), Form::Own) => true,
+            _ => false,
+        }
+    }
+
     /// The kind of this name: that of a type (`Part::named`), `i32` or `i64`, `u32be` or `u64be`, or `text:` and a number of
     /// bytes from 1 to 255.
     pub(crate) fn named(name: &str) -> Option<Kind> {
@@ -103,23 +140,6 @@ impl Kind {
 pub struct Kinds {
     pub key: Option<Kind>,
     pub value: Option<Kind>,
-}
-
-/// The shape that the bytes of a file are read as, as `found_shape` finds it, and the forms of its keys and values: those
-/// that are said, or its own. `OtherKey` or `OtherValue` where what is said is of another type.
-pub fn read_as(
-    bytes: &[u8],
-    hash: Option<Hash>,
-    kinds: Kinds,
-) -> Result<(Shape, GivenForms), Failure> {
-    let shape = found_shape(bytes, hash)?;
-    let Some(key) = form_for(kinds.key, shape.key()) else {
-        return Err(Failure::OtherKey(shape.key()));
-    };
-    let Some(value) = form_for(kinds.value, shape.value()) else {
-        return Err(Failure::OtherValue(shape.value()));
-    };
-    Ok((shape, GivenForms { key, value }))
 }
 
 /// The form of keys or values of this type of which this is said, if anything is. None where that is of another type.

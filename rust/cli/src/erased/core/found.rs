@@ -3,31 +3,10 @@
 
 use crate::erased::core::any::{named_any, AnyShape, OtherShape};
 use crate::erased::core::failure::Failure;
-use crate::erased::core::shapes::{shape_of, Hash, Shape, SHAPES};
+use crate::erased::core::shapes::{Hash, Shape, SHAPES};
 use crate::erased::core::stored::StoredTable;
 use crate::host::prelude::*;
 use crate::proved::header::header::Header;
-
-/// The ready shape of these bytes: as `shape_of` has it; but where header and length fit, the header counts items and
-/// no hash function is given, the first shape of the header's sizes with whose hash function all control bytes agree.
-/// `NoHash` where they agree with none.
-///
-/// It goes over the entries and the control bytes once for each shape of the sizes, up to the first that does not
-/// agree.
-pub fn found_shape(bytes: &[u8], hash: Option<Hash>) -> Result<Shape, Failure> {
-    let named = shape_of(bytes, hash)?;
-    match (hash, open_with_items(bytes)) {
-        (None, Some(table)) => fitting_shape_of(bytes, &table),
-        _ => Ok(named),
-    }
-}
-
-// The first shape of the header's sizes that fits the parts of the table.
-fn fitting_shape_of(bytes: &[u8], table: &StoredTable<'_>) -> Result<Shape, Failure> {
-    let header = Header::of(bytes);
-    let (key_size, value_size) = (header.key_size(), header.value_size());
-    fitting_shape(key_size, value_size, table).ok_or(Failure::NoHash { key_size, value_size })
-}
 
 // The first shape of these sizes with whose hash function all control bytes agree.
 fn fitting_shape(key_size: u8, value_size: u8, table: &StoredTable<'_>) -> Option<Shape> {

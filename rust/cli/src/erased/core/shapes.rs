@@ -1,10 +1,7 @@
 // Made by `make rust` of crates/odht_tool_core/src/shapes.rt.
 //! The shapes of tables that the commands read and write: the types of keys and values, and the hash function.
 
-use crate::erased::core::early::check_first;
-use crate::erased::core::failure::Failure;
 use crate::host::prelude::*;
-use crate::proved::header::header::Header;
 use std::fmt;
 
 mod ready;
@@ -152,15 +149,4 @@ impl Shape {
             None => true,
         }
     }
-}
-
-/// The ready shape of these bytes, by the key and value sizes in the header. Where the check fails before it comes to
-/// the sizes, some shape is returned: opening has the same error for each.
-pub fn shape_of(bytes: &[u8], hash: Option<Hash>) -> Result<Shape, Failure> {
-    if check_first(bytes).is_err() {
-        return Ok(Shape::U64ToU32);
-    }
-    let header = Header::of(bytes);
-    let (key_size, value_size) = (header.key_size(), header.value_size());
-    Shape::of_sizes(key_size, value_size, hash).ok_or(Failure::NoShape { key_size, value_size })
 }

@@ -11,7 +11,7 @@ use crate::host::prelude::*;
 use std::io::{self, Write};
 
 /// A key or a value that has a text in each form.
-pub trait Text: Copy {
+pub trait Text: Sized {
     /// What its texts are.
     fn wanted(form: Form) -> Wanted;
 
@@ -25,14 +25,14 @@ pub trait Text: Copy {
 impl Text for u32 {
     fn wanted(form: Form) -> Wanted {
         match form {
-            Form::Own | Form::BigEndian | Form::Plain => Wanted::U32,
             Form::Signed => Wanted::I32,
+            _ => Wanted::U32,
         }
     }
 
     fn parse(word: &[u8], form: Form) -> Option<u32> {
         match form {
-            Form::Own | Form::Plain => u32::try_from(parse_number(word)?).ok(),
+            Form::Own | Form::Plain | Form::Hex(_) => u32::try_from(parse_number(word)?).ok(),
             Form::Signed => u32::try_from(parse_signed(word, u64::from(u32::MAX))?).ok(),
             Form::BigEndian => {
                 let number = u32::try_from(parse_number(word)?).ok()?;
@@ -44,7 +44,7 @@ impl Text for u32 {
     #[inline(always)]
     fn write<W: Write>(&self, form: Form, output: &mut W) -> io::Result<()> {
         match form {
-            Form::Own | Form::Plain => write_number(u64::from(*self), output),
+            Form::Own | Form::Plain | Form::Hex(_) => write_number(u64::from(*self), output),
             Form::Signed => write_signed(u64::from(*self), u64::from(u32::MAX), output),
             Form::BigEndian => write_number(u64::from(self.swap_bytes()), output),
         }
@@ -54,14 +54,14 @@ impl Text for u32 {
 impl Text for u64 {
     fn wanted(form: Form) -> Wanted {
         match form {
-            Form::Own | Form::BigEndian | Form::Plain => Wanted::U64,
             Form::Signed => Wanted::I64,
+            _ => Wanted::U64,
         }
     }
 
     fn parse(word: &[u8], form: Form) -> Option<u64> {
         match form {
-            Form::Own | Form::Plain => parse_number(word),
+            Form::Own | Form::Plain | Form::Hex(_) => parse_number(word),
             Form::Signed => parse_signed(word, u64::MAX),
             Form::BigEndian => {
                 let number = parse_number(word)?;
@@ -73,7 +73,7 @@ impl Text for u64 {
     #[inline(always)]
     fn write<W: Write>(&self, form: Form, output: &mut W) -> io::Result<()> {
         match form {
-            Form::Own | Form::Plain => write_number(*self, output),
+            Form::Own | Form::Plain | Form::Hex(_) => write_number(*self, output),
             Form::Signed => write_signed(*self, u64::MAX, output),
             Form::BigEndian => write_number(self.swap_bytes(), output),
         }
@@ -176,8 +176,8 @@ fn parse_long<const N: usize>(word: &[u8]) -> Option<[u8; N]> {
     Some(bytes)
 }
 
-// Whether each byte is a hexadecimal digit, of either case.
-fn are_digits(word: &[u8]) -> bool {
+/// Whether each byte is a hexadecimal digit, of either case.
+pub(crate) fn are_digits(word: &[u8]) -> bool {
     word.iter().all(|digit| digit.is_ascii_hexdigit())
 }
 
@@ -189,9 +189,9 @@ fn max_of(a: u8, b: u8) -> u8 {
     }
 }
 
-// The number of a hexadecimal digit of either case, and 16 of any other byte.
+/// The number of a hexadecimal digit of either case, and 16 of any other byte.
 #[inline(always)]
-fn digit_value(byte: u8) -> u8 {
+pub(crate) fn digit_value(byte: u8) -> u8 {
     match byte {
         b'0'..=b'9' => byte - b'0',
         b'a'..=b'f' => byte - b'a' + 10,

@@ -12,6 +12,8 @@ use crate::proved::tables::hash::HashFn;
 use crate::proved::tables::memory_layout::{check_opening, check_sized, check_sized_within};
 use crate::proved::tables::{FxHashFn, UnHashFn};
 
+pub mod builds;
+pub mod gets;
 pub mod listings;
 
 /// The lengths of a shape.

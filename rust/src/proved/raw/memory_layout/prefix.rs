@@ -4,6 +4,7 @@
 use super::{Header, HEADER_SIZE};
 use crate::proved::raw::config::Config;
 use crate::proved::raw::error::Error;
+use crate::proved::raw::layout::Layout;
 
 /// How many bytes the table at the front of `bytes` has, by its header. What follows is not looked at, nor is any slot.
 ///
@@ -13,9 +14,15 @@ use crate::proved::raw::error::Error;
 /// bytes at the front would. Constant time.
 #[inline]
 pub fn table_len<C: Config>(bytes: &[u8]) -> Result<usize, Error> {
+    sized_table_len(bytes, Layout::of::<C>())
+}
+
+/// [`table_len`] of a table of these lengths. The hash function does not matter.
+#[inline]
+pub fn sized_table_len(bytes: &[u8], layout: Layout) -> Result<usize, Error> {
     let found = bytes.len();
     if found < HEADER_SIZE {
         return Err(Error::TooShort { found });
     }
-    Header::of(bytes).table_len::<C>(found)
+    Header::of(bytes).layout_len(layout, found)
 }

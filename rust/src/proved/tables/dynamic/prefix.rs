@@ -1,36 +1,19 @@
 // Made by `make rust` of crates/odht/src/dynamic/prefix.rt.
 //! A table at the front of longer bytes, of lengths that are known at run time alone.
 
-use super::{DynError, DynTable};
+use super::{stated_layout, DynError, DynTable};
 use crate::proved::tables::bytes::Borrowed;
 use crate::proved::tables::error::Error;
 use crate::proved::tables::hash::HashFn;
 use crate::proved::tables::layout::Layout;
-use crate::proved::tables::memory_layout::{Header, HEADER_SIZE};
+use crate::proved::tables::memory_layout::sized_table_len;
 
 /// How many bytes the table of these lengths at the front of `bytes` has, by its header. What follows is not looked at,
 /// nor is any slot, and the hash function does not matter.
 ///
 /// The first error: as [`table_len`](crate::proved::tables::memory_layout::table_len) returns it. Constant time.
 pub fn table_len(layout: Layout, bytes: &[u8]) -> Result<usize, Error> {
-    let found = bytes.len();
-    if found < HEADER_SIZE {
-        return Err(Error::TooShort { found });
-    }
-    let header = Header::of(bytes);
-    let len = len_within(layout, header.slot_count(), found);
-    match header.check_layout(layout, len) {
-        Ok(()) => Ok(len),
-        Err(rejected) => Err(rejected),
-    }
-}
-
-// The length of a table of so many slots, or `found` where that is less: no table of them is as long then.
-fn len_within(layout: Layout, slot_count: usize, found: usize) -> usize {
-    match layout.bytes_needed(slot_count) {
-        Some(len) => len.min(found),
-        None => found,
-    }
+    sized_table_len(bytes, layout)
 }
 
 impl<'a, H: HashFn> DynTable<H, Borrowed<'a>> {
@@ -45,13 +28,7 @@ impl<'a, H: HashFn> DynTable<H, Borrowed<'a>> {
             return Err(DynError::KeyTooShort { key_len: layout.key_len, least: H::MIN_LEN });
         }
         match table_len(layout, bytes) {
-            Ok(len) => {
-                let (front, rest) = bytes.split_at(len);
-                match DynTable::open(layout, Borrowed::new(front)) {
-                    Ok(table) => Ok((table, rest)),
-                    Err(refused) => Err(refused),
-                }
-            }
+            Ok(len) => DynTable::open_front(layout, bytes, len),
             Err(rejected) => Err(DynError::Rejected(rejected)),
         }
     }
@@ -62,15 +39,21 @@ impl<'a, H: HashFn> DynTable<H, Borrowed<'a>> {
     /// ten slots. A header states no hash function: a table of another one is rejected where one of the first ten slots
     /// is occupied and has another tag.
     pub fn from_prefix_as_stated(bytes: &'a [u8]) -> Result<(Self, &'a [u8]), DynError> {
-        let found = bytes.len();
-        if found < HEADER_SIZE {
-            return Err(DynError::Rejected(Error::TooShort { found }));
-        }
-        let header = Header::of(bytes);
-        let layout = Layout { key_len: header.key_size(), value_len: header.value_size() };
+        let layout = stated_layout(bytes)?;
         match table_len(layout, bytes) {
-            Ok(_) => DynTable::from_prefix(layout, bytes),
+            Ok(len) => DynTable::open_front(layout, bytes, len),
             Err(rejected) => Err(DynError::Rejected(rejected)),
         }
+    }
+
+    // Opens the table of so many bytes at the front, and returns it with the bytes behind it.
+    fn open_front(
+        layout: Layout,
+        bytes: &'a [u8],
+        len: usize,
+    ) -> Result<(Self, &'a [u8]), DynError> {
+        let (front, rest) = bytes.split_at(len);
+        let table = DynTable::open(layout, Borrowed::new(front))?;
+        Ok((table, rest))
     }
 }

@@ -2,9 +2,10 @@
 //! A command of which some words are parsed.
 use super::topics::{Setting, Topic};
 use super::{is_stream, BuildOptions, Command, CommandMisuse, Keys, Misuse, Reading, Request};
+use crate::erased::core::any::AnyShape;
 use crate::erased::core::digits::parse_number;
 use crate::erased::core::forms::{GivenForms, Kind, Kinds};
-use crate::erased::core::shapes::{Hash, Shape};
+use crate::erased::core::shapes::Hash;
 use crate::host::prelude::*;
 use crate::proved::base::load::Percent;
 use crate::proved::raw::memory_layout::DEFAULT_GROUPS;
@@ -227,7 +228,7 @@ impl Draft {
         let Some(value) = self.kinds.value else {
             return Err(CommandMisuse::Missing("--value"));
         };
-        let Some(shape) = Shape::of_parts(key.part, value.part, self.hash) else {
+        let Some(shape) = AnyShape::of_kinds(key, value, self.hash) else {
             return Err(CommandMisuse::NoShape);
         };
         Ok(Command::Build(BuildOptions {

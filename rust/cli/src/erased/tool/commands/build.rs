@@ -1,19 +1,18 @@
 // Made by `make rust` of crates/odht_tool/src/commands/build.rt.
 //! `odht build` and `odht put`: tables from the lines of standard input.
 
+use crate::erased::core::any::{read_any, AnyShape};
 use crate::erased::core::arguments::{is_stream, BuildOptions};
 use crate::erased::core::failure::Failure;
-use crate::erased::core::files::replace_file;
-use crate::erased::core::forms::{read_as, Forms, Kinds, OwnForms};
-use crate::erased::core::lines::read_pair_as;
-use crate::erased::core::misread::Misread;
-use crate::erased::core::progress::Progress;
+use crate::erased::core::forms::{Forms, Kinds, OwnForms};
 use crate::erased::core::shapes::{Hash, Shape};
-use crate::erased::core::status::{of_output, Status};
+use crate::erased::core::status::Status;
 use crate::erased::core::targets::Target;
 use crate::erased::core::text::Text;
 use crate::erased::tool::commands::check::check_bytes;
+use crate::erased::tool::inserts::{insert_into_file, insert_into_stream};
 use crate::erased::tool::shapes::for_shape;
+use crate::erased::tool::sized::builds::{build_other, put_other};
 use crate::host::prelude::*;
 use crate::host::rt::{Clock, Files};
 use crate::proved::tables::config::Config;
@@ -22,9 +21,6 @@ use crate::proved::tables::HashTableOwned;
 use crate::shim::Global;
 use std::io::{BufRead, Write};
 use std::os::fd::AsFd;
-
-/// How many pairs are inserted at once.
-const BATCH: usize = 1024;
 
 /// Makes a table from the lines, and stores it as the file; or writes it to `output`, where the name stands for that.
 pub fn build<R: Files + AllocGlobal + Clock, I: BufRead, O: Write, E: Write>(
@@ -39,17 +35,20 @@ where
     R::File: AsFd,
 {
     let forms = options.forms;
-    if forms.are_own() {
-        build_in(rt, file, OwnForms, options, input, output, errors)
-    } else {
-        build_in(rt, file, forms, options, input, output, errors)
+    match options.shape {
+        AnyShape::Ready(shape) if forms.are_own() => {
+            build_in(rt, file, shape, OwnForms, options, input, output, errors)
+        }
+        AnyShape::Ready(shape) => build_in(rt, file, shape, forms, options, input, output, errors),
+        AnyShape::Other(shape) => build_other(rt, file, shape, options, input, output, errors),
     }
 }
 
-// The same where the forms are known.
+// The same of a ready shape, where the forms are known.
 fn build_in<F: Forms, R: Files + AllocGlobal + Clock, I: BufRead, O: Write, E: Write>(
     rt: &R,
     file: &str,
+    shape: Shape,
     forms: F,
     options: BuildOptions,
     input: &mut I,
@@ -59,7 +58,6 @@ fn build_in<F: Forms, R: Files + AllocGlobal + Clock, I: BufRead, O: Write, E: W
 where
     R::File: AsFd,
 {
-    let shape = options.shape;
     if is_stream(file) {
         for_shape!(shape, build_stream[F, R, I, O, E](rt, forms, options, input, output, errors))
     } else {
@@ -81,10 +79,9 @@ where
     C::Key: Text,
     C::Value: Text,
 {
-    let mut table = make_table::<C>(rt.alloc(), options.capacity, options.percent)?;
-    let progress = Progress::new(rt, options.has_progress);
-    fill(rt, &mut table, progress, forms, input, errors)?;
-    of_output(output.write_all(table.raw_bytes()))
+    let table = make_table::<C>(rt.alloc(), options.capacity, options.percent)?;
+    let has_progress = options.has_progress;
+    insert_into_stream(rt, table, forms, has_progress, input, output, errors)
 }
 
 fn build_file<C: Config, F: Forms, R: Files + AllocGlobal + Clock, I: BufRead, E: Write>(
@@ -128,15 +125,21 @@ pub fn put<R: Files + AllocGlobal + Clock, I: BufRead, E: Write>(
 where
     R::File: AsFd,
 {
-    let (shape, forms) = read_as(bytes.as_slice(), hash, kinds)?;
-    if forms.are_own() {
-        put_in(rt, target, shape, OwnForms, bytes, bound, has_progress, input, errors)
-    } else {
-        put_in(rt, target, shape, forms, bytes, bound, has_progress, input, errors)
+    let (shape, forms) = read_any(bytes.as_slice(), hash, kinds)?;
+    match shape {
+        AnyShape::Ready(shape) if forms.are_own() => {
+            put_in(rt, target, shape, OwnForms, bytes, bound, has_progress, input, errors)
+        }
+        AnyShape::Ready(shape) => {
+            put_in(rt, target, shape, forms, bytes, bound, has_progress, input, errors)
+        }
+        AnyShape::Other(shape) => {
+            put_other(rt, target, shape, bytes, bound, has_progress, input, errors)
+        }
     }
 }
 
-// The same where the shape and the forms are known.
+// The same of a ready shape, where the forms are known.
 fn put_in<F: Forms, R: Files + AllocGlobal + Clock, I: BufRead, E: Write>(
     rt: &R,
     target: Target,
@@ -185,94 +188,4 @@ fn copy_table<C: Config>(
     let bytes = bytes.as_slice();
     check_bytes::<C>(bytes, bound).map_err(Failure::Refused)?;
     HashTableOwned::from_raw_bytes_unchecked(alloc, bytes).map_err(Failure::of_table)
-}
-
-// Adds the lines to the table, and stores it as the file.
-fn insert_into_file<C: Config, F: Forms, R: Files + AllocGlobal + Clock, I: BufRead, E: Write>(
-    rt: &R,
-    target: Target,
-    mut table: HashTableOwned<C>,
-    forms: F,
-    has_progress: bool,
-    input: &mut I,
-    errors: &mut E,
-) -> Result<Status, Failure>
-where
-    C::Key: Text,
-    C::Value: Text,
-    R::File: AsFd,
-{
-    let progress = Progress::new(rt, has_progress);
-    fill(rt, &mut table, progress, forms, input, errors)?;
-    replace_file(rt, &target, table.raw_bytes())?;
-    Ok(Status::Done)
-}
-
-// Inserts the pairs of the lines, a batch at a time.
-fn fill<C: Config, F: Forms, R: AllocGlobal + Clock, I: BufRead, E: Write>(
-    rt: &R,
-    table: &mut HashTableOwned<C>,
-    mut progress: Progress,
-    forms: F,
-    input: &mut I,
-    errors: &mut E,
-) -> Result<(), Failure>
-where
-    C::Key: Text,
-    C::Value: Text,
-{
-    let alloc: Global = rt.alloc();
-    let mut pairs = crate::host::lists::empty(alloc);
-    let mut line = crate::host::lists::empty(alloc);
-    for number in 1..u64::MAX {
-        let pair = match read_pair_as::<C::Key, C::Value, F, I>(input, &mut line, number, forms) {
-            Ok(Some(pair)) => pair,
-            Ok(None) => break,
-            Err(failure) => {
-                let line = line.as_slice();
-                return Err(told::<C::Key, C::Value, F>(alloc, failure, line, forms));
-            }
-        };
-        pairs.try_push(pair).or(Err(Failure::Memory))?;
-        if pairs.len() >= BATCH {
-            insert_batch(table, &mut pairs)?;
-            // A progress line that cannot be written is no failure.
-            let _ = progress.report(rt, number, errors);
-        }
-    }
-    insert_batch(table, &mut pairs)
-}
-
-// The failure with what is said of this line, where the line cannot be parsed.
-#[cold]
-#[inline(never)]
-fn told<K: Text, V: Text, F: Forms>(
-    alloc: Global,
-    failure: Failure,
-    line: &[u8],
-    forms: F,
-) -> Failure {
-    match failure {
-        Failure::Line { number, fault } => {
-            let wanted = (K::wanted(forms.key()), V::wanted(forms.value()));
-            match Misread::of_line(number, fault, wanted, line).message(alloc) {
-                Ok(message) => Failure::Misread(message),
-                Err(_) => Failure::Memory,
-            }
-        }
-        _ => failure,
-    }
-}
-
-// Inserts the pairs, and drops them.
-fn insert_batch<C: Config>(
-    table: &mut HashTableOwned<C>,
-    pairs: &mut Vec<(C::Key, C::Value)>,
-) -> Result<(), Failure> {
-    let (_, inserted) = table.insert_all(pairs.as_slice());
-    pairs.clear();
-    match inserted {
-        Ok(()) => Ok(()),
-        Err(_) => Err(Failure::Memory),
-    }
 }

@@ -1,24 +1,21 @@
 // Made by `make rust` of crates/odht_tool/src/commands/get.rt.
 //! `odht get`: lookups in a table file.
 
-use crate::erased::core::answers::{absent_values, are_found, write_answers_as};
-use crate::erased::core::failure::{Failure, LineFault};
-use crate::erased::core::forms::{read_as, Forms, Kinds, OwnForms};
-use crate::erased::core::keys::{next_key_as, parse_keys, push_key, NextKey};
-use crate::erased::core::misread::Misread;
+use crate::erased::core::any::{read_any, AnyShape};
+use crate::erased::core::failure::Failure;
+use crate::erased::core::forms::{Forms, GivenForms, Kinds, OwnForms};
 use crate::erased::core::shapes::{Hash, Shape};
 use crate::erased::core::status::Status;
 use crate::erased::core::text::Text;
+use crate::erased::tool::lookups::{answer_lines, answer_words};
 use crate::erased::tool::shapes::for_shape;
+use crate::erased::tool::sized::gets::{get_lines_other, get_words_other};
 use crate::host::prelude::*;
 use crate::proved::tables::bytes::Borrowed;
 use crate::proved::tables::config::Config;
 use crate::proved::tables::HashTable;
-use crate::shim::{AllocError, Global};
-use std::io::{self, BufRead, Write};
-
-/// How many keys are looked up at once.
-const BATCH: usize = 1024;
+use crate::shim::Global;
+use std::io::{BufRead, Write};
 
 /// `odht get` of the bytes of a file, for the words of the command line: writes a line for each
 /// key, with a tab and its value, or the key alone.
@@ -30,8 +27,23 @@ pub fn get_file_words<O: Write>(
     words: &[String],
     output: &mut O,
 ) -> Result<Status, Failure> {
-    let found = read_as(bytes, hash, kinds)?;
+    let found = read_any(bytes, hash, kinds)?;
     let (shape, forms) = found;
+    match shape {
+        AnyShape::Ready(shape) => get_words_ready(alloc, shape, forms, bytes, words, output),
+        AnyShape::Other(shape) => get_words_other(alloc, shape, bytes, words, output),
+    }
+}
+
+// The same of a ready shape, in these forms.
+fn get_words_ready<O: Write>(
+    alloc: Global,
+    shape: Shape,
+    forms: GivenForms,
+    bytes: &[u8],
+    words: &[String],
+    output: &mut O,
+) -> Result<Status, Failure> {
     if forms.are_own() {
         get_words_of(alloc, shape, OwnForms, bytes, words, output)
     } else {
@@ -59,8 +71,23 @@ pub fn get_file_lines<I: BufRead, O: Write>(
     input: &mut I,
     output: &mut O,
 ) -> Result<Status, Failure> {
-    let found = read_as(bytes, hash, kinds)?;
+    let found = read_any(bytes, hash, kinds)?;
     let (shape, forms) = found;
+    match shape {
+        AnyShape::Ready(shape) => get_lines_ready(alloc, shape, forms, bytes, input, output),
+        AnyShape::Other(shape) => get_lines_other(alloc, shape, bytes, input, output),
+    }
+}
+
+// The same of a ready shape, in these forms.
+fn get_lines_ready<I: BufRead, O: Write>(
+    alloc: Global,
+    shape: Shape,
+    forms: GivenForms,
+    bytes: &[u8],
+    input: &mut I,
+    output: &mut O,
+) -> Result<Status, Failure> {
     if forms.are_own() {
         get_lines_of(alloc, shape, OwnForms, bytes, input, output)
     } else {
@@ -89,21 +116,10 @@ fn get_words<C: Config, F: Forms, O: Write>(
 ) -> Result<Status, Failure>
 where
     C::Key: Text,
-    C::Value: Text,
+    C::Value: Text + Copy,
 {
     let table = open::<C>(bytes)?;
-    let keys = keys_of_words::<C::Key, F>(alloc, words, forms)?;
-    let is_all_found = answer_keys(alloc, &table, keys.as_slice(), forms, output)?;
-    Ok(Status::of(is_all_found))
-}
-
-// The keys of the words in the form of keys.
-fn keys_of_words<K: Text, F: Forms>(
-    alloc: Global,
-    words: &[String],
-    forms: F,
-) -> Result<Vec<K>, Failure> {
-    parse_keys(alloc, words, forms.key())
+    answer_words(alloc, &table, forms, words, output)
 }
 
 // Looks up the keys of the lines, a batch at a time.
@@ -116,167 +132,12 @@ fn get_lines<C: Config, F: Forms, I: BufRead, O: Write>(
 ) -> Result<Status, Failure>
 where
     C::Key: Text,
-    C::Value: Text,
+    C::Value: Text + Copy,
 {
     let table = open::<C>(bytes)?;
     answer_lines(alloc, &table, forms, input, output)
 }
 
-fn answer_lines<C: Config, F: Forms, I: BufRead, O: Write>(
-    alloc: Global,
-    table: &HashTable<C, Borrowed<'_>>,
-    forms: F,
-    input: &mut I,
-    output: &mut O,
-) -> Result<Status, Failure>
-where
-    C::Key: Text,
-    C::Value: Text,
-{
-    let mut keys = crate::host::lists::empty(alloc);
-    let mut line = crate::host::lists::empty(alloc);
-    let mut is_all_found = true;
-    for number in 1..u64::MAX {
-        let read =
-            read_key(alloc, table, number, input, &mut line, keys.as_slice(), forms, output)?;
-        match read {
-            Some(key) => {
-                is_all_found = take_key(alloc, table, &mut keys, key, is_all_found, forms, output)?;
-            }
-            None => break,
-        }
-    }
-    let is_last_found = answer_keys(alloc, table, keys.as_slice(), forms, output)?;
-    Ok(Status::of(is_last_found && is_all_found))
-}
-
-// Reads the key of the line of this number, if there is such a line. Where it is no key, the keys before it are
-// answered first.
-fn read_key<C: Config, F: Forms, I: BufRead, O: Write>(
-    alloc: Global,
-    table: &HashTable<C, Borrowed<'_>>,
-    number: u64,
-    input: &mut I,
-    line: &mut Vec<u8>,
-    keys: &[C::Key],
-    forms: F,
-    output: &mut O,
-) -> Result<Option<C::Key>, Failure>
-where
-    C::Key: Text,
-    C::Value: Text,
-{
-    match key_of_line(input, line, forms) {
-        Ok(NextKey::Key(key)) => Ok(Some(key)),
-        Ok(NextKey::End) => Ok(None),
-        Ok(NextKey::NoKey) => {
-            let message = wrong_line::<C::Key, F>(alloc, number, line.as_slice(), forms)?;
-            answer_keys(alloc, table, keys, forms, output)?;
-            Err(Failure::Misread(message))
-        }
-        Err(error) => Err(Failure::Input(error)),
-    }
-}
-
-// The key of the next line in the form of keys.
-#[inline(always)]
-fn key_of_line<K: Text, F: Forms, I: BufRead>(
-    input: &mut I,
-    line: &mut Vec<u8>,
-    forms: F,
-) -> io::Result<NextKey<K>> {
-    next_key_as(input, line, forms.key())
-}
-
-// What is said of a line that is no key.
-fn wrong_line<K: Text, F: Forms>(
-    alloc: Global,
-    number: u64,
-    line: &[u8],
-    forms: F,
-) -> Result<String, AllocError> {
-    let misread = Misread {
-        line: Some(number),
-        fault: LineFault::Key,
-        wanted: K::wanted(forms.key()),
-        text: line,
-    };
-    misread.message(alloc)
-}
-
-// Adds a key, and answers all where they are a batch. Returns whether each was found, and those before.
-fn take_key<C: Config, F: Forms, O: Write>(
-    alloc: Global,
-    table: &HashTable<C, Borrowed<'_>>,
-    keys: &mut Vec<C::Key>,
-    key: C::Key,
-    is_all_found: bool,
-    forms: F,
-    output: &mut O,
-) -> Result<bool, Failure>
-where
-    C::Key: Text,
-    C::Value: Text,
-{
-    push_key(keys, key)?;
-    answer_batch(alloc, table, keys, is_all_found, forms, output)
-}
-
-// Answers the keys where they are a batch, and drops them. Returns whether each was found, and
-// those before.
-fn answer_batch<C: Config, F: Forms, O: Write>(
-    alloc: Global,
-    table: &HashTable<C, Borrowed<'_>>,
-    keys: &mut Vec<C::Key>,
-    is_all_found: bool,
-    forms: F,
-    output: &mut O,
-) -> Result<bool, Failure>
-where
-    C::Key: Text,
-    C::Value: Text,
-{
-    if keys.len() < BATCH {
-        return Ok(is_all_found);
-    }
-    let is_found = answer_keys(alloc, table, keys.as_slice(), forms, output)?;
-    keys.clear();
-    Ok(is_found && is_all_found)
-}
-
 fn open<C: Config>(bytes: &[u8]) -> Result<HashTable<C, Borrowed<'_>>, Failure> {
     HashTable::from_raw_bytes(Borrowed::new(bytes)).map_err(Failure::Refused)
-}
-
-// Looks the keys up, and writes a line for each. Returns whether each was found.
-fn answer_keys<C: Config, F: Forms, O: Write>(
-    alloc: Global,
-    table: &HashTable<C, Borrowed<'_>>,
-    keys: &[C::Key],
-    forms: F,
-    output: &mut O,
-) -> Result<bool, Failure>
-where
-    C::Key: Text,
-    C::Value: Text,
-{
-    let values = look_up::<C>(alloc, table, keys)?;
-    let values = values.as_slice();
-    write_answers_as(keys, values, forms, output).map_err(Failure::Output)?;
-    Ok(are_found(values))
-}
-
-// The value of each key.
-#[inline(always)]
-fn look_up<C: Config>(
-    alloc: Global,
-    table: &HashTable<C, Borrowed<'_>>,
-    keys: &[C::Key],
-) -> Result<Vec<Option<C::Value>>, AllocError>
-where
-    C::Value: Text,
-{
-    let mut values = absent_values::<C::Value>(alloc, keys.len())?;
-    table.get_all(keys, values.as_mut_slice());
-    Ok(values)
 }

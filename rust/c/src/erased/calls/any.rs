@@ -1,0 +1,34 @@
+// Made by `make rust` of crates/odht_calls/src/any.rt.
+//! The calls for tables of any lengths: the caller names the lengths of keys and values, and the hash function, by a
+//! layout.
+
+pub mod build;
+pub mod lists;
+mod pieces;
+pub mod places;
+pub mod read;
+pub mod walk;
+pub mod write;
+
+/// What a caller in C knows of a table: how many bytes a key and a value have, and the number of the hash function.
+#[repr(C)]
+#[derive(Clone, Copy)]
+pub struct AnyLayout {
+    /// The length of a key, in bytes.
+    pub key_len: u8,
+    /// The length of a value, in bytes.
+    pub value_len: u8,
+    /// The number of the hash function: [`FX`] or [`UNHASH`].
+    pub hash: u8,
+}
+
+/// The number of the hash function of rustc-hash.
+pub const FX: u8 = 0;
+
+/// The number of the hash function of keys that are hashes already, which takes their last four bytes.
+pub const UNHASH: u8 = 1;
+
+// Whether a layout has this hash function, and keys that are long enough for it.
+pub(crate) fn has_hash(layout: AnyLayout, hash: u8, least: usize) -> bool {
+    layout.hash == hash && least <= layout.key_len as usize
+}

@@ -1,0 +1,90 @@
+// Made by `make rust` of crates/odht_calls/src/any/build.rt.
+//! A table of any lengths that is built from pairs, in the caller's bytes.
+
+use super::lists::insert_pieces;
+use super::pieces::are_pieces;
+use super::write::init_by;
+use super::{has_hash, AnyLayout, FX, UNHASH};
+use crate::erased::calls::status::{BAD_LAYOUT, BAD_LENGTHS, BAD_PERCENT, CAPACITY, OK, TOO_SMALL};
+use crate::proved::tables::bytes::Borrowed;
+use crate::proved::tables::dynamic::DynTable;
+use crate::proved::tables::hash::{FxHashFn, HashFn, UnHashFn};
+use crate::proved::tables::layout::Layout;
+use crate::proved::tables::load::Percent;
+
+// Makes an empty table in the bytes, whatever they hold, and inserts the pairs in order: there is room for each.
+fn insert_into_new<H: HashFn>(
+    layout: Layout,
+    bytes: &mut [u8],
+    percent: u8,
+    count: usize,
+    keys: &[u8],
+    values: &[u8],
+) {
+    let mut accepted = 0;
+    let _ = init_by::<H>(layout, bytes, count, percent);
+    let _ = insert_pieces::<H>(layout, bytes, count, keys, values, &mut accepted);
+}
+
+// The build of `count` pairs.
+fn build_pieces<H: HashFn>(
+    layout: Layout,
+    count: usize,
+    keys: &[u8],
+    values: &[u8],
+    max_load_factor_percent: u8,
+    out: &mut [u8],
+    len: &mut usize,
+) -> u32 {
+    let Some(percent) = Percent::new(max_load_factor_percent) else {
+        return BAD_PERCENT;
+    };
+    let Some(needed) = DynTable::<H, Borrowed<'_>>::bytes_needed(layout, count, percent.value())
+    else {
+        return CAPACITY;
+    };
+    *len = needed;
+    if out.len() < needed {
+        return TOO_SMALL;
+    }
+    insert_into_new::<H>(layout, &mut out[..needed], percent.value(), count, keys, values);
+    OK
+}
+
+fn build_by<H: HashFn>(
+    layout: Layout,
+    count: usize,
+    keys: &[u8],
+    values: &[u8],
+    max_load_factor_percent: u8,
+    out: &mut [u8],
+    len: &mut usize,
+) -> u32 {
+    if !are_pieces(layout, count, keys, values) {
+        return BAD_LENGTHS;
+    }
+    build_pieces::<H>(layout, count, keys, values, max_load_factor_percent, out, len)
+}
+
+/// Builds a table of `count` pairs at the front of `out`, with slots for as many items as there are pairs, and writes its
+/// length in bytes to `len`. BAD_LENGTHS, BAD_PERCENT and CAPACITY leave both unchanged, TOO_SMALL leaves `out`
+/// unchanged. Allocates nothing.
+pub fn build(
+    layout: AnyLayout,
+    count: usize,
+    keys: &[u8],
+    values: &[u8],
+    max_load_factor_percent: u8,
+    out: &mut [u8],
+    len: &mut usize,
+) -> u32 {
+    let lengths = Layout { key_len: layout.key_len, value_len: layout.value_len };
+    let percent = max_load_factor_percent;
+    if has_hash(layout, FX, FxHashFn::MIN_LEN) {
+        build_by::<FxHashFn>(lengths, count, keys, values, percent, out, len)
+    } else if has_hash(layout, UNHASH, UnHashFn::MIN_LEN) {
+        build_by::<UnHashFn>(lengths, count, keys, values, percent, out, len)
+    } else {
+        BAD_LAYOUT
+    }
+}

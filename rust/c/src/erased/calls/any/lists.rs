@@ -1,0 +1,124 @@
+// Made by `make rust` of crates/odht_calls/src/any/lists.rt.
+//! The calls for many keys of a table of any lengths: lookups, and inserts in turn.
+
+use super::pieces::{are_pieces, piece, put_answer};
+use super::read::view;
+use super::{has_hash, AnyLayout, FX, UNHASH};
+use crate::erased::calls::status::{status_of, BAD_LAYOUT, BAD_LENGTHS, OK};
+use crate::proved::tables::hash::{FxHashFn, HashFn, UnHashFn};
+use crate::proved::tables::layout::Layout;
+use crate::proved::tables::memory_layout::insert_sized;
+
+// The lookups of `count` keys.
+fn get_pieces<H: HashFn>(
+    layout: Layout,
+    bytes: &[u8],
+    count: usize,
+    keys: &[u8],
+    values: &mut [u8],
+    found: &mut [u8],
+) -> u32 {
+    let table = match view::<H>(layout, bytes) {
+        Ok(table) => table,
+        Err(refused) => return status_of(&refused),
+    };
+    for index in 0..count {
+        let answer = table.get(piece(keys, layout.key_len, index));
+        put_answer(values, found, layout.value_len, index, answer);
+    }
+    OK
+}
+
+fn get_all_by<H: HashFn>(
+    layout: Layout,
+    bytes: &[u8],
+    count: usize,
+    keys: &[u8],
+    values: &mut [u8],
+    found: &mut [u8],
+) -> u32 {
+    if !are_pieces(layout, count, keys, values) || found.len() != count {
+        return BAD_LENGTHS;
+    }
+    get_pieces::<H>(layout, bytes, count, keys, values, found)
+}
+
+/// Looks up `count` keys: at the index of a key that is found, its value is written to `values` and 1 to `found`; at
+/// any other index 0 is written to `found`. BAD_LENGTHS where the arrays are not for so many keys, values and flags. It
+/// and any other error leave both unchanged.
+pub fn get_all(
+    layout: AnyLayout,
+    bytes: &[u8],
+    count: usize,
+    keys: &[u8],
+    values: &mut [u8],
+    found: &mut [u8],
+) -> u32 {
+    let lengths = Layout { key_len: layout.key_len, value_len: layout.value_len };
+    if has_hash(layout, FX, FxHashFn::MIN_LEN) {
+        get_all_by::<FxHashFn>(lengths, bytes, count, keys, values, found)
+    } else if has_hash(layout, UNHASH, UnHashFn::MIN_LEN) {
+        get_all_by::<UnHashFn>(lengths, bytes, count, keys, values, found)
+    } else {
+        BAD_LAYOUT
+    }
+}
+
+// The inserts of `count` pairs.
+pub(crate) fn insert_pieces<H: HashFn>(
+    layout: Layout,
+    bytes: &mut [u8],
+    count: usize,
+    keys: &[u8],
+    values: &[u8],
+    accepted: &mut usize,
+) -> u32 {
+    if let Err(refused) = view::<H>(layout, bytes) {
+        return status_of(&refused);
+    }
+    for index in 0..count {
+        let key = piece(keys, layout.key_len, index);
+        let value = piece(values, layout.value_len, index);
+        if let Err(refused) = insert_sized::<H>(bytes, layout, key, value) {
+            *accepted = index;
+            return status_of(&refused);
+        }
+    }
+    *accepted = count;
+    OK
+}
+
+fn insert_all_by<H: HashFn>(
+    layout: Layout,
+    bytes: &mut [u8],
+    count: usize,
+    keys: &[u8],
+    values: &[u8],
+    accepted: &mut usize,
+) -> u32 {
+    if !are_pieces(layout, count, keys, values) {
+        return BAD_LENGTHS;
+    }
+    insert_pieces::<H>(layout, bytes, count, keys, values, accepted)
+}
+
+/// Inserts `count` pairs in order, up to the first whose insert fails with FULL, and writes to `accepted` how many were
+/// inserted. BAD_LENGTHS where the arrays are not for so many keys and values. It and an error of the header or length
+/// leave everything unchanged.
+pub fn insert_all(
+    layout: AnyLayout,
+    bytes: &mut [u8],
+    count: usize,
+    keys: &[u8],
+    values: &[u8],
+    accepted: &mut usize,
+) -> u32 {
+    let lengths = Layout { key_len: layout.key_len, value_len: layout.value_len };
+    if has_hash(layout, FX, FxHashFn::MIN_LEN) {
+        insert_all_by::<FxHashFn>(lengths, bytes, count, keys, values, accepted)
+    } else if has_hash(layout, UNHASH, UnHashFn::MIN_LEN) {
+        insert_all_by::<UnHashFn>(lengths, bytes, count, keys, values, accepted)
+    } else {
+        BAD_LAYOUT
+    }
+}

@@ -1,0 +1,78 @@
+// Made by `make rust` of crates/odht_calls/src/any/walk.rt.
+//! Walks over a table of any lengths that write its pairs to arrays, a part at a time.
+
+use super::pieces::{are_pieces, put_piece};
+use super::read::view;
+use super::{has_hash, AnyLayout, FX, UNHASH};
+use crate::erased::calls::status::{status_of, BAD_LAYOUT, BAD_LENGTHS, OK, TOO_SMALL};
+use crate::proved::tables::hash::{FxHashFn, HashFn, UnHashFn};
+use crate::proved::tables::layout::Layout;
+use crate::proved::tables::memory_layout::Header;
+
+// The walk into bytes for `room` keys and `room` values.
+fn walk_pieces<H: HashFn>(
+    layout: Layout,
+    bytes: &[u8],
+    cursor: &mut usize,
+    room: usize,
+    keys: &mut [u8],
+    values: &mut [u8],
+    item_count: &mut usize,
+) -> u32 {
+    let table = match view::<H>(layout, bytes) {
+        Ok(table) => table,
+        Err(refused) => return status_of(&refused),
+    };
+    let mut written = 0;
+    for (slot, (key, value)) in table.iter_from(*cursor) {
+        if written >= room {
+            *cursor = slot;
+            *item_count = written;
+            return TOO_SMALL;
+        }
+        put_piece(keys, layout.key_len, written, key);
+        put_piece(values, layout.value_len, written, value);
+        written += 1;
+    }
+    *cursor = Header::of(bytes).slot_count();
+    *item_count = written;
+    OK
+}
+
+fn walk_by<H: HashFn>(
+    layout: Layout,
+    bytes: &[u8],
+    cursor: &mut usize,
+    room: usize,
+    keys: &mut [u8],
+    values: &mut [u8],
+    item_count: &mut usize,
+) -> u32 {
+    if !are_pieces(layout, room, keys, values) {
+        return BAD_LENGTHS;
+    }
+    walk_pieces::<H>(layout, bytes, cursor, room, keys, values, item_count)
+}
+
+/// Writes the keys and values in the slots from `cursor` on to the arrays, in slot order, as many as fit, and to
+/// `item_count` how many. `cursor` is then the slot of the first pair that did not fit (TOO_SMALL), or the slot count
+/// where none is left (OK). The arrays take `room` pairs; BAD_LENGTHS where they have more or fewer bytes. An error
+/// leaves everything unchanged.
+pub fn walk(
+    layout: AnyLayout,
+    bytes: &[u8],
+    cursor: &mut usize,
+    room: usize,
+    keys: &mut [u8],
+    values: &mut [u8],
+    item_count: &mut usize,
+) -> u32 {
+    let lengths = Layout { key_len: layout.key_len, value_len: layout.value_len };
+    if has_hash(layout, FX, FxHashFn::MIN_LEN) {
+        walk_by::<FxHashFn>(lengths, bytes, cursor, room, keys, values, item_count)
+    } else if has_hash(layout, UNHASH, UnHashFn::MIN_LEN) {
+        walk_by::<UnHashFn>(lengths, bytes, cursor, room, keys, values, item_count)
+    } else {
+        BAD_LAYOUT
+    }
+}

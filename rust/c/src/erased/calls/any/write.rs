@@ -1,0 +1,166 @@
+// Made by `make rust` of crates/odht_calls/src/any/write.rt.
+//! The calls that write a table of any lengths.
+
+use super::read::view;
+use super::{has_hash, AnyLayout, FX, UNHASH};
+use crate::erased::calls::status::{
+    status_of, BAD_LAYOUT, BAD_LENGTHS, BAD_PERCENT, CAPACITY, LOAD_FACTOR_TOO_SMALL, OK, REPLACED,
+    TOO_SMALL,
+};
+use crate::proved::tables::bytes::{Borrowed, BorrowedMut};
+use crate::proved::tables::dynamic::{DynError, DynTable};
+use crate::proved::tables::hash::{FxHashFn, HashFn, UnHashFn};
+use crate::proved::tables::layout::Layout;
+use crate::proved::tables::load::Percent;
+use crate::proved::tables::memory_layout::{insert_sized, Header, LEAST_FACTOR};
+
+fn bytes_needed_by<H: HashFn>(
+    layout: Layout,
+    max_item_count: usize,
+    max_load_factor_percent: u8,
+    len: &mut usize,
+) -> u32 {
+    let Some(percent) = Percent::new(max_load_factor_percent) else {
+        return BAD_PERCENT;
+    };
+    match DynTable::<H, Borrowed<'_>>::bytes_needed(layout, max_item_count, percent.value()) {
+        Some(needed) => {
+            *len = needed;
+            OK
+        }
+        None => CAPACITY,
+    }
+}
+
+/// Writes to `len` how many bytes a new table for so many items has. An error leaves `len` unchanged.
+pub fn bytes_needed(
+    layout: AnyLayout,
+    max_item_count: usize,
+    max_load_factor_percent: u8,
+    len: &mut usize,
+) -> u32 {
+    let lengths = Layout { key_len: layout.key_len, value_len: layout.value_len };
+    if has_hash(layout, FX, FxHashFn::MIN_LEN) {
+        bytes_needed_by::<FxHashFn>(lengths, max_item_count, max_load_factor_percent, len)
+    } else if has_hash(layout, UNHASH, UnHashFn::MIN_LEN) {
+        bytes_needed_by::<UnHashFn>(lengths, max_item_count, max_load_factor_percent, len)
+    } else {
+        BAD_LAYOUT
+    }
+}
+
+pub(crate) fn init_by<H: HashFn>(
+    layout: Layout,
+    bytes: &mut [u8],
+    max_item_count: usize,
+    max_load_factor_percent: u8,
+) -> u32 {
+    let Some(percent) = Percent::new(max_load_factor_percent) else {
+        return BAD_PERCENT;
+    };
+    let mut store = BorrowedMut::new(bytes);
+    match DynTable::<H, BorrowedMut<'_>>::init_store(
+        layout,
+        &mut store,
+        max_item_count,
+        percent.value(),
+    ) {
+        Ok(()) => OK,
+        Err(DynError::Rejected(refused)) => status_of(&refused),
+        Err(_) => BAD_LAYOUT,
+    }
+}
+
+/// Makes an empty table for so many items in the bytes, whatever they hold. An error leaves them unchanged.
+pub fn init(
+    layout: AnyLayout,
+    bytes: &mut [u8],
+    max_item_count: usize,
+    max_load_factor_percent: u8,
+) -> u32 {
+    let lengths = Layout { key_len: layout.key_len, value_len: layout.value_len };
+    if has_hash(layout, FX, FxHashFn::MIN_LEN) {
+        init_by::<FxHashFn>(lengths, bytes, max_item_count, max_load_factor_percent)
+    } else if has_hash(layout, UNHASH, UnHashFn::MIN_LEN) {
+        init_by::<UnHashFn>(lengths, bytes, max_item_count, max_load_factor_percent)
+    } else {
+        BAD_LAYOUT
+    }
+}
+
+fn insert_by<H: HashFn>(
+    layout: Layout,
+    bytes: &mut [u8],
+    key: &[u8],
+    value: &[u8],
+    former: &mut [u8],
+) -> u32 {
+    let value_len = layout.value_len as usize;
+    if key.len() != layout.key_len as usize || value.len() != value_len || former.len() != value_len
+    {
+        return BAD_LENGTHS;
+    }
+    if let Err(refused) = view::<H>(layout, bytes) {
+        return status_of(&refused);
+    }
+    match insert_sized::<H>(bytes, layout, key, value) {
+        Ok(Some(old)) => {
+            former.copy_from_slice(old.as_slice());
+            REPLACED
+        }
+        Ok(None) => OK,
+        Err(refused) => status_of(&refused),
+    }
+}
+
+/// Gives the key this value. A value that it had before is written to `former`. BAD_LENGTHS where the key, the value or
+/// `former` has another length than the layout says. An error leaves the bytes and `former` unchanged.
+pub fn insert(
+    layout: AnyLayout,
+    bytes: &mut [u8],
+    key: &[u8],
+    value: &[u8],
+    former: &mut [u8],
+) -> u32 {
+    let lengths = Layout { key_len: layout.key_len, value_len: layout.value_len };
+    if has_hash(layout, FX, FxHashFn::MIN_LEN) {
+        insert_by::<FxHashFn>(lengths, bytes, key, value, former)
+    } else if has_hash(layout, UNHASH, UnHashFn::MIN_LEN) {
+        insert_by::<UnHashFn>(lengths, bytes, key, value, former)
+    } else {
+        BAD_LAYOUT
+    }
+}
+
+fn grow_by<H: HashFn>(layout: Layout, bytes: &[u8], out: &mut [u8], len: &mut usize) -> u32 {
+    let table = match view::<H>(layout, bytes) {
+        Ok(table) => table,
+        Err(refused) => return status_of(&refused),
+    };
+    let factor = Header::of(bytes).max_load_factor();
+    if factor.0 < LEAST_FACTOR {
+        return LOAD_FACTOR_TOO_SMALL;
+    }
+    let Some(needed) = table.grown_len() else {
+        return CAPACITY;
+    };
+    *len = needed;
+    if out.len() < needed {
+        return TOO_SMALL;
+    }
+    table.grow_into(&mut out[..needed]);
+    OK
+}
+
+/// Writes the table that the one in `bytes` grows into to the front of `out`, and its length in bytes to `len`.
+/// TOO_SMALL leaves `out` unchanged, any other error leaves both unchanged.
+pub fn grow(layout: AnyLayout, bytes: &[u8], out: &mut [u8], len: &mut usize) -> u32 {
+    let lengths = Layout { key_len: layout.key_len, value_len: layout.value_len };
+    if has_hash(layout, FX, FxHashFn::MIN_LEN) {
+        grow_by::<FxHashFn>(lengths, bytes, out, len)
+    } else if has_hash(layout, UNHASH, UnHashFn::MIN_LEN) {
+        grow_by::<UnHashFn>(lengths, bytes, out, len)
+    } else {
+        BAD_LAYOUT
+    }
+}

@@ -1,0 +1,24 @@
+// Made by `make rust` of crates/odht_tool_core/src/hexadecimal.rt.
+//! Words of hexadecimal digits that are read as bytes, of a length that is known at run time alone.
+
+use crate::erased::core::text::{are_digits, digit_value};
+use crate::host::prelude::*;
+
+/// Whether the word is two hexadecimal digits, of either case, for each of so many bytes as there are in `bytes`, which
+/// then become these; else they are not changed.
+pub fn read_digits(word: &[u8], bytes: &mut [u8]) -> bool {
+    if word.len() % 2 != 0 || word.len() / 2 != bytes.len() || !are_digits(word) {
+        return false;
+    }
+    put_digits(word, bytes);
+    true
+}
+
+// Puts the byte of each two digits at its place.
+fn put_digits(word: &[u8], bytes: &mut [u8]) {
+    for at in 0..bytes.len() {
+        let high = digit_value(word[2 * at]);
+        let low = digit_value(word[2 * at + 1]);
+        bytes[at] = 16 * (high % 16) + low % 16;
+    }
+}

@@ -1,0 +1,156 @@
+// Made by `make rust` of crates/odht_tool/src/sized/builds.rt.
+//! `odht build` and `odht put` of tables of other sizes than the ready shapes have.
+
+use crate::erased::core::any::OtherShape;
+use crate::erased::core::arguments::{is_stream, BuildOptions};
+use crate::erased::core::failure::Failure;
+use crate::erased::core::shapes::Hash;
+use crate::erased::core::status::Status;
+use crate::erased::core::targets::Target;
+use crate::erased::tool::inserts::{insert_into_file, insert_into_stream};
+use crate::erased::tool::sized::gets::forms_of;
+use crate::erased::tool::sized::{check_lengths, layout_of};
+use crate::host::prelude::*;
+use crate::host::rt::{Clock, Files};
+use crate::proved::tables::dynamic::{DynError, DynTableOwned, Layout};
+use crate::proved::tables::hash::HashFn;
+use crate::proved::tables::load::Percent;
+use crate::proved::tables::{FxHashFn, UnHashFn};
+use crate::shim::Global;
+use std::io::{BufRead, Write};
+use std::os::fd::AsFd;
+
+/// `odht build` of a table of a shape.
+pub fn build_other<R: Files + AllocGlobal + Clock, I: BufRead, O: Write, E: Write>(
+    rt: &R,
+    file: &str,
+    shape: OtherShape,
+    options: BuildOptions,
+    input: &mut I,
+    output: &mut O,
+    errors: &mut E,
+) -> Result<Status, Failure>
+where
+    R::File: AsFd,
+{
+    let layout = layout_of(shape);
+    match shape.hash {
+        Hash::Fx => {
+            build_lengths::<FxHashFn, R, I, O, E>(rt, file, layout, options, input, output, errors)
+        }
+        Hash::Unhash => {
+            build_lengths::<UnHashFn, R, I, O, E>(rt, file, layout, options, input, output, errors)
+        }
+    }
+}
+
+fn build_lengths<H: HashFn, R: Files + AllocGlobal + Clock, I: BufRead, O: Write, E: Write>(
+    rt: &R,
+    file: &str,
+    layout: Layout,
+    options: BuildOptions,
+    input: &mut I,
+    output: &mut O,
+    errors: &mut E,
+) -> Result<Status, Failure>
+where
+    R::File: AsFd,
+{
+    let (forms, has_progress) = (forms_of(layout), options.has_progress);
+    if is_stream(file) {
+        let table = make_lengths::<H>(rt.alloc(), layout, options.capacity, options.percent)?;
+        insert_into_stream(rt, table, forms, has_progress, input, output, errors)
+    } else {
+        let target = Target::find(rt, file, options.breaks_links)?;
+        let table = make_lengths::<H>(rt.alloc(), layout, options.capacity, options.percent)?;
+        insert_into_file(rt, target, table, forms, has_progress, input, errors)
+    }
+}
+
+fn make_lengths<H: HashFn>(
+    alloc: Global,
+    layout: Layout,
+    capacity: usize,
+    percent: Percent,
+) -> Result<DynTableOwned<H>, Failure> {
+    DynTableOwned::with_capacity(alloc, layout, capacity, percent.value()).map_err(failure_of)
+}
+
+// The failure for an error of a new table.
+fn failure_of(error: DynError) -> Failure {
+    match error {
+        DynError::KeyTooShort { key_len, .. } => Failure::ShortKeys { key_size: key_len },
+        DynError::Rejected(error) => Failure::of_table(error),
+        _ => Failure::Memory,
+    }
+}
+
+/// `odht put` of bytes of a shape.
+pub fn put_other<R: Files + AllocGlobal + Clock, I: BufRead, E: Write>(
+    rt: &R,
+    target: Target,
+    shape: OtherShape,
+    bytes: Vec<u8>,
+    bound: Option<usize>,
+    has_progress: bool,
+    input: &mut I,
+    errors: &mut E,
+) -> Result<Status, Failure>
+where
+    R::File: AsFd,
+{
+    let layout = layout_of(shape);
+    match shape.hash {
+        Hash::Fx => put_lengths::<FxHashFn, R, I, E>(
+            rt,
+            target,
+            layout,
+            bytes,
+            bound,
+            has_progress,
+            input,
+            errors,
+        ),
+        Hash::Unhash => put_lengths::<UnHashFn, R, I, E>(
+            rt,
+            target,
+            layout,
+            bytes,
+            bound,
+            has_progress,
+            input,
+            errors,
+        ),
+    }
+}
+
+// The bytes are freed once the table has a copy.
+fn put_lengths<H: HashFn, R: Files + AllocGlobal + Clock, I: BufRead, E: Write>(
+    rt: &R,
+    target: Target,
+    layout: Layout,
+    bytes: Vec<u8>,
+    bound: Option<usize>,
+    has_progress: bool,
+    input: &mut I,
+    errors: &mut E,
+) -> Result<Status, Failure>
+where
+    R::File: AsFd,
+{
+    let table = copy_lengths::<H>(rt.alloc(), layout, bytes, bound)?;
+    let forms = forms_of(layout);
+    insert_into_file(rt, target, table, forms, has_progress, input, errors)
+}
+
+fn copy_lengths<H: HashFn>(
+    alloc: Global,
+    layout: Layout,
+    bytes: Vec<u8>,
+    bound: Option<usize>,
+) -> Result<DynTableOwned<H>, Failure> {
+    let bytes = bytes.as_slice();
+    check_lengths::<H>(layout, bytes, bound).map_err(Failure::Refused)?;
+    // The bytes are valid, so that memory alone may be lacking.
+    DynTableOwned::from_raw_bytes(alloc, layout, bytes).map_err(|_| Failure::Memory)
+}
