@@ -26,7 +26,7 @@ use crate::signed::{parse_signed, write_signed};
 use std::io::{self, Write};
 
 /// A key or a value that has a text in each form.
-pub trait Text: Sized + Drop {
+pub trait Text: Copy {
     ghost use Rattle.odht_tool_core.specs.declared.forms.Form.{Form};
 
     ghost text: { Form → Self → List ℕ };

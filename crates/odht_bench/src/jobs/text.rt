@@ -138,7 +138,7 @@ fn answer<C: Config>(
 ) -> Result<(), Stopped>
 where
     C::Key: Text,
-    C::Value: Text + Copy,
+    C::Value: Text,
 {
     let mut input = words;
     let mut line = Vec::new(alloc);

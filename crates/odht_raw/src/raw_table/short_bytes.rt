@@ -6,20 +6,33 @@ use std::marker::Model;
 /// At most 255 bytes by value, as a key or a value of a table has. No memory is allocated for them.
 ///
 /// In a contract it is these bytes.
-#[derive(Drop)]
+#[derive(Clone, Copy)]
 pub struct ShortBytes {
     bytes: [u8; 255],
     len: usize,
 }
 
 impl Model for ShortBytes {
-    ghost use Rattle.std.specs.Prelude.{ℕ, ◌≤◌, List, take};
+    ghost use Rattle.std.specs.Prelude.{◌≡◌, ◌-◌, ◌≤◌, ◌++◌, ℕ, List, length, take, drop, replicate};
+    ghost use Rattle.std.proofs.Common.{◌∙◌, ap, sym, arith, length-take-le, take-append-drop};
 
     ghost Value = { List ℕ };
 
     ghost view = { λ s. take s.len s.bytes };
 
-    ghost invariant = { λ s. s.len ≤ 255 };
+    ghost invariant = { λ s. (s.len ≤ 255) × (length s.bytes ≡ 255)
+        × (drop s.len s.bytes ≡ replicate (255 - s.len) 0) };
+
+    ghost inverse = { λ l. record { bytes = l ++ replicate (255 - length l) 0; len = length l } };
+
+    ghost inverse_ok = { λ s h i.
+        let short = length-take-le s.len s.bytes (omega (arith, h.0, h.1)) in
+        record {
+          bytes = (ap (λ n. take s.len s.bytes ++ replicate (255 - n) 0) short
+            ∙ ap (λ r. take s.len s.bytes ++ r) (sym h.2)
+            ∙ take-append-drop s.len s.bytes) i;
+          len = short i;
+        } };
 }
 
 impl ShortBytes {

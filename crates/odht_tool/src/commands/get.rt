@@ -138,7 +138,7 @@ fn get_words<C: Config, F: Forms, O: Write>(
 ) -> Result<Status, Failure>
 where
     C::Key: Text,
-    C::Value: Text + Copy,
+    C::Value: Text,
     ensures { AreWordsGot ⟦<C as Coded>⟧.coding (C.Key.text (F.pair forms).0)
         (C.Value.text (F.pair forms).1)
         (IsReadAs (C.Key.is_word (F.pair forms).0) (C.Key.stands_for (F.pair forms).0))
@@ -159,7 +159,7 @@ fn get_lines<C: Config, F: Forms, I: BufRead, O: Write>(
 ) -> Result<Status, Failure>
 where
     C::Key: Text,
-    C::Value: Text + Copy,
+    C::Value: Text,
     ensures { AreLinesGot ⟦<C as Coded>⟧.coding (C.Key.text (F.pair forms).0)
         (C.Value.text (F.pair forms).1)
         (IsReadAs (C.Key.is_word (F.pair forms).0) (C.Key.stands_for (F.pair forms).0))

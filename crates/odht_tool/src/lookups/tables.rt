@@ -17,7 +17,7 @@ use std::alloc::{AllocError, Global};
 impl<'a, C: Config> Lookups for HashTable<C, Borrowed<'a>>
 where
     C::Key: Text,
-    C::Value: Text + Copy,
+    C::Value: Text,
 {
     type Key = C::Key;
 
