@@ -56,7 +56,7 @@ pub fn write_answers_as<K: Text, V: Text, F: Forms, O: Write>(
 }
 
 /// So many values, all absent.
-pub fn absent_values<V: Copy>(alloc: Global, count: usize) -> Result<Vec<Option<V>>, AllocError> {
+pub fn absent_values<V: Text>(alloc: Global, count: usize) -> Result<Vec<Option<V>>, AllocError> {
     crate::host::lists::filled(alloc, None, count)
 }
 

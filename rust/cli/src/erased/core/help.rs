@@ -134,10 +134,11 @@ odht get FILE KEY.. [--key SHAPE] [--value SHAPE] [--hash fx|unhash]
                     [--at OFFSET]
     Writes a line for each key, in their order: KEY, a tab and VALUE; or KEY alone
     where it is absent, and then ends with status 1. With the one word - the keys
-    are the lines of standard input, but for an empty last one. The hash function is
-    the one that all control bytes fit, unless --hash names it. Keys and values have
-    the texts of the ready shape, unless --key and --value name others, as in `odht
-    build`.
+    are the lines of standard input, but for an empty last one that is no key. The
+    hash function is the one that all control bytes fit, unless --hash names it.
+    Keys and values have the texts of the ready shape, unless --key and --value name
+    others, as in `odht build`; where no ready shape has these sizes they are
+    hexadecimal digits.
 ";
 
 const DUMP: &str = "\
@@ -175,8 +176,10 @@ odht build FILE --key SHAPE --value SHAPE [--hash fx|unhash]
     Makes a table of the lines of standard input, KEY, a tab and VALUE, and stores
     it as FILE, in the place of an older one, which stays where something fails;
     with - as FILE it goes to standard output. The last line of a key wins; an
-    empty last line is left out. Owner, group, permissions and symbolic links of an
-    older file are kept; one with hard links is not replaced without --break-links.
+    empty last line that is no pair is left out. Owner, group, permissions and
+    symbolic links of an older file are kept; one with hard links is not replaced
+    without --break-links. With hexN or none for both, keys and values may have
+    other sizes than the ready shapes; the hash function is fx then, or --hash.
     SHAPE          u32, u64, none (a value only), or hexN: N bytes as 2 N digits;
                    i32 and i64 with a sign; u32be and u64be, the highest byte first;
                    text:N, a text of at most N bytes, with zeros behind it
@@ -192,10 +195,11 @@ odht put FILE [--key SHAPE] [--value SHAPE] [--whole] [--hash fx|unhash]
     Adds the lines of standard input, KEY, a tab and VALUE, to the table in FILE,
     which grows as needed, and stores it in the place of the older one, which
     stays where something fails. The last line of a key wins; an empty last line
-    is left out. The file is checked before, as by `odht check`; --whole is as
-    there. The hash function is the one that all control bytes fit, unless --hash
-    names it; --key and --value name texts other than those of the ready shape, as
-    in `odht build`. Owner, group, permissions and symbolic links of the file are
+    that is no pair is left out. The file is checked before, as by `odht check`;
+    --whole is as there. The hash function is the one that all control bytes fit,
+    unless --hash names it; --key and --value name texts other than those of the
+    ready shape, as in `odht build`; where no ready shape has these sizes they are
+    hexadecimal digits. Owner, group, permissions and symbolic links of the file are
     kept; one with hard links is not replaced without --break-links, with which its
     other names keep the old file.
 ";

@@ -11,7 +11,7 @@ use crate::host::prelude::*;
 use std::io::{self, Write};
 
 /// A key or a value that has a text in each form.
-pub trait Text: Sized {
+pub trait Text: Copy {
     /// What its texts are.
     fn wanted(form: Form) -> Wanted;
 

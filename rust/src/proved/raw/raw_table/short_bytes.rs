@@ -4,6 +4,7 @@
 /// At most 255 bytes by value, as a key or a value of a table has. No memory is allocated for them.
 ///
 /// In a contract it is these bytes.
+#[derive(Clone, Copy)]
 pub struct ShortBytes {
     bytes: [u8; 255],
     len: usize,

@@ -116,7 +116,7 @@ fn get_words<C: Config, F: Forms, O: Write>(
 ) -> Result<Status, Failure>
 where
     C::Key: Text,
-    C::Value: Text + Copy,
+    C::Value: Text,
 {
     let table = open::<C>(bytes)?;
     answer_words(alloc, &table, forms, words, output)
@@ -132,7 +132,7 @@ fn get_lines<C: Config, F: Forms, I: BufRead, O: Write>(
 ) -> Result<Status, Failure>
 where
     C::Key: Text,
-    C::Value: Text + Copy,
+    C::Value: Text,
 {
     let table = open::<C>(bytes)?;
     answer_lines(alloc, &table, forms, input, output)

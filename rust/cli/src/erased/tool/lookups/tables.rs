@@ -15,7 +15,7 @@ use crate::shim::{AllocError, Global};
 impl<'a, C: Config> Lookups for HashTable<C, Borrowed<'a>>
 where
     C::Key: Text,
-    C::Value: Text + Copy,
+    C::Value: Text,
 {
     type Key = C::Key;
 
