@@ -90,8 +90,7 @@ impl<'a> Header<'a> {
     /// `WrongVersion`, `WrongSizeOf` of a control byte, key, value or header, `SlotCountNotPowerOfTwo`,
     /// `SlotCountTooSmall`, `WrongLength`.
     ///
-    /// The length of a table of the header's slot count is computed in 128 bits, so a forged slot count cannot make it
-    /// wrap.
+    /// The length of so many slots is computed in 128 bits, so a forged slot count cannot make it wrap.
     #[inline(always)]
     pub fn sanity_check<C: Config>(&self, raw_bytes_len: usize) -> Result<(), Error>
         ensures { result
@@ -113,9 +112,7 @@ impl<'a> Header<'a> {
 
     /// How many bytes a table with this header has, that is at the front of `found` bytes; what follows is not the
     /// table's. Or the first error: those of [`Header::sanity_check`], but `WrongLength` only where there are fewer
-    /// bytes than the table has, whose length is then `expected`.
-    ///
-    /// The length is computed in 128 bits, so a forged slot count cannot make it wrap. Constant time.
+    /// bytes than the table has, whose length is then `expected`. A forged slot count cannot wrap it. Constant time.
     #[inline]
     pub fn table_len<C: Config>(&self, found: usize) -> Result<usize, Error>
         ensures len { IfOk result
@@ -234,8 +231,7 @@ impl<'a> Header<'a> {
         }
     }
 
-    /// Whether the slot count is a power of two, and at least 16; else `SlotCountNotPowerOfTwo`, then
-    /// `SlotCountTooSmall`.
+    /// Whether the slot count is a power of two, at least 16; else `SlotCountNotPowerOfTwo`, `SlotCountTooSmall`.
     #[inline(always)]
     pub fn check_slot_count(&self) -> Result<(), Error>
         ensures { result
@@ -296,8 +292,7 @@ impl<'a> Header<'a> {
         }
     }
 
-    /// Whether the header's item count is the number of occupied slots found, and at most the maximum; else
-    /// `WrongItemCount`, then `TooManyItems`.
+    /// Whether the item count is what was found, and at most the maximum; else `WrongItemCount`, `TooManyItems`.
     pub fn check_item_count(&self, found: usize) -> Result<(), Error>
         ensures { result
             ≡ checked (option_or (count_refusal found self.now) (room_refusal self.now)) }

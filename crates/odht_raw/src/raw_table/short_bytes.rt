@@ -29,8 +29,8 @@ impl Model for ShortBytes {
         let short = length-take-le s.len s.bytes (omega (arith, h.0, h.1)) in
         record {
           bytes = (ap (λ n. take s.len s.bytes ++ replicate (255 - n) 0) short
-            ∙ ap (λ r. take s.len s.bytes ++ r) (sym h.2)
-            ∙ take-append-drop s.len s.bytes) i;
+              ∙ ap (λ r. take s.len s.bytes ++ r) (sym h.2)
+              ∙ take-append-drop s.len s.bytes) i;
           len = short i;
         } };
 }
