@@ -11,13 +11,12 @@
 --     IsFoundBy o s        a search that finds o answers the status s
 --     ContainsAnswers c B k s   a search for the key k in the bytes B, whose value is not wanted
 --     LayoutAnswers B old s new   the lengths that the header of B states; the hash function of the caller stays
-use Rattle.std.specs.Prelude.{◌≡◌, ◌≤◌, ℕ, zero, suc, List, Option, Some, None, slice_index}
-use Rattle.odht_base.specs.Decoded.{HoldsKey}
+use Rattle.std.specs.Prelude.{◌≡◌, ◌≤◌, ℕ, zero, suc, List, Option, Some, None, IfSome, slice_index}
 use Rattle.odht_base.specs.Format.{format_of}
 use Rattle.odht_base.specs.Hashes.{fx, un}
 use Rattle.odht_base.specs.Table.{Table}
 use Rattle.odht_base.specs.Valid.{IsImage}
-use Rattle.odht_header.specs.Coding.{Coding, value_for}
+use Rattle.odht_header.specs.Coding.{Coding, value_for, HasStored}
 use Rattle.odht_header.specs.Refusals.{opening_refusal}
 use Rattle.odht_header.specs.declared.error.Error.{Error}
 use Rattle.odht_raw.specs.Frame.{IsAccepted}
@@ -59,7 +58,7 @@ IsFoundBy (Some v) s = s ≡ done
 pub record ContainsAnswers {K V : Type 0} (c : Coding K V) (B : List ℕ) (k : K) (s : ℕ) : Type 0 where
   pub refused : (e : Error) → opening_refusal c.format B ≡ Some e → s ≡ status_of e
   pub on_valid : (P : Table) → IsImage c.format P B → IsFoundBy (value_for c P k) s
-  pub on_any : IsAccepted c.format B → s ≡ done → HoldsKey c.format B (c.key_bytes k)
+  pub on_any : IsAccepted c.format B → (o : Option V) × IsFoundBy o s × IfSome o (HasStored c B k)
 
 pub record LayoutAnswers (B : List ℕ) (old : AnyLayout) (s : ℕ) (new : AnyLayout) : Type 0 where
   pub status : (h : List ℕ → ℕ) → s ≡ status_or_ok (opening_refusal (stated_format h B) B)
