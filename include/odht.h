@@ -22,7 +22,7 @@
  *   odht_b20_*      of hashes of 20 bytes, a set, UnHashFn
  *   odht_b32_*      of hashes of 32 bytes, a set, UnHashFn
  *
- * FxHashFn hashes numbers. UnHashFn is for keys that are hashes already: their
+ * FxHashFn hashes numbers, and bytes of any length. UnHashFn is for keys that are hashes already: their
  * last four bytes are taken as the hash, and should vary. Numbers are stored in
  * little-endian order. A table is a slice of bytes that the caller owns: a file's
  * contents, a mapping, a part of either, or allocated memory. It may begin at any
@@ -35,7 +35,7 @@
  *   in items (keys, values, flags), lengths of bytes are in bytes. An array of
  *   keys or values of N bytes is these bytes one after the other, and its length
  *   counts the keys or values.
- * - A slice or out-parameter that a call writes overlaps no other of that call.
+ * - A slice or out-parameter that a call writes overlaps no other, and no layout, of that call.
  *   Slices that are only read may overlap.
  * - Nobody writes a table's bytes while a call reads them, and nobody reads
  *   them while a call writes them. The library keeps nothing between calls, so
@@ -51,9 +51,9 @@
  * - Where ODHT_TAKES_NULL is 1, that is with GCC and Clang for ELF, NULL may be passed
  *   for a slice of length 0, and for an out-parameter of a single number or value that
  *   the caller does not want (former, value, accepted, count, len, slot, and the three of
- *   odht_*_sizes), which is then not written. A key, a view, a layout and cursor are never NULL.
- *   Where it is 0 no pointer is NULL, also where the length beside it is 0, and sets have
- *   no calls with keys.
+ *   odht_*_sizes), which is then not written. A key of a shape, a view, a layout and cursor
+ *   are never NULL. Where it is 0 no pointer is NULL, also where the length beside it is 0,
+ *   and sets of a shape have no calls with keys.
  *
  * The comments on the answers hold for valid bytes: those that these calls have
  * made, and all others that odht_*_check accepts. It reads every byte. odht_*_open
@@ -886,8 +886,8 @@ ODHT_NODISCARD extern uint32_t odht_version(void);
  *
  * The calls odht_any_* take the lengths of keys and values, and the hash function, as a layout, and keys and values as
  * pointers to so many bytes. They read and write the same bytes as the calls of a shape of these lengths, and answer
- * the same; what is said above of odht_S_NAME goes for odht_any_NAME. Two answers come before all others, and with both
- * nothing is written:
+ * the same; what is said above of odht_S_NAME goes for odht_any_NAME. There are none of insert_order, build_growing and
+ * views. Of each call but odht_any_layout_of two answers come before all others, and with both nothing is written:
  *
  * - BAD_LAYOUT: no hash function has the number of the layout, or its keys are shorter than the function needs.
  *   ODHT_HASH_UN needs four bytes.
@@ -896,7 +896,7 @@ ODHT_NODISCARD extern uint32_t odht_version(void);
  *   found_len is not count.
  *
  * All lengths of keys and values are in bytes here, also those of many, which lie one after the other. A layout is never
- * NULL. A set has values of no bytes: pass NULL and 0 for them.
+ * NULL. A set has values of no bytes: pass any pointer and 0 for them, or NULL where ODHT_TAKES_NULL is 1.
  */
 typedef struct odht_layout {
     uint8_t key_len;   /* of each key, in bytes */
@@ -981,12 +981,13 @@ ODHT_CALL(uint32_t, any_table_len,
         layout, odht_read_uint8_t(bytes, bytes_len), bytes_len, len ? len : &unwanted);)
 
 /* OK: the lengths of the layout are those that the header states; its hash function, which no header states, is as
-   before. An error, 1 to 7: it is unchanged. */
+   before. Other calls may answer BAD_LAYOUT to it still. An error, 1 to 7: it is unchanged. */
 ODHT_CALL(uint32_t, any_layout_of,
     (const uint8_t *bytes, size_t bytes_len, odht_layout *layout),
     return odht_symbol_any_layout_of(odht_read_uint8_t(bytes, bytes_len), bytes_len, layout);)
 
-/* OK: the value is written. ABSENT, or an error, 1 to 7: it is unchanged. Where value is NULL it is not wanted. */
+/* OK: the value is written. ABSENT, or an error, 1 to 7: it is unchanged. Where value is NULL (as ODHT_TAKES_NULL says) it
+   is not wanted, and value_len is not looked at. */
 ODHT_CALL(uint32_t, any_get,
     (const odht_layout *layout, const uint8_t *bytes, size_t bytes_len, const uint8_t *key, size_t key_len,
         uint8_t *value, size_t value_len),
@@ -1024,7 +1025,8 @@ ODHT_CALL(uint32_t, any_walk,
         room, odht_write_uint8_t(keys, keys_len), keys_len, odht_write_uint8_t(values, values_len),
         values_len, count ? count : &unwanted);)
 
-/* OK: the key was new. REPLACED: the former value is written, unless former is NULL. FULL, or an error, 1 to 7:
+/* OK: the key was new. REPLACED: the former value is written, unless former is NULL (as
+   ODHT_TAKES_NULL says). FULL, or an error, 1 to 7:
    nothing changes. */
 ODHT_CALL(uint32_t, any_insert,
     (const odht_layout *layout, uint8_t *bytes, size_t bytes_len, const uint8_t *key, size_t key_len,

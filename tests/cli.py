@@ -40,7 +40,7 @@ COMMANDS += [
     (["get", "other", "000000", "0a0b0c"], b""),
     (["get", "other", "-"], b"000000\n"),
     (["put", "other"], b"0a0b0c\t0102030405\n"),
-    (["build", "made", "--key", "hex3", "--value", "hex5"], b"0a0b0c\t0102030405\n" * 2),
+    (["build", "made", "--key", "hex3", "--value", "hex5"], b"".join(b"%06x\t0102030405\n" % it for it in range(40))),
 ]
 # more requests than any of these makes
 MOST = 60

@@ -4,8 +4,8 @@
   tests/sizes.py PROGRAM
 
 The tables, and what `check`, `count`, `dump`, `keys` and `get` write of them, are computed by docs/FORMAT.md alone
-(crates/odht_tool/data/tables.py); `build` of some pairs and `put` of the others make the same bytes. Where a ready shape has the lengths the texts are its own, and the table is left out:
-tests/tool has those. The last line counts the runs.
+(crates/odht_tool/data/tables.py); `build` of some pairs and `put` of the others make the same bytes. Where a ready shape
+has the lengths the texts are its own, and the table is left out: tests/tool has those. The last line counts the runs.
 """
 import os
 import subprocess
@@ -21,17 +21,18 @@ READY = {(4, 4), (8, 4), (8, 8), (8, 0), (16, 4), (16, 8), (20, 8), (32, 8), (16
 
 
 def sizes():
-    """The lengths of keys and of values, the hash function, and how many items a table has at most."""
+    """The lengths of keys and of values, the hash function, how many items a table has at most, and for how many it is
+    made: where there are more it grows, twice."""
     for size in range(256):
-        yield size, 5, tables.fx, 5
-        yield 12, size, tables.fx, 5
-        yield 3, size, tables.fx, 40
-        yield 0, size, tables.fx, 1
+        yield size, 5, tables.fx, 5, 5
+        yield 12, size, tables.fx, 5, 5
+        yield 3, size, tables.fx, 40, 12
+        yield 0, size, tables.fx, 1, 1
         if size >= 4:
-            yield size, size % 7, tables.unhash, 9
+            yield size, size % 7, tables.unhash, 9, 9
 
 
-def runs(case, name):
+def runs(case, name, capacity):
     """The words of each run, its lines, and what it has to write. The last two make the file `y`."""
     hash, key, value = f"--hash={name}", f"--key=bytes:{case.table.key_size}", f"--value=hex{case.table.value_size}"
     yield ["check", "x", hash], "", f"x: {tables.VALID}"
@@ -44,22 +45,22 @@ def runs(case, name):
     yield ["get", "x", hash, *case.key_lines.split("\n")[:-1]], "", case.dump
     yield ["get", "x", "-", hash, key, value], case.key_lines.upper(), case.dump
     lines = case.pairs.splitlines(True)
-    yield ["build", "y", key, value, hash, f"--capacity={len(lines)}"], "".join(lines[:len(lines) // 2]), ""
+    yield ["build", "y", key, value, hash, f"--capacity={capacity}"], "".join(lines[:len(lines) // 2]), ""
     yield ["put", "y", hash], "".join(lines[len(lines) // 2:]), ""
 
 
 def main(program):
     program, passed, failed = os.path.abspath(program), 0, 0
     with tempfile.TemporaryDirectory(prefix="odht-sizes-") as room:
-        for key_size, value_size, hash, count in sizes():
+        for key_size, value_size, hash, count, capacity in sizes():
             if (key_size, value_size) in READY:
                 continue
             pairs = [(tables.spread(at + 1, key_size), tables.spread(at + 99, value_size))
                      for at in range(min(count, 256 ** key_size))]
-            case = tables.Case("x", "", key_size, value_size, hash, 87, count, pairs, bytes.hex, bytes.hex)
+            case = tables.Case("x", "", key_size, value_size, hash, 87, capacity, pairs, bytes.hex, bytes.hex)
             with open(f"{room}/x", "wb") as file:
                 file.write(case.table.image())
-            for words, lines, wanted in runs(case, hash.__name__):
+            for words, lines, wanted in runs(case, hash.__name__, capacity):
                 ran = subprocess.run([program, *words], cwd=room, capture_output=True, input=lines.encode())
                 if (ran.returncode, ran.stdout, ran.stderr) == (0, wanted.encode(), b""):
                     passed += 1

@@ -1,8 +1,8 @@
 //! Tables whose lengths of keys and values are known at run time alone, such as those of a file.
 //!
-//! A configuration says how long keys and values are, and a table of other lengths needs another one. A [`DynTable`] has
-//! the lengths as numbers: it reads and writes the same bytes, of any lengths, and its keys and values are the bytes as
-//! they are stored. The hash function stays a type, since the bytes do not name it.
+//! A configuration says how long keys and values are, and a table of other lengths needs another one. A [`DynTable`]
+//! has the lengths as numbers: it reads and writes the same bytes, of any lengths, and its keys and values are the
+//! bytes as they are stored. The hash function stays a type, since the bytes do not name it.
 //!
 //! ```
 //! use odht::dynamic::{DynTable, Layout};

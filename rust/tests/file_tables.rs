@@ -1,6 +1,7 @@
-//! Tables that are read by position: from sources whose reads fail, are interrupted, give fewer bytes or end early, each
-//! at every read in turn; from a source that changes between two reads; and from a file, which also shrinks. That they
-//! answer what tables in memory do, on any bytes, is seen where those are tested (`common/frame.rs`, `vectors.rs`).
+//! Tables that are read by position: from sources whose reads fail, are interrupted, give fewer bytes or end early,
+//! each at every read in turn; from a source that changes between two reads; and from a file, which also shrinks. That
+//! they answer what tables in memory do, on any bytes, is seen where those are tested (`common/frame.rs`,
+//! `vectors.rs`).
 
 mod common;
 

@@ -69,8 +69,8 @@ pub enum DynError {
     Rejected(Error),
 }
 
-/// A table in the bytes of a store, of keys and values of lengths that were given when it was opened, or that its header
-/// states. It cannot grow.
+/// A table in the bytes of a store, of keys and values of lengths that were given when it was opened, or that its
+/// header states. It cannot grow.
 ///
 /// A contract speaks of it as of these lengths and the store.
 #[derive(Drop)]
@@ -101,6 +101,7 @@ impl<H: HashFn, D: ByteStore> Model for DynTable<H, D> {
 
 // The lengths of keys and values that the header at the front of the bytes states, or that they are too few for one.
 fn stated_layout(bytes: &[u8]) -> Result<Layout, DynError>
+    ensures long { IfOk result (λ _. 32 ≤ length bytes.now) }
     ensures key { IfOk result (λ l. l.key_len ≡ slice_index bytes.now 5) }
     ensures value { IfOk result (λ l. l.value_len ≡ slice_index bytes.now 6) }
     ensures short { IfErr result (λ _. length bytes.now < 32) }
@@ -119,12 +120,12 @@ fn stated_layout(bytes: &[u8]) -> Result<Layout, DynError>
 
 impl<H: HashFn, D: ByteStore> DynTable<H, D> {
     /// Opens bytes as a table of these lengths, or returns the first error: `KeyTooShort` where the hash function needs
-    /// longer keys; then `Rejected` with that of too few bytes, of the header, of the length, of the first ten slots, as
-    /// [`HashTable::from_raw_bytes`](crate::hash_table::HashTable::from_raw_bytes) returns it. On an error the store is
-    /// dropped.
+    /// longer keys; then `Rejected` with that of too few bytes, of the header, of the length, of the first ten slots,
+    /// as [`HashTable::from_raw_bytes`](crate::hash_table::HashTable::from_raw_bytes) returns it. On an error the store
+    /// is dropped.
     ///
-    /// Nothing else is checked. A table of bytes that are accepted and not valid is safe to use, but its calls keep only
-    /// what their clauses say of any bytes.
+    /// Nothing else is checked. A table of bytes that are accepted and not valid is safe to use, but its calls keep
+    /// only what their clauses say of any bytes.
     pub fn open(layout: Layout, data: D) -> Result<Self, DynError>
         ensures ok { IfOk result (λ t. t ≡ dyn_store layout.key_len layout.value_len «data») }
         ensures err { let F = format_of layout.key_len layout.value_len H.hash

@@ -3,8 +3,8 @@
  *
  * The calls odht_any_* take the lengths of keys and values, and the hash function, as a layout, and keys and values as
  * pointers to so many bytes. They read and write the same bytes as the calls of a shape of these lengths, and answer
- * the same; what is said above of odht_S_NAME goes for odht_any_NAME. Two answers come before all others, and with both
- * nothing is written:
+ * the same; what is said above of odht_S_NAME goes for odht_any_NAME. There are none of insert_order, build_growing and
+ * views. Of each call but odht_any_layout_of two answers come before all others, and with both nothing is written:
  *
  * - BAD_LAYOUT: no hash function has the number of the layout, or its keys are shorter than the function needs.
  *   ODHT_HASH_UN needs four bytes.
@@ -13,7 +13,7 @@
  *   found_len is not count.
  *
  * All lengths of keys and values are in bytes here, also those of many, which lie one after the other. A layout is never
- * NULL. A set has values of no bytes: pass NULL and 0 for them.
+ * NULL. A set has values of no bytes: pass any pointer and 0 for them, or NULL where ODHT_TAKES_NULL is 1.
  */
 typedef struct odht_layout {
     uint8_t key_len;   /* of each key, in bytes */
@@ -98,12 +98,13 @@ ODHT_CALL(uint32_t, any_table_len,
         layout, odht_read_uint8_t(bytes, bytes_len), bytes_len, len ? len : &unwanted);)
 
 /* OK: the lengths of the layout are those that the header states; its hash function, which no header states, is as
-   before. An error, @HEADER@: it is unchanged. */
+   before. Other calls may answer BAD_LAYOUT to it still. An error, @HEADER@: it is unchanged. */
 ODHT_CALL(uint32_t, any_layout_of,
     (const uint8_t *bytes, size_t bytes_len, odht_layout *layout),
     return odht_symbol_any_layout_of(odht_read_uint8_t(bytes, bytes_len), bytes_len, layout);)
 
-/* OK: the value is written. ABSENT, or an error, @HEADER@: it is unchanged. Where value is NULL it is not wanted. */
+/* OK: the value is written. ABSENT, or an error, @HEADER@: it is unchanged. Where value is NULL (as ODHT_TAKES_NULL says) it
+   is not wanted, and value_len is not looked at. */
 ODHT_CALL(uint32_t, any_get,
     (const odht_layout *layout, const uint8_t *bytes, size_t bytes_len, const uint8_t *key, size_t key_len,
         uint8_t *value, size_t value_len),
@@ -141,7 +142,8 @@ ODHT_CALL(uint32_t, any_walk,
         room, odht_write_uint8_t(keys, keys_len), keys_len, odht_write_uint8_t(values, values_len),
         values_len, count ? count : &unwanted);)
 
-/* OK: the key was new. REPLACED: the former value is written, unless former is NULL. FULL, or an error, @HEADER@:
+/* OK: the key was new. REPLACED: the former value is written, unless former is NULL (as
+   ODHT_TAKES_NULL says). FULL, or an error, @HEADER@:
    nothing changes. */
 ODHT_CALL(uint32_t, any_insert,
     (const odht_layout *layout, uint8_t *bytes, size_t bytes_len, const uint8_t *key, size_t key_len,

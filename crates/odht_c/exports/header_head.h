@@ -7,7 +7,7 @@
  *
 @SHAPES@
  *
- * FxHashFn hashes numbers. UnHashFn is for keys that are hashes already: their
+ * FxHashFn hashes numbers, and bytes of any length. UnHashFn is for keys that are hashes already: their
  * last four bytes are taken as the hash, and should vary. Numbers are stored in
  * little-endian order. A table is a slice of bytes that the caller owns: a file's
  * contents, a mapping, a part of either, or allocated memory. It may begin at any
@@ -20,7 +20,7 @@
  *   in items (keys, values, flags), lengths of bytes are in bytes. An array of
  *   keys or values of N bytes is these bytes one after the other, and its length
  *   counts the keys or values.
- * - A slice or out-parameter that a call writes overlaps no other of that call.
+ * - A slice or out-parameter that a call writes overlaps no other, and no layout, of that call.
  *   Slices that are only read may overlap.
  * - Nobody writes a table's bytes while a call reads them, and nobody reads
  *   them while a call writes them. The library keeps nothing between calls, so
@@ -36,9 +36,9 @@
  * - Where ODHT_TAKES_NULL is 1, that is with GCC and Clang for ELF, NULL may be passed
  *   for a slice of length 0, and for an out-parameter of a single number or value that
  *   the caller does not want (former, value, accepted, count, len, slot, and the three of
- *   odht_*_sizes), which is then not written. A key, a view, a layout and cursor are never NULL.
- *   Where it is 0 no pointer is NULL, also where the length beside it is 0, and sets have
- *   no calls with keys.
+ *   odht_*_sizes), which is then not written. A key of a shape, a view, a layout and cursor
+ *   are never NULL. Where it is 0 no pointer is NULL, also where the length beside it is 0,
+ *   and sets of a shape have no calls with keys.
  *
  * The comments on the answers hold for valid bytes: those that these calls have
  * made, and all others that odht_*_check accepts. It reads every byte. odht_*_open

@@ -91,8 +91,9 @@ const MOST_INTERRUPTS: u32 = 1000;
 /// Fills `out` with the bytes from the offset on. A read that gives fewer bytes than were asked is followed by one of
 /// the others, and one that is interrupted is made again, up to a thousand times.
 ///
-/// Each error of a read is returned; `EarlyEnd` comes where the source has no more bytes, or the offset passes 2^64. So
-/// where the source has all of the bytes, the error is that of a read. On an error `out` may have changed.
+/// Any other error is returned at once, and so is the last interrupt (tests alone have both); `EarlyEnd` comes where
+/// the source has no more bytes, or the offset passes 2^64. So where the source has all of the bytes, the error is that
+/// of a read. On an error `out` may have changed.
 pub fn read_exact_at<S: ReadAt>(source: &S, offset: u64, out: &mut [u8]) -> Result<(), ReadError>
     ensures given { (B : List ℕ) → S.gives source.now B
         → IfOk result (λ _. out.new ≡ bytes_at B offset (length out.old)) }

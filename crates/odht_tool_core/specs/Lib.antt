@@ -7,7 +7,7 @@ pub mod Digits
 pub mod Cuts
 -- the list of ready shapes
 pub mod ShapeList
--- what follows of it, and the shape that bytes are read as
+-- what follows of it
 pub mod ReadyShapes
 -- in which group of its probe order a slot is
 pub mod GroupNumbers
@@ -47,7 +47,7 @@ pub mod Insides
 pub mod Signed
 -- the forms of keys and values
 pub mod Forms
--- the shape and the forms that bytes are read as
+-- the form of keys or values of which something is said
 pub mod ReadAs
 -- plain texts, which are stored with zeros behind them
 pub mod PlainTexts

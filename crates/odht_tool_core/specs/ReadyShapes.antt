@@ -1,4 +1,4 @@
--- The ready shapes of tables, and the shape that the bytes of a file are read as.
+-- The ready shapes of tables.
 --     Typed p              the keys or values of the type p: numbers, lists of bytes, or the one value of nothing
 --     typed_len p          how many bytes each of them has in a table
 --     typed_bytes p x      the bytes of x in a table

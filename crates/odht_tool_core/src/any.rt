@@ -64,9 +64,9 @@ impl AnyShape {
     }
 
     /// The shape of keys and values that are said to be these, and of the hash function, where one is given: the first
-    /// ready one of their types; else, of bytes in hexadecimal digits, another one, of `fx` where none is given. None where
-    /// a ready shape of other types has as many bytes, since a file is read as that, or the hash function needs longer
-    /// keys.
+    /// ready one of their types; else, of bytes in hexadecimal digits, another one, of `fx` where none is given. None
+    /// where a ready shape of other types has as many bytes, since a file is read as that, or the hash function needs
+    /// longer keys.
     pub(crate) fn of_kinds(key: Kind, value: Kind, hash: Option<Hash>) -> Option<AnyShape>
         ensures shape { result ≡ any_of_kinds key value hash }
         ensures long { IfSome result HasLongKeys }
@@ -125,10 +125,10 @@ impl AnyShape {
     }
 }
 
-/// The shape of these bytes: the ready one of the key and value sizes in the header, and of the hash function, where one
-/// is given; where there is none, another one, of `fx` where none is given. Where the check fails before it comes to the
-/// sizes, some shape is returned: opening has the same error for each. `ShortKeys` where the hash function needs longer
-/// keys.
+/// The shape of these bytes: the ready one of the key and value sizes in the header, and of the hash function, where
+/// one is given; where there is none, another one, of `fx` where none is given. Where the check fails before it comes
+/// to the sizes, some shape is returned: opening has the same error for each. `ShortKeys` where the hash function needs
+/// longer keys.
 pub fn named_any(bytes: &[u8], hash: Option<Hash>) -> Result<AnyShape, Failure>
     ensures shape { result ≡ named_any bytes.now hash }
     ensures long { IfOk result HasLongKeys }
@@ -141,8 +141,8 @@ pub fn named_any(bytes: &[u8], hash: Option<Hash>) -> Result<AnyShape, Failure>
 }
 
 /// The shape that the bytes of a file are read as, as `found_any` finds it, and the forms of its keys and values: those
-/// that are said, or its own. `OtherKey` or `OtherValue` where what is said is of another type, or a text that only ready
-/// shapes have.
+/// that are said, or its own. `OtherKey` or `OtherValue` where what is said is of another type, or a text that only
+/// ready shapes have.
 pub fn read_any(
     bytes: &[u8],
     hash: Option<Hash>,

@@ -28,9 +28,9 @@ fn is_fitting(shape: Shape, key_size: u8, value_size: u8, table: &StoredTable<'_
     shape.is_of(key_size, value_size, None) && table.agrees(shape.hash())
 }
 
-/// The shape of these bytes: as `named_any` has it; but where header and length fit, the header counts items and no hash
-/// function is given, the first ready shape of the header's sizes with whose hash function all control bytes agree, else
-/// another shape with the first hash function that they agree with. `NoHash` where they agree with none.
+/// The shape of these bytes: as `named_any` has it; but where header and length fit, the header counts items and no
+/// hash function is given, the first ready shape of the header's sizes with whose hash function all control bytes
+/// agree, else another shape with the first hash function that they agree with. `NoHash` where they agree with none.
 pub fn found_any(bytes: &[u8], hash: Option<Hash>) -> Result<AnyShape, Failure>
     ensures shape { result ≡ found_any bytes.now hash }
     ensures long { IfOk result HasLongKeys }

@@ -40,8 +40,8 @@ pub trait ReadAt {
     ///
     /// # Errors
     ///
-    /// `Interrupted` where the read is to be made again, `Failed` where it is not. A source that returns more than there
-    /// is room for has failed too, with the code 0.
+    /// `Interrupted` where the read is to be made again, `Failed` where it is not. A source that returns more than
+    /// there is room for has failed too, with the code 0.
     fn read_at(&self, offset: u64, out: &mut [u8]) -> Result<usize, ReadError>;
 }
 
@@ -87,12 +87,12 @@ impl<S: ReadAt> read_at::ReadAt for Source<S> {
     }
 }
 
-/// A table that is read by position from a source, such as a file: its header and first slots when it is opened, and for
-/// each lookup the groups of control bytes up to the end of the search, the keys whose tag fits, and the value.
+/// A table that is read by position from a source, such as a file: its header and first slots when it is opened, and
+/// for each lookup the groups of control bytes up to the end of the search, the keys whose tag fits, and the value.
 ///
-/// Where the source gives the same bytes throughout, each call returns what that of a [`DynTable`](super::DynTable) over
-/// them returns. Where they change meanwhile, a lookup may return what no table had at one time; nothing worse comes of
-/// it.
+/// Where the source keeps its bytes, each call returns what that of a [`DynTable`](super::DynTable) over them returns,
+/// or the error of a read; but a key of another length is an error. Where they change meanwhile, a lookup may return
+/// what no table had at one time, or an error, and does no harm.
 ///
 /// ```
 /// use odht::dynamic::{FileError, FileTable, Layout};
@@ -123,13 +123,15 @@ impl<H: HashFn, S: ReadAt> FileTable<H, S> {
         FileTable::open_at(layout, source, 0, len)
     }
 
-    /// Opens the `len` bytes from an offset on as a table of these lengths. It reads the header, and control bytes and
-    /// entries of the first sixteen slots.
+    /// Opens the `len` bytes from an offset on as a table of these lengths. It reads the header, the first 32 control
+    /// bytes, and the entries of sixteen slots. That there are `len` bytes is the caller's word: where the source ends
+    /// before, a lookup may return `EarlyEnd`.
     ///
     /// # Errors
     ///
-    /// `Table` with `KeyTooShort` where the hash function needs longer keys; `Read` with `EarlyEnd` where the end passes
-    /// 2^64; then that of a read, or `Table` with what [`DynTable::open`](super::DynTable::open) returns of the bytes.
+    /// `Table` with `KeyTooShort` where the hash function needs longer keys; `Read` with `EarlyEnd` where the end
+    /// reaches 2^64; then that of a read, or `Table` with what [`DynTable::open`](super::DynTable::open) returns of the
+    /// bytes.
     pub fn open_at(layout: Layout, source: S, offset: u64, len: usize) -> Result<Self, FileError> {
         let source = Source(source);
         let table = dynamic::FileTable::open_at(layout.proved(), source, offset, len)?;

@@ -1,11 +1,11 @@
-//! A former value, by value.
+//! A value of a table, by value.
 
 use crate::proved::raw::raw_table;
 use std::fmt;
 use std::ops::Deref;
 
-/// At most 255 bytes, by value: a value that a table had, and that an insert has overwritten. No memory is allocated for
-/// them.
+/// At most 255 bytes, by value: a value of a table, such as one that an insert has overwritten. No memory is allocated
+/// for them.
 ///
 /// ```
 /// # use odht::{configs::U64ToU32, dynamic::DynTable, FxHashFn, HashTableOwned};
@@ -18,6 +18,7 @@ use std::ops::Deref;
 /// }
 /// # Ok::<(), odht::dynamic::DynError>(())
 /// ```
+#[derive(Clone, Copy)]
 pub struct ShortBytes(pub(super) raw_table::ShortBytes);
 
 impl ShortBytes {
@@ -42,12 +43,6 @@ impl AsRef<[u8]> for ShortBytes {
     #[inline]
     fn as_ref(&self) -> &[u8] {
         self.as_slice()
-    }
-}
-
-impl Clone for ShortBytes {
-    fn clone(&self) -> Self {
-        ShortBytes(raw_table::ShortBytes::of(self.as_slice()))
     }
 }
 

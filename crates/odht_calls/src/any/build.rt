@@ -107,8 +107,8 @@ fn build_by<H: HashFn>(
     )
 }
 
-/// Builds a table of `count` pairs at the front of `out`, with slots for as many items as there are pairs, and writes its
-/// length in bytes to `len`. BAD_LENGTHS, BAD_PERCENT and CAPACITY leave both unchanged, TOO_SMALL leaves `out`
+/// Builds a table of `count` pairs at the front of `out`, with slots for as many items as there are pairs, and writes
+/// its length in bytes to `len`. BAD_LENGTHS, BAD_PERCENT and CAPACITY leave both unchanged, TOO_SMALL leaves `out`
 /// unchanged. Allocates nothing.
 pub fn build(
     layout: AnyLayout,

@@ -29,11 +29,11 @@ pub struct ReadPlace {
 }
 
 /// Searches for the key as [`search`](super::search) does, and says how many groups were read. It reads each group of
-/// the probe order at most once, up to the one where the search ends, and of each slot that is reported there the key.
+/// the probe order at most once, up to the one where the search ends, and of each slot whose tag fits the key.
 ///
 /// Where the source gives the bytes of one list throughout, which is long enough to have the parts, the result is that
 /// of the search in the parts of this list, or the error of a read that failed. Whatever the reads give, a key that is
-/// found is in one of the slots, and no more groups are read than there are.
+/// found is in one of the slots, and a search that returns has read no more groups than there are.
 pub fn search_read<S: ReadAt, H: HashFn>(
     source: &S,
     place: &ReadPlace,

@@ -70,7 +70,7 @@ impl CommandMisuse {
             CommandMisuse::Replaced => write!(f, "FILE is replaced, and so cannot be -"),
             CommandMisuse::NoShape => write!(
                 f,
-                "no ready shape has such keys and values under this hash"
+                "no shape has such keys and values under this hash"
             ),
             CommandMisuse::Memory => write!(f, "out of memory"),
         }

@@ -63,7 +63,7 @@ impl<'a> Header<'a> {
     /// `WrongVersion`, `WrongSizeOf` of a control byte, key, value or header, `SlotCountNotPowerOfTwo`,
     /// `SlotCountTooSmall`, `WrongLength`.
     ///
-    /// The length of so many slots is computed in 128 bits, so a forged slot count cannot make it wrap.
+    /// A table's length is computed of its slot count in 128 bits, so a forged slot count cannot make it wrap.
     #[inline(always)]
     pub fn sanity_check<C: Config>(&self, raw_bytes_len: usize) -> Result<(), Error> {
         self.check_layout(Layout::of::<C>(), raw_bytes_len)
@@ -78,7 +78,7 @@ impl<'a> Header<'a> {
 
     /// How many bytes a table with this header has, that is at the front of `found` bytes; what follows is not the
     /// table's. Or the first error: those of [`Header::sanity_check`], but `WrongLength` only where there are fewer
-    /// bytes than the table has, whose length is then `expected`. A forged slot count cannot wrap it. Constant time.
+    /// bytes than the table has, whose length is then `expected`; a forged one does not wrap. Constant time.
     #[inline]
     pub fn table_len<C: Config>(&self, found: usize) -> Result<usize, Error> {
         self.layout_len(Layout::of::<C>(), found)
@@ -161,7 +161,7 @@ impl<'a> Header<'a> {
         }
     }
 
-    /// Whether the slot count is a power of two, at least 16; else `SlotCountNotPowerOfTwo`, `SlotCountTooSmall`.
+    /// Whether the slot count is a power of two (else `SlotCountNotPowerOfTwo`), then 16 or more (`SlotCountTooSmall`).
     #[inline(always)]
     pub fn check_slot_count(&self) -> Result<(), Error> {
         let found = self.slot_count();
@@ -207,7 +207,7 @@ impl<'a> Header<'a> {
         }
     }
 
-    /// Whether the item count is what was found, and at most the maximum; else `WrongItemCount`, `TooManyItems`.
+    /// Whether the item count is what was found, else `WrongItemCount`; then at most the maximum, else `TooManyItems`.
     pub fn check_item_count(&self, found: usize) -> Result<(), Error> {
         let stated = self.item_count();
         if stated != found {

@@ -55,8 +55,8 @@ pub enum DynError {
     Rejected(Error),
 }
 
-/// A table in the bytes of a store, of keys and values of lengths that were given when it was opened, or that its header
-/// states. It cannot grow.
+/// A table in the bytes of a store, of keys and values of lengths that were given when it was opened, or that its
+/// header states. It cannot grow.
 ///
 /// A contract speaks of it as of these lengths and the store.
 pub struct DynTable<H: HashFn, D: ByteStore> {
@@ -77,12 +77,12 @@ fn stated_layout(bytes: &[u8]) -> Result<Layout, DynError> {
 
 impl<H: HashFn, D: ByteStore> DynTable<H, D> {
     /// Opens bytes as a table of these lengths, or returns the first error: `KeyTooShort` where the hash function needs
-    /// longer keys; then `Rejected` with that of too few bytes, of the header, of the length, of the first ten slots, as
-    /// [`HashTable::from_raw_bytes`](crate::proved::tables::hash_table::HashTable::from_raw_bytes) returns it. On an error the store is
-    /// dropped.
+    /// longer keys; then `Rejected` with that of too few bytes, of the header, of the length, of the first ten slots,
+    /// as [`HashTable::from_raw_bytes`](crate::proved::tables::hash_table::HashTable::from_raw_bytes) returns it. On an error the store
+    /// is dropped.
     ///
-    /// Nothing else is checked. A table of bytes that are accepted and not valid is safe to use, but its calls keep only
-    /// what their clauses say of any bytes.
+    /// Nothing else is checked. A table of bytes that are accepted and not valid is safe to use, but its calls keep
+    /// only what their clauses say of any bytes.
     pub fn open(layout: Layout, data: D) -> Result<Self, DynError> {
         if (layout.key_len as usize) < H::MIN_LEN {
             return Err(DynError::KeyTooShort { key_len: layout.key_len, least: H::MIN_LEN });

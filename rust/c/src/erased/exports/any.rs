@@ -1,8 +1,8 @@
 // Made by `make rust` of crates/odht_c/src/any.rt.
 //! The exports of tables of any lengths: the caller names the lengths of keys and values, and the hash function.
 //!
-//! Statuses have the names of include/odht.h without `ODHT_`. Each call answers `BAD_LAYOUT` where no hash function has
-//! the number of the layout, or keys are shorter than it needs; then nothing is written.
+//! Statuses have the names of include/odht.h without `ODHT_`. Each call but `layout_of` answers `BAD_LAYOUT` where no
+//! hash function has the number of the layout, or keys are shorter than it needs; then nothing is written.
 
 use crate::erased::calls::any::{build, lists, places, read, walk, write, AnyLayout};
 
@@ -310,9 +310,9 @@ pub unsafe extern "C" fn odht_any_grow(
     write::grow(*layout, bytes, out, len)
 }
 
-/// Builds a table of `count` pairs, whose keys and values lie one after the other, at the front of `out`, and writes its
-/// length in bytes to `len`: status 0. It has slots for as many items as there are pairs, so it never grows; of equal
-/// keys the last value counts. `TOO_SMALL` where `out` is shorter than the table: then only `len` is written.
+/// Builds a table of `count` pairs, whose keys and values lie one after the other, at the front of `out`, and writes
+/// its length in bytes to `len`: status 0. It has slots for as many items as there are pairs, so it never grows; of
+/// equal keys the last value counts. `TOO_SMALL` where `out` is shorter than the table: then only `len` is written.
 /// `BAD_LENGTHS` where `keys` or `values` have another length than so many of them, `BAD_PERCENT` where the load factor
 /// is not from 1 to 100 percent, `CAPACITY` only where no slot count is enough or the length does not fit `usize`; then
 /// nothing is written. After the table `out` is unchanged. Allocates nothing. One pass over the bytes, then one insert

@@ -118,8 +118,8 @@ impl Kind {
         }
     }
 
-    /// The kind of this name: that of a type (`Part::named`), `i32` or `i64`, `u32be` or `u64be`, or `text:` and a number of
-    /// bytes from 1 to 255.
+    /// The kind of this name: that of a type (`Part::named`), `i32` or `i64`, `u32be` or `u64be`, or `text:` and a
+    /// number of bytes from 1 to 255.
     pub(crate) fn named(name: &str) -> Option<Kind> {
         let (part, form) = match name {
             "i32" => (Part::U32, Form::Signed),

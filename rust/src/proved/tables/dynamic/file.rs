@@ -23,10 +23,11 @@ pub enum FileError {
 /// A table that is read by position from a source of bytes: its header when it is opened, and for each lookup the
 /// groups of control bytes up to the end of the search, the keys whose tag fits, and the value. No memory is allocated.
 ///
-/// Where the source gives the bytes of one list throughout, each call returns what that of [`DynTable`](super::DynTable)
-/// over them returns, or the error of a read that failed. Where they change between reads, a lookup may return what no
-/// table had at one time, but it does no harm, and reads no more groups than the table had when it was opened. That a
-/// file gives the same bytes throughout is not proved, here or elsewhere: it is for the caller to know.
+/// Where each read of the source returns bytes of one list, a call returns what that of [`DynTable`](super::DynTable)
+/// over this list returns, or the error of a read that failed; but a key of another length is an error here. Where the
+/// bytes change between reads, a lookup may return what no table had at one time, but it does no harm, and one that
+/// returns has read at most one group for sixteen slots. That a file keeps its bytes is not proved: it is for the
+/// caller to know.
 ///
 /// A contract speaks of it as of the source, the offset, the lengths, and the counts of the header.
 pub struct FileTable<H: HashFn, S: ReadAt> {
@@ -44,10 +45,11 @@ impl<H: HashFn, S: ReadAt> FileTable<H, S> {
         FileTable::open_at(layout, source, 0, len)
     }
 
-    /// Opens the `len` bytes from an offset on as a table of these lengths. It reads the header, and control bytes and
-    /// entries of the first sixteen slots: three reads, where each gives all that is asked.
+    /// Opens the `len` bytes from an offset on as a table of these lengths. It reads the header, the first 32 control
+    /// bytes, and the entries of sixteen slots: at most three reads, where each returns all that is asked. That there
+    /// are `len` bytes is the caller's word: where the source ends before, a lookup may return `EarlyEnd`.
     ///
-    /// The first error: `Table` with `KeyTooShort`; `Read` with `EarlyEnd` where the end passes 2^64; then that of a
+    /// The first error: `Table` with `KeyTooShort`; `Read` with `EarlyEnd` where the end reaches 2^64; then that of a
     /// read, or `Table` with what [`DynTable::open`](super::DynTable::open) returns of the bytes: of the header and the
     /// length, then of the first ten slots. On an error the source is dropped.
     pub fn open_at(layout: Layout, source: S, offset: u64, len: usize) -> Result<Self, FileError> {
@@ -80,7 +82,8 @@ impl<H: HashFn, S: ReadAt> FileTable<H, S> {
         self.items
     }
 
-    /// The value of a key, or None, as [`DynTable::get`](super::DynTable::get) of the table's bytes returns it.
+    /// The value of a key, or None, as [`DynTable::get`](super::DynTable::get) of the table's bytes returns it. In a
+    /// file that was made to have long searches it may take a read for each sixteen slots.
     ///
     /// The first error: `Table` with `WrongKeyLength` where the key has another length than the table's keys, and
     /// nothing is read; then `Read` with that of a read.

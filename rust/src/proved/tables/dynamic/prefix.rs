@@ -21,8 +21,8 @@ impl<'a, H: HashFn> DynTable<H, Borrowed<'a>> {
     /// looked at. How many bytes are the table's its header says, as [`table_len`].
     ///
     /// Or the first error: `KeyTooShort` where the hash function needs longer keys; then `Rejected` with those of
-    /// [`table_len`], then those of the first ten slots, as [`DynTable::open`]. Valid bytes with anything behind them are
-    /// always opened. Constant time.
+    /// [`table_len`], then those of the first ten slots, as [`DynTable::open`]. Valid bytes with anything behind them
+    /// are always opened. Constant time.
     pub fn from_prefix(layout: Layout, bytes: &'a [u8]) -> Result<(Self, &'a [u8]), DynError> {
         if (layout.key_len as usize) < H::MIN_LEN {
             return Err(DynError::KeyTooShort { key_len: layout.key_len, least: H::MIN_LEN });
@@ -35,9 +35,9 @@ impl<'a, H: HashFn> DynTable<H, Borrowed<'a>> {
 
     /// [`DynTable::from_prefix`] with the lengths that the header states; [`DynTable::layout`] tells them.
     ///
-    /// The first error: `Rejected` with those of [`table_len`]; then `KeyTooShort`; then `Rejected` with that of the first
-    /// ten slots. A header states no hash function: a table of another one is rejected where one of the first ten slots
-    /// is occupied and has another tag.
+    /// The first error: `Rejected` with those of [`table_len`]; then `KeyTooShort`; then `Rejected` with that of the
+    /// first ten slots. A header states no hash function: a table of another one is rejected where one of the first ten
+    /// slots is occupied and has another tag.
     pub fn from_prefix_as_stated(bytes: &'a [u8]) -> Result<(Self, &'a [u8]), DynError> {
         let layout = stated_layout(bytes)?;
         match table_len(layout, bytes) {

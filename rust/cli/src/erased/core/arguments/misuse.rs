@@ -71,7 +71,7 @@ impl CommandMisuse {
             CommandMisuse::TwiceInput => write!(f, "only one FILE can be standard input"),
             CommandMisuse::Replaced => write!(f, "FILE is replaced, and so cannot be -"),
             CommandMisuse::NoShape => {
-                write!(f, "no ready shape has such keys and values under this hash")
+                write!(f, "no shape has such keys and values under this hash")
             }
             CommandMisuse::Memory => write!(f, "out of memory"),
         }
