@@ -180,8 +180,11 @@ static void each_answers(odht_layout layout, uint32_t status)
     const uint8_t *same = number_table();
     uint8_t *out = bytes_of(512);
     uint8_t *value = bytes_of(layout.value_len);
+    uint8_t *former = bytes_of(layout.value_len);
+    uint8_t *percent = bytes_of(1);
     const uint8_t *key = bytes_of(layout.key_len);
     size_t *len = SIZES(5);
+    size_t *more = SIZES(5);
 
     STATUS(odht_any_bytes_needed(&layout, 3, 50, len), status);
     STATUS(odht_any_init(&layout, bytes, NUMBERS_LEN, 3, 50), status);
@@ -192,23 +195,26 @@ static void each_answers(odht_layout layout, uint32_t status)
     STATUS(odht_any_check_at(&layout, bytes, NUMBERS_LEN, len), status);
     STATUS(odht_any_check_within_at(&layout, bytes, NUMBERS_LEN, 1, len), status);
     STATUS(odht_any_len(&layout, bytes, NUMBERS_LEN, len), status);
-    STATUS(odht_any_sizes(&layout, bytes, NUMBERS_LEN, len, len, value), status);
+    STATUS(odht_any_sizes(&layout, bytes, NUMBERS_LEN, len, more, percent), status);
     STATUS(odht_any_table_len(&layout, bytes, NUMBERS_LEN, len), status);
     STATUS(odht_any_get_all(&layout, bytes, NUMBERS_LEN, 0, out, 0, out, 0, out, 0), status);
     STATUS(odht_any_insert_all(&layout, bytes, NUMBERS_LEN, 0, out, 0, out, 0, len), status);
-    STATUS(odht_any_walk(&layout, bytes, NUMBERS_LEN, len, 0, out, 0, out, 0, len), status);
+    STATUS(odht_any_walk(&layout, bytes, NUMBERS_LEN, len, 0, out, 0, out, 0, more), status);
     STATUS(odht_any_get(&layout, bytes, NUMBERS_LEN, key, layout.key_len, value, layout.value_len),
            status);
     STATUS(odht_any_contains(&layout, bytes, NUMBERS_LEN, key, layout.key_len), status);
     STATUS(odht_any_insert(&layout, bytes, NUMBERS_LEN, key, layout.key_len, value,
-                           layout.value_len, value, layout.value_len),
+                           layout.value_len, former, layout.value_len),
            status);
     STATUS(odht_any_grow(&layout, bytes, NUMBERS_LEN, out, 512, len), status);
     STATUS(odht_any_build(&layout, 0, out, 0, out, 0, 87, bytes, NUMBERS_LEN, len), status);
     EQUAL(*len, 5);
+    EQUAL(*more, 5);
     SAME_BYTES(bytes, same, NUMBERS_LEN);
     ALL_BYTES(out, 512, FILL);
     ALL_BYTES(value, layout.value_len, FILL);
+    ALL_BYTES(former, layout.value_len, FILL);
+    ALL_BYTES(percent, 1, FILL);
 }
 
 static void a_layout_that_is_none_is_rejected(void)
