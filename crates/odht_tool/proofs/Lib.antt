@@ -14,5 +14,7 @@ pub mod Passes
 pub mod Counts
 -- how `find` ends
 pub mod FindEnds
+-- the tables that `rebuild` makes, and their failures
+pub mod NewTables
 -- worked examples of the definitions
 pub mod examples

@@ -7,3 +7,5 @@ pub mod Gots
 pub mod GotLines
 -- pairs that are inserted
 pub mod Inserted
+-- what `rebuild` makes
+pub mod Rebuilds
