@@ -8,8 +8,9 @@ complete -c odht -n __fish_use_subcommand -f -a keys -d 'tells each key'
 complete -c odht -n __fish_use_subcommand -f -a find -d 'tells each table that is inside a file'
 complete -c odht -n __fish_use_subcommand -f -a build -d 'makes a table file of the lines of standard input'
 complete -c odht -n __fish_use_subcommand -f -a put -d 'adds the lines of standard input to a table file'
+complete -c odht -n __fish_use_subcommand -f -a rebuild -d 'makes a table file anew, of another load factor or hash function'
 complete -c odht -n __fish_use_subcommand -f -a help -d 'is the help of a command'
-complete -c odht -n '__fish_seen_subcommand_from help' -f -a 'info check count get dump keys find build put'
+complete -c odht -n '__fish_seen_subcommand_from help' -f -a 'info check count get dump keys find build put rebuild'
 complete -c odht -n '__fish_seen_subcommand_from info' -l help
 complete -c odht -n '__fish_seen_subcommand_from info' -l whole
 complete -c odht -n '__fish_seen_subcommand_from info' -l at -x -d 'a number below 2^64'
@@ -53,3 +54,9 @@ complete -c odht -n '__fish_seen_subcommand_from put' -l whole
 complete -c odht -n '__fish_seen_subcommand_from put' -l hash -x -a 'fx unhash' -d 'fx or unhash'
 complete -c odht -n '__fish_seen_subcommand_from put' -l progress
 complete -c odht -n '__fish_seen_subcommand_from put' -l break-links
+complete -c odht -n '__fish_seen_subcommand_from rebuild' -l help
+complete -c odht -n '__fish_seen_subcommand_from rebuild' -l percent -x -d 'a number from 1 to 100'
+complete -c odht -n '__fish_seen_subcommand_from rebuild' -l whole
+complete -c odht -n '__fish_seen_subcommand_from rebuild' -l hash -x -a 'fx unhash' -d 'fx or unhash'
+complete -c odht -n '__fish_seen_subcommand_from rebuild' -l progress
+complete -c odht -n '__fish_seen_subcommand_from rebuild' -l break-links

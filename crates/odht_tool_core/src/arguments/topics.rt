@@ -18,10 +18,11 @@ pub enum Topic {
     Find,
     Build,
     Put,
+    Rebuild,
 }
 
 /// All commands, in the order of the help text.
-pub(crate) const TOPICS: [Topic; 9] = [
+pub(crate) const TOPICS: [Topic; 10] = [
     Topic::Info,
     Topic::Check,
     Topic::Count,
@@ -31,6 +32,7 @@ pub(crate) const TOPICS: [Topic; 9] = [
     Topic::Find,
     Topic::Build,
     Topic::Put,
+    Topic::Rebuild,
 ];
 
 impl Topic {
@@ -68,6 +70,7 @@ impl Topic {
             Topic::Find => "find",
             Topic::Build => "build",
             Topic::Put => "put",
+            Topic::Rebuild => "rebuild",
         }
     }
 
@@ -118,6 +121,14 @@ impl Topic {
                 Setting::Help,
                 Setting::Key,
                 Setting::Value,
+                Setting::Whole,
+                Setting::Hash,
+                Setting::Progress,
+                Setting::BreakLinks,
+            ],
+            Topic::Rebuild => &[
+                Setting::Help,
+                Setting::Percent,
                 Setting::Whole,
                 Setting::Hash,
                 Setting::Progress,

@@ -17,10 +17,11 @@ pub enum Topic {
     Find,
     Build,
     Put,
+    Rebuild,
 }
 
 /// All commands, in the order of the help text.
-pub(crate) const TOPICS: [Topic; 9] = [
+pub(crate) const TOPICS: [Topic; 10] = [
     Topic::Info,
     Topic::Check,
     Topic::Count,
@@ -30,6 +31,7 @@ pub(crate) const TOPICS: [Topic; 9] = [
     Topic::Find,
     Topic::Build,
     Topic::Put,
+    Topic::Rebuild,
 ];
 
 impl Topic {
@@ -55,6 +57,7 @@ impl Topic {
             Topic::Find => "find",
             Topic::Build => "build",
             Topic::Put => "put",
+            Topic::Rebuild => "rebuild",
         }
     }
 
@@ -99,6 +102,14 @@ impl Topic {
                 Setting::Help,
                 Setting::Key,
                 Setting::Value,
+                Setting::Whole,
+                Setting::Hash,
+                Setting::Progress,
+                Setting::BreakLinks,
+            ],
+            Topic::Rebuild => &[
+                Setting::Help,
+                Setting::Percent,
                 Setting::Whole,
                 Setting::Hash,
                 Setting::Progress,
