@@ -12,5 +12,7 @@ pub mod Passes
 pub mod Counts
 -- how `find` ends
 pub mod FindEnds
+-- what ends as a text allows, also where memory may be short
+pub mod InMemory
 -- worked examples of the definitions
 pub mod examples

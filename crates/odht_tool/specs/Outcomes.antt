@@ -9,13 +9,13 @@
 --                              there is one
 --     copy_failure F o B       the first error of the check, by the bound o, of the bytes B of the format F; where there is
 --                              none, out of memory
---     pairs_outcome c f g B    of `dump` for bytes of the coding c: the pairs that the slots hold, in slot order, where f
---                              and g are the texts of keys and of values
---     dump_of_shape fs B is_slots s    of `dump`, with `--slots` or without, for bytes of the shape s in the forms fs of keys
---                              and of values
---     dump_of_other B is_slots s   the same of a shape that is no ready one, in hexadecimal digits
---     dump_of_any fs B is_slots s  the same of any shape
---     dump_outcome B h ks is_slots the same for the bytes of a file, where the hash function h, or none, is named, and ks is
+--     pairs_outcome j c f g B  of `dump` for bytes of the coding c: the pairs that the slots hold, in slot order, where f
+--                              and g are the texts of keys and of values; with j as objects of JSON
+--     dump_of_shape fs B is_slots j s  of `dump`, with `--slots` or without, for bytes of the shape s in the forms fs of
+--                              keys and of values
+--     dump_of_other B is_slots j s the same of a shape that is no ready one, in hexadecimal digits
+--     dump_of_any fs B is_slots j s    the same of any shape
+--     dump_outcome B h ks is_slots j   the same for the bytes of a file, where the hash function h, or none, is named, and ks is
 --                              said of keys and values
 use Rattle.std.specs.Prelude.{ℕ, Bool, List, ◌++◌, codes, Option, Some, None, Result, Ok, Err, is_ok, is_none, if◌then◌else◌}
 use Rattle.std.specs.Option.{option_and_then, option_map_or}
@@ -36,7 +36,8 @@ use Rattle.odht_tool_core.specs.ReadyShapes.{shape_coding, typed_text}
 use Rattle.odht_tool_core.specs.ShapeList.{key_part, value_part}
 use Rattle.odht_tool_core.specs.Slots.{slots_outcome}
 use Rattle.odht_tool_core.specs.Refusals.{checked_text}
-use Rattle.odht_tool_core.specs.Texts.{hex_text, pairs_text}
+use Rattle.odht_tool_core.specs.Texts.{hex_text}
+use Rattle.odht_tool_core.specs.Json.{pairs_text}
 use Rattle.odht_tool_core.specs.declared.any.AnyShape.{AnyShape}
 use Rattle.odht_tool_core.specs.declared.any.AnyShape.TheVariants.{Ready, Other}
 use Rattle.odht_tool_core.specs.declared.any.OtherShape.{OtherShape}
@@ -84,27 +85,27 @@ abbrev pub copy_failure : Format → Option ℕ → List ℕ → Failure
 copy_failure F o B = option_map_or Refused (check_refusal_by F o B) Memory
 
 -- ---- dump
-abbrev pub pairs_outcome : {K V : Type 0} → Coding K V → (K → List ℕ) → (V → List ℕ) → List ℕ → Outcome
-pairs_outcome c f g B =
-    opened_outcome (view_refusal c.format B) (pairs_text f g (decoded_all c (decoded_pairs c.format B)))
+abbrev pub pairs_outcome : {K V : Type 0} → Bool → Coding K V → (K → List ℕ) → (V → List ℕ) → List ℕ → Outcome
+pairs_outcome is_json c f g B =
+    opened_outcome (view_refusal c.format B) (pairs_text is_json f g (decoded_all c (decoded_pairs c.format B)))
 
-abbrev pub dump_of_shape : Form × Form → List ℕ → Bool → Shape → Outcome
-dump_of_shape fs B is_slots s =
+abbrev pub dump_of_shape : Form × Form → List ℕ → Bool → Bool → Shape → Outcome
+dump_of_shape fs B is_slots is_json s =
     let f = typed_text fs.0 (key_part s) in
     let g = typed_text fs.1 (value_part s) in
-    if is_slots then slots_outcome (shape_coding s) f g B else pairs_outcome (shape_coding s) f g B
+    if is_slots then slots_outcome is_json (shape_coding s) f g B else pairs_outcome is_json (shape_coding s) f g B
 
-abbrev pub dump_of_other : List ℕ → Bool → OtherShape → Outcome
-dump_of_other B is_slots s =
+abbrev pub dump_of_other : List ℕ → Bool → Bool → OtherShape → Outcome
+dump_of_other B is_slots is_json s =
     let c = other_coding s in
-    if is_slots then slots_outcome c hex_text hex_text B else pairs_outcome c hex_text hex_text B
+    if is_slots then slots_outcome is_json c hex_text hex_text B else pairs_outcome is_json c hex_text hex_text B
 
-abbrev pub dump_of_any : Form × Form → List ℕ → Bool → AnyShape → Outcome
-dump_of_any fs B is_slots (Ready s) = dump_of_shape fs B is_slots s
-dump_of_any fs B is_slots (Other s) = dump_of_other B is_slots s
+abbrev pub dump_of_any : Form × Form → List ℕ → Bool → Bool → AnyShape → Outcome
+dump_of_any fs B is_slots is_json (Ready s) = dump_of_shape fs B is_slots is_json s
+dump_of_any fs B is_slots is_json (Other s) = dump_of_other B is_slots is_json s
 
-abbrev pub dump_of_forms : List ℕ → Bool → AnyShape × GivenForms → Outcome
-dump_of_forms B is_slots x = dump_of_any (x.1.key, x.1.value) B is_slots x.0
+abbrev pub dump_of_forms : List ℕ → Bool → Bool → AnyShape × GivenForms → Outcome
+dump_of_forms B is_slots is_json x = dump_of_any (x.1.key, x.1.value) B is_slots is_json x.0
 
-abbrev pub dump_outcome : List ℕ → Option Hash → Kinds → Bool → Outcome
-dump_outcome B h ks is_slots = by_shape (read_any B h ks) (dump_of_forms B is_slots)
+abbrev pub dump_outcome : List ℕ → Option Hash → Kinds → Bool → Bool → Outcome
+dump_outcome B h ks is_slots is_json = by_shape (read_any B h ks) (dump_of_forms B is_slots is_json)

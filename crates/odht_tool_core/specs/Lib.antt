@@ -53,3 +53,9 @@ pub mod ReadAs
 pub mod PlainTexts
 -- texts that are no key or no value
 pub mod Misreads
+-- texts of JSON
+pub mod Json
+-- what `info --json` writes
+pub mod InfoJson
+-- what `find --json` writes of a table
+pub mod FindJson

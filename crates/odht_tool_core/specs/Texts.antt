@@ -5,7 +5,6 @@
 --     IsHexWord n word        the word is two hexadecimal digits, of either case, for each of n bytes
 --     WritesBytes word bytes  the digits, letters in either case, are the two of each byte in turn
 --     pair_line f g x         a line of a key and its value, with the texts f and g, and a tab between them
---     pairs_text f g xs       the line of each pair in turn
 --     answer_line f g x       the same of a value that may be absent: then the key alone
 --     answers_text f g ks os  the line of each key and its value in turn
 -- A tab is the byte 9, the end of a line the byte 10. A sign is no digit; digits may begin with zeros.
@@ -33,9 +32,6 @@ WritesBytes word bytes = str_to_ascii_lowercase word ≡ hex_text bytes
 
 abbrev pub pair_line : {K V : Type 0} → (K → List ℕ) → (V → List ℕ) → K × V → List ℕ
 pair_line f g x = f x.0 ++ (9 ∷ (g x.1 ++ (10 ∷ [])))
-
-abbrev pub pairs_text : {K V : Type 0} → (K → List ℕ) → (V → List ℕ) → List (K × V) → List ℕ
-pairs_text f g xs = flat_map (pair_line f g) xs
 
 abbrev pub answer_line : {K V : Type 0} → (K → List ℕ) → (V → List ℕ) → K × Option V → List ℕ
 answer_line f g (key, Some value) = pair_line f g (key, value)

@@ -39,7 +39,14 @@ pub(crate) fn write_plain<W: Write>(bytes: &[u8], output: &mut W) -> io::Result<
     ensures { OnOk result (Appends (W.contents output.old) (W.contents output.new)
         (plain_text bytes.now)) }
 {
-    output.write_all(&bytes[..text_len(bytes)])
+    output.write_all(plain_of(bytes))
+}
+
+/// The bytes without the zeros at their end.
+pub(crate) fn plain_of(bytes: &[u8]) -> &[u8]
+    ensures { result.now ≡ plain_text bytes.now }
+{
+    &bytes[..text_len(bytes)]
 }
 
 // How many bytes there are without the zeros at the end.

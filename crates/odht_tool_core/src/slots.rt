@@ -1,18 +1,20 @@
 //! The occupied slots of a table, a line for each.
-ghost use Rattle.std.specs.Prelude.{◌≡◌, ◌+◌, ◌<◌, length, OnOk};
+ghost use Rattle.std.specs.Prelude.{◌≡◌, ◌+◌, ◌<◌, false, length, OnOk};
 ghost use Rattle.std.specs.Io.KnownBytes.{Appends};
 ghost use Rattle.odht_base.specs.Decoded.{header_slots};
 ghost use Rattle.odht_base.specs.Load.{IsSlotCount};
 ghost use Rattle.odht_raw.specs.Dumps.{parts_of};
 ghost use Rattle.odht_raw.specs.Parts.{TableParts};
 ghost use Rattle.odht_tool_core.specs.Endings.{IsDone};
-ghost use Rattle.odht_tool_core.specs.Slots.{numbers_text, slot_line, slots_text, slots_outcome};
+ghost use Rattle.odht_tool_core.specs.Slots.{number_fields_text, numbers_text, slot_line, slot_text};
+ghost use Rattle.odht_tool_core.specs.Slots.{slots_text, slots_outcome};
 
 use crate::answers::write_pair_as;
 use crate::digits::write_number;
 use crate::failure::Failure;
 use crate::forms::{Form, Forms, OwnForms};
 use crate::groups::groups_to;
+use crate::json::pairs::write_pair_fields;
 use crate::status::{Status, of_output};
 use crate::text::Text;
 use odht_base::bytes::{Borrowed, ByteArray};
@@ -29,36 +31,38 @@ pub fn dump_slots<C: Config, O: Write>(bytes: &[u8], output: &mut O) -> Result<S
 where
     C::Key: Text,
     C::Value: Text,
-    ensures { IsDone (slots_outcome ⟦<C as Coded>⟧.coding (C.Key.text Form.Own)
+    ensures { IsDone (slots_outcome false ⟦<C as Coded>⟧.coding (C.Key.text Form.Own)
         (C.Value.text Form.Own) bytes.now)
         (O.contents output.old) (O.contents output.new) result }
 {
-    dump_slots_as::<C, OwnForms, O>(bytes, OwnForms, output)
+    dump_slots_as::<C, OwnForms, O>(bytes, OwnForms, false, output)
 }
 
-/// `dump_slots` in texts of these forms.
+/// `dump_slots` in texts of these forms; with `is_json` an object of JSON for each slot.
 pub fn dump_slots_as<C: Config, F: Forms, O: Write>(
     bytes: &[u8],
     forms: F,
+    is_json: bool,
     output: &mut O,
 ) -> Result<Status, Failure>
 where
     C::Key: Text,
     C::Value: Text,
-    ensures { IsDone (slots_outcome ⟦<C as Coded>⟧.coding (C.Key.text (F.pair forms).0)
+    ensures { IsDone (slots_outcome is_json ⟦<C as Coded>⟧.coding (C.Key.text (F.pair forms).0)
         (C.Value.text (F.pair forms).1) bytes.now)
         (O.contents output.old) (O.contents output.new) result }
 {
     let allocation = Allocation::<C, Borrowed<'_>>::from_raw_bytes(Borrowed::new(bytes)).map_err(
         Failure::Refused,
     )?;
-    of_output(write_slots(&allocation, forms, output))
+    of_output(write_slots(&allocation, forms, is_json, output))
 }
 
 // Writes a line for each occupied slot.
 fn write_slots<C: Config, F: Forms, O: Write>(
     allocation: &Allocation<C, Borrowed<'_>>,
     forms: F,
+    is_json: bool,
     output: &mut O,
 ) -> io::Result<()>
 where
@@ -67,12 +71,12 @@ where
     ensures { let c = ⟦<C as Coded>⟧.coding
         in let B = allocation.now.0.now
         in OnOk result (Appends (O.contents output.old) (O.contents output.new)
-        (slots_text c (C.Key.text (F.pair forms).0)
+        (slots_text is_json c (C.Key.text (F.pair forms).0)
         (C.Value.text (F.pair forms).1) (parts_of c.format B) (header_slots B))) }
 {
     let (control, entries) = allocation.data_slices();
     for slot in 0..entries.len() {
-        write_slot::<C, F, O>(control, &entries, slot, forms, output)?;
+        write_slot::<C, F, O>(control, &entries, slot, forms, is_json, output)?;
     }
     Ok(())
 }
@@ -84,6 +88,7 @@ fn write_slot<C: Config, F: Forms, O: Write>(
     entries: &Entries<'_, C::EncodedKey, C::EncodedValue>,
     slot: usize,
     forms: F,
+    is_json: bool,
     output: &mut O,
 ) -> io::Result<()>
 where
@@ -94,7 +99,7 @@ where
     requires control { length control.now ≡ entries.now.slots + 16 }
     ensures { let parts : TableParts = record { control = control.now; entries = entries.now }
         in OnOk result (Appends (O.contents output.old) (O.contents output.new)
-        (slot_line ⟦<C as Coded>⟧.coding (C.Key.text (F.pair forms).0)
+        (slot_line is_json ⟦<C as Coded>⟧.coding (C.Key.text (F.pair forms).0)
         (C.Value.text (F.pair forms).1) parts slot)) }
 {
     let tag = control[slot];
@@ -103,9 +108,45 @@ where
     }
     let entry = entries.get(slot);
     let groups = groups_to(C::H::hash(entry.key.as_slice()), slot, entries.len(), None);
-    write_numbers(slot, tag, groups, output)?;
     let (key, value) = (C::decode_key(&entry.key), C::decode_value(&entry.value));
-    write_pair_as(&key, &value, forms, output)
+    write_slot_text(slot, tag, groups, &key, &value, forms, is_json, output)
+}
+
+// Writes these numbers of a slot, and its pair.
+#[inline(always)]
+fn write_slot_text<K: Text, V: Text, F: Forms, O: Write>(
+    slot: usize,
+    tag: u8,
+    groups: usize,
+    key: &K,
+    value: &V,
+    forms: F,
+    is_json: bool,
+    output: &mut O,
+) -> io::Result<()>
+    ensures { OnOk result (Appends (O.contents output.old) (O.contents output.new)
+        (slot_text is_json (K.text (F.pair forms).0) (V.text (F.pair forms).1) slot tag groups
+        (key.now, value.now))) }
+{
+    if is_json {
+        write_number_fields(slot, tag, groups, output)?;
+        return write_pair_fields(key, value, forms, output);
+    }
+    write_numbers(slot, tag, groups, output)?;
+    write_pair_as(key, value, forms, output)
+}
+
+/// Writes the begin of the object of a slot: its number, its control byte and a number of groups.
+pub(crate) fn write_number_fields<O: Write>(
+    slot: usize,
+    tag: u8,
+    groups: usize,
+    output: &mut O,
+) -> io::Result<()>
+    ensures { OnOk result (Appends (O.contents output.old) (O.contents output.new)
+        (number_fields_text slot tag groups)) }
+{
+    write!(output, "{{\"slot\":{slot},\"control\":{tag},\"groups\":{groups},")
 }
 
 /// Writes the number of a slot, its control byte and a number of groups, each with a tab after it.

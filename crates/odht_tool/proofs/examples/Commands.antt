@@ -7,7 +7,11 @@ use Rattle.odht_base.specs.Bytes.{overwritten_at}
 use Rattle.odht_header.specs.declared.error.Error.TheVariants.{TooShort}
 use Rattle.odht_header.proofs.examples.Apart.{unequal_lists}
 use Rattle.odht_header.proofs.examples.Opened.{opened}
+use Rattle.std.specs.Char.{encode_utf8}
+use Rattle.std.specs.Str.{chars, is_utf8}
 use Rattle.odht_tool_core.specs.GroupNumbers.{groups_to}
+use Rattle.odht_tool_core.specs.Slots.{slot_text}
+use Rattle.odht_tool.specs.JsonTexts.{check_json_outcome}
 use Rattle.odht_tool.specs.Listings.{keys_outcome}
 use Rattle.odht_tool.specs.Outcomes.{check_outcome, check_word, dump_outcome, hint_of, hint_text}
 use Rattle.odht_tool_core.specs.Endings.{IsDone}
@@ -45,6 +49,12 @@ pub foreign : check_outcome (codes "a") (overwritten_at one_bytes 0 (9 ∷ 0x7F 
 unfolding opened digits
 foreign = refl
 
+-- the same as an object, and a valid table
+pub objects_checked : (check_json_outcome (codes "a") (79 ∷ 68 ∷ []) None None ≡ writes (codes "{\"file\":\"a\",\"valid\":false,\"bound\":null,\"rule\":\"Provided data has 2 bytes but the header needs 32\"}\n") NotDone)
+    × (check_json_outcome (codes "a") one_bytes (Some Unhash) (Some 128) ≡ writes (codes "{\"file\":\"a\",\"valid\":true,\"bound\":128,\"rule\":null}\n") Done)
+unfolding opened first_longer digits
+objects_checked = (refl, refl)
+
 -- a count of one item more, which is an earlier error than that of a bound
 pub miscounted : check_outcome (codes "a") (overwritten_at one_bytes 8 (2 ∷ [])) (Some Unhash) (Some 0) ≡ writes (codes "a: Header states 2 items but 1 were found\n") NotDone
 unfolding opened digits
@@ -66,25 +76,31 @@ unfolding opened first_longer
 words = (refl, refl, refl, refl)
 
 -- ---- dump
-pub pairs : dump_outcome one_bytes (Some Unhash) unsaid false ≡ writes (codes "5\t7\n") Done
+pub pairs : dump_outcome one_bytes (Some Unhash) unsaid false false ≡ writes (codes "5\t7\n") Done
 unfolding opened digits
 pairs = refl
 
-pub slots : dump_outcome one_bytes (Some Unhash) unsaid true ≡ writes (codes "5\t0\t1\t5\t7\n") Done
-unfolding opened digits groups_to
+-- the same as objects
+pub objects : (dump_outcome one_bytes (Some Unhash) unsaid false true ≡ writes (codes "{\"key\":\"5\",\"value\":\"7\"}\n") Done)
+    × (dump_outcome one_bytes (Some Unhash) unsaid true true ≡ writes (codes "{\"slot\":5,\"control\":0,\"groups\":1,\"key\":\"5\",\"value\":\"7\"}\n") Done)
+unfolding opened digits groups_to chars is_utf8 encode_utf8 slot_text
+objects = (refl, refl)
+
+pub slots : dump_outcome one_bytes (Some Unhash) unsaid true false ≡ writes (codes "5\t0\t1\t5\t7\n") Done
+unfolding opened digits groups_to slot_text
 slots = refl
 
 -- of other sizes in hexadecimal digits, where their types are said to be so many bytes, or nothing is said of them
-pub hexadecimal : (dump_outcome other_bytes None unsaid false ≡ writes (codes "050000000700\t0000\n") Done)
-    × (dump_outcome other_bytes None (said (kind (Bytes 6) Own) (kind (Bytes 2) Own)) true ≡ writes (codes "5\t0\t1\t050000000700\t0000\n") Done)
-    × (dump_outcome other_bytes None (said (kind (Bytes 6) Own) (kind U32 Own)) true ≡ fails (OtherValue (Bytes 2)))
+pub hexadecimal : (dump_outcome other_bytes None unsaid false false ≡ writes (codes "050000000700\t0000\n") Done)
+    × (dump_outcome other_bytes None (said (kind (Bytes 6) Own) (kind (Bytes 2) Own)) true false ≡ writes (codes "5\t0\t1\t050000000700\t0000\n") Done)
+    × (dump_outcome other_bytes None (said (kind (Bytes 6) Own) (kind U32 Own)) true false ≡ fails (OtherValue (Bytes 2)))
     × (keys_outcome other_bytes None unsaid ≡ writes (codes "050000000700\n") Done)
-unfolding opened digits groups_to
+unfolding opened digits groups_to slot_text
 hexadecimal = (refl, refl, refl, refl)
 
 -- with other texts: 5 is 5 * 2^24 with its highest byte first; of another type there is none
-pub formed : (dump_outcome one_bytes (Some Unhash) (said (kind U32 BigEndian) (kind U32 Signed)) false ≡ writes (codes "83886080\t7\n") Done)
-    × (dump_outcome one_bytes (Some Unhash) (said (kind U64 BigEndian) (kind U32 Signed)) false ≡ fails (OtherKey U32))
+pub formed : (dump_outcome one_bytes (Some Unhash) (said (kind U32 BigEndian) (kind U32 Signed)) false false ≡ writes (codes "83886080\t7\n") Done)
+    × (dump_outcome one_bytes (Some Unhash) (said (kind U64 BigEndian) (kind U32 Signed)) false false ≡ fails (OtherKey U32))
 unfolding opened digits
 formed = (refl, refl)
 
@@ -95,7 +111,7 @@ unfolding opened digits
 keys = (refl, refl)
 
 -- the hash function is found, where none is named; with another control byte none fits
-pub found : (dump_outcome one_bytes None unsaid false ≡ writes (codes "5\t7\n") Done) × (dump_outcome (overwritten_at one_bytes 165 (1 ∷ [])) None unsaid false ≡ fails (NoHash 4 4))
+pub found : (dump_outcome one_bytes None unsaid false false ≡ writes (codes "5\t7\n") Done) × (dump_outcome (overwritten_at one_bytes 165 (1 ∷ [])) None unsaid false false ≡ fails (NoHash 4 4))
 unfolding opened digits
 found = (refl, refl)
 
@@ -107,8 +123,8 @@ hinted = (refl, refl, refl)
 pub hint_line : hint_text (codes "a.odht") Unhash ≡ codes "odht: a.odht: all control bytes fit unhash: try --hash unhash, or `odht info`\n"
 hint_line = refl
 
-pub refused : (dump_outcome (79 ∷ 68 ∷ []) None unsaid false ≡ fails (Refused (TooShort 2)))
-    × (dump_outcome (79 ∷ 68 ∷ []) None unsaid true ≡ fails (Refused (TooShort 2)))
+pub refused : (dump_outcome (79 ∷ 68 ∷ []) None unsaid false false ≡ fails (Refused (TooShort 2)))
+    × (dump_outcome (79 ∷ 68 ∷ []) None unsaid true false ≡ fails (Refused (TooShort 2)))
 unfolding opened
 refused = (refl, refl)
 

@@ -10,7 +10,8 @@ ghost use Rattle.odht_tool_core.specs.AnyShapes.{other_coding};
 ghost use Rattle.odht_tool_core.specs.Endings.{IsDone};
 ghost use Rattle.odht_tool_core.specs.InfoNumbers.{least_key_len};
 ghost use Rattle.odht_tool_core.specs.Slots.{slots_outcome};
-ghost use Rattle.odht_tool_core.specs.Texts.{hex_text, pairs_text};
+ghost use Rattle.odht_tool_core.specs.Json.{pairs_text};
+ghost use Rattle.odht_tool_core.specs.Texts.{hex_text};
 
 use crate::sized::{layout_of, open_lengths};
 use odht::dynamic::Layout;
@@ -20,27 +21,29 @@ use odht::{FxHashFn, UnHashFn};
 use odht_tool_core::any::OtherShape;
 use odht_tool_core::failure::Failure;
 use odht_tool_core::shapes::Hash;
-use odht_tool_core::sized_slots::{write_bytes_key, write_bytes_pair, write_sized_slots};
+use odht_tool_core::sized_slots::{write_bytes_key, write_bytes_pair_as, write_sized_slots};
 use odht_tool_core::status::{Status, of_output};
 use std::io::{self, Write};
 
-/// `odht dump` of bytes of a shape, with `--slots` or without: writes a line for each pair, in slot order.
+/// `odht dump` of bytes of a shape, with `--slots` or without: writes a line for each pair, in slot order; with `is_json` an
+/// object of JSON.
 pub fn dump_other<O: Write>(
     shape: OtherShape,
     bytes: &[u8],
     is_slots: bool,
+    is_json: bool,
     output: &mut O,
 ) -> Result<Status, Failure>
     requires { least_key_len shape.hash ≤ shape.key_len }
-    ensures { IsDone (dump_of_other bytes.now is_slots shape)
+    ensures { IsDone (dump_of_other bytes.now is_slots is_json shape)
         (O.contents output.old) (O.contents output.new) result }
 {
     let layout = layout_of(shape);
     match (shape.hash, is_slots) {
-        (Hash::Fx, false) => dump_lengths::<FxHashFn, O>(layout, bytes, output),
-        (Hash::Fx, true) => dump_slots_of::<FxHashFn, O>(layout, bytes, output),
-        (Hash::Unhash, false) => dump_lengths::<UnHashFn, O>(layout, bytes, output),
-        (Hash::Unhash, true) => dump_slots_of::<UnHashFn, O>(layout, bytes, output),
+        (Hash::Fx, false) => dump_lengths::<FxHashFn, O>(layout, bytes, is_json, output),
+        (Hash::Fx, true) => dump_slots_of::<FxHashFn, O>(layout, bytes, is_json, output),
+        (Hash::Unhash, false) => dump_lengths::<UnHashFn, O>(layout, bytes, is_json, output),
+        (Hash::Unhash, true) => dump_slots_of::<UnHashFn, O>(layout, bytes, is_json, output),
     }
 }
 
@@ -64,30 +67,32 @@ pub fn keys_other<O: Write>(
 fn dump_lengths<H: HashFn, O: Write>(
     layout: Layout,
     bytes: &[u8],
+    is_json: bool,
     output: &mut O,
 ) -> Result<Status, Failure>
     requires { H.MIN_LEN ≤ layout.key_len }
     ensures { let F = format_of layout.key_len layout.value_len H.hash
-        in IsDone (pairs_outcome (bytes_coding F) hex_text hex_text bytes.now)
+        in IsDone (pairs_outcome is_json (bytes_coding F) hex_text hex_text bytes.now)
         (O.contents output.old) (O.contents output.new) result }
 {
     let table = open_lengths::<H>(layout, bytes)?;
-    of_output(write_pairs(table.iter(), output))
+    of_output(write_pairs(table.iter(), is_json, output))
 }
 
 fn dump_slots_of<H: HashFn, O: Write>(
     layout: Layout,
     bytes: &[u8],
+    is_json: bool,
     output: &mut O,
 ) -> Result<Status, Failure>
     requires { H.MIN_LEN ≤ layout.key_len }
     ensures { let F = format_of layout.key_len layout.value_len H.hash
-        in IsDone (slots_outcome (bytes_coding F) hex_text hex_text bytes.now)
+        in IsDone (slots_outcome is_json (bytes_coding F) hex_text hex_text bytes.now)
         (O.contents output.old) (O.contents output.new) result }
 {
     let table = open_lengths::<H>(layout, bytes)?;
     let parts = table.as_sized();
-    of_output(write_sized_slots(&parts, output))
+    of_output(write_sized_slots(&parts, is_json, output))
 }
 
 fn keys_lengths<H: HashFn, O: Write>(
@@ -105,12 +110,16 @@ fn keys_lengths<H: HashFn, O: Write>(
 }
 
 // Writes each pair on a line.
-fn write_pairs<H: HashFn, O: Write>(pairs: SizedIter<'_, H>, output: &mut O) -> io::Result<()>
+fn write_pairs<H: HashFn, O: Write>(
+    pairs: SizedIter<'_, H>,
+    is_json: bool,
+    output: &mut O,
+) -> io::Result<()>
     ensures { OnOk result (Appends (O.contents output.old) (O.contents output.new)
-        (pairs_text hex_text hex_text (bare_pairs pairs.entry))) }
+        (pairs_text is_json hex_text hex_text (bare_pairs pairs.entry))) }
 {
     for (key, value) in pairs {
-        write_bytes_pair(key, value, output)?;
+        write_bytes_pair_as(key, value, is_json, output)?;
     }
     Ok(())
 }

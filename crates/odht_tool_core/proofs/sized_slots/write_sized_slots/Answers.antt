@@ -11,9 +11,9 @@ pub loop-slot-preserved : goal.loop-slot-preserved
 loop-slot-preserved g c =
     let S = c.args.table.now in
     let coding = bytes_coding (sized_format S g.H.HashFn.hash) in
-    let line = slot_line coding hex_text hex_text S.parts in
+    let line = slot_line c.args.is_json coding hex_text hex_text S.parts in
     let n = c.loop-slot.slot in
     let old = g.O.Write.contents c.args.output.now in
     let new = g.O.Write.contents c.write_sized_slot.new.output in
     subst (Appends old new) (sym (written_more line n))
-    (Appends-trans old (g.O.Write.contents c.loop-slot.output) new (slots_text coding hex_text hex_text S.parts n) (line n) c.loop-slot.invariant c.in_ok-write_sized_slot.ensures)
+    (Appends-trans old (g.O.Write.contents c.loop-slot.output) new (slots_text c.args.is_json coding hex_text hex_text S.parts n) (line n) c.loop-slot.invariant c.in_ok-write_sized_slot.ensures)

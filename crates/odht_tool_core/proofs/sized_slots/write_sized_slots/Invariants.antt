@@ -8,4 +8,4 @@ use Rattle.odht_tool_core.proofs.sized_slots.write_sized_slots.Given as goal
 abbrev pub invariant-loop-slot : goal.invariant-loop-slot
 invariant-loop-slot g l =
     Appends (g.O.Write.contents l.initial.output) (g.O.Write.contents l.output)
-    (slots_text (bytes_coding (sized_format l.table g.H.HashFn.hash)) hex_text hex_text l.table.parts l.slot)
+    (slots_text l.is_json (bytes_coding (sized_format l.table g.H.HashFn.hash)) hex_text hex_text l.table.parts l.slot)

@@ -15,9 +15,9 @@ loop-slot-preserved g c =
     let T : TableParts = record { control = c.data_slices-entries.result.0.now; entries = c.data_slices-entries.result.1 } in
     let f = g.C.Key.Text.text (g.F.Forms.pair c.args.forms).0 in
     let h = g.C.Value.Text.text (g.F.Forms.pair c.args.forms).1 in
-    let line = slot_line coding f h T in
+    let line = slot_line c.args.is_json coding f h T in
     let n = c.loop-slot.slot in
     let old = g.O.Write.contents c.args.output.now in
     let new = g.O.Write.contents c.write_slot.new.output in
     subst (Appends old new) (sym (written_more line n))
-    (Appends-trans old (g.O.Write.contents c.loop-slot.output) new (slots_text coding f h T n) (line n) c.loop-slot.invariant c.in_ok-write_slot.ensures)
+    (Appends-trans old (g.O.Write.contents c.loop-slot.output) new (slots_text c.args.is_json coding f h T n) (line n) c.loop-slot.invariant c.in_ok-write_slot.ensures)

@@ -1,0 +1,37 @@
+use Rattle.std.proofs.Common.{[], ◌∷◌, ◌++◌, Bool, subst, sym}
+use Rattle.std.specs.Io.KnownBytes.{Appends}
+use Rattle.std.specs.Prelude.{OnOk, codes}
+use Rattle.odht_tool_core.specs.Json.{number_field, pair_fields_text, text_field}
+use Rattle.odht_tool_core.specs.Slots.{number_fields_text, numbers_text, slot_text}
+use Rattle.odht_tool_core.specs.Texts.{hex_text, pair_line}
+use Rattle.odht_tool_core.proofs.InfoLines.{then_appends}
+use Rattle.odht_tool_core.proofs.JsonFields.{slot_parts}
+use Rattle.odht_tool_core.proofs.sized_slots.write_slot_text.Goals as goal
+
+-- the numbers and the pair are one object
+pub returns-then-is_json : goal.returns-then-is_json
+unfolding slot_text
+returns-then-is_json g c =
+    let o = g.O.Write.contents in
+    let old = o c.args.output.now in
+    let new = o c.write_hex_fields.new.output in
+    let r = c.write_hex_fields.result in
+    let f = hex_text in
+    let h = hex_text in
+    let numbers = number_fields_text c.args.slot c.args.tag c.args.groups in
+    let parts = slot_parts (number_field (codes "slot") c.args.slot) (number_field (codes "control") c.args.tag) (number_field (codes "groups") c.args.groups) (text_field (codes "key") (f c.args.key.now)) (text_field (codes "value") (h c.args.value.now)) in
+    let written = then_appends r old (o c.write_number_fields.new.output) new numbers (pair_fields_text f h (c.args.key.now, c.args.value.now)) c.in_ok-write_number_fields.ensures c.write_hex_fields.ensures in
+    subst (λ (j : Bool). OnOk r (Appends old new (slot_text j f h c.args.slot c.args.tag c.args.groups (c.args.key.now, c.args.value.now)))) (sym c.if-is_json.true) (subst (λ t. OnOk r (Appends old new t)) parts written)
+
+-- without an object they stand behind tabs
+pub returns : goal.returns
+unfolding slot_text
+returns g c =
+    let o = g.O.Write.contents in
+    let old = o c.args.output.now in
+    let new = o c.write_bytes_pair.new.output in
+    let r = c.write_bytes_pair.result in
+    let f = hex_text in
+    let h = hex_text in
+    let written = then_appends r old (o c.write_numbers.new.output) new (numbers_text c.args.slot c.args.tag c.args.groups) (pair_line f h (c.args.key.now, c.args.value.now)) c.in_ok-write_numbers.ensures c.write_bytes_pair.ensures in
+    subst (λ (j : Bool). OnOk r (Appends old new (slot_text j f h c.args.slot c.args.tag c.args.groups (c.args.key.now, c.args.value.now)))) (sym c.if-is_json.false) written
