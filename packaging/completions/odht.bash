@@ -19,13 +19,13 @@ _odht() {
         --capacity) COMPREPLY=(); return;;
     esac
     case ${COMP_WORDS[1]}:$word in
-        info:-*) COMPREPLY=($(compgen -W '--help --whole --at' -- "$word"));;
-        check:-*) COMPREPLY=($(compgen -W '--help --whole --hash --at' -- "$word"));;
+        info:-*) COMPREPLY=($(compgen -W '--help --whole --json --at' -- "$word"));;
+        check:-*) COMPREPLY=($(compgen -W '--help --whole --json --hash --at' -- "$word"));;
         count:-*) COMPREPLY=($(compgen -W '--help --whole --hash --at' -- "$word"));;
         get:-*) COMPREPLY=($(compgen -W '--help --key --value --hash --at' -- "$word"));;
-        dump:-*) COMPREPLY=($(compgen -W '--help --slots --key --value --hash --at' -- "$word"));;
+        dump:-*) COMPREPLY=($(compgen -W '--help --slots --json --key --value --hash --at' -- "$word"));;
         keys:-*) COMPREPLY=($(compgen -W '--help --key --hash --at' -- "$word"));;
-        find:-*) COMPREPLY=($(compgen -W '--help --whole' -- "$word"));;
+        find:-*) COMPREPLY=($(compgen -W '--help --whole --json' -- "$word"));;
         build:-*) COMPREPLY=($(compgen -W '--help --key --value --hash --percent --capacity --progress --break-links' -- "$word"));;
         put:-*) COMPREPLY=($(compgen -W '--help --key --value --whole --hash --progress --break-links' -- "$word"));;
         *) mapfile -t COMPREPLY < <(compgen -f -- "$word");;

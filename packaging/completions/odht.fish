@@ -12,9 +12,11 @@ complete -c odht -n __fish_use_subcommand -f -a help -d 'is the help of a comman
 complete -c odht -n '__fish_seen_subcommand_from help' -f -a 'info check count get dump keys find build put'
 complete -c odht -n '__fish_seen_subcommand_from info' -l help
 complete -c odht -n '__fish_seen_subcommand_from info' -l whole
+complete -c odht -n '__fish_seen_subcommand_from info' -l json
 complete -c odht -n '__fish_seen_subcommand_from info' -l at -x -d 'a number below 2^64'
 complete -c odht -n '__fish_seen_subcommand_from check' -l help
 complete -c odht -n '__fish_seen_subcommand_from check' -l whole
+complete -c odht -n '__fish_seen_subcommand_from check' -l json
 complete -c odht -n '__fish_seen_subcommand_from check' -l hash -x -a 'fx unhash' -d 'fx or unhash'
 complete -c odht -n '__fish_seen_subcommand_from check' -l at -x -d 'a number below 2^64'
 complete -c odht -n '__fish_seen_subcommand_from count' -l help
@@ -28,6 +30,7 @@ complete -c odht -n '__fish_seen_subcommand_from get' -l hash -x -a 'fx unhash' 
 complete -c odht -n '__fish_seen_subcommand_from get' -l at -x -d 'a number below 2^64'
 complete -c odht -n '__fish_seen_subcommand_from dump' -l help
 complete -c odht -n '__fish_seen_subcommand_from dump' -l slots
+complete -c odht -n '__fish_seen_subcommand_from dump' -l json
 complete -c odht -n '__fish_seen_subcommand_from dump' -l key -x -d 'u32, u64, i32, i64, u32be, u64be, hexN or text N'
 complete -c odht -n '__fish_seen_subcommand_from dump' -l value -x -d 'u32, u64, i32, i64, u32be, u64be, none, hexN or text N'
 complete -c odht -n '__fish_seen_subcommand_from dump' -l hash -x -a 'fx unhash' -d 'fx or unhash'
@@ -38,6 +41,7 @@ complete -c odht -n '__fish_seen_subcommand_from keys' -l hash -x -a 'fx unhash'
 complete -c odht -n '__fish_seen_subcommand_from keys' -l at -x -d 'a number below 2^64'
 complete -c odht -n '__fish_seen_subcommand_from find' -l help
 complete -c odht -n '__fish_seen_subcommand_from find' -l whole
+complete -c odht -n '__fish_seen_subcommand_from find' -l json
 complete -c odht -n '__fish_seen_subcommand_from build' -l help
 complete -c odht -n '__fish_seen_subcommand_from build' -l key -x -d 'u32, u64, i32, i64, u32be, u64be, hexN or text N'
 complete -c odht -n '__fish_seen_subcommand_from build' -l value -x -d 'u32, u64, i32, i64, u32be, u64be, none, hexN or text N'

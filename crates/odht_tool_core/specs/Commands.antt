@@ -5,7 +5,7 @@
 --     options_of t         the options that the command t has
 use Rattle.std.specs.Prelude.{ℕ, List, [], ◌∷◌, codes}
 use Rattle.odht_tool_core.specs.declared.arguments.topics.Setting.{Setting}
-use Rattle.odht_tool_core.specs.declared.arguments.topics.Setting.TheVariants.{Help, Slots, Whole, Progress, BreakLinks, At, Hash, Key, Value, Percent, Capacity}
+use Rattle.odht_tool_core.specs.declared.arguments.topics.Setting.TheVariants.{Help, Slots, Json, Whole, Progress, BreakLinks, At, Hash, Key, Value, Percent, Capacity}
 use Rattle.odht_tool_core.specs.declared.arguments.topics.Topic.{Topic}
 use Rattle.odht_tool_core.specs.declared.arguments.topics.Topic.TheVariants.{Info, Check, Count, Get, Dump, Keys, Find, Build, Put}
 
@@ -26,6 +26,7 @@ commands = Info ∷ Check ∷ Count ∷ Get ∷ Dump ∷ Keys ∷ Find ∷ Build
 abbrev pub option_name : Setting → List ℕ
 option_name Help = codes "--help"
 option_name Slots = codes "--slots"
+option_name Json = codes "--json"
 option_name Whole = codes "--whole"
 option_name Progress = codes "--progress"
 option_name BreakLinks = codes "--break-links"
@@ -37,12 +38,12 @@ option_name Percent = codes "--percent"
 option_name Capacity = codes "--capacity"
 
 abbrev pub options_of : Topic → List Setting
-options_of Info = Help ∷ Whole ∷ At ∷ []
-options_of Check = Help ∷ Whole ∷ Hash ∷ At ∷ []
+options_of Info = Help ∷ Whole ∷ Json ∷ At ∷ []
+options_of Check = Help ∷ Whole ∷ Json ∷ Hash ∷ At ∷ []
 options_of Count = Help ∷ Whole ∷ Hash ∷ At ∷ []
 options_of Get = Help ∷ Key ∷ Value ∷ Hash ∷ At ∷ []
-options_of Dump = Help ∷ Slots ∷ Key ∷ Value ∷ Hash ∷ At ∷ []
+options_of Dump = Help ∷ Slots ∷ Json ∷ Key ∷ Value ∷ Hash ∷ At ∷ []
 options_of Keys = Help ∷ Key ∷ Hash ∷ At ∷ []
-options_of Find = Help ∷ Whole ∷ []
+options_of Find = Help ∷ Whole ∷ Json ∷ []
 options_of Build = Help ∷ Key ∷ Value ∷ Hash ∷ Percent ∷ Capacity ∷ Progress ∷ BreakLinks ∷ []
 options_of Put = Help ∷ Key ∷ Value ∷ Whole ∷ Hash ∷ Progress ∷ BreakLinks ∷ []

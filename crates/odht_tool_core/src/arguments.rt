@@ -76,10 +76,12 @@ pub enum Reading {
     // begin readings: made of commands.txt by tools/commands; `make manual` makes it anew
     Info {
         bound: Option<usize>,
+        is_json: bool,
     },
     Check {
         hash: Option<Hash>,
         bound: Option<usize>,
+        is_json: bool,
     },
     Count {
         hash: Option<Hash>,
@@ -94,6 +96,7 @@ pub enum Reading {
         hash: Option<Hash>,
         kinds: Kinds,
         is_slots: bool,
+        is_json: bool,
     },
     Keys {
         hash: Option<Hash>,
@@ -101,6 +104,7 @@ pub enum Reading {
     },
     Find {
         bound: Option<usize>,
+        is_json: bool,
     },
     // end readings
 }

@@ -84,8 +84,14 @@ impl Topic {
         ensures { result.now ≡ options_of self }
     {
         match self {
-            Topic::Info => &[Setting::Help, Setting::Whole, Setting::At],
-            Topic::Check => &[Setting::Help, Setting::Whole, Setting::Hash, Setting::At],
+            Topic::Info => &[Setting::Help, Setting::Whole, Setting::Json, Setting::At],
+            Topic::Check => &[
+                Setting::Help,
+                Setting::Whole,
+                Setting::Json,
+                Setting::Hash,
+                Setting::At,
+            ],
             Topic::Count => &[Setting::Help, Setting::Whole, Setting::Hash, Setting::At],
             Topic::Get => &[
                 Setting::Help,
@@ -97,13 +103,14 @@ impl Topic {
             Topic::Dump => &[
                 Setting::Help,
                 Setting::Slots,
+                Setting::Json,
                 Setting::Key,
                 Setting::Value,
                 Setting::Hash,
                 Setting::At,
             ],
             Topic::Keys => &[Setting::Help, Setting::Key, Setting::Hash, Setting::At],
-            Topic::Find => &[Setting::Help, Setting::Whole],
+            Topic::Find => &[Setting::Help, Setting::Whole, Setting::Json],
             Topic::Build => &[
                 Setting::Help,
                 Setting::Key,
@@ -138,6 +145,7 @@ impl fmt::Display for Topic {
 pub enum Setting {
     Help,
     Slots,
+    Json,
     Whole,
     Progress,
     BreakLinks,
@@ -180,6 +188,7 @@ impl Setting {
         match self {
             Setting::Help => "--help",
             Setting::Slots => "--slots",
+            Setting::Json => "--json",
             Setting::Whole => "--whole",
             Setting::Progress => "--progress",
             Setting::BreakLinks => "--break-links",
@@ -197,6 +206,7 @@ impl Setting {
         match self {
             Setting::Help
             | Setting::Slots
+            | Setting::Json
             | Setting::Whole
             | Setting::Progress
             | Setting::BreakLinks => None,

@@ -73,13 +73,13 @@ pub enum Command {
 /// A command that reads its file alone. A bound is one of searches, in groups; none with `--whole`.
 pub enum Reading {
     // begin readings: made of commands.txt by tools/commands; `make manual` makes it anew
-    Info { bound: Option<usize> },
-    Check { hash: Option<Hash>, bound: Option<usize> },
+    Info { bound: Option<usize>, is_json: bool },
+    Check { hash: Option<Hash>, bound: Option<usize>, is_json: bool },
     Count { hash: Option<Hash>, bound: Option<usize> },
     Get { hash: Option<Hash>, kinds: Kinds, keys: Keys },
-    Dump { hash: Option<Hash>, kinds: Kinds, is_slots: bool },
+    Dump { hash: Option<Hash>, kinds: Kinds, is_slots: bool, is_json: bool },
     Keys { hash: Option<Hash>, kinds: Kinds },
-    Find { bound: Option<usize> },
+    Find { bound: Option<usize>, is_json: bool },
     // end readings
 }
 

@@ -25,7 +25,12 @@ fn is_plain(byte: u8) -> bool {
 
 /// Writes the bytes without the zeros at their end, whatever they are.
 pub(crate) fn write_plain<W: Write>(bytes: &[u8], output: &mut W) -> io::Result<()> {
-    output.write_all(&bytes[..text_len(bytes)])
+    output.write_all(plain_of(bytes))
+}
+
+/// The bytes without the zeros at their end.
+pub(crate) fn plain_of(bytes: &[u8]) -> &[u8] {
+    &bytes[..text_len(bytes)]
 }
 
 // How many bytes there are without the zeros at the end.

@@ -6,6 +6,7 @@ use crate::erased::core::digits::write_number;
 use crate::erased::core::failure::Failure;
 use crate::erased::core::forms::{Form, Forms, OwnForms};
 use crate::erased::core::groups::groups_to;
+use crate::erased::core::json::pairs::write_pair_fields;
 use crate::erased::core::status::{of_output, Status};
 use crate::erased::core::text::Text;
 use crate::host::prelude::*;
@@ -24,13 +25,14 @@ where
     C::Key: Text,
     C::Value: Text,
 {
-    dump_slots_as::<C, OwnForms, O>(bytes, OwnForms, output)
+    dump_slots_as::<C, OwnForms, O>(bytes, OwnForms, false, output)
 }
 
-/// `dump_slots` in texts of these forms.
+/// `dump_slots` in texts of these forms; with `is_json` an object of JSON for each slot.
 pub fn dump_slots_as<C: Config, F: Forms, O: Write>(
     bytes: &[u8],
     forms: F,
+    is_json: bool,
     output: &mut O,
 ) -> Result<Status, Failure>
 where
@@ -39,13 +41,14 @@ where
 {
     let allocation = Allocation::<C, Borrowed<'_>>::from_raw_bytes(Borrowed::new(bytes))
         .map_err(Failure::Refused)?;
-    of_output(write_slots(&allocation, forms, output))
+    of_output(write_slots(&allocation, forms, is_json, output))
 }
 
 // Writes a line for each occupied slot.
 fn write_slots<C: Config, F: Forms, O: Write>(
     allocation: &Allocation<C, Borrowed<'_>>,
     forms: F,
+    is_json: bool,
     output: &mut O,
 ) -> io::Result<()>
 where
@@ -54,7 +57,7 @@ where
 {
     let (control, entries) = allocation.data_slices();
     for slot in 0..entries.len() {
-        write_slot::<C, F, O>(control, &entries, slot, forms, output)?;
+        write_slot::<C, F, O>(control, &entries, slot, forms, is_json, output)?;
     }
     Ok(())
 }
@@ -66,6 +69,7 @@ fn write_slot<C: Config, F: Forms, O: Write>(
     entries: &Entries<'_, C::EncodedKey, C::EncodedValue>,
     slot: usize,
     forms: F,
+    is_json: bool,
     output: &mut O,
 ) -> io::Result<()>
 where
@@ -78,9 +82,38 @@ where
     }
     let entry = entries.get(slot);
     let groups = groups_to(C::H::hash(entry.key.as_slice()), slot, entries.len(), None);
-    write_numbers(slot, tag, groups, output)?;
     let (key, value) = (C::decode_key(&entry.key), C::decode_value(&entry.value));
-    write_pair_as(&key, &value, forms, output)
+    write_slot_text(slot, tag, groups, &key, &value, forms, is_json, output)
+}
+
+// Writes these numbers of a slot, and its pair.
+#[inline(always)]
+fn write_slot_text<K: Text, V: Text, F: Forms, O: Write>(
+    slot: usize,
+    tag: u8,
+    groups: usize,
+    key: &K,
+    value: &V,
+    forms: F,
+    is_json: bool,
+    output: &mut O,
+) -> io::Result<()> {
+    if is_json {
+        write_number_fields(slot, tag, groups, output)?;
+        return write_pair_fields(key, value, forms, output);
+    }
+    write_numbers(slot, tag, groups, output)?;
+    write_pair_as(key, value, forms, output)
+}
+
+/// Writes the begin of the object of a slot: its number, its control byte and a number of groups.
+pub(crate) fn write_number_fields<O: Write>(
+    slot: usize,
+    tag: u8,
+    groups: usize,
+    output: &mut O,
+) -> io::Result<()> {
+    write!(output, "{{\"slot\":{slot},\"control\":{tag},\"groups\":{groups},")
 }
 
 /// Writes the number of a slot, its control byte and a number of groups, each with a tab after it.

@@ -5,7 +5,7 @@
 use crate::erased::core::digits::{parse_number, write_number};
 use crate::erased::core::forms::Form;
 use crate::erased::core::misread::Wanted;
-use crate::erased::core::plain::{parse_plain, write_plain};
+use crate::erased::core::plain::{parse_plain, plain_of, write_plain};
 use crate::erased::core::signed::{parse_signed, write_signed};
 use crate::host::prelude::*;
 use std::io::{self, Write};
@@ -17,6 +17,9 @@ pub trait Text: Copy {
 
     /// The value of which the word is the text. None where it is the text of no such value.
     fn parse(word: &[u8], form: Form) -> Option<Self>;
+
+    /// The text, where it may have any bytes. None where each is a character that stands for itself in a string of JSON.
+    fn plain_bytes(&self, form: Form) -> Option<&[u8]>;
 
     /// Writes the text.
     fn write<W: Write>(&self, form: Form, output: &mut W) -> io::Result<()>;
@@ -39,6 +42,10 @@ impl Text for u32 {
                 Some(number.swap_bytes())
             }
         }
+    }
+
+    fn plain_bytes(&self, _form: Form) -> Option<&[u8]> {
+        None
     }
 
     #[inline(always)]
@@ -70,6 +77,10 @@ impl Text for u64 {
         }
     }
 
+    fn plain_bytes(&self, _form: Form) -> Option<&[u8]> {
+        None
+    }
+
     #[inline(always)]
     fn write<W: Write>(&self, form: Form, output: &mut W) -> io::Result<()> {
         match form {
@@ -93,6 +104,10 @@ impl Text for () {
         }
     }
 
+    fn plain_bytes(&self, _form: Form) -> Option<&[u8]> {
+        None
+    }
+
     fn write<W: Write>(&self, _form: Form, output: &mut W) -> io::Result<()> {
         output.write_all(b"")
     }
@@ -113,6 +128,13 @@ impl<const N: usize> Text for [u8; N] {
         }
     }
 
+    fn plain_bytes(&self, form: Form) -> Option<&[u8]> {
+        match form {
+            Form::Plain => Some(plain_of(self)),
+            _ => only_digits(self),
+        }
+    }
+
     #[inline(always)]
     fn write<W: Write>(&self, form: Form, output: &mut W) -> io::Result<()> {
         match form {
@@ -120,6 +142,11 @@ impl<const N: usize> Text for [u8; N] {
             _ => write_bytes(self, output),
         }
     }
+}
+
+// None: the text of these bytes has digits alone.
+fn only_digits(bytes: &[u8]) -> Option<&[u8]> {
+    None
 }
 
 // The bytes with these hexadecimal digits, two for each byte, letters in either case.

@@ -69,8 +69,10 @@ impl Topic {
     /// Its options.
     pub(crate) fn options(self) -> &'static [Setting] {
         match self {
-            Topic::Info => &[Setting::Help, Setting::Whole, Setting::At],
-            Topic::Check => &[Setting::Help, Setting::Whole, Setting::Hash, Setting::At],
+            Topic::Info => &[Setting::Help, Setting::Whole, Setting::Json, Setting::At],
+            Topic::Check => {
+                &[Setting::Help, Setting::Whole, Setting::Json, Setting::Hash, Setting::At]
+            }
             Topic::Count => &[Setting::Help, Setting::Whole, Setting::Hash, Setting::At],
             Topic::Get => {
                 &[Setting::Help, Setting::Key, Setting::Value, Setting::Hash, Setting::At]
@@ -78,13 +80,14 @@ impl Topic {
             Topic::Dump => &[
                 Setting::Help,
                 Setting::Slots,
+                Setting::Json,
                 Setting::Key,
                 Setting::Value,
                 Setting::Hash,
                 Setting::At,
             ],
             Topic::Keys => &[Setting::Help, Setting::Key, Setting::Hash, Setting::At],
-            Topic::Find => &[Setting::Help, Setting::Whole],
+            Topic::Find => &[Setting::Help, Setting::Whole, Setting::Json],
             Topic::Build => &[
                 Setting::Help,
                 Setting::Key,
@@ -119,6 +122,7 @@ impl fmt::Display for Topic {
 pub enum Setting {
     Help,
     Slots,
+    Json,
     Whole,
     Progress,
     BreakLinks,
@@ -150,6 +154,7 @@ impl Setting {
         match self {
             Setting::Help => "--help",
             Setting::Slots => "--slots",
+            Setting::Json => "--json",
             Setting::Whole => "--whole",
             Setting::Progress => "--progress",
             Setting::BreakLinks => "--break-links",
@@ -167,6 +172,7 @@ impl Setting {
         match self {
             Setting::Help
             | Setting::Slots
+            | Setting::Json
             | Setting::Whole
             | Setting::Progress
             | Setting::BreakLinks => None,

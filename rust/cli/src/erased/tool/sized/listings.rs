@@ -4,7 +4,7 @@
 use crate::erased::core::any::OtherShape;
 use crate::erased::core::failure::Failure;
 use crate::erased::core::shapes::Hash;
-use crate::erased::core::sized_slots::{write_bytes_key, write_bytes_pair, write_sized_slots};
+use crate::erased::core::sized_slots::{write_bytes_key, write_bytes_pair_as, write_sized_slots};
 use crate::erased::core::status::{of_output, Status};
 use crate::erased::tool::sized::{layout_of, open_lengths};
 use crate::host::prelude::*;
@@ -14,19 +14,21 @@ use crate::proved::tables::raw_table::SizedIter;
 use crate::proved::tables::{FxHashFn, UnHashFn};
 use std::io::{self, Write};
 
-/// `odht dump` of bytes of a shape, with `--slots` or without: writes a line for each pair, in slot order.
+/// `odht dump` of bytes of a shape, with `--slots` or without: writes a line for each pair, in slot order; with `is_json` an
+/// object of JSON.
 pub fn dump_other<O: Write>(
     shape: OtherShape,
     bytes: &[u8],
     is_slots: bool,
+    is_json: bool,
     output: &mut O,
 ) -> Result<Status, Failure> {
     let layout = layout_of(shape);
     match (shape.hash, is_slots) {
-        (Hash::Fx, false) => dump_lengths::<FxHashFn, O>(layout, bytes, output),
-        (Hash::Fx, true) => dump_slots_of::<FxHashFn, O>(layout, bytes, output),
-        (Hash::Unhash, false) => dump_lengths::<UnHashFn, O>(layout, bytes, output),
-        (Hash::Unhash, true) => dump_slots_of::<UnHashFn, O>(layout, bytes, output),
+        (Hash::Fx, false) => dump_lengths::<FxHashFn, O>(layout, bytes, is_json, output),
+        (Hash::Fx, true) => dump_slots_of::<FxHashFn, O>(layout, bytes, is_json, output),
+        (Hash::Unhash, false) => dump_lengths::<UnHashFn, O>(layout, bytes, is_json, output),
+        (Hash::Unhash, true) => dump_slots_of::<UnHashFn, O>(layout, bytes, is_json, output),
     }
 }
 
@@ -46,20 +48,22 @@ pub fn keys_other<O: Write>(
 fn dump_lengths<H: HashFn, O: Write>(
     layout: Layout,
     bytes: &[u8],
+    is_json: bool,
     output: &mut O,
 ) -> Result<Status, Failure> {
     let table = open_lengths::<H>(layout, bytes)?;
-    of_output(write_pairs(table.iter(), output))
+    of_output(write_pairs(table.iter(), is_json, output))
 }
 
 fn dump_slots_of<H: HashFn, O: Write>(
     layout: Layout,
     bytes: &[u8],
+    is_json: bool,
     output: &mut O,
 ) -> Result<Status, Failure> {
     let table = open_lengths::<H>(layout, bytes)?;
     let parts = table.as_sized();
-    of_output(write_sized_slots(&parts, output))
+    of_output(write_sized_slots(&parts, is_json, output))
 }
 
 fn keys_lengths<H: HashFn, O: Write>(
@@ -72,9 +76,13 @@ fn keys_lengths<H: HashFn, O: Write>(
 }
 
 // Writes each pair on a line.
-fn write_pairs<H: HashFn, O: Write>(pairs: SizedIter<'_, H>, output: &mut O) -> io::Result<()> {
+fn write_pairs<H: HashFn, O: Write>(
+    pairs: SizedIter<'_, H>,
+    is_json: bool,
+    output: &mut O,
+) -> io::Result<()> {
     for (key, value) in pairs {
-        write_bytes_pair(key, value, output)?;
+        write_bytes_pair_as(key, value, is_json, output)?;
     }
     Ok(())
 }
