@@ -5,3 +5,5 @@ pub mod Commands
 pub mod Gots
 -- what `get -` writes
 pub mod GotLines
+-- what `order` writes
+pub mod Orders

@@ -15,3 +15,5 @@ pub mod Faults
 pub mod Sizes
 -- what `keys` and `count` do
 pub mod Listings
+-- what `order` does
+pub mod Orders
