@@ -31,6 +31,7 @@ COMMANDS = [([it.name, "table"], b"") for it in LISTED if it.is_reading and it.i
 COMMANDS += [
     (["dump", "-"], None),
     (["count", "table", "-"], None),
+    (["diff", "table", "-"], None),
     (["get", "table", "3", "7"], b""),
     (["get", "table", "x"], b""),
     (["get", "table", "-"], LINES.replace(b"\t", b"\n")),
@@ -129,7 +130,9 @@ def memory(program, room):
             (status, errors, is_kept), made = run_failing([program, *command], given, request, preloaded)
             if made < request:
                 break
-            if status != 1 or not errors.endswith("out of memory\n") or not is_kept:
+            # `diff` fails with 2, once its words are parsed
+            is_failed = status == 1 or status == 2 and command[0] == "diff"
+            if not is_failed or not errors.endswith("out of memory\n") or not is_kept:
                 kept = "" if is_kept else ", and the files are others"
                 raise Failed(f"{' '.join(command)}: request {request} fails: status {status}{kept}\n{errors}")
             passed += 1

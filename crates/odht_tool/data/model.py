@@ -100,3 +100,18 @@ class Table:
         entries = b"".join(zeros if cell is None else cell[0] + cell[1] for cell in self.cells)
         controls = self.controls()
         return header + entries + controls + controls[:16]
+
+
+def differences(table, other, key_text, value_text):
+    """What `diff` has to write of two tables, and its status."""
+    of, there = [{cell[0]: cell[1] for cell in filter(None, it.cells)} for it in (table, other)]
+    text = ""
+    for key, value in of.items():
+        if key not in there:
+            text += f"-\t{key_text(key)}\t{value_text(value)}\n"
+        elif there[key] != value:
+            text += f"~\t{key_text(key)}\t{value_text(value)}\t{value_text(there[key])}\n"
+    text += "".join(f"+\t{key_text(key)}\t{value_text(value)}\n" for key, value in there.items() if key not in of)
+    if text:
+        return text, 1
+    return ("same bytes\n" if table.image() == other.image() else "same pairs, other bytes\n"), 0

@@ -4,7 +4,7 @@ of them: those in tests/tool/tables, and tests/script/hex.cases.
 It shares no code with the programs. Run it anywhere: `python3 tables.py`."""
 import os
 
-from model import Table, fx, unhash
+from model import Table, differences, fx, unhash
 
 # docs/TOOL.md: the bound of searches, in groups, where `--whole` is not given, and what `check` then writes
 BOUND = 128
@@ -112,6 +112,7 @@ class Case:
             self.table.put(key, value)
         self.hash_words = " --hash unhash" if hash is unhash and (key_size == 4 or is_other) else ""
         self.info = info_text(self.table, percent)
+        self.key_text, self.value_text = key_text, value_text
         self.dump = dump_text(self.table, key_text, value_text)
         self.slots = slots_text(self.table, key_text, value_text)
         self.order = order_text(self.table, key_text, value_text)
@@ -345,6 +346,32 @@ def write_unmade_cases():
     write_test("tool/tables/unmade.cases", text)
 
 
+def write_diff_cases():
+    """The differences of tables with the same sizes: each with itself, with one of the same pairs in another order or under
+    another hash function, and with one that has others."""
+    made = {case.name: case for case in cases()}
+    direct, odd = made["direct"], made["odd_sizes"]
+    pairs = list(filter(None, direct.table.cells))
+    other_pairs = [(key, value if at % 4 else le(7, 5)) for at, (key, value) in enumerate(filter(None, odd.table.cells)) if at]
+    for case in [
+            Case("direct_back", "", 4, 4, unhash, 87, 40, pairs[::-1]), Case("direct_fx", "", 4, 4, fx, 40, 40, pairs),
+            Case("odd_other", "", 3, 5, fx, 87, 100, other_pairs + [(b"new", b"value")], bytes.hex, bytes.hex)]:
+        case.write_file()
+        made[case.name] = case
+    text = HEAD
+    for name, other in [
+            ("direct", "direct"), ("direct", "direct_back"), ("direct_back", "direct_fx"), ("direct", "u32_u32"),
+            ("u32_u32", "direct"), ("u64_u32", "no_pairs"), ("no_pairs", "u64_u32"), ("no_pairs", "empty"),
+            ("one_pair", "u64_u32"), ("i64_i32", "u64_u32"), ("odd_sizes", "odd_other"), ("odd_other", "odd_sizes"),
+            ("bytes16_set", "bytes16_set"), ("empty_key", "empty_key")]:
+        case = made[name]
+        told, status = differences(case.table, made[other].table, case.key_text, case.value_text)
+        files = "".join(f"before {it}.odht: < crates/odht_tool/data/{it}.odht\n" for it in dict.fromkeys([name, other]))
+        text += f"== {name} and {other}\nargs: diff {name}.odht {other}.odht{case.kinds}\n{files}"
+        text += block("stdout", told) + (f"status: {status}\n" if status else "") + "\n"
+    write_test("tool/tables/diff.cases", text)
+
+
 def write_hex_case():
     """The bytes of the table of the largest key and the largest value, on one line of digits."""
     table = Table(8, 4, fx, 95, 3)
@@ -365,3 +392,4 @@ if __name__ == "__main__":
     write_find_cases()
     write_bound_cases()
     write_unmade_cases()
+    write_diff_cases()

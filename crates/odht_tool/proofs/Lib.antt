@@ -14,5 +14,7 @@ pub mod Counts
 pub mod FindEnds
 -- the pairs of an insert order
 pub mod Ordered
+-- two tables that are compared
+pub mod Diffed
 -- worked examples of the definitions
 pub mod examples

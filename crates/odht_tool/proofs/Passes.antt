@@ -1,12 +1,19 @@
 -- Bytes in which the whole check finds no error.
-use Rattle.std.proofs.Common.{◌≡◌, ℕ, List, Option, None}
+use Rattle.std.proofs.Common.{◌≡◌, ◌<◌, ℕ, List, Option, None, All}
 use Rattle.odht_base.specs.Format.{Format}
+use Rattle.odht_base.specs.Valid.{IsValidBytes}
 use Rattle.odht_header.specs.Refusals.{check_refusal_by}
 use Rattle.odht_header.proofs.lemmas.FirstErrors.{option_or-None}
 use Rattle.odht_raw.specs.Frame.{IsAccepted}
 use Rattle.odht_raw.proofs.lemmas.Openings.{view_refusal-accepted}
+use Rattle.odht_raw.proofs.lemmas.WholeChecks.{valid_late}
 
 -- they are accepted
 pub passes_accepted : (F : Format) (o : Option ℕ) (B : List ℕ) → check_refusal_by F o B ≡ None → IsAccepted F B
 unfolding check_refusal_by
 passes_accepted F o B e = view_refusal-accepted F B (option_or-None _ _ e).0
+
+-- and valid
+pub passes_valid : (F : Format) (o : Option ℕ) (B : List ℕ) → All (λ x. x < 256) B → check_refusal_by F o B ≡ None → IsValidBytes F B
+unfolding check_refusal_by
+passes_valid F o B small e = let both = option_or-None _ _ e in (valid_late F o B small (view_refusal-accepted F B both.0) both.1).0

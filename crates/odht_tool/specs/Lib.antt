@@ -17,3 +17,5 @@ pub mod Sizes
 pub mod Listings
 -- what `order` does
 pub mod Orders
+-- what `diff` does
+pub mod Diffs

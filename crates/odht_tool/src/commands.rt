@@ -1,8 +1,8 @@
 //! Runs the commands, each from its parsed words to the status of the program.
 use odht_tool_core::arguments::{Command, Keys, Reading, Request, is_stream, parse};
 use odht_tool_core::failure::Failure;
-use odht_tool_core::files::{read_file, read_input};
 use odht_tool_core::forms::Kinds;
+use odht_tool_core::files::{read_file, read_input};
 use odht_tool_core::front::table_at;
 use odht_tool_core::help::{write_help, write_version};
 use odht_tool_core::info::info_file;
@@ -18,6 +18,7 @@ use std::rt::{Clock, Files};
 mod build;
 mod check;
 mod count;
+mod diff;
 mod dump;
 mod find;
 mod get;
@@ -43,12 +44,13 @@ where
         Ok(Request::Version) => finish("version", of_output(write_version(output)), errors),
         Ok(Request::Run { file, command }) => {
             let file = file.as_str();
+            let failed = command.status_of_failure();
             let done = run_command(rt, file, command, input, output, errors);
             let done = match output.flush() {
                 Ok(()) => done,
                 Err(error) => done.and(Err(Failure::Output(error))),
             };
-            finish(file, done, errors)
+            finish_as(file, done, failed, errors)
         }
         Err(misuse) => {
             let _ = writeln!(errors, "odht: {misuse}");
@@ -76,6 +78,15 @@ where
         } => {
             let others = others.as_slice();
             read_files(rt, file, others, at, &reading, input, output, errors)
+        }
+        Command::Diff {
+            other,
+            hash,
+            kinds,
+            bound,
+        } => {
+            let other = other.as_str();
+            diff_files(rt, file, other, hash, kinds, bound, input, output, errors)
         }
         Command::Build(options) => build::build(rt, file, options, input, output, errors),
         Command::Put {
@@ -316,14 +327,50 @@ fn order_in<O: Write, E: Write>(
     Ok(status)
 }
 
+// Compares a file with another, of which a failure is reported here.
+fn diff_files<R: Files + AllocGlobal, I: BufRead, O: Write, E: Write>(
+    rt: &R,
+    file: &str,
+    other: &str,
+    hash: Option<Hash>,
+    kinds: Kinds,
+    bound: Option<usize>,
+    input: &mut I,
+    output: &mut O,
+    errors: &mut E,
+) -> Result<Status, Failure> {
+    let first = read_bytes(rt, file, input)?;
+    let first = first.as_slice();
+    let (shape, forms) = diff::read_whole(first, hash, kinds, bound)?;
+    let second = match read_bytes(rt, other, input) {
+        Ok(second) => second,
+        Err(failure) => return Ok(finish_as(other, Err(failure), Status::Trouble, errors)),
+    };
+    let second = second.as_slice();
+    match diff::read_beside(shape, second, hash, bound) {
+        Ok(beside) => diff::diff_tables(shape, forms, first, beside, second, output),
+        Err(failure) => Ok(finish_as(other, Err(failure), Status::Trouble, errors)),
+    }
+}
+
 // Reports a failure, after the file's name.
 fn finish<E: Write>(file: &str, done: Result<Status, Failure>, errors: &mut E) -> Status {
+    finish_as(file, done, Status::NotDone, errors)
+}
+
+// The same where the run then ends so.
+fn finish_as<E: Write>(
+    file: &str,
+    done: Result<Status, Failure>,
+    failed: Status,
+    errors: &mut E,
+) -> Status {
     match done {
         Ok(status) => status,
-        Err(Failure::Output(error)) if error.kind() == ErrorKind::BrokenPipe => Status::NotDone,
+        Err(Failure::Output(error)) if error.kind() == ErrorKind::BrokenPipe => failed,
         Err(failure) => {
             let _ = writeln!(errors, "odht: {file}: {failure}");
-            Status::NotDone
+            failed
         }
     }
 }

@@ -17,6 +17,7 @@ use odht_tool_core::any::OtherShape;
 use odht_tool_core::failure::Failure;
 use odht_tool_core::shapes::Hash;
 
+pub mod diffs;
 pub mod listings;
 
 /// The lengths of a shape.

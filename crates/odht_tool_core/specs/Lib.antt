@@ -51,5 +51,7 @@ pub mod Forms
 pub mod ReadAs
 -- plain texts, which are stored with zeros behind them
 pub mod PlainTexts
+-- texts of stored bytes
+pub mod StoredTexts
 -- texts that are no key or no value
 pub mod Misreads

@@ -2,6 +2,7 @@
 
 use crate::forms::{GivenForms, Kinds};
 use crate::shapes::{Hash, Shape};
+use crate::status::Status;
 use odht_base::load::Percent;
 use std::alloc::Global;
 
@@ -60,6 +61,13 @@ pub enum Command {
         at: Option<usize>,
         reading: Reading,
     },
+    /// One that compares the file with another.
+    Diff {
+        other: String,
+        hash: Option<Hash>,
+        kinds: Kinds,
+        bound: Option<usize>,
+    },
     Build(BuildOptions),
     Put {
         hash: Option<Hash>,
@@ -68,6 +76,16 @@ pub enum Command {
         breaks_links: bool,
         has_progress: bool,
     },
+}
+
+impl Command {
+    /// How the run ends where the command fails.
+    pub fn status_of_failure(&self) -> Status {
+        match self {
+            Command::Diff { .. } => Status::Trouble,
+            _ => Status::NotDone,
+        }
+    }
 }
 
 /// A command that reads its file alone. A bound is one of searches, in groups; none with `--whole`.

@@ -32,6 +32,8 @@ pub enum Failure {
     OtherKey(Part),
     /// Values are said to be of another type than this, which they are of.
     OtherValue(Part),
+    /// Keys and values have so many bytes, and those of the table that they are compared with have not.
+    OtherSizes { key_size: u8, value_size: u8 },
     /// The file ends before this byte.
     PastEnd { offset: usize, len: usize },
     /// There are headers of tables that overlap, more than a file has that is not forged.
@@ -98,6 +100,13 @@ impl fmt::Display for Failure {
             Failure::OtherValue(part) => {
                 write!(f, "--value does not fit its values, which are {part}")
             }
+            Failure::OtherSizes {
+                key_size,
+                value_size,
+            } => write!(
+                f,
+                "its keys have {key_size} and its values {value_size} bytes, and those of FILE have not"
+            ),
             Failure::PastEnd { offset, len } => {
                 write!(f, "has {len} bytes, and so none at the offset {offset}")
             }

@@ -50,6 +50,10 @@ fn summary_of(topic: Topic) -> &'static str {
         Topic::Find => "odht find FILE       tells each table that is inside a file\n",
         Topic::Order =>
             "odht order FILE      tells each pair in an order of inserts that makes the table\n",
+        Topic::Diff => {
+            "odht diff FILE OTHER
+                     tells how the pairs of two tables differ\n"
+        }
         Topic::Build => {
             "odht build FILE --key SHAPE --value SHAPE
                      makes a table file of the lines of standard input\n"
@@ -79,6 +83,7 @@ fn text_of(topic: Topic) -> &'static str {
         Topic::Keys => KEYS,
         Topic::Find => FIND,
         Topic::Order => ORDER,
+        Topic::Diff => DIFF,
         Topic::Build => BUILD,
         Topic::Put => PUT,
         // end names
@@ -178,6 +183,20 @@ odht order FILE [--whole] [--key SHAPE] [--value SHAPE]
     there. The hash function is the one that all control bytes fit, unless --hash
     names it; --key and --value name texts other than those of the ready shape, as
     in `odht build`.
+";
+
+const DIFF: &str = "\
+odht diff FILE OTHER [--whole] [--key SHAPE] [--value SHAPE]
+                     [--hash fx|unhash]
+    Writes a line for each pair of FILE whose key is not in OTHER, in slot order: a
+    hyphen, KEY and VALUE, with tabs between; and where OTHER has another value ~,
+    KEY, VALUE and that value. Then +, KEY and VALUE for each pair of OTHER whose key
+    is not in FILE, in its slot order. Where none differs the one line is `same
+    bytes` or `same pairs, other bytes`. Status 0: the pairs are the same; 1: they
+    differ; 2: the command failed. Both files are checked before, as by `odht
+    check`; their slot counts, load factors and hash functions may differ, their
+    key and value sizes may not. Keys and values have the texts of FILE, as in
+    `odht dump`.
 ";
 
 const BUILD: &str = "\

@@ -169,6 +169,7 @@ impl Draft {
                 has_progress: self.has_progress,
             }),
             Topic::Get => self.get(is_stream),
+            Topic::Diff => self.diff(is_stream),
             _ if self.has_second_stream(is_stream) => Err(CommandMisuse::TwiceInput),
             _ => {
                 let reading = self.reading();
@@ -232,6 +233,26 @@ impl Draft {
                 kinds: self.kinds,
                 keys,
             },
+        })
+    }
+
+    // `diff`, of which the one word is the other file.
+    fn diff(mut self, is_stream_first: bool) -> Result<Command, CommandMisuse> {
+        if self.words.is_empty() {
+            return Err(CommandMisuse::Missing("OTHER"));
+        }
+        let other = self.words.remove(0);
+        if !self.words.is_empty() {
+            return Err(CommandMisuse::ExtraWord(self.words.remove(0)));
+        }
+        if is_stream_first && is_stream(other.as_str()) {
+            return Err(CommandMisuse::TwiceInput);
+        }
+        Ok(Command::Diff {
+            other,
+            hash: self.hash,
+            kinds: self.kinds,
+            bound: bound_of(self.is_whole),
         })
     }
 

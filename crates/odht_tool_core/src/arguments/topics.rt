@@ -17,12 +17,13 @@ pub enum Topic {
     Keys,
     Find,
     Order,
+    Diff,
     Build,
     Put,
 }
 
 /// All commands, in the order of the help text.
-pub(crate) const TOPICS: [Topic; 10] = [
+pub(crate) const TOPICS: [Topic; 11] = [
     Topic::Info,
     Topic::Check,
     Topic::Count,
@@ -31,6 +32,7 @@ pub(crate) const TOPICS: [Topic; 10] = [
     Topic::Keys,
     Topic::Find,
     Topic::Order,
+    Topic::Diff,
     Topic::Build,
     Topic::Put,
 ];
@@ -69,6 +71,7 @@ impl Topic {
             Topic::Keys => "keys",
             Topic::Find => "find",
             Topic::Order => "order",
+            Topic::Diff => "diff",
             Topic::Build => "build",
             Topic::Put => "put",
         }
@@ -77,7 +80,7 @@ impl Topic {
     /// Whether words may come after the file: more files, or keys.
     pub(crate) fn takes_words(self) -> bool {
         match self {
-            Topic::Check | Topic::Count | Topic::Get => true,
+            Topic::Check | Topic::Count | Topic::Get | Topic::Diff => true,
             _ => false,
         }
     }
@@ -114,6 +117,13 @@ impl Topic {
                 Setting::Value,
                 Setting::Hash,
                 Setting::At,
+            ],
+            Topic::Diff => &[
+                Setting::Help,
+                Setting::Whole,
+                Setting::Key,
+                Setting::Value,
+                Setting::Hash,
             ],
             Topic::Build => &[
                 Setting::Help,

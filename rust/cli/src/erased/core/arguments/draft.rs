@@ -199,8 +199,7 @@ impl Draft {
             Topic::Count => Reading::Count { hash, bound },
             Topic::Dump => Reading::Dump { hash, kinds, is_slots: self.is_slots },
             Topic::Keys => Reading::Keys { hash, kinds },
-            Topic::Find => Reading::Find { bound },
-            _ => Reading::Order { hash, kinds, bound },
+            _ => Reading::Find { bound },
             // end readings
         }
     }
