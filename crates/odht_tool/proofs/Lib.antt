@@ -14,5 +14,7 @@ pub mod Passes
 pub mod Counts
 -- how `find` ends
 pub mod FindEnds
+-- the pairs of an insert order
+pub mod Ordered
 -- worked examples of the definitions
 pub mod examples

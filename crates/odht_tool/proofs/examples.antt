@@ -7,3 +7,5 @@ pub mod Gots
 pub mod GotLines
 -- pairs that are inserted
 pub mod Inserted
+-- what `order` writes
+pub mod Orders

@@ -17,3 +17,5 @@ pub mod Faults
 pub mod Sizes
 -- what `keys` and `count` do
 pub mod Listings
+-- what `order` does
+pub mod Orders

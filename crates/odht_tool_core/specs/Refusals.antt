@@ -5,12 +5,15 @@
 --     refusal_text e       the text of the error e, with that advice behind it
 --     valid_text o         `valid`; where there is a bound of searches o, that it is kept too
 --     checked_text name o r    a line of the name of a file, and of that or an error
+--     unordered_text s     no ready shape has the sizes and the hash function of the shape s, and `order` needs one
 use Rattle.std.specs.Prelude.{ℕ, List, [], ◌∷◌, ◌++◌, codes, decimal, flat_map, Option, Some, None, Result, Ok, Err}
 use Rattle.odht_header.specs.ErrorTexts.{error_text}
 use Rattle.odht_header.specs.declared.error.Error.{Error}
 use Rattle.odht_header.specs.declared.error.Error.TheVariants.{SearchTooLong, WrongTag}
+use Rattle.odht_tool_core.specs.InfoTexts.{hash_name}
 use Rattle.odht_tool_core.specs.Shown.{shown_text}
 use Rattle.odht_tool_core.specs.Texts.{hex_digits}
+use Rattle.odht_tool_core.specs.declared.any.OtherShape.{OtherShape}
 
 abbrev pub spaced_digits : ℕ → List ℕ
 spaced_digits b = 32 ∷ hex_digits b
@@ -33,3 +36,7 @@ valid_text (Some bound) = codes ": valid, and no search reads more than " ++ (de
 abbrev pub checked_text : {X : Type 0} → List ℕ → Option ℕ → Result X Error → List ℕ
 checked_text name o (Ok x) = name ++ valid_text o
 checked_text name o (Err error) = name ++ (codes ": " ++ (refusal_text error ++ (10 ∷ [])))
+
+abbrev pub unordered_text : OtherShape → List ℕ
+unordered_text s =
+    codes "no ready shape has keys of " ++ (decimal s.key_len ++ (codes " and values of " ++ (decimal s.value_len ++ (codes " bytes and the hash function " ++ (hash_name s.hash ++ codes ", and `odht order` needs one")))))

@@ -13,7 +13,7 @@ use crate::stored::least_key_size;
 use odht_header::header::Header;
 
 /// Keys and values of so many bytes, which are written in hexadecimal digits, and the hash function.
-#[derive(Clone, Copy)]
+#[derive(Clone, Copy, Debug)]
 pub struct OtherShape {
     /// The length of a key, in bytes.
     pub key_len: u8,

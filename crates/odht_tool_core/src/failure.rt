@@ -1,7 +1,11 @@
 //! Why a command stopped.
 ghost use Rattle.std.specs.Prelude.{◌≡◌};
+ghost use Rattle.std.specs.Fmt.{WritesOnOk};
 ghost use Rattle.odht_tool_core.specs.Endings.{failure_of};
+ghost use Rattle.odht_tool_core.specs.Refusals.{unordered_text};
 
+use crate::any::OtherShape;
+use crate::info::name_of;
 use crate::obstacles::Obstacle;
 use crate::refusal::Refusal;
 use crate::shapes::Part;
@@ -26,6 +30,8 @@ pub enum Failure {
     ShortKeys { key_size: u8 },
     /// The control bytes are not the tags of the keys under any hash function.
     NoHash { key_size: u8, value_size: u8 },
+    /// An order of inserts is looked for in tables of ready shapes alone, and this one is of another.
+    OrderOfOther(OtherShape),
     /// Keys are said to be of another type than this, which they are of.
     OtherKey(Part),
     /// Values are said to be of another type than this, which they are of.
@@ -88,6 +94,7 @@ impl fmt::Display for Failure {
                 key_size,
                 value_size,
             } => write_no_hash(*key_size, *value_size, f),
+            Failure::OrderOfOther(shape) => write_unordered(*shape, f),
             Failure::OtherKey(part) => write!(f, "--key does not fit its keys, which are {part}"),
             Failure::OtherValue(part) => {
                 write!(f, "--value does not fit its values, which are {part}")
@@ -118,6 +125,17 @@ fn write_no_hash<W: fmt::Write>(
     write!(
         f,
         "the control bytes fit no hash function with keys of {key_size} and values of {value_size} bytes; `odht check` and `odht info` say more"
+    )
+}
+
+// Writes that no ready shape has these sizes and this hash function.
+fn write_unordered<W: fmt::Write>(shape: OtherShape, f: &mut fmt::Formatter<W>) -> fmt::Result
+    ensures { WritesOnOk W.write_str_gives f.old result (unordered_text shape) f.new }
+{
+    let (key_len, value_len, name) = (shape.key_len, shape.value_len, name_of(shape.hash));
+    write!(
+        f,
+        "no ready shape has keys of {key_len} and values of {value_len} bytes and the hash function {name}, and `odht order` needs one"
     )
 }
 

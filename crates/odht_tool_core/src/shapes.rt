@@ -13,7 +13,7 @@ pub(crate) use ready::SHAPES;
 pub use ready::Shape;
 
 /// A hash function of keys.
-#[derive(Clone, Copy)]
+#[derive(Clone, Copy, Debug)]
 pub enum Hash {
     /// `FxHashFn`.
     Fx,
