@@ -35,6 +35,7 @@ COMMANDS += [
     (["get", "table", "x"], b""),
     (["get", "table", "-"], LINES.replace(b"\t", b"\n")),
     (["put", "table"], LINES),
+    (["rebuild", "table", "--percent", "50"], b""),
     (["build", "made", "--key", "u64", "--value", "u32"], LINES),
     (["build", "-", "--key", "hex32", "--value", "none"], b"00" * 32 + b"\n"),
     (["get", "other", "000000", "0a0b0c"], b""),

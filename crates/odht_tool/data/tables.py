@@ -355,6 +355,40 @@ def write_unmade_cases():
     write_test("tool/tables/unmade.cases", text)
 
 
+def rebuilt(table, hash, percent):
+    """The new table for as many items, with the pairs in slot order."""
+    new = Table(table.key_size, table.value_size, hash, percent, table.count())
+    for key, value in filter(None, table.cells):
+        new.put(key, value)
+    return new
+
+
+def write_rebuilt_cases():
+    """What `rebuild` has to make of tables: of others of their hash function and load factor, and of those of the other."""
+    made = {case.name: case.table for case in cases()}
+    made["one_home"] = Table(4, 4, unhash, 87, 2064)
+    for k in range(2064):
+        made["one_home"].put(le(4096 * k, 4), le(0, 4))
+    text = HEAD
+    for name, words, hash, percent in [
+            ("u64_u32", "", fx, 87), ("u64_u32", "--percent 10", fx, 10), ("u32_u32", "--percent 100", fx, 100),
+            ("u32_u32", "--hash unhash --percent 30", unhash, 30), ("direct", "", unhash, 87),
+            ("direct", "--hash unhash --percent 1", unhash, 1), ("direct", "--hash=fx", fx, 87),
+            ("bytes16_set", "--percent 50 --progress", unhash, 50), ("bytes32_u64", "--whole", unhash, 87),
+            ("i64_i32", "--hash unhash", unhash, 87), ("text16_text16", "--percent 3", unhash, 3),
+            ("empty", "--percent 1", fx, 1), ("no_pairs", "", fx, 87), ("no_pairs", "--hash unhash", unhash, 87),
+            ("one_home", "--whole --hash fx", fx, 87), ("odd_sizes", "", fx, 87), ("words_12_5", "--percent 20", unhash, 20),
+            ("words_12_5", "--hash fx", fx, 87), ("long_key", "--hash unhash", unhash, 87),
+            ("bytes16_set", "--hash fx", fx, 87), ("short_direct", "--hash fx --percent 100", fx, 100)]:
+        file = "_".join(["rebuilt", name, *(it.strip("-") for it in words.replace("=", " ").split())])
+        with open(os.path.join(HERE, f"{file}.odht"), "wb") as out:
+            out.write(rebuilt(made[name], hash, percent).image())
+        words = f" {words}" if words else ""
+        text += (f"== rebuild of {name}{words}\nbefore {name}.odht: < crates/odht_tool/data/{name}.odht\n"
+                 f"args: rebuild {name}.odht{words}\nafter {name}.odht: < crates/odht_tool/data/{file}.odht\n\n")
+    write_test("tool/tables/rebuilt.cases", text)
+
+
 def write_hex_case():
     """The bytes of the table of the largest key and the largest value, on one line of digits."""
     table = Table(8, 4, fx, 95, 3)
@@ -375,3 +409,4 @@ if __name__ == "__main__":
     write_find_cases()
     write_bound_cases()
     write_unmade_cases()
+    write_rebuilt_cases()

@@ -16,5 +16,7 @@ pub mod Counts
 pub mod FindEnds
 -- the pairs of an insert order
 pub mod Ordered
+-- the tables that `rebuild` makes, and their failures
+pub mod NewTables
 -- worked examples of the definitions
 pub mod examples

@@ -9,3 +9,5 @@ pub mod GotLines
 pub mod Inserted
 -- what `order` writes
 pub mod Orders
+-- what `rebuild` makes
+pub mod Rebuilds

@@ -19,3 +19,5 @@ pub mod Sizes
 pub mod Listings
 -- what `order` does
 pub mod Orders
+-- what `rebuild` makes
+pub mod Rebuilds

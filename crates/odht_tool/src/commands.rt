@@ -23,6 +23,7 @@ mod find;
 mod get;
 mod keys;
 mod order;
+mod rebuild;
 
 /// Does what the words ask for. Each failure is reported by a line on `errors`; where that cannot
 /// be written either, the status alone reports it. Where nobody reads `output` any more, nothing is
@@ -78,6 +79,7 @@ where
             read_files(rt, file, others, at, &reading, input, output, errors)
         }
         Command::Build(options) => build::build(rt, file, options, input, output, errors),
+        Command::Rebuild(options) => rebuild::rebuild(rt, file, options, errors),
         Command::Put {
             hash,
             kinds,

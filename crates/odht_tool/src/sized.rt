@@ -1,6 +1,7 @@
 //! Tables of other sizes than the ready shapes have: keys and values are bytes, of lengths that the header states.
 ghost use Rattle.std.specs.Prelude.{◌≡◌, ◌≤◌, IfErr, IfOk, None, OnOk};
 ghost use Rattle.odht_base.specs.Format.{format_of};
+ghost use Rattle.odht_base.specs.Valid.{IsValidBytes};
 ghost use Rattle.odht_header.specs.Refusals.{checked, check_refusal_by, view_refusal};
 ghost use Rattle.odht_tool.specs.GetParts.{IsOpenFailure};
 ghost use Rattle.odht_tool.specs.Listings.{counted};
@@ -33,9 +34,11 @@ pub fn layout_of(shape: OtherShape) -> Layout
 }
 
 /// The first rule that the bytes break, as a table of this shape, the bound of searches among them where there is one.
+/// Bytes without an error are valid.
 pub fn check_other(shape: OtherShape, bytes: &[u8], bound: Option<usize>) -> Result<(), Error>
     requires { least_key_len shape.hash ≤ shape.key_len }
-    ensures { result ≡ checked (check_refusal_by (other_format shape) bound bytes.now) }
+    ensures first { result ≡ checked (check_refusal_by (other_format shape) bound bytes.now) }
+    ensures valid { OnOk result (IsValidBytes (other_format shape) bytes.now) }
 {
     let layout = layout_of(shape);
     match shape.hash {
@@ -51,8 +54,10 @@ pub fn check_lengths<H: HashFn>(
     bound: Option<usize>,
 ) -> Result<(), Error>
     requires { H.MIN_LEN ≤ layout.key_len }
-    ensures { let F = format_of layout.key_len layout.value_len H.hash
+    ensures first { let F = format_of layout.key_len layout.value_len H.hash
         in result ≡ checked (check_refusal_by F bound bytes.now) }
+    ensures valid { let F = format_of layout.key_len layout.value_len H.hash
+        in OnOk result (IsValidBytes F bytes.now) }
 {
     check_opening::<H>(bytes, layout)?;
     match bound {

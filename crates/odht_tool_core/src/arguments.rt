@@ -26,6 +26,18 @@ pub struct BuildOptions {
     pub has_progress: bool,
 }
 
+/// The options of `rebuild`.
+#[derive(Clone, Copy)]
+pub struct RebuildOptions {
+    pub percent: Percent,
+    /// The hash function of the new table; without one that of the file.
+    pub hash: Option<Hash>,
+    /// The bound of searches, in groups, by which the file is checked; none with `--whole`.
+    pub bound: Option<usize>,
+    pub breaks_links: bool,
+    pub has_progress: bool,
+}
+
 /// Where the keys of a lookup are.
 #[derive(Drop)]
 pub enum Keys {
@@ -69,6 +81,7 @@ pub enum Command {
         breaks_links: bool,
         has_progress: bool,
     },
+    Rebuild(RebuildOptions),
 }
 
 /// A command that reads its file alone. A bound is one of searches, in groups; none with `--whole`.

@@ -43,9 +43,11 @@ pub fn check_file<O: Write>(
 }
 
 /// The first rule that the bytes break, as a table of this shape, the bound of searches among them where there is one.
+/// Bytes without an error are valid.
 pub fn check_any(shape: AnyShape, bytes: &[u8], bound: Option<usize>) -> Result<(), Error>
     requires { HasLongKeys shape }
-    ensures { result ≡ checked (check_refusal_by (any_format shape) bound bytes.now) }
+    ensures first { result ≡ checked (check_refusal_by (any_format shape) bound bytes.now) }
+    ensures valid { OnOk result (IsValidBytes (any_format shape) bytes.now) }
 {
     match shape {
         AnyShape::Ready(shape) => check_shape(shape, bytes, bound),
@@ -55,12 +57,13 @@ pub fn check_any(shape: AnyShape, bytes: &[u8], bound: Option<usize>) -> Result<
 
 /// The same of a ready shape.
 pub fn check_shape(shape: Shape, bytes: &[u8], bound: Option<usize>) -> Result<(), Error>
-    ensures { result ≡ checked (check_refusal_by (shape_format shape) bound bytes.now) }
+    ensures first { result ≡ checked (check_refusal_by (shape_format shape) bound bytes.now) }
+    ensures valid { OnOk result (IsValidBytes (shape_format shape) bytes.now) }
 {
     for_shape!(shape, check_bytes[](bytes, bound))
 }
 
-/// The same of a configuration. Bytes without an error are valid.
+/// The same of a configuration.
 pub fn check_bytes<C: Config>(bytes: &[u8], bound: Option<usize>) -> Result<(), Error>
     ensures first { let F = ⟦<C as Coded>⟧.coding.format
         in result ≡ checked (check_refusal_by F bound bytes.now) }

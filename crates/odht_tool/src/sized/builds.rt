@@ -3,6 +3,7 @@ ghost use Rattle.std.specs.Prelude.{◌≡◌, ◌≤◌, None, IfErr, IfOk};
 ghost use Rattle.odht_base.specs.Format.{format_of};
 ghost use Rattle.odht_header.specs.Refusals.{check_refusal_by};
 ghost use Rattle.odht_tool.specs.Outcomes.{copy_failure};
+ghost use Rattle.odht_tool.specs.Rebuilds.{IsNewFailure};
 ghost use Rattle.odht_tool_core.specs.InfoNumbers.{least_key_len};
 ghost use Rattle.odht.specs.Dynamic.{dyn_store};
 ghost use Rattle.odht.specs.DynOwned.{IsDynWith};
@@ -73,25 +74,26 @@ where
     }
 }
 
-fn make_lengths<H: HashFn>(
+/// An empty table of these lengths, for so many items.
+pub fn make_lengths<H: HashFn>(
     alloc: Global,
     layout: Layout,
     capacity: usize,
     percent: Percent,
 ) -> Result<DynTableOwned<H>, Failure>
-    ensures { let F = format_of layout.key_len layout.value_len H.hash
-        in IfOk result
-        (IsDynWith layout.key_len layout.value_len (IsFresh F capacity percent)) }
+    ensures ok { let F = format_of layout.key_len layout.value_len H.hash
+        in IfOk result (IsDynWith layout.key_len layout.value_len (IsFresh F capacity percent)) }
+    ensures err { let F = format_of layout.key_len layout.value_len H.hash
+        in IfErr result (IsNewFailure H.MIN_LEN F capacity percent) }
 {
-    DynTableOwned::with_capacity(alloc, layout, capacity, percent.value()).map_err(failure_of)
-}
-
-// The failure for an error of a new table.
-fn failure_of(error: DynError) -> Failure {
-    match error {
-        DynError::KeyTooShort { key_len, .. } => Failure::ShortKeys { key_size: key_len },
-        DynError::Rejected(error) => Failure::of_table(error),
-        _ => Failure::Memory,
+    match DynTableOwned::with_capacity(alloc, layout, capacity, percent.value()) {
+        Ok(table) => Ok(table),
+        Err(DynError::KeyTooShort { key_len, least: _ }) => {
+            Err(Failure::ShortKeys { key_size: key_len })
+        }
+        Err(DynError::Rejected(error)) => Err(Failure::of_table(error)),
+        // The others are errors of inserts.
+        Err(_) => Err(Failure::Memory),
     }
 }
 

@@ -1,6 +1,8 @@
 //! A command of which some words are parsed.
 use super::topics::{Setting, Topic};
-use super::{BuildOptions, Command, CommandMisuse, Keys, Misuse, Reading, Request, is_stream};
+use super::{
+    BuildOptions, Command, CommandMisuse, Keys, Misuse, Reading, RebuildOptions, Request, is_stream,
+};
 use crate::any::AnyShape;
 use crate::digits::parse_number;
 use crate::forms::{GivenForms, Kind, Kinds};
@@ -161,7 +163,8 @@ impl Draft {
     fn command(self, is_stream: bool) -> Result<Command, CommandMisuse> {
         match self.topic {
             Topic::Build => self.build(),
-            Topic::Put if is_stream => Err(CommandMisuse::Replaced),
+            Topic::Put | Topic::Rebuild if is_stream => Err(CommandMisuse::Replaced),
+            Topic::Rebuild => Ok(Command::Rebuild(self.rebuilding())),
             Topic::Put => Ok(Command::Put {
                 hash: self.hash,
                 kinds: self.kinds,
@@ -179,6 +182,17 @@ impl Draft {
                     reading,
                 })
             }
+        }
+    }
+
+    // What is said to `rebuild`.
+    fn rebuilding(&self) -> RebuildOptions {
+        RebuildOptions {
+            percent: self.percent,
+            hash: self.hash,
+            bound: bound_of(self.is_whole),
+            breaks_links: self.breaks_links,
+            has_progress: self.has_progress,
         }
     }
 

@@ -5,8 +5,8 @@ use Rattle.odht_header.proofs.lemmas.FirstErrors.{Ok-checked, Err-checked}
 use Rattle.odht_raw.proofs.lemmas.Openings.{check_refusal-view, check_refusal-late, view_refusal-accepted}
 use Rattle.odht_tool.proofs.sized.check_lengths.Goals as goal
 
-pub returns-in_err-check_opening : goal.returns-in_err-check_opening
-returns-in_err-check_opening g c =
+pub returns-in_err-check_opening-clause-first : goal.returns-in_err-check_opening-clause-first
+returns-in_err-check_opening-clause-first g c =
     let F : Format = format_of c.args.layout.key_len c.args.layout.value_len g.H.HashFn.hash in
     let x = c.in_err-check_opening.field-0.0 in
     let refusal : c.from_residual.result ≡ Err x = search rules in
@@ -22,8 +22,8 @@ check_sized-requires-clause-accepted g c =
     let F : Format = format_of c.args.layout.key_len c.args.layout.value_len g.H.HashFn.hash in
     view_refusal-accepted F c.args.bytes.now (Ok-checked _ (sym c.in_ok-check_opening.was ∙ c.check_opening.ensures))
 
-pub returns-in-Some : goal.returns-in-Some
-returns-in-Some g c =
+pub returns-in-Some-clause-first : goal.returns-in-Some-clause-first
+returns-in-Some-clause-first g c =
     let F : Format = format_of c.args.layout.key_len c.args.layout.value_len g.H.HashFn.hash in
     let B = c.args.bytes.now in
     let passed = Ok-checked _ (sym c.in_ok-check_opening.was ∙ c.check_opening.ensures) in
@@ -31,8 +31,8 @@ returns-in-Some g c =
     ∙ sym (ap checked (check_refusal-late F B (Some c.in-Some.groups) passed))
     ∙ sym (ap (λ (o : Option ℕ). checked (check_refusal_by F o B)) c.in-Some.is)
 
-pub returns-in-None : goal.returns-in-None
-returns-in-None g c =
+pub returns-in-None-clause-first : goal.returns-in-None-clause-first
+returns-in-None-clause-first g c =
     let F : Format = format_of c.args.layout.key_len c.args.layout.value_len g.H.HashFn.hash in
     let B = c.args.bytes.now in
     let passed = Ok-checked _ (sym c.in_ok-check_opening.was ∙ c.check_opening.ensures) in

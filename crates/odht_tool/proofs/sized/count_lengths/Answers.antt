@@ -8,4 +8,4 @@ use Rattle.odht_tool.proofs.sized.count_lengths.Goals as goal
 pub open_unchecked-requires-clause-accepted : goal.open_unchecked-requires-clause-accepted
 open_unchecked-requires-clause-accepted g c =
     let F : Format = format_of c.args.layout.key_len c.args.layout.value_len g.H.HashFn.hash in
-    subst (IsAccepted F) (sym c.new-store.ensures) (passes_accepted F c.args.bound c.args.bytes.now (Ok-checked _ (sym c.in-Ok.is ∙ c.check_lengths.ensures)))
+    subst (IsAccepted F) (sym c.new-store.ensures) (passes_accepted F c.args.bound c.args.bytes.now (Ok-checked _ (sym c.in-Ok.is ∙ c.check_lengths.ensures.first)))

@@ -24,7 +24,7 @@ returns g c =
     let written : Appends old new (checked_text c.args.file.now c.args.bound c.check_any-checked.result) = search rules in
     with_shape (named_any B c.args.hash) (check_of_any c.args.file.now B c.args.bound) c.in_ok-shape.shape old new _
     (sym c.in_ok-shape.was ∙ c.named_any.ensures.shape)
-    (rw (← c.check_any-checked.ensures) (status, written))
+    (rw (← c.check_any-checked.ensures.first) (status, written))
 
 pub returns-in_err-map_err : goal.returns-in_err-map_err
 returns-in_err-map_err g c =
