@@ -55,6 +55,8 @@ fn summary_of(topic: Topic) -> &'static str {
                      makes a table file of the lines of standard input\n"
         }
         Topic::Put => "odht put FILE        adds the lines of standard input to a table file\n",
+        Topic::Rebuild =>
+            "odht rebuild FILE    makes a table file anew, of another load factor or hash function\n",
         // end summaries
     }
 }
@@ -81,6 +83,7 @@ fn text_of(topic: Topic) -> &'static str {
         Topic::Order => ORDER,
         Topic::Build => BUILD,
         Topic::Put => PUT,
+        Topic::Rebuild => REBUILD,
         // end names
     }
 }
@@ -213,5 +216,21 @@ odht put FILE [--key SHAPE] [--value SHAPE] [--whole] [--hash fx|unhash]
     hexadecimal digits. Owner, group, permissions and symbolic links of the file are
     kept; one with hard links is not replaced without --break-links, with which its
     other names keep the old file.
+";
+
+const REBUILD: &str = "\
+odht rebuild FILE [--percent P] [--whole] [--hash fx|unhash] [--progress]
+                  [--break-links]
+    Makes a new table for as many items as FILE has, inserts its pairs in slot
+    order, and stores it in the place of the older one, which stays where something
+    fails. So long searches become short, and a load factor or a hash function is
+    changed. The file is checked before, as by `odht check`, by the hash function
+    that all control bytes fit; --whole is as there. The hash function unhash needs
+    keys of 4 bytes or more. Owner, group, permissions and symbolic links of the
+    file are kept; one with hard links is not replaced without --break-links.
+    --percent      the load factor of the new table, 1 to 100, else 87
+    --hash         the hash function of the new table, else that of the file
+    --progress     a line on standard error each second
+    --break-links  replaces this name of a file; its other names keep the old one
 ";
 // end texts

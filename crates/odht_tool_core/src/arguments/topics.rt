@@ -19,10 +19,11 @@ pub enum Topic {
     Order,
     Build,
     Put,
+    Rebuild,
 }
 
 /// All commands, in the order of the help text.
-pub(crate) const TOPICS: [Topic; 10] = [
+pub(crate) const TOPICS: [Topic; 11] = [
     Topic::Info,
     Topic::Check,
     Topic::Count,
@@ -33,6 +34,7 @@ pub(crate) const TOPICS: [Topic; 10] = [
     Topic::Order,
     Topic::Build,
     Topic::Put,
+    Topic::Rebuild,
 ];
 
 impl Topic {
@@ -71,6 +73,7 @@ impl Topic {
             Topic::Order => "order",
             Topic::Build => "build",
             Topic::Put => "put",
+            Topic::Rebuild => "rebuild",
         }
     }
 
@@ -129,6 +132,14 @@ impl Topic {
                 Setting::Help,
                 Setting::Key,
                 Setting::Value,
+                Setting::Whole,
+                Setting::Hash,
+                Setting::Progress,
+                Setting::BreakLinks,
+            ],
+            Topic::Rebuild => &[
+                Setting::Help,
+                Setting::Percent,
                 Setting::Whole,
                 Setting::Hash,
                 Setting::Progress,

@@ -11,7 +11,7 @@ use crate::host::prelude::*;
 use crate::proved::header::header::Header;
 
 /// Keys and values of so many bytes, which are written in hexadecimal digits, and the hash function.
-#[derive(Clone, Copy)]
+#[derive(Clone, Copy, Debug)]
 pub struct OtherShape {
     /// The length of a key, in bytes.
     pub key_len: u8,

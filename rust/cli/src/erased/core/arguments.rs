@@ -28,6 +28,18 @@ pub struct BuildOptions {
     pub has_progress: bool,
 }
 
+/// The options of `rebuild`.
+#[derive(Clone, Copy)]
+pub struct RebuildOptions {
+    pub percent: Percent,
+    /// The hash function of the new table; without one that of the file.
+    pub hash: Option<Hash>,
+    /// The bound of searches, in groups, by which the file is checked; none with `--whole`.
+    pub bound: Option<usize>,
+    pub breaks_links: bool,
+    pub has_progress: bool,
+}
+
 /// Where the keys of a lookup are.
 pub enum Keys {
     /// These words.
@@ -69,6 +81,7 @@ pub enum Command {
         breaks_links: bool,
         has_progress: bool,
     },
+    Rebuild(RebuildOptions),
 }
 
 /// A command that reads its file alone. A bound is one of searches, in groups; none with `--whole`.
@@ -81,6 +94,7 @@ pub enum Reading {
     Dump { hash: Option<Hash>, kinds: Kinds, is_slots: bool },
     Keys { hash: Option<Hash>, kinds: Kinds },
     Find { bound: Option<usize> },
+    Order { hash: Option<Hash>, kinds: Kinds, bound: Option<usize> },
     // end readings
 }
 

@@ -1,6 +1,8 @@
 // Made by `make rust` of crates/odht_tool_core/src/failure.rt.
 //! Why a command stopped.
 
+use crate::erased::core::any::OtherShape;
+use crate::erased::core::info::name_of;
 use crate::erased::core::obstacles::Obstacle;
 use crate::erased::core::refusal::Refusal;
 use crate::erased::core::shapes::Part;
@@ -26,6 +28,8 @@ pub enum Failure {
     ShortKeys { key_size: u8 },
     /// The control bytes are not the tags of the keys under any hash function.
     NoHash { key_size: u8, value_size: u8 },
+    /// An order of inserts is looked for in tables of ready shapes alone, and this one is of another.
+    OrderOfOther(OtherShape),
     /// Keys are said to be of another type than this, which they are of.
     OtherKey(Part),
     /// Values are said to be of another type than this, which they are of.
@@ -85,6 +89,7 @@ impl fmt::Display for Failure {
                 write!(f, "its keys have {key_size} bytes, and unhash needs 4")
             }
             Failure::NoHash { key_size, value_size } => write_no_hash(*key_size, *value_size, f),
+            Failure::OrderOfOther(shape) => write_unordered(*shape, f),
             Failure::OtherKey(part) => write!(f, "--key does not fit its keys, which are {part}"),
             Failure::OtherValue(part) => {
                 write!(f, "--value does not fit its values, which are {part}")
@@ -110,6 +115,15 @@ fn write_no_hash(key_size: u8, value_size: u8, f: &mut fmt::Formatter<'_>) -> fm
     write!(
         f,
         "the control bytes fit no hash function with keys of {key_size} and values of {value_size} bytes; `odht check` and `odht info` say more"
+    )
+}
+
+// Writes that no ready shape has these sizes and this hash function.
+fn write_unordered(shape: OtherShape, f: &mut fmt::Formatter<'_>) -> fmt::Result {
+    let (key_len, value_len, name) = (shape.key_len, shape.value_len, name_of(shape.hash));
+    write!(
+        f,
+        "no ready shape has keys of {key_len} and values of {value_len} bytes and the hash function {name}, and `odht order` needs one"
     )
 }
 

@@ -41,22 +41,24 @@ fn write_general<W: Write>(output: &mut W) -> io::Result<()> {
 fn summary_of(topic: Topic) -> &'static str {
     match topic {
         // begin summaries: made of commands.txt by tools/commands; `make manual` makes it anew
-        Topic::Info => {
-            "odht info FILE       tells what a table file holds, of any key and value sizes\n"
-        }
+        Topic::Info =>
+            "odht info FILE       tells what a table file holds, of any key and value sizes\n",
         Topic::Check => "odht check FILE..    tells whether each file is a valid table\n",
         Topic::Count => "odht count FILE..    tells how many items each table has\n",
-        Topic::Get => {
-            "odht get FILE KEY..  looks keys up; with - instead of keys, those of standard input\n"
-        }
+        Topic::Get =>
+            "odht get FILE KEY..  looks keys up; with - instead of keys, those of standard input\n",
         Topic::Dump => "odht dump FILE       tells each pair\n",
         Topic::Keys => "odht keys FILE       tells each key\n",
         Topic::Find => "odht find FILE       tells each table that is inside a file\n",
+        Topic::Order =>
+            "odht order FILE      tells each pair in an order of inserts that makes the table\n",
         Topic::Build => {
             "odht build FILE --key SHAPE --value SHAPE
                      makes a table file of the lines of standard input\n"
         }
         Topic::Put => "odht put FILE        adds the lines of standard input to a table file\n",
+        Topic::Rebuild =>
+            "odht rebuild FILE    makes a table file anew, of another load factor or hash function\n",
         // end summaries
     }
 }
@@ -80,8 +82,10 @@ fn text_of(topic: Topic) -> &'static str {
         Topic::Dump => DUMP,
         Topic::Keys => KEYS,
         Topic::Find => FIND,
+        Topic::Order => ORDER,
         Topic::Build => BUILD,
         Topic::Put => PUT,
+        Topic::Rebuild => REBUILD,
         // end names
     }
 }
@@ -170,6 +174,18 @@ odht find FILE [--whole]
     Status 1 where there is none.
 ";
 
+const ORDER: &str = "\
+odht order FILE [--whole] [--key SHAPE] [--value SHAPE]
+                [--hash fx|unhash] [--at OFFSET]
+    Writes a line for each pair, as `odht dump` does, in an order in which inserts
+    into an empty table of as many slots and the same load factor make the same
+    bytes. Where no inserts make the table a line on standard error says so, and
+    the status is 1. The file is checked before, as by `odht check`; --whole is as
+    there. It has to be of a ready shape. The hash function is the one that all
+    control bytes fit, unless --hash names it; --key and --value name texts other
+    than those of the ready shape, as in `odht build`.
+";
+
 const BUILD: &str = "\
 odht build FILE --key SHAPE --value SHAPE [--hash fx|unhash]
                 [--percent P] [--capacity N] [--progress] [--break-links]
@@ -202,5 +218,21 @@ odht put FILE [--key SHAPE] [--value SHAPE] [--whole] [--hash fx|unhash]
     hexadecimal digits. Owner, group, permissions and symbolic links of the file are
     kept; one with hard links is not replaced without --break-links, with which its
     other names keep the old file.
+";
+
+const REBUILD: &str = "\
+odht rebuild FILE [--percent P] [--whole] [--hash fx|unhash] [--progress]
+                  [--break-links]
+    Makes a new table for as many items as FILE has, inserts its pairs in slot
+    order, and stores it in the place of the older one, which stays where something
+    fails. So long searches become short, and a load factor or a hash function is
+    changed. The file is checked before, as by `odht check`, by the hash function
+    that all control bytes fit; --whole is as there. The hash function unhash needs
+    keys of 4 bytes or more. Owner, group, permissions and symbolic links of the
+    file are kept; one with hard links is not replaced without --break-links.
+    --percent      the load factor of the new table, 1 to 100, else 87
+    --hash         the hash function of the new table, else that of the file
+    --progress     a line on standard error each second
+    --break-links  replaces this name of a file; its other names keep the old one
 ";
 // end texts

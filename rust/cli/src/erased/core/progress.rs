@@ -25,14 +25,37 @@ impl Progress {
         line_count: u64,
         errors: &mut E,
     ) -> io::Result<()> {
+        if self.is_due(rt)? {
+            writeln!(errors, "odht: {line_count} lines")
+        } else {
+            Ok(())
+        }
+    }
+
+    /// The same of pairs.
+    pub fn report_pairs<R: Clock, E: Write>(
+        &mut self,
+        rt: &R,
+        pair_count: u64,
+        errors: &mut E,
+    ) -> io::Result<()> {
+        if self.is_due(rt)? {
+            writeln!(errors, "odht: {pair_count} pairs")
+        } else {
+            Ok(())
+        }
+    }
+
+    // Whether a line is due. The next one is then due a second later.
+    fn is_due<R: Clock>(&mut self, rt: &R) -> io::Result<bool> {
         let Some(since) = self.since else {
-            return Ok(());
+            return Ok(false);
         };
         let now = Instant::now(rt)?;
         if now.duration_since(since) < Duration::from_secs(1) {
-            return Ok(());
+            return Ok(false);
         }
         self.since = Some(now);
-        writeln!(errors, "odht: {line_count} lines")
+        Ok(true)
     }
 }

@@ -10,7 +10,7 @@ pub use ready::Shape;
 pub(crate) use ready::SHAPES;
 
 /// A hash function of keys.
-#[derive(Clone, Copy)]
+#[derive(Clone, Copy, Debug)]
 pub enum Hash {
     /// `FxHashFn`.
     Fx,

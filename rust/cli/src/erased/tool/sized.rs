@@ -22,6 +22,7 @@ pub fn layout_of(shape: OtherShape) -> Layout {
 }
 
 /// The first rule that the bytes break, as a table of this shape, the bound of searches among them where there is one.
+/// Bytes without an error are valid.
 pub fn check_other(shape: OtherShape, bytes: &[u8], bound: Option<usize>) -> Result<(), Error> {
     let layout = layout_of(shape);
     match shape.hash {

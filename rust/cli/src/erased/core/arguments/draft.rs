@@ -1,7 +1,9 @@
 // Made by `make rust` of crates/odht_tool_core/src/arguments/draft.rt.
 //! A command of which some words are parsed.
 use super::topics::{Setting, Topic};
-use super::{is_stream, BuildOptions, Command, CommandMisuse, Keys, Misuse, Reading, Request};
+use super::{
+    is_stream, BuildOptions, Command, CommandMisuse, Keys, Misuse, Reading, RebuildOptions, Request,
+};
 use crate::erased::core::any::AnyShape;
 use crate::erased::core::digits::parse_number;
 use crate::erased::core::forms::{GivenForms, Kind, Kinds};
@@ -159,7 +161,8 @@ impl Draft {
     fn command(self, is_stream: bool) -> Result<Command, CommandMisuse> {
         match self.topic {
             Topic::Build => self.build(),
-            Topic::Put if is_stream => Err(CommandMisuse::Replaced),
+            Topic::Put | Topic::Rebuild if is_stream => Err(CommandMisuse::Replaced),
+            Topic::Rebuild => Ok(Command::Rebuild(self.rebuilding())),
             Topic::Put => Ok(Command::Put {
                 hash: self.hash,
                 kinds: self.kinds,
@@ -173,6 +176,17 @@ impl Draft {
                 let reading = self.reading();
                 Ok(Command::Read { others: self.words, at: self.at, reading })
             }
+        }
+    }
+
+    // What is said to `rebuild`.
+    fn rebuilding(&self) -> RebuildOptions {
+        RebuildOptions {
+            percent: self.percent,
+            hash: self.hash,
+            bound: bound_of(self.is_whole),
+            breaks_links: self.breaks_links,
+            has_progress: self.has_progress,
         }
     }
 
@@ -200,7 +214,8 @@ impl Draft {
             Topic::Count => Reading::Count { hash, bound },
             Topic::Dump => Reading::Dump { hash, kinds, is_slots: self.is_slots },
             Topic::Keys => Reading::Keys { hash, kinds },
-            _ => Reading::Find { bound },
+            Topic::Find => Reading::Find { bound },
+            _ => Reading::Order { hash, kinds, bound },
             // end readings
         }
     }

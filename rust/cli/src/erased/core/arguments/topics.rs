@@ -15,12 +15,14 @@ pub enum Topic {
     Dump,
     Keys,
     Find,
+    Order,
     Build,
     Put,
+    Rebuild,
 }
 
 /// All commands, in the order of the help text.
-pub(crate) const TOPICS: [Topic; 9] = [
+pub(crate) const TOPICS: [Topic; 11] = [
     Topic::Info,
     Topic::Check,
     Topic::Count,
@@ -28,8 +30,10 @@ pub(crate) const TOPICS: [Topic; 9] = [
     Topic::Dump,
     Topic::Keys,
     Topic::Find,
+    Topic::Order,
     Topic::Build,
     Topic::Put,
+    Topic::Rebuild,
 ];
 
 impl Topic {
@@ -53,8 +57,10 @@ impl Topic {
             Topic::Dump => "dump",
             Topic::Keys => "keys",
             Topic::Find => "find",
+            Topic::Order => "order",
             Topic::Build => "build",
             Topic::Put => "put",
+            Topic::Rebuild => "rebuild",
         }
     }
 
@@ -85,6 +91,14 @@ impl Topic {
             ],
             Topic::Keys => &[Setting::Help, Setting::Key, Setting::Hash, Setting::At],
             Topic::Find => &[Setting::Help, Setting::Whole],
+            Topic::Order => &[
+                Setting::Help,
+                Setting::Whole,
+                Setting::Key,
+                Setting::Value,
+                Setting::Hash,
+                Setting::At,
+            ],
             Topic::Build => &[
                 Setting::Help,
                 Setting::Key,
@@ -99,6 +113,14 @@ impl Topic {
                 Setting::Help,
                 Setting::Key,
                 Setting::Value,
+                Setting::Whole,
+                Setting::Hash,
+                Setting::Progress,
+                Setting::BreakLinks,
+            ],
+            Topic::Rebuild => &[
+                Setting::Help,
+                Setting::Percent,
                 Setting::Whole,
                 Setting::Hash,
                 Setting::Progress,

@@ -33,6 +33,7 @@ pub fn check_file<O: Write>(
 }
 
 /// The first rule that the bytes break, as a table of this shape, the bound of searches among them where there is one.
+/// Bytes without an error are valid.
 pub fn check_any(shape: AnyShape, bytes: &[u8], bound: Option<usize>) -> Result<(), Error> {
     match shape {
         AnyShape::Ready(shape) => check_shape(shape, bytes, bound),
@@ -45,7 +46,7 @@ pub fn check_shape(shape: Shape, bytes: &[u8], bound: Option<usize>) -> Result<(
     for_shape!(shape, check_bytes[](bytes, bound))
 }
 
-/// The same of a configuration. Bytes without an error are valid.
+/// The same of a configuration.
 pub fn check_bytes<C: Config>(bytes: &[u8], bound: Option<usize>) -> Result<(), Error> {
     match bound {
         Some(groups) => check_all_within::<C>(bytes, groups),

@@ -67,21 +67,21 @@ where
     }
 }
 
-fn make_lengths<H: HashFn>(
+/// An empty table of these lengths, for so many items.
+pub fn make_lengths<H: HashFn>(
     alloc: Global,
     layout: Layout,
     capacity: usize,
     percent: Percent,
 ) -> Result<DynTableOwned<H>, Failure> {
-    DynTableOwned::with_capacity(alloc, layout, capacity, percent.value()).map_err(failure_of)
-}
-
-// The failure for an error of a new table.
-fn failure_of(error: DynError) -> Failure {
-    match error {
-        DynError::KeyTooShort { key_len, .. } => Failure::ShortKeys { key_size: key_len },
-        DynError::Rejected(error) => Failure::of_table(error),
-        _ => Failure::Memory,
+    match DynTableOwned::with_capacity(alloc, layout, capacity, percent.value()) {
+        Ok(table) => Ok(table),
+        Err(DynError::KeyTooShort { key_len, least: _ }) => {
+            Err(Failure::ShortKeys { key_size: key_len })
+        }
+        Err(DynError::Rejected(error)) => Err(Failure::of_table(error)),
+        // The others are errors of inserts.
+        Err(_) => Err(Failure::Memory),
     }
 }
 
