@@ -1,5 +1,5 @@
 -- Pairs that are inserted in turn into an owned table whose lengths are known at run time alone.
-use Rattle.std.proofs.Common.{◌≡◌, ◌∙◌, List, [], ◌∷◌, ◌++◌, ℕ, length, Option, Result, Ok, Err, sym, ap, subst, refl}
+use Rattle.std.proofs.Common.{◌≡◌, ◌∙◌, List, [], ◌∷◌, ◌++◌, ℕ, Option, Result, Ok, Err, sym, ap, subst, refl}
 use Rattle.std.specs.Result.{result_map_both}
 use Rattle.std.proofs.lemmas.List.{map-append}
 use Rattle.odht_base.specs.Insert.{insert_owned}

@@ -1,7 +1,8 @@
 //! Pairs of lines that are inserted into a table, a batch at a time, and the file that it becomes.
-ghost use Rattle.std.specs.Prelude.{◌≡◌, OnOk, length};
+ghost use Rattle.std.specs.Prelude.{◌≡◌, Err, OnErr, OnOk, length};
 ghost use Rattle.odht_tool.specs.Faults.{IsTold};
 ghost use Rattle.odht_tool.specs.Inserted.{AreInserted};
+ghost use Rattle.odht_tool_core.specs.declared.failure.Failure.TheVariants.{Memory};
 
 use odht_tool_core::failure::Failure;
 use odht_tool_core::files::replace_file;
@@ -39,8 +40,9 @@ pub trait Inserts: Drop {
 
     /// Inserts the pairs in turn. `Memory` where there is none for a larger table.
     fn insert_pairs(&mut self, pairs: &[(Self::Key, Self::Value)]) -> Result<(), Failure>
-        ensures { OnOk result (AreInserted (coding self.old) (bytes self.old) pairs.now
-            (bytes self.new)) };
+        ensures inserted { OnOk result (AreInserted (coding self.old) (bytes self.old) pairs.now
+            (bytes self.new)) }
+        ensures memory { OnErr result (result ≡ Err Memory) };
 
     /// All bytes.
     fn all_bytes(&self) -> &[u8]
@@ -150,6 +152,7 @@ fn insert_batch<T: Inserts>(
 ) -> Result<(), Failure>
     ensures inserted { OnOk result (AreInserted (T.coding table.old) (T.bytes table.old)
         pairs.old.items (T.bytes table.new)) }
+    ensures memory { OnErr result (result ≡ Err Memory) }
     ensures empty { length pairs.new.items ≡ 0 }
 {
     let inserted = table.insert_pairs(pairs.as_slice());

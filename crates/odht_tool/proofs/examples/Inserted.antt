@@ -1,5 +1,5 @@
 -- Worked examples: pairs that are inserted.
-use Rattle.std.proofs.Common.{◌≡◌, ◌∙◌, [], refl, sym, ap}
+use Rattle.std.proofs.Common.{◌∙◌, [], refl, sym, ap}
 use Rattle.odht_base.specs.Image.{image}
 use Rattle.odht_base.specs.Insert.{insert_owned}
 use Rattle.odht_base.proofs.examples.Configs.{direct_config}

@@ -1,7 +1,8 @@
 //! Inserts into the tables of configurations, and of lengths that are known at run time alone.
-ghost use Rattle.std.specs.Prelude.{OnOk};
+ghost use Rattle.std.specs.Prelude.{◌≡◌, Err, OnErr, OnOk};
 ghost use Rattle.odht.specs.Dynamic.{dyn_coding};
 ghost use Rattle.odht_tool.specs.Inserted.{AreInserted};
+ghost use Rattle.odht_tool_core.specs.declared.failure.Failure.TheVariants.{Memory};
 
 use super::Inserts;
 use odht::HashTableOwned;
@@ -37,8 +38,9 @@ fn insert_all<C: Config>(
     table: &mut HashTableOwned<C>,
     pairs: &[(C::Key, C::Value)],
 ) -> Result<(), Failure>
-    ensures { OnOk result
+    ensures inserted { OnOk result
         (AreInserted ⟦<C as Coded>⟧.coding table.old pairs.now table.new) }
+    ensures memory { OnErr result (result ≡ Err Memory) }
 {
     let (_, inserted) = table.insert_all(pairs);
     match inserted {
@@ -71,8 +73,9 @@ fn insert_each<H: HashFn>(
     table: &mut DynTableOwned<H>,
     pairs: &[(ShortBytes, ShortBytes)],
 ) -> Result<(), Failure>
-    ensures { OnOk result (AreInserted (dyn_coding table.old H.hash) table.old.store
+    ensures inserted { OnOk result (AreInserted (dyn_coding table.old H.hash) table.old.store
         pairs.now table.new.store) }
+    ensures memory { OnErr result (result ≡ Err Memory) }
 {
     for index in 0..pairs.len() {
         let (key, value) = &pairs[index];

@@ -1,4 +1,4 @@
-use Rattle.std.proofs.Common.{◌∙◌, sym, ap, subst}
+use Rattle.std.proofs.Common.{◌∙◌, sym, subst}
 use Rattle.odht_base.specs.Format.{Format, format_of}
 use Rattle.odht_header.proofs.lemmas.FirstErrors.{Ok-checked}
 use Rattle.odht_raw.specs.Frame.{IsAccepted}

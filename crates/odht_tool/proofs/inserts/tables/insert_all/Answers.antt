@@ -5,8 +5,8 @@ use Rattle.odht_tool.specs.Inserted.{AreInserted}
 use Rattle.odht_tool.proofs.inserts.tables.insert_all.Goals as goal
 
 -- all items were inserted
-pub returns-in-Ok : goal.returns-in-Ok
-returns-in-Ok g c =
+pub returns-in-Ok-clause-inserted : goal.returns-in-Ok-clause-inserted
+returns-in-Ok-clause-inserted g c =
     let items = c.args.pairs.now in
     let accepted : IsOk c.insert_all-inserted.result.1 = search rules in
     let whole = c.insert_all-inserted.ensures.all.0 accepted in
