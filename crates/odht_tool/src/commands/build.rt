@@ -14,7 +14,7 @@ use odht::load::Percent;
 use odht_tool_core::any::{AnyShape, read_any};
 use odht_tool_core::arguments::{BuildOptions, is_stream};
 use odht_tool_core::failure::Failure;
-use odht_tool_core::forms::{Forms, Kinds, OwnForms};
+use odht_tool_core::forms::{Forms, GivenForms, Kinds, OwnForms};
 use odht_tool_core::shapes::{Hash, Shape};
 use odht_tool_core::status::Status;
 use odht_tool_core::targets::Target;
@@ -141,18 +141,7 @@ where
 {
     let (shape, forms) = read_any(bytes.as_slice(), hash, kinds)?;
     match shape {
-        AnyShape::Ready(shape) if forms.are_own() => put_in(
-            rt,
-            target,
-            shape,
-            OwnForms,
-            bytes,
-            bound,
-            has_progress,
-            input,
-            errors,
-        ),
-        AnyShape::Ready(shape) => put_in(
+        AnyShape::Ready(shape) => put_ready(
             rt,
             target,
             shape,
@@ -176,7 +165,49 @@ where
     }
 }
 
-// The same of a ready shape, where the forms are known.
+// The same of a ready shape, in these forms.
+fn put_ready<R: Files + AllocGlobal + Clock, I: BufRead, E: Write>(
+    rt: &R,
+    target: Target,
+    shape: Shape,
+    forms: GivenForms,
+    bytes: Vec<u8>,
+    bound: Option<usize>,
+    has_progress: bool,
+    input: &mut I,
+    errors: &mut E,
+) -> Result<Status, Failure>
+where
+    R::File: AsFd,
+{
+    if forms.are_own() {
+        put_in(
+            rt,
+            target,
+            shape,
+            OwnForms,
+            bytes,
+            bound,
+            has_progress,
+            input,
+            errors,
+        )
+    } else {
+        put_in(
+            rt,
+            target,
+            shape,
+            forms,
+            bytes,
+            bound,
+            has_progress,
+            input,
+            errors,
+        )
+    }
+}
+
+// The same where the shape and the forms are known.
 fn put_in<F: Forms, R: Files + AllocGlobal + Clock, I: BufRead, E: Write>(
     rt: &R,
     target: Target,

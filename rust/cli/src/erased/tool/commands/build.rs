@@ -4,7 +4,7 @@
 use crate::erased::core::any::{read_any, AnyShape};
 use crate::erased::core::arguments::{is_stream, BuildOptions};
 use crate::erased::core::failure::Failure;
-use crate::erased::core::forms::{Forms, Kinds, OwnForms};
+use crate::erased::core::forms::{Forms, GivenForms, Kinds, OwnForms};
 use crate::erased::core::shapes::{Hash, Shape};
 use crate::erased::core::status::Status;
 use crate::erased::core::targets::Target;
@@ -127,11 +127,8 @@ where
 {
     let (shape, forms) = read_any(bytes.as_slice(), hash, kinds)?;
     match shape {
-        AnyShape::Ready(shape) if forms.are_own() => {
-            put_in(rt, target, shape, OwnForms, bytes, bound, has_progress, input, errors)
-        }
         AnyShape::Ready(shape) => {
-            put_in(rt, target, shape, forms, bytes, bound, has_progress, input, errors)
+            put_ready(rt, target, shape, forms, bytes, bound, has_progress, input, errors)
         }
         AnyShape::Other(shape) => {
             put_other(rt, target, shape, bytes, bound, has_progress, input, errors)
@@ -139,7 +136,29 @@ where
     }
 }
 
-// The same of a ready shape, where the forms are known.
+// The same of a ready shape, in these forms.
+fn put_ready<R: Files + AllocGlobal + Clock, I: BufRead, E: Write>(
+    rt: &R,
+    target: Target,
+    shape: Shape,
+    forms: GivenForms,
+    bytes: Vec<u8>,
+    bound: Option<usize>,
+    has_progress: bool,
+    input: &mut I,
+    errors: &mut E,
+) -> Result<Status, Failure>
+where
+    R::File: AsFd,
+{
+    if forms.are_own() {
+        put_in(rt, target, shape, OwnForms, bytes, bound, has_progress, input, errors)
+    } else {
+        put_in(rt, target, shape, forms, bytes, bound, has_progress, input, errors)
+    }
+}
+
+// The same where the shape and the forms are known.
 fn put_in<F: Forms, R: Files + AllocGlobal + Clock, I: BufRead, E: Write>(
     rt: &R,
     target: Target,
