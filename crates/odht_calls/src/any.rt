@@ -2,6 +2,26 @@
 //! layout.
 ghost use Rattle.std.specs.Prelude.{◌≡◌, ◌≤◌, ◌↔◌, IsTrue};
 
+/// Calls a function for the hash function of a layout, which is its type parameter, with the lengths of the layout in
+/// front of these arguments. BAD_LAYOUT where there is no such hash function, or it needs longer keys.
+macro_rules! by_hash {
+    ($layout:ident, $function:ident($($argument:expr),*)) => {{
+        let lengths = odht::dynamic::Layout {
+            key_len: $layout.key_len,
+            value_len: $layout.value_len,
+        };
+        if crate::any::has_hash($layout, crate::any::FX, odht::FxHashFn::MIN_LEN) {
+            $function::<odht::FxHashFn>(lengths, $($argument),*)
+        } else if crate::any::has_hash($layout, crate::any::UNHASH, odht::UnHashFn::MIN_LEN) {
+            $function::<odht::UnHashFn>(lengths, $($argument),*)
+        } else {
+            crate::status::BAD_LAYOUT
+        }
+    }};
+}
+
+pub(crate) use by_hash;
+
 pub mod build;
 pub mod lists;
 mod pieces;

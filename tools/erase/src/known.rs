@@ -85,12 +85,12 @@ pub const ALLOCATING_METHODS: &str =
     into_boxed_slice concat join repeat cloned sort sort_by sort_by_key";
 
 /// Words that Rattle has and Rust does not, or that mean something else there, or that these sources do without.
-pub const OTHER_WORDS: &str = "ghost requires ensures final Drop static async await dyn macro_rules union f32 f64 \
+pub const OTHER_WORDS: &str = "ghost requires ensures final Drop static async await dyn union f32 f64 \
     String Box Rc Arc HashMap HashSet BTreeMap BTreeSet VecDeque Cow format prove assume decreases HostRuntime Abort \
     Wait Threads Clock isize i8 i16 i32 i64 i128 unimplemented todo panic assert cfg test yield become";
 
 /// Those of them that a program has.
-pub const WORDS_OF_PROGRAMS: &str = "static macro_rules String HostRuntime Clock";
+pub const WORDS_OF_PROGRAMS: &str = "static String HostRuntime Clock";
 
 /// Whether a word is one of a list.
 pub fn is_in(word: &str, list: &str) -> bool {

@@ -123,14 +123,10 @@ fn the_entry_is_called_from_outside() {
 }
 
 #[test]
-fn words_and_macros_of_programs_are_kept() {
+fn words_of_programs_are_kept() {
     all_leave(&[
         ("static A: [u8; 1] = *b\"a\";", "static A: [u8; 1] = *b\"a\";"),
         ("fn f(a: String) { a.as_str(); }", "fn f(a: String) { a.as_str(); }"),
-        (
-            "macro_rules! m { ($a:expr) => { $a::<low::b, C>() } } fn f() { m!(x) }",
-            "macro_rules! m { ($a:expr) => { $a::<crate::all::low::b, C>() } } fn f() { m!(x) }",
-        ),
         (
             "#[cold] fn f() { u64::from(x); u8::try_from(y); }",
             "#[cold] fn f() { u64::from(x); u8::try_from(y); }",

@@ -22,7 +22,6 @@ fn unknown_items_are_refused() {
         "unsafe fn f() {}",
         "extern \"C\" { fn f(); }",
         "async fn f() {}",
-        "macro_rules! m { () => {} }",
         "union U { a: u8 }",
         "impl Drop for X { }",
         "impl Model { }",

@@ -165,6 +165,13 @@ fn texts_comments_and_operators_stay() {
 }
 
 #[test]
+fn macros_that_are_declared_are_kept() {
+    let source = "macro_rules! m { ($a:expr) => { $a::<low::b, C>() } } fn f() { m!(x) }";
+    let wanted = "macro_rules! m { ($a:expr) => { $a::<crate::all::low::b, C>() } } fn f() { m!(x) }";
+    all_leave(&[(source, wanted)]);
+}
+
+#[test]
 fn an_index_is_a_macro_in_the_files_of_the_plan() {
     for (source, wanted) in [
         ("fn f() { a[i] }", "fn f() { index!(a[i]) }"),

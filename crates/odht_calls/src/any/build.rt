@@ -12,11 +12,11 @@ ghost use Rattle.odht_calls.specs.Pieces.{SizedBuildAnswers, AnyBuildAnswers};
 use super::lists::insert_pieces;
 use super::pieces::are_pieces;
 use super::write::init_by;
-use super::{AnyLayout, FX, UNHASH, has_hash};
-use crate::status::{BAD_LAYOUT, BAD_LENGTHS, BAD_PERCENT, CAPACITY, OK, TOO_SMALL};
+use super::{AnyLayout, by_hash};
+use crate::status::{BAD_LENGTHS, BAD_PERCENT, CAPACITY, OK, TOO_SMALL};
 use odht::bytes::Borrowed;
 use odht::dynamic::DynTable;
-use odht::hash::{FxHashFn, HashFn, UnHashFn};
+use odht::hash::HashFn;
 use odht::layout::Layout;
 use odht::load::Percent;
 
@@ -122,16 +122,6 @@ pub fn build(
     ensures { AnyBuildAnswers layout count keys.now values.now max_load_factor_percent
         out.old len.old result out.new len.new }
 {
-    let lengths = Layout {
-        key_len: layout.key_len,
-        value_len: layout.value_len,
-    };
     let percent = max_load_factor_percent;
-    if has_hash(layout, FX, FxHashFn::MIN_LEN) {
-        build_by::<FxHashFn>(lengths, count, keys, values, percent, out, len)
-    } else if has_hash(layout, UNHASH, UnHashFn::MIN_LEN) {
-        build_by::<UnHashFn>(lengths, count, keys, values, percent, out, len)
-    } else {
-        BAD_LAYOUT
-    }
+    by_hash!(layout, build_by(count, keys, values, percent, out, len))
 }

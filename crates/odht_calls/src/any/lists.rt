@@ -8,9 +8,9 @@ ghost use Rattle.odht_calls.specs.Pieces.{AnyInsertAllAnswers};
 
 use super::pieces::{are_pieces, piece, put_answer};
 use super::read::view;
-use super::{AnyLayout, FX, UNHASH, has_hash};
-use crate::status::{BAD_LAYOUT, BAD_LENGTHS, OK, status_of};
-use odht::hash::{FxHashFn, HashFn, UnHashFn};
+use super::{AnyLayout, by_hash};
+use crate::status::{BAD_LENGTHS, OK, status_of};
+use odht::hash::HashFn;
 use odht::layout::Layout;
 use odht::memory_layout::insert_sized;
 
@@ -72,17 +72,7 @@ pub fn get_all(
     ensures { AnyGetAllAnswers layout bytes.now
         count keys.now values.old found.old result values.new found.new }
 {
-    let lengths = Layout {
-        key_len: layout.key_len,
-        value_len: layout.value_len,
-    };
-    if has_hash(layout, FX, FxHashFn::MIN_LEN) {
-        get_all_by::<FxHashFn>(lengths, bytes, count, keys, values, found)
-    } else if has_hash(layout, UNHASH, UnHashFn::MIN_LEN) {
-        get_all_by::<UnHashFn>(lengths, bytes, count, keys, values, found)
-    } else {
-        BAD_LAYOUT
-    }
+    by_hash!(layout, get_all_by(bytes, count, keys, values, found))
 }
 
 // The inserts of `count` pairs.
@@ -146,15 +136,5 @@ pub fn insert_all(
     ensures { AnyInsertAllAnswers layout bytes.old
         count keys.now values.now accepted.old result bytes.new accepted.new }
 {
-    let lengths = Layout {
-        key_len: layout.key_len,
-        value_len: layout.value_len,
-    };
-    if has_hash(layout, FX, FxHashFn::MIN_LEN) {
-        insert_all_by::<FxHashFn>(lengths, bytes, count, keys, values, accepted)
-    } else if has_hash(layout, UNHASH, UnHashFn::MIN_LEN) {
-        insert_all_by::<UnHashFn>(lengths, bytes, count, keys, values, accepted)
-    } else {
-        BAD_LAYOUT
-    }
+    by_hash!(layout, insert_all_by(bytes, count, keys, values, accepted))
 }

@@ -6,10 +6,10 @@ ghost use Rattle.odht_calls.specs.Layouts.{AnyAnswers};
 ghost use Rattle.odht_calls.specs.Places.{PlaceAnswers};
 
 use super::read::{whole, whole_within};
-use super::{AnyLayout, FX, UNHASH, has_hash};
+use super::{AnyLayout, by_hash};
 use crate::places::{NO_SLOT, refused_at};
-use crate::status::{BAD_LAYOUT, OK};
-use odht::hash::{FxHashFn, HashFn, UnHashFn};
+use crate::status::OK;
+use odht::hash::HashFn;
 use odht::layout::Layout;
 use odht::memory_layout::check_opening;
 
@@ -34,17 +34,7 @@ pub fn open_at(layout: AnyLayout, bytes: &[u8], slot: &mut usize) -> u32
     ensures { AnyAnswers layout result (slot.new ≡ slot.old)
         (λ c. PlaceAnswers (view_refusal c.format bytes.now) result slot.new) }
 {
-    let lengths = Layout {
-        key_len: layout.key_len,
-        value_len: layout.value_len,
-    };
-    if has_hash(layout, FX, FxHashFn::MIN_LEN) {
-        open_at_by::<FxHashFn>(lengths, bytes, slot)
-    } else if has_hash(layout, UNHASH, UnHashFn::MIN_LEN) {
-        open_at_by::<UnHashFn>(lengths, bytes, slot)
-    } else {
-        BAD_LAYOUT
-    }
+    by_hash!(layout, open_at_by(bytes, slot))
 }
 
 fn check_at_by<H: HashFn>(layout: Layout, bytes: &[u8], slot: &mut usize) -> u32
@@ -68,17 +58,7 @@ pub fn check_at(layout: AnyLayout, bytes: &[u8], slot: &mut usize) -> u32
     ensures { AnyAnswers layout result (slot.new ≡ slot.old)
         (λ c. PlaceAnswers (check_refusal c.format bytes.now) result slot.new) }
 {
-    let lengths = Layout {
-        key_len: layout.key_len,
-        value_len: layout.value_len,
-    };
-    if has_hash(layout, FX, FxHashFn::MIN_LEN) {
-        check_at_by::<FxHashFn>(lengths, bytes, slot)
-    } else if has_hash(layout, UNHASH, UnHashFn::MIN_LEN) {
-        check_at_by::<UnHashFn>(lengths, bytes, slot)
-    } else {
-        BAD_LAYOUT
-    }
+    by_hash!(layout, check_at_by(bytes, slot))
 }
 
 fn check_within_at_by<H: HashFn>(
@@ -106,15 +86,5 @@ pub fn check_within_at(layout: AnyLayout, bytes: &[u8], groups: usize, slot: &mu
     ensures { AnyAnswers layout result (slot.new ≡ slot.old)
         (λ c. PlaceAnswers (check_refusal_by c.format (Some groups) bytes.now) result slot.new) }
 {
-    let lengths = Layout {
-        key_len: layout.key_len,
-        value_len: layout.value_len,
-    };
-    if has_hash(layout, FX, FxHashFn::MIN_LEN) {
-        check_within_at_by::<FxHashFn>(lengths, bytes, groups, slot)
-    } else if has_hash(layout, UNHASH, UnHashFn::MIN_LEN) {
-        check_within_at_by::<UnHashFn>(lengths, bytes, groups, slot)
-    } else {
-        BAD_LAYOUT
-    }
+    by_hash!(layout, check_within_at_by(bytes, groups, slot))
 }

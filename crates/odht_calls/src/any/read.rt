@@ -11,12 +11,12 @@ ghost use Rattle.odht_calls.specs.Layouts.{ContainsAnswers, LayoutAnswers};
 ghost use Rattle.odht_calls.specs.Prefixes.{TableLenAnswers};
 ghost use Rattle.odht_calls.specs.Reads.{GetAnswers, LenAnswers, SizesAnswers};
 
-use super::{AnyLayout, FX, UNHASH, has_hash};
+use super::{AnyLayout, by_hash};
 use crate::status::{ABSENT, BAD_LAYOUT, BAD_LENGTHS, OK, status_of};
 use odht::bytes::Borrowed;
 use odht::dynamic::{self, DynTable};
 use odht::error::Error;
-use odht::hash::{FxHashFn, HashFn, UnHashFn};
+use odht::hash::HashFn;
 use odht::layout::Layout;
 use odht::load::max_item_count_for;
 use odht::memory_layout::{
@@ -56,17 +56,7 @@ pub fn open(layout: AnyLayout, bytes: &[u8]) -> u32
     ensures { AnyAnswers layout result (Unit {0})
         (λ c. result ≡ status_or_ok (view_refusal c.format bytes.now)) }
 {
-    let lengths = Layout {
-        key_len: layout.key_len,
-        value_len: layout.value_len,
-    };
-    if has_hash(layout, FX, FxHashFn::MIN_LEN) {
-        open_by::<FxHashFn>(lengths, bytes)
-    } else if has_hash(layout, UNHASH, UnHashFn::MIN_LEN) {
-        open_by::<UnHashFn>(lengths, bytes)
-    } else {
-        BAD_LAYOUT
-    }
+    by_hash!(layout, open_by(bytes))
 }
 
 // The first error of the whole check.
@@ -95,17 +85,7 @@ pub fn check(layout: AnyLayout, bytes: &[u8]) -> u32
     ensures { AnyAnswers layout result (Unit {0})
         (λ c. result ≡ status_or_ok (check_refusal c.format bytes.now)) }
 {
-    let lengths = Layout {
-        key_len: layout.key_len,
-        value_len: layout.value_len,
-    };
-    if has_hash(layout, FX, FxHashFn::MIN_LEN) {
-        check_by::<FxHashFn>(lengths, bytes)
-    } else if has_hash(layout, UNHASH, UnHashFn::MIN_LEN) {
-        check_by::<UnHashFn>(lengths, bytes)
-    } else {
-        BAD_LAYOUT
-    }
+    by_hash!(layout, check_by(bytes))
 }
 
 // The first error of the whole check with a bound of searches.
@@ -140,17 +120,7 @@ pub fn check_within(layout: AnyLayout, bytes: &[u8], groups: usize) -> u32
     ensures { AnyAnswers layout result (Unit {0})
         (λ c. result ≡ status_or_ok (check_refusal_by c.format (Some groups) bytes.now)) }
 {
-    let lengths = Layout {
-        key_len: layout.key_len,
-        value_len: layout.value_len,
-    };
-    if has_hash(layout, FX, FxHashFn::MIN_LEN) {
-        check_within_by::<FxHashFn>(lengths, bytes, groups)
-    } else if has_hash(layout, UNHASH, UnHashFn::MIN_LEN) {
-        check_within_by::<UnHashFn>(lengths, bytes, groups)
-    } else {
-        BAD_LAYOUT
-    }
+    by_hash!(layout, check_within_by(bytes, groups))
 }
 
 fn len_by<H: HashFn>(layout: Layout, bytes: &[u8], item_count: &mut usize) -> u32
@@ -172,17 +142,7 @@ pub fn len(layout: AnyLayout, bytes: &[u8], item_count: &mut usize) -> u32
     ensures { AnyAnswers layout result (item_count.new ≡ item_count.old)
         (λ c. LenAnswers c bytes.now item_count.old result item_count.new) }
 {
-    let lengths = Layout {
-        key_len: layout.key_len,
-        value_len: layout.value_len,
-    };
-    if has_hash(layout, FX, FxHashFn::MIN_LEN) {
-        len_by::<FxHashFn>(lengths, bytes, item_count)
-    } else if has_hash(layout, UNHASH, UnHashFn::MIN_LEN) {
-        len_by::<UnHashFn>(lengths, bytes, item_count)
-    } else {
-        BAD_LAYOUT
-    }
+    by_hash!(layout, len_by(bytes, item_count))
 }
 
 fn sizes_by<H: HashFn>(
@@ -225,29 +185,10 @@ pub fn sizes(
         slot_count.old max_item_count.old max_load_factor_percent.old result
         slot_count.new max_item_count.new max_load_factor_percent.new) }
 {
-    let lengths = Layout {
-        key_len: layout.key_len,
-        value_len: layout.value_len,
-    };
-    if has_hash(layout, FX, FxHashFn::MIN_LEN) {
-        sizes_by::<FxHashFn>(
-            lengths,
-            bytes,
-            slot_count,
-            max_item_count,
-            max_load_factor_percent,
-        )
-    } else if has_hash(layout, UNHASH, UnHashFn::MIN_LEN) {
-        sizes_by::<UnHashFn>(
-            lengths,
-            bytes,
-            slot_count,
-            max_item_count,
-            max_load_factor_percent,
-        )
-    } else {
-        BAD_LAYOUT
-    }
+    by_hash!(
+        layout,
+        sizes_by(bytes, slot_count, max_item_count, max_load_factor_percent)
+    )
 }
 
 fn table_len_by<H: HashFn>(layout: Layout, bytes: &[u8], len: &mut usize) -> u32
@@ -269,17 +210,7 @@ pub fn table_len(layout: AnyLayout, bytes: &[u8], len: &mut usize) -> u32
     ensures { AnyAnswers layout result (len.new ≡ len.old)
         (λ c. TableLenAnswers c.format bytes.now len.old result len.new) }
 {
-    let lengths = Layout {
-        key_len: layout.key_len,
-        value_len: layout.value_len,
-    };
-    if has_hash(layout, FX, FxHashFn::MIN_LEN) {
-        table_len_by::<FxHashFn>(lengths, bytes, len)
-    } else if has_hash(layout, UNHASH, UnHashFn::MIN_LEN) {
-        table_len_by::<UnHashFn>(lengths, bytes, len)
-    } else {
-        BAD_LAYOUT
-    }
+    by_hash!(layout, table_len_by(bytes, len))
 }
 
 fn get_by<H: HashFn>(layout: Layout, bytes: &[u8], key: &[u8], value: &mut [u8]) -> u32
@@ -313,17 +244,7 @@ pub fn get(layout: AnyLayout, bytes: &[u8], key: &[u8], value: &mut [u8]) -> u32
         (λ c. SizedAnswers Long result (value.new ≡ value.old)
         (GetAnswers c bytes.now key.now value.old result value.new)) }
 {
-    let lengths = Layout {
-        key_len: layout.key_len,
-        value_len: layout.value_len,
-    };
-    if has_hash(layout, FX, FxHashFn::MIN_LEN) {
-        get_by::<FxHashFn>(lengths, bytes, key, value)
-    } else if has_hash(layout, UNHASH, UnHashFn::MIN_LEN) {
-        get_by::<UnHashFn>(lengths, bytes, key, value)
-    } else {
-        BAD_LAYOUT
-    }
+    by_hash!(layout, get_by(bytes, key, value))
 }
 
 fn contains_by<H: HashFn>(layout: Layout, bytes: &[u8], key: &[u8]) -> u32
@@ -351,17 +272,7 @@ pub fn contains(layout: AnyLayout, bytes: &[u8], key: &[u8]) -> u32
         (λ c. SizedAnswers (length key.now ≡ layout.key_len) result (Unit {0})
         (ContainsAnswers c bytes.now key.now result)) }
 {
-    let lengths = Layout {
-        key_len: layout.key_len,
-        value_len: layout.value_len,
-    };
-    if has_hash(layout, FX, FxHashFn::MIN_LEN) {
-        contains_by::<FxHashFn>(lengths, bytes, key)
-    } else if has_hash(layout, UNHASH, UnHashFn::MIN_LEN) {
-        contains_by::<UnHashFn>(lengths, bytes, key)
-    } else {
-        BAD_LAYOUT
-    }
+    by_hash!(layout, contains_by(bytes, key))
 }
 
 /// Writes to `layout` the lengths that the header states, where header and length of the bytes fit; the number of the

@@ -6,9 +6,9 @@ ghost use Rattle.odht_calls.specs.Pieces.{AnyWalkAnswers};
 
 use super::pieces::{are_pieces, put_piece};
 use super::read::view;
-use super::{AnyLayout, FX, UNHASH, has_hash};
-use crate::status::{BAD_LAYOUT, BAD_LENGTHS, OK, TOO_SMALL, status_of};
-use odht::hash::{FxHashFn, HashFn, UnHashFn};
+use super::{AnyLayout, by_hash};
+use crate::status::{BAD_LENGTHS, OK, TOO_SMALL, status_of};
+use odht::hash::HashFn;
 use odht::layout::Layout;
 use odht::memory_layout::Header;
 
@@ -85,15 +85,8 @@ pub fn walk(
         cursor.old room keys.old values.old item_count.old result cursor.new keys.new values.new
         item_count.new }
 {
-    let lengths = Layout {
-        key_len: layout.key_len,
-        value_len: layout.value_len,
-    };
-    if has_hash(layout, FX, FxHashFn::MIN_LEN) {
-        walk_by::<FxHashFn>(lengths, bytes, cursor, room, keys, values, item_count)
-    } else if has_hash(layout, UNHASH, UnHashFn::MIN_LEN) {
-        walk_by::<UnHashFn>(lengths, bytes, cursor, room, keys, values, item_count)
-    } else {
-        BAD_LAYOUT
-    }
+    by_hash!(
+        layout,
+        walk_by(bytes, cursor, room, keys, values, item_count)
+    )
 }

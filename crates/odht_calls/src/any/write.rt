@@ -7,14 +7,14 @@ ghost use Rattle.odht_calls.specs.Writes.{BytesNeededAnswers, InitAnswers, Inser
 ghost use Rattle.odht_calls.specs.Grows.{GrowAnswers};
 
 use super::read::view;
-use super::{AnyLayout, FX, UNHASH, has_hash};
+use super::{AnyLayout, by_hash};
 use crate::status::{
     BAD_LAYOUT, BAD_LENGTHS, BAD_PERCENT, CAPACITY, LOAD_FACTOR_TOO_SMALL, OK, REPLACED, TOO_SMALL,
     status_of,
 };
 use odht::bytes::{Borrowed, BorrowedMut};
 use odht::dynamic::{DynError, DynTable};
-use odht::hash::{FxHashFn, HashFn, UnHashFn};
+use odht::hash::HashFn;
 use odht::layout::Layout;
 use odht::load::Percent;
 use odht::memory_layout::{Header, LEAST_FACTOR, insert_sized};
@@ -50,17 +50,10 @@ pub fn bytes_needed(
     ensures { AnyAnswers layout result (len.new ≡ len.old)
         (λ c. BytesNeededAnswers c max_item_count max_load_factor_percent len.old result len.new) }
 {
-    let lengths = Layout {
-        key_len: layout.key_len,
-        value_len: layout.value_len,
-    };
-    if has_hash(layout, FX, FxHashFn::MIN_LEN) {
-        bytes_needed_by::<FxHashFn>(lengths, max_item_count, max_load_factor_percent, len)
-    } else if has_hash(layout, UNHASH, UnHashFn::MIN_LEN) {
-        bytes_needed_by::<UnHashFn>(lengths, max_item_count, max_load_factor_percent, len)
-    } else {
-        BAD_LAYOUT
-    }
+    by_hash!(
+        layout,
+        bytes_needed_by(max_item_count, max_load_factor_percent, len)
+    )
 }
 
 pub(crate) fn init_by<H: HashFn>(
@@ -99,17 +92,10 @@ pub fn init(
     ensures { AnyAnswers layout result (bytes.new ≡ bytes.old)
         (λ c. InitAnswers c max_item_count max_load_factor_percent bytes.old result bytes.new) }
 {
-    let lengths = Layout {
-        key_len: layout.key_len,
-        value_len: layout.value_len,
-    };
-    if has_hash(layout, FX, FxHashFn::MIN_LEN) {
-        init_by::<FxHashFn>(lengths, bytes, max_item_count, max_load_factor_percent)
-    } else if has_hash(layout, UNHASH, UnHashFn::MIN_LEN) {
-        init_by::<UnHashFn>(lengths, bytes, max_item_count, max_load_factor_percent)
-    } else {
-        BAD_LAYOUT
-    }
+    by_hash!(
+        layout,
+        init_by(bytes, max_item_count, max_load_factor_percent)
+    )
 }
 
 fn insert_by<H: HashFn>(
@@ -161,17 +147,7 @@ pub fn insert(
         in AnyAnswers layout result Same (λ c. SizedAnswers Long result Same
         (InsertAnswers c bytes.old key.now value.now former.old result bytes.new former.new)) }
 {
-    let lengths = Layout {
-        key_len: layout.key_len,
-        value_len: layout.value_len,
-    };
-    if has_hash(layout, FX, FxHashFn::MIN_LEN) {
-        insert_by::<FxHashFn>(lengths, bytes, key, value, former)
-    } else if has_hash(layout, UNHASH, UnHashFn::MIN_LEN) {
-        insert_by::<UnHashFn>(lengths, bytes, key, value, former)
-    } else {
-        BAD_LAYOUT
-    }
+    by_hash!(layout, insert_by(bytes, key, value, former))
 }
 
 fn grow_by<H: HashFn>(layout: Layout, bytes: &[u8], out: &mut [u8], len: &mut usize) -> u32
@@ -204,15 +180,5 @@ pub fn grow(layout: AnyLayout, bytes: &[u8], out: &mut [u8], len: &mut usize) ->
     ensures { AnyAnswers layout result ((out.new ≡ out.old) × (len.new ≡ len.old))
         (λ c. GrowAnswers c bytes.now out.old len.old result out.new len.new) }
 {
-    let lengths = Layout {
-        key_len: layout.key_len,
-        value_len: layout.value_len,
-    };
-    if has_hash(layout, FX, FxHashFn::MIN_LEN) {
-        grow_by::<FxHashFn>(lengths, bytes, out, len)
-    } else if has_hash(layout, UNHASH, UnHashFn::MIN_LEN) {
-        grow_by::<UnHashFn>(lengths, bytes, out, len)
-    } else {
-        BAD_LAYOUT
-    }
+    by_hash!(layout, grow_by(bytes, out, len))
 }

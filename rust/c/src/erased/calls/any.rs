@@ -2,6 +2,26 @@
 //! The calls for tables of any lengths: the caller names the lengths of keys and values, and the hash function, by a
 //! layout.
 
+/// Calls a function for the hash function of a layout, which is its type parameter, with the lengths of the layout in
+/// front of these arguments. BAD_LAYOUT where there is no such hash function, or it needs longer keys.
+macro_rules! by_hash {
+    ($layout:ident, $function:ident($($argument:expr),*)) => {{
+        let lengths = crate::proved::tables::dynamic::Layout {
+            key_len: $layout.key_len,
+            value_len: $layout.value_len,
+        };
+        if crate::erased::calls::any::has_hash($layout, crate::erased::calls::any::FX, crate::proved::tables::FxHashFn::MIN_LEN) {
+            $function::<crate::proved::tables::FxHashFn>(lengths, $($argument),*)
+        } else if crate::erased::calls::any::has_hash($layout, crate::erased::calls::any::UNHASH, crate::proved::tables::UnHashFn::MIN_LEN) {
+            $function::<crate::proved::tables::UnHashFn>(lengths, $($argument),*)
+        } else {
+            crate::erased::calls::status::BAD_LAYOUT
+        }
+    }};
+}
+
+pub(crate) use by_hash;
+
 pub mod build;
 pub mod lists;
 mod pieces;

@@ -4,11 +4,11 @@
 use super::lists::insert_pieces;
 use super::pieces::are_pieces;
 use super::write::init_by;
-use super::{has_hash, AnyLayout, FX, UNHASH};
-use crate::erased::calls::status::{BAD_LAYOUT, BAD_LENGTHS, BAD_PERCENT, CAPACITY, OK, TOO_SMALL};
+use super::{by_hash, AnyLayout};
+use crate::erased::calls::status::{BAD_LENGTHS, BAD_PERCENT, CAPACITY, OK, TOO_SMALL};
 use crate::proved::tables::bytes::Borrowed;
 use crate::proved::tables::dynamic::DynTable;
-use crate::proved::tables::hash::{FxHashFn, HashFn, UnHashFn};
+use crate::proved::tables::hash::HashFn;
 use crate::proved::tables::layout::Layout;
 use crate::proved::tables::load::Percent;
 
@@ -78,13 +78,6 @@ pub fn build(
     out: &mut [u8],
     len: &mut usize,
 ) -> u32 {
-    let lengths = Layout { key_len: layout.key_len, value_len: layout.value_len };
     let percent = max_load_factor_percent;
-    if has_hash(layout, FX, FxHashFn::MIN_LEN) {
-        build_by::<FxHashFn>(lengths, count, keys, values, percent, out, len)
-    } else if has_hash(layout, UNHASH, UnHashFn::MIN_LEN) {
-        build_by::<UnHashFn>(lengths, count, keys, values, percent, out, len)
-    } else {
-        BAD_LAYOUT
-    }
+    by_hash!(layout, build_by(count, keys, values, percent, out, len))
 }

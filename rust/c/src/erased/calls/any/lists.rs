@@ -3,9 +3,9 @@
 
 use super::pieces::{are_pieces, piece, put_answer};
 use super::read::view;
-use super::{has_hash, AnyLayout, FX, UNHASH};
-use crate::erased::calls::status::{status_of, BAD_LAYOUT, BAD_LENGTHS, OK};
-use crate::proved::tables::hash::{FxHashFn, HashFn, UnHashFn};
+use super::{by_hash, AnyLayout};
+use crate::erased::calls::status::{status_of, BAD_LENGTHS, OK};
+use crate::proved::tables::hash::HashFn;
 use crate::proved::tables::layout::Layout;
 use crate::proved::tables::memory_layout::insert_sized;
 
@@ -54,14 +54,7 @@ pub fn get_all(
     values: &mut [u8],
     found: &mut [u8],
 ) -> u32 {
-    let lengths = Layout { key_len: layout.key_len, value_len: layout.value_len };
-    if has_hash(layout, FX, FxHashFn::MIN_LEN) {
-        get_all_by::<FxHashFn>(lengths, bytes, count, keys, values, found)
-    } else if has_hash(layout, UNHASH, UnHashFn::MIN_LEN) {
-        get_all_by::<UnHashFn>(lengths, bytes, count, keys, values, found)
-    } else {
-        BAD_LAYOUT
-    }
+    by_hash!(layout, get_all_by(bytes, count, keys, values, found))
 }
 
 // The inserts of `count` pairs.
@@ -113,12 +106,5 @@ pub fn insert_all(
     values: &[u8],
     accepted: &mut usize,
 ) -> u32 {
-    let lengths = Layout { key_len: layout.key_len, value_len: layout.value_len };
-    if has_hash(layout, FX, FxHashFn::MIN_LEN) {
-        insert_all_by::<FxHashFn>(lengths, bytes, count, keys, values, accepted)
-    } else if has_hash(layout, UNHASH, UnHashFn::MIN_LEN) {
-        insert_all_by::<UnHashFn>(lengths, bytes, count, keys, values, accepted)
-    } else {
-        BAD_LAYOUT
-    }
+    by_hash!(layout, insert_all_by(bytes, count, keys, values, accepted))
 }

@@ -2,10 +2,10 @@
 //! The calls that open or check a table of any lengths and tell where the first error is.
 
 use super::read::{whole, whole_within};
-use super::{has_hash, AnyLayout, FX, UNHASH};
+use super::{by_hash, AnyLayout};
 use crate::erased::calls::places::{refused_at, NO_SLOT};
-use crate::erased::calls::status::{BAD_LAYOUT, OK};
-use crate::proved::tables::hash::{FxHashFn, HashFn, UnHashFn};
+use crate::erased::calls::status::OK;
+use crate::proved::tables::hash::HashFn;
 use crate::proved::tables::layout::Layout;
 use crate::proved::tables::memory_layout::check_opening;
 
@@ -23,14 +23,7 @@ fn open_at_by<H: HashFn>(layout: Layout, bytes: &[u8], slot: &mut usize) -> u32 
 /// writes to `slot` where that is: the slot of `NonZeroEmpty` and `ControlMismatch`, and NO_SLOT of all other errors
 /// and with OK. BAD_LAYOUT leaves `slot` unchanged.
 pub fn open_at(layout: AnyLayout, bytes: &[u8], slot: &mut usize) -> u32 {
-    let lengths = Layout { key_len: layout.key_len, value_len: layout.value_len };
-    if has_hash(layout, FX, FxHashFn::MIN_LEN) {
-        open_at_by::<FxHashFn>(lengths, bytes, slot)
-    } else if has_hash(layout, UNHASH, UnHashFn::MIN_LEN) {
-        open_at_by::<UnHashFn>(lengths, bytes, slot)
-    } else {
-        BAD_LAYOUT
-    }
+    by_hash!(layout, open_at_by(bytes, slot))
 }
 
 fn check_at_by<H: HashFn>(layout: Layout, bytes: &[u8], slot: &mut usize) -> u32 {
@@ -47,14 +40,7 @@ fn check_at_by<H: HashFn>(layout: Layout, bytes: &[u8], slot: &mut usize) -> u32
 /// that is: the slot that the error names, the index of the mirror's byte, or NO_SLOT of all other errors and with OK.
 /// BAD_LAYOUT leaves `slot` unchanged.
 pub fn check_at(layout: AnyLayout, bytes: &[u8], slot: &mut usize) -> u32 {
-    let lengths = Layout { key_len: layout.key_len, value_len: layout.value_len };
-    if has_hash(layout, FX, FxHashFn::MIN_LEN) {
-        check_at_by::<FxHashFn>(lengths, bytes, slot)
-    } else if has_hash(layout, UNHASH, UnHashFn::MIN_LEN) {
-        check_at_by::<UnHashFn>(lengths, bytes, slot)
-    } else {
-        BAD_LAYOUT
-    }
+    by_hash!(layout, check_at_by(bytes, slot))
 }
 
 fn check_within_at_by<H: HashFn>(
@@ -75,12 +61,5 @@ fn check_within_at_by<H: HashFn>(
 /// `check_at` with a bound of searches, as `check_within`; of `SearchTooLong` the slot where the searches begin is
 /// written to `slot`. BAD_LAYOUT leaves `slot` unchanged.
 pub fn check_within_at(layout: AnyLayout, bytes: &[u8], groups: usize, slot: &mut usize) -> u32 {
-    let lengths = Layout { key_len: layout.key_len, value_len: layout.value_len };
-    if has_hash(layout, FX, FxHashFn::MIN_LEN) {
-        check_within_at_by::<FxHashFn>(lengths, bytes, groups, slot)
-    } else if has_hash(layout, UNHASH, UnHashFn::MIN_LEN) {
-        check_within_at_by::<UnHashFn>(lengths, bytes, groups, slot)
-    } else {
-        BAD_LAYOUT
-    }
+    by_hash!(layout, check_within_at_by(bytes, groups, slot))
 }

@@ -1,12 +1,12 @@
 // Made by `make rust` of crates/odht_calls/src/any/read.rt.
 //! The calls that read a table of any lengths.
 
-use super::{has_hash, AnyLayout, FX, UNHASH};
+use super::{by_hash, AnyLayout};
 use crate::erased::calls::status::{status_of, ABSENT, BAD_LAYOUT, BAD_LENGTHS, OK};
 use crate::proved::tables::bytes::Borrowed;
 use crate::proved::tables::dynamic::{self, DynTable};
 use crate::proved::tables::error::Error;
-use crate::proved::tables::hash::{FxHashFn, HashFn, UnHashFn};
+use crate::proved::tables::hash::HashFn;
 use crate::proved::tables::layout::Layout;
 use crate::proved::tables::load::max_item_count_for;
 use crate::proved::tables::memory_layout::{
@@ -33,14 +33,7 @@ fn open_by<H: HashFn>(layout: Layout, bytes: &[u8]) -> u32 {
 
 /// OK where the header, the length and the first ten slots are accepted, else the number of the first error.
 pub fn open(layout: AnyLayout, bytes: &[u8]) -> u32 {
-    let lengths = Layout { key_len: layout.key_len, value_len: layout.value_len };
-    if has_hash(layout, FX, FxHashFn::MIN_LEN) {
-        open_by::<FxHashFn>(lengths, bytes)
-    } else if has_hash(layout, UNHASH, UnHashFn::MIN_LEN) {
-        open_by::<UnHashFn>(lengths, bytes)
-    } else {
-        BAD_LAYOUT
-    }
+    by_hash!(layout, open_by(bytes))
 }
 
 // The first error of the whole check.
@@ -58,14 +51,7 @@ fn check_by<H: HashFn>(layout: Layout, bytes: &[u8]) -> u32 {
 
 /// OK where the bytes are valid, else the number of the first error of the whole check.
 pub fn check(layout: AnyLayout, bytes: &[u8]) -> u32 {
-    let lengths = Layout { key_len: layout.key_len, value_len: layout.value_len };
-    if has_hash(layout, FX, FxHashFn::MIN_LEN) {
-        check_by::<FxHashFn>(lengths, bytes)
-    } else if has_hash(layout, UNHASH, UnHashFn::MIN_LEN) {
-        check_by::<UnHashFn>(lengths, bytes)
-    } else {
-        BAD_LAYOUT
-    }
+    by_hash!(layout, check_by(bytes))
 }
 
 // The first error of the whole check with a bound of searches.
@@ -89,14 +75,7 @@ fn check_within_by<H: HashFn>(layout: Layout, bytes: &[u8], groups: usize) -> u3
 /// its probe order, so that no search reads more; else the number of the first error of the whole check with this
 /// bound.
 pub fn check_within(layout: AnyLayout, bytes: &[u8], groups: usize) -> u32 {
-    let lengths = Layout { key_len: layout.key_len, value_len: layout.value_len };
-    if has_hash(layout, FX, FxHashFn::MIN_LEN) {
-        check_within_by::<FxHashFn>(lengths, bytes, groups)
-    } else if has_hash(layout, UNHASH, UnHashFn::MIN_LEN) {
-        check_within_by::<UnHashFn>(lengths, bytes, groups)
-    } else {
-        BAD_LAYOUT
-    }
+    by_hash!(layout, check_within_by(bytes, groups))
 }
 
 fn len_by<H: HashFn>(layout: Layout, bytes: &[u8], item_count: &mut usize) -> u32 {
@@ -111,14 +90,7 @@ fn len_by<H: HashFn>(layout: Layout, bytes: &[u8], item_count: &mut usize) -> u3
 
 /// Writes the header's item count to `item_count`. An error leaves it unchanged.
 pub fn len(layout: AnyLayout, bytes: &[u8], item_count: &mut usize) -> u32 {
-    let lengths = Layout { key_len: layout.key_len, value_len: layout.value_len };
-    if has_hash(layout, FX, FxHashFn::MIN_LEN) {
-        len_by::<FxHashFn>(lengths, bytes, item_count)
-    } else if has_hash(layout, UNHASH, UnHashFn::MIN_LEN) {
-        len_by::<UnHashFn>(lengths, bytes, item_count)
-    } else {
-        BAD_LAYOUT
-    }
+    by_hash!(layout, len_by(bytes, item_count))
 }
 
 fn sizes_by<H: HashFn>(
@@ -149,14 +121,7 @@ pub fn sizes(
     max_item_count: &mut usize,
     max_load_factor_percent: &mut u8,
 ) -> u32 {
-    let lengths = Layout { key_len: layout.key_len, value_len: layout.value_len };
-    if has_hash(layout, FX, FxHashFn::MIN_LEN) {
-        sizes_by::<FxHashFn>(lengths, bytes, slot_count, max_item_count, max_load_factor_percent)
-    } else if has_hash(layout, UNHASH, UnHashFn::MIN_LEN) {
-        sizes_by::<UnHashFn>(lengths, bytes, slot_count, max_item_count, max_load_factor_percent)
-    } else {
-        BAD_LAYOUT
-    }
+    by_hash!(layout, sizes_by(bytes, slot_count, max_item_count, max_load_factor_percent))
 }
 
 fn table_len_by<H: HashFn>(layout: Layout, bytes: &[u8], len: &mut usize) -> u32 {
@@ -172,14 +137,7 @@ fn table_len_by<H: HashFn>(layout: Layout, bytes: &[u8], len: &mut usize) -> u32
 /// Writes to `len` how many bytes the table at the front of the bytes has, by its header; what follows is not looked
 /// at, nor is any slot. An error leaves `len` unchanged: one of the header, or of fewer bytes than the table has.
 pub fn table_len(layout: AnyLayout, bytes: &[u8], len: &mut usize) -> u32 {
-    let lengths = Layout { key_len: layout.key_len, value_len: layout.value_len };
-    if has_hash(layout, FX, FxHashFn::MIN_LEN) {
-        table_len_by::<FxHashFn>(lengths, bytes, len)
-    } else if has_hash(layout, UNHASH, UnHashFn::MIN_LEN) {
-        table_len_by::<UnHashFn>(lengths, bytes, len)
-    } else {
-        BAD_LAYOUT
-    }
+    by_hash!(layout, table_len_by(bytes, len))
 }
 
 fn get_by<H: HashFn>(layout: Layout, bytes: &[u8], key: &[u8], value: &mut [u8]) -> u32 {
@@ -202,14 +160,7 @@ fn get_by<H: HashFn>(layout: Layout, bytes: &[u8], key: &[u8], value: &mut [u8])
 /// Writes the value of a key to `value`. BAD_LENGTHS where the key or `value` has another length than the layout says.
 /// ABSENT and errors leave `value` unchanged.
 pub fn get(layout: AnyLayout, bytes: &[u8], key: &[u8], value: &mut [u8]) -> u32 {
-    let lengths = Layout { key_len: layout.key_len, value_len: layout.value_len };
-    if has_hash(layout, FX, FxHashFn::MIN_LEN) {
-        get_by::<FxHashFn>(lengths, bytes, key, value)
-    } else if has_hash(layout, UNHASH, UnHashFn::MIN_LEN) {
-        get_by::<UnHashFn>(lengths, bytes, key, value)
-    } else {
-        BAD_LAYOUT
-    }
+    by_hash!(layout, get_by(bytes, key, value))
 }
 
 fn contains_by<H: HashFn>(layout: Layout, bytes: &[u8], key: &[u8]) -> u32 {
@@ -228,14 +179,7 @@ fn contains_by<H: HashFn>(layout: Layout, bytes: &[u8], key: &[u8]) -> u32 {
 
 /// OK where the key has a value, else ABSENT. BAD_LENGTHS where the key has another length than the layout says.
 pub fn contains(layout: AnyLayout, bytes: &[u8], key: &[u8]) -> u32 {
-    let lengths = Layout { key_len: layout.key_len, value_len: layout.value_len };
-    if has_hash(layout, FX, FxHashFn::MIN_LEN) {
-        contains_by::<FxHashFn>(lengths, bytes, key)
-    } else if has_hash(layout, UNHASH, UnHashFn::MIN_LEN) {
-        contains_by::<UnHashFn>(lengths, bytes, key)
-    } else {
-        BAD_LAYOUT
-    }
+    by_hash!(layout, contains_by(bytes, key))
 }
 
 /// Writes to `layout` the lengths that the header states, where header and length of the bytes fit; the number of the

@@ -3,9 +3,9 @@
 
 use super::pieces::{are_pieces, put_piece};
 use super::read::view;
-use super::{has_hash, AnyLayout, FX, UNHASH};
-use crate::erased::calls::status::{status_of, BAD_LAYOUT, BAD_LENGTHS, OK, TOO_SMALL};
-use crate::proved::tables::hash::{FxHashFn, HashFn, UnHashFn};
+use super::{by_hash, AnyLayout};
+use crate::erased::calls::status::{status_of, BAD_LENGTHS, OK, TOO_SMALL};
+use crate::proved::tables::hash::HashFn;
 use crate::proved::tables::layout::Layout;
 use crate::proved::tables::memory_layout::Header;
 
@@ -67,12 +67,5 @@ pub fn walk(
     values: &mut [u8],
     item_count: &mut usize,
 ) -> u32 {
-    let lengths = Layout { key_len: layout.key_len, value_len: layout.value_len };
-    if has_hash(layout, FX, FxHashFn::MIN_LEN) {
-        walk_by::<FxHashFn>(lengths, bytes, cursor, room, keys, values, item_count)
-    } else if has_hash(layout, UNHASH, UnHashFn::MIN_LEN) {
-        walk_by::<UnHashFn>(lengths, bytes, cursor, room, keys, values, item_count)
-    } else {
-        BAD_LAYOUT
-    }
+    by_hash!(layout, walk_by(bytes, cursor, room, keys, values, item_count))
 }

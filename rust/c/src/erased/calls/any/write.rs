@@ -2,14 +2,14 @@
 //! The calls that write a table of any lengths.
 
 use super::read::view;
-use super::{has_hash, AnyLayout, FX, UNHASH};
+use super::{by_hash, AnyLayout};
 use crate::erased::calls::status::{
     status_of, BAD_LAYOUT, BAD_LENGTHS, BAD_PERCENT, CAPACITY, LOAD_FACTOR_TOO_SMALL, OK, REPLACED,
     TOO_SMALL,
 };
 use crate::proved::tables::bytes::{Borrowed, BorrowedMut};
 use crate::proved::tables::dynamic::{DynError, DynTable};
-use crate::proved::tables::hash::{FxHashFn, HashFn, UnHashFn};
+use crate::proved::tables::hash::HashFn;
 use crate::proved::tables::layout::Layout;
 use crate::proved::tables::load::Percent;
 use crate::proved::tables::memory_layout::{insert_sized, Header, LEAST_FACTOR};
@@ -39,14 +39,7 @@ pub fn bytes_needed(
     max_load_factor_percent: u8,
     len: &mut usize,
 ) -> u32 {
-    let lengths = Layout { key_len: layout.key_len, value_len: layout.value_len };
-    if has_hash(layout, FX, FxHashFn::MIN_LEN) {
-        bytes_needed_by::<FxHashFn>(lengths, max_item_count, max_load_factor_percent, len)
-    } else if has_hash(layout, UNHASH, UnHashFn::MIN_LEN) {
-        bytes_needed_by::<UnHashFn>(lengths, max_item_count, max_load_factor_percent, len)
-    } else {
-        BAD_LAYOUT
-    }
+    by_hash!(layout, bytes_needed_by(max_item_count, max_load_factor_percent, len))
 }
 
 pub(crate) fn init_by<H: HashFn>(
@@ -78,14 +71,7 @@ pub fn init(
     max_item_count: usize,
     max_load_factor_percent: u8,
 ) -> u32 {
-    let lengths = Layout { key_len: layout.key_len, value_len: layout.value_len };
-    if has_hash(layout, FX, FxHashFn::MIN_LEN) {
-        init_by::<FxHashFn>(lengths, bytes, max_item_count, max_load_factor_percent)
-    } else if has_hash(layout, UNHASH, UnHashFn::MIN_LEN) {
-        init_by::<UnHashFn>(lengths, bytes, max_item_count, max_load_factor_percent)
-    } else {
-        BAD_LAYOUT
-    }
+    by_hash!(layout, init_by(bytes, max_item_count, max_load_factor_percent))
 }
 
 fn insert_by<H: HashFn>(
@@ -122,14 +108,7 @@ pub fn insert(
     value: &[u8],
     former: &mut [u8],
 ) -> u32 {
-    let lengths = Layout { key_len: layout.key_len, value_len: layout.value_len };
-    if has_hash(layout, FX, FxHashFn::MIN_LEN) {
-        insert_by::<FxHashFn>(lengths, bytes, key, value, former)
-    } else if has_hash(layout, UNHASH, UnHashFn::MIN_LEN) {
-        insert_by::<UnHashFn>(lengths, bytes, key, value, former)
-    } else {
-        BAD_LAYOUT
-    }
+    by_hash!(layout, insert_by(bytes, key, value, former))
 }
 
 fn grow_by<H: HashFn>(layout: Layout, bytes: &[u8], out: &mut [u8], len: &mut usize) -> u32 {
@@ -155,12 +134,5 @@ fn grow_by<H: HashFn>(layout: Layout, bytes: &[u8], out: &mut [u8], len: &mut us
 /// Writes the table that the one in `bytes` grows into to the front of `out`, and its length in bytes to `len`.
 /// TOO_SMALL leaves `out` unchanged, any other error leaves both unchanged.
 pub fn grow(layout: AnyLayout, bytes: &[u8], out: &mut [u8], len: &mut usize) -> u32 {
-    let lengths = Layout { key_len: layout.key_len, value_len: layout.value_len };
-    if has_hash(layout, FX, FxHashFn::MIN_LEN) {
-        grow_by::<FxHashFn>(lengths, bytes, out, len)
-    } else if has_hash(layout, UNHASH, UnHashFn::MIN_LEN) {
-        grow_by::<UnHashFn>(lengths, bytes, out, len)
-    } else {
-        BAD_LAYOUT
-    }
+    by_hash!(layout, grow_by(bytes, out, len))
 }
