@@ -30,6 +30,7 @@ use std::marker::{Model, PhantomData};
 
 mod file;
 mod growth;
+mod insert_order;
 mod inserts;
 mod lists;
 mod lookups;

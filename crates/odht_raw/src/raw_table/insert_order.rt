@@ -2,21 +2,18 @@
 ghost use Rattle.std.specs.Prelude.{◌≡◌, ◌≤◌, ◌<◌, ◌+◌, ◌^◌, ◌%◌, ◌↔◌, ℕ, List, ◌++◌, length, drop};
 ghost use Rattle.std.specs.Prelude.{slice_index};
 ghost use Rattle.std.specs.Prelude.{IsTrue, All, AllPairs, Contains, IsPermutation};
-ghost use Rattle.odht_base.specs.Format.{format_of};
 ghost use Rattle.odht_base.specs.Load.{IsSlotCount};
 ghost use Rattle.odht_base.specs.Ready.{IsReady};
-ghost use Rattle.odht_base.specs.Decoded.{slot_key};
 ghost use Rattle.odht_base.specs.Table.{Table, Pair};
 ghost use Rattle.odht_base.specs.Valid.{HoldsPair, IsPartsOf};
+ghost use Rattle.odht_raw.specs.Homes.{HasHomes};
 ghost use Rattle.odht_raw.specs.Frontiers.{AreFrontiers};
 ghost use Rattle.odht_raw.specs.Waiting.{placed_of, IsWaiting, AreRising, IsPending};
 ghost use Rattle.odht_raw.specs.Waiting.{IsWhole, IsOrderAnswer, AreListed, IsBegun, IsFar, IsPass};
 ghost use Rattle.odht_raw.specs.Waiting.{IsLeft, IsNext, IsFrontier, IsUnblocked, WaitsWithin, WaitsBehind};
 
-use super::RawTable;
+use super::SlotHomes;
 use super::waiting::{WAITING, list_occupied};
-use crate::bytes::ByteArray;
-use crate::hash::HashFn;
 use crate::swisstable_group_query::REFERENCE_GROUP_SIZE;
 
 // How many frontiers are kept from one search to the next. Few homes have long searches at a time, and one that is
@@ -35,147 +32,129 @@ struct Frontier {
     position: usize,
 }
 
-impl<'a, K: ByteArray, V: ByteArray, H: HashFn> RawTable<'a, K, V, H> {
-    /// Whether some list of inserts, growths included, makes the table (`IsMade`). Where one does, `out` lists its
-    /// occupied slots so that their pairs, inserted in this order into an empty table of as many slots and the same
-    /// load factor, make exactly this table. Otherwise the numbers in `out` have no meaning. The parts are those of a
-    /// valid table, and `out` has as many items as the table has pairs.
-    ///
-    /// A pass goes through the waiting slots in slot order, and places each whose earlier slots in the probe order of
-    /// its key are all placed. Passes are made until no slot waits, or a pass places none: at most one pass more than
-    /// there are slots that wait for a slot of a higher index. In a pass a slot in the first group of its probe order
-    /// and not below its home takes one step. Any other takes one or two binary searches in the list of the pass for
-    /// each group up to its own, but for those that were passed before from the same home, as far as that is kept, for
-    /// 64 homes. After each pass the slots that still wait are sorted. It allocates nothing.
-    pub fn insert_order(&self, out: &mut [usize]) -> bool
-        requires whole { IsWhole (format_of K.LEN V.LEN H.hash) self.now (length out.old) }
-        ensures { let F = format_of K.LEN V.LEN H.hash
-            in IsOrderAnswer F self.now (length out.old) out.new result }
-    {
-        list_occupied(self.control, self.entries.len(), out);
-        let near = self.place_near(out);
-        if near == out.len() {
-            return true;
-        }
-        self.place_others(out, near)
+/// `RawTable::insert_order` of any parts whose keys have homes.
+///
+/// It goes through the slots once, up to the first that is not near its home, and then pass by pass.
+pub(super) fn find_order<S: SlotHomes>(table: &S, out: &mut [usize]) -> bool
+    requires homes { HasHomes (S.format table.now) (S.parts table.now) }
+    requires whole { IsWhole (S.format table.now) (S.parts table.now) (length out.old) }
+    ensures { let F = S.format table.now
+        in IsOrderAnswer F (S.parts table.now) (length out.old) out.new result }
+{
+    list_occupied(table.control_bytes(), table.slots(), out);
+    let near = place_near(table, out);
+    if near == out.len() {
+        return true;
     }
+    place_others(table, out, near)
+}
 
-    // Places slots in their order, as long as each is near its home. None that waits is before it in the probe order of
-    // its key then, so that it is ready. Returns how many were placed.
-    fn place_near(&self, slots: &mut [usize]) -> usize
-        requires whole { IsWhole (format_of K.LEN V.LEN H.hash) self.now (length slots.old) }
-        requires begun { IsBegun (format_of K.LEN V.LEN H.hash) self.now slots.old 0 }
-        ensures begun { IsBegun (format_of K.LEN V.LEN H.hash) self.now slots.new result }
-        ensures far { result < length slots.new
-            → IsFar (format_of K.LEN V.LEN H.hash) self.now (slice_index slots.new result) }
-    {
-        // Its invariant is used: the slots are a slot count, and have control bytes and a mirror.
-        let _ = &self.control;
-        for at in 0..slots.len() {
-            let slot = slots[at] - WAITING;
-            if !is_near(slot, self.home_of(slot)) {
-                return at;
-            }
+// Places slots in their order, as long as each is near its home. None that waits is before it in the probe order of
+// its key then, so that it is ready. Returns how many were placed.
+fn place_near<S: SlotHomes>(table: &S, slots: &mut [usize]) -> usize
+    requires homes { HasHomes (S.format table.now) (S.parts table.now) }
+    requires whole { IsWhole (S.format table.now) (S.parts table.now) (length slots.old) }
+    requires begun { IsBegun (S.format table.now) (S.parts table.now) slots.old 0 }
+    ensures begun { IsBegun (S.format table.now) (S.parts table.now) slots.new result }
+    ensures far { result < length slots.new
+        → IsFar (S.format table.now) (S.parts table.now) (slice_index slots.new result) }
+{
+    for at in 0..slots.len() {
+        let slot = slots[at] - WAITING;
+        if !is_near(slot, table.home_of(slot)) {
+            return at;
+        }
+        slots[at] = slot;
+    }
+    slots.len()
+}
+
+// `insert_order` of the slots that still wait, where the first `placed` are placed.
+//
+// It is a call of its own, since it sets the frontiers up, and most tables with few pairs need none.
+#[inline(never)]
+fn place_others<S: SlotHomes>(table: &S, out: &mut [usize], placed: usize) -> bool
+    requires homes { HasHomes (S.format table.now) (S.parts table.now) }
+    requires whole { IsWhole (S.format table.now) (S.parts table.now) (length out.old) }
+    requires begun { IsBegun (S.format table.now) (S.parts table.now) out.old placed }
+    ensures { let F = S.format table.now
+        in IsOrderAnswer F (S.parts table.now) (length out.old) out.new result }
+{
+    let mut frontiers = [Frontier::at(0); FRONTIERS];
+    let mut placed = placed;
+    while placed < out.len() {
+        let ready = place_ready(table, &mut out[placed..], &mut frontiers);
+        if ready == 0 {
+            return false;
+        }
+        placed += ready;
+    }
+    true
+}
+
+// Goes once through the slots that wait, and places each that is ready by then. At the end the placed slots come
+// first, in slot order, and after them the others. Returns how many were placed.
+fn place_ready<S: SlotHomes>(
+    table: &S,
+    slots: &mut [usize],
+    frontiers: &mut [Frontier; FRONTIERS],
+) -> usize
+    requires homes { HasHomes (S.format table.now) (S.parts table.now) }
+    requires listed { AreListed (S.format table.now) (S.parts table.now) slots.old }
+    requires frontiers { AreFrontiers slots.old (S.parts table.now).entries.slots frontiers.old }
+    ensures few { result ≤ length slots.new }
+    ensures waiting { All (IsWaiting (S.parts table.now).entries.slots) (drop result slots.new) }
+    ensures pass { let F = S.format table.now
+        in (P : Table) (done : List ℕ)
+        → IsPartsOf F P (S.parts table.now).entries.bytes (S.parts table.now).control
+        → IsPending F P done slots.old
+        → IsPass F P done slots.new result }
+    ensures frontiers { AreFrontiers (drop result slots.new) (S.parts table.now).entries.slots
+        frontiers.new }
+{
+    let mut placed = 0;
+    // One more than the last slot that was left to wait, or 0.
+    let mut left = 0;
+    for at in 0..slots.len() {
+        let slot = slots[at] - WAITING;
+        if is_ready(table, slot, left, slots, frontiers) {
             slots[at] = slot;
-        }
-        slots.len()
-    }
-
-    // `insert_order` of the slots that still wait, where the first `placed` are placed.
-    //
-    // It is a call of its own, since it sets the frontiers up, and most tables with few pairs need none.
-    #[inline(never)]
-    fn place_others(&self, out: &mut [usize], placed: usize) -> bool
-        requires whole { IsWhole (format_of K.LEN V.LEN H.hash) self.now (length out.old) }
-        requires begun { IsBegun (format_of K.LEN V.LEN H.hash) self.now out.old placed }
-        ensures { let F = format_of K.LEN V.LEN H.hash
-            in IsOrderAnswer F self.now (length out.old) out.new result }
-    {
-        // Its invariant is used: the slots are a slot count.
-        let _ = &self.control;
-        let mut frontiers = [Frontier::at(0); FRONTIERS];
-        let mut placed = placed;
-        while placed < out.len() {
-            let ready = self.place_ready(&mut out[placed..], &mut frontiers);
-            if ready == 0 {
-                return false;
-            }
-            placed += ready;
-        }
-        true
-    }
-
-    // Goes once through the slots that wait, and places each that is ready by then. At the end the placed slots come
-    // first, in slot order, and after them the others. Returns how many were placed.
-    fn place_ready(&self, slots: &mut [usize], frontiers: &mut [Frontier; FRONTIERS]) -> usize
-        requires listed { AreListed (format_of K.LEN V.LEN H.hash) self.now slots.old }
-        requires frontiers { AreFrontiers slots.old self.now.entries.slots frontiers.old }
-        ensures few { result ≤ length slots.new }
-        ensures waiting { All (IsWaiting self.now.entries.slots) (drop result slots.new) }
-        ensures pass { let F = format_of K.LEN V.LEN H.hash
-            in (P : Table) (done : List ℕ)
-            → IsPartsOf F P self.now.entries.bytes self.now.control
-            → IsPending F P done slots.old
-            → IsPass F P done slots.new result }
-        ensures frontiers { AreFrontiers (drop result slots.new) self.now.entries.slots
-            frontiers.new }
-    {
-        let mut placed = 0;
-        // One more than the last slot that was left to wait, or 0.
-        let mut left = 0;
-        for at in 0..slots.len() {
-            let slot = slots[at] - WAITING;
-            if self.is_ready(slot, left, slots, frontiers) {
-                slots[at] = slot;
-                placed += 1;
-            } else {
-                left = slot + 1;
-            }
-        }
-        sort_placed_first(slots, placed);
-        placed
-    }
-
-    // Whether no slot before this one in the probe order of its key waits. In most cases the slots before it begin at
-    // its home and end next to it, so that all of them were looked at before in the pass.
-    #[inline]
-    fn is_ready(
-        &self,
-        slot: usize,
-        left: usize,
-        slots: &[usize],
-        frontiers: &mut [Frontier; FRONTIERS],
-    ) -> bool
-        requires slot { slot < self.now.entries.slots }
-        requires next { IsNext slots.now slot left }
-        requires frontiers { AreFrontiers slots.now self.now.entries.slots frontiers.old }
-        ensures frontiers { AreFrontiers slots.now self.now.entries.slots frontiers.new }
-        ensures ready { let F = format_of K.LEN V.LEN H.hash
-            in (P : Table) (done : List ℕ) (p : Pair)
-            → IsPartsOf F P self.now.entries.bytes self.now.control
-            → IsPending F P done slots.now
-            → HoldsPair P slot p
-            → (IsTrue result ↔ IsReady F P (done ++ placed_of slots.now) slot) }
-    {
-        let home = self.home_of(slot);
-        if is_near(slot, home) {
-            left <= home
+            placed += 1;
         } else {
-            is_unblocked_from(home, slot, self.entries.len() - 1, left, slots, frontiers)
+            left = slot + 1;
         }
     }
+    sort_placed_first(slots, placed);
+    placed
+}
 
-    // The home of the key in a slot.
-    #[inline(always)]
-    pub(super) fn home_of(&self, slot: usize) -> usize
-        requires { slot < self.now.entries.slots }
-        ensures { let F = format_of K.LEN V.LEN H.hash
-            in result
-            ≡ F.hash (slot_key F self.now.entries.bytes slot) % self.now.entries.slots }
-    {
-        // Hashed as a slice of the entries, long keys take more instructions.
-        let key = K::from_slice(self.entries.key_bytes_of(slot));
-        H::hash(key.as_slice()) as usize & (self.entries.len() - 1)
+// Whether no slot before this one in the probe order of its key waits. In most cases the slots before it begin at
+// its home and end next to it, so that all of them were looked at before in the pass.
+#[inline]
+fn is_ready<S: SlotHomes>(
+    table: &S,
+    slot: usize,
+    left: usize,
+    slots: &[usize],
+    frontiers: &mut [Frontier; FRONTIERS],
+) -> bool
+    requires homes { HasHomes (S.format table.now) (S.parts table.now) }
+    requires slot { slot < (S.parts table.now).entries.slots }
+    requires next { IsNext slots.now slot left }
+    requires frontiers { AreFrontiers slots.now (S.parts table.now).entries.slots frontiers.old }
+    ensures frontiers { AreFrontiers slots.now (S.parts table.now).entries.slots frontiers.new }
+    ensures ready { let F = S.format table.now
+        in (P : Table) (done : List ℕ) (p : Pair)
+        → IsPartsOf F P (S.parts table.now).entries.bytes (S.parts table.now).control
+        → IsPending F P done slots.now
+        → HoldsPair P slot p
+        → (IsTrue result ↔ IsReady F P (done ++ placed_of slots.now) slot) }
+{
+    let home = table.home_of(slot);
+    if is_near(slot, home) {
+        left <= home
+    } else {
+        is_unblocked_from(home, slot, table.slots() - 1, left, slots, frontiers)
     }
 }
 
