@@ -65,6 +65,8 @@ pub mod SlotSummary
 pub mod SpanLooks
 -- lists of different numbers that rise
 pub mod RisingLists
+-- parts whose keys have homes
+pub mod Homes
 -- the list of all occupied slots, as it is made
 pub mod ListedSlots
 -- slots that wait to be placed, as they are listed

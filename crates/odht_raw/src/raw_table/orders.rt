@@ -27,6 +27,8 @@ impl<'a, K: ByteArray, V: ByteArray, H: HashFn> RawTable<'a, K, V, H> {
         ensures { let F = format_of K.LEN V.LEN H.hash
             in IsOrderAnswer F self.now (length out.old) out.new result }
     {
+        // Its invariant is used: the slots are a slot count, and have control bytes and a mirror.
+        let _ = &self.control;
         find_order(self, out)
     }
 
@@ -53,6 +55,8 @@ impl<'a, K: ByteArray, V: ByteArray, H: HashFn> RawTable<'a, K, V, H> {
         ensures { let F = format_of K.LEN V.LEN H.hash
             in IsOrderAnswer F self.now (length out.old) out.new result }
     {
+        // Its invariant is used here too.
+        let _ = &self.control;
         find_order_with(self, out, scratch)
     }
 }
@@ -64,6 +68,8 @@ impl<'a, H: HashFn> SizedTable<'a, H> {
         ensures { let F = sized_format self.now H.hash
             in IsOrderAnswer F self.now.parts (length out.old) out.new result }
     {
+        // A clause of it is used: the parts are as long as these lengths say.
+        let _ = self.len();
         find_order(self, out)
     }
 
@@ -81,6 +87,8 @@ impl<'a, H: HashFn> SizedTable<'a, H> {
         ensures { let F = sized_format self.now H.hash
             in IsOrderAnswer F self.now.parts (length out.old) out.new result }
     {
+        // A clause of it is used here too.
+        let _ = self.len();
         find_order_with(self, out, scratch)
     }
 }

@@ -1,0 +1,71 @@
+use Rattle.std.proofs.Common.{◌≡◌, ◌∙◌, ◌^◌, ◌<◌, ◌≤◌, ℕ, List, [], length, map, slice_index, sym, subst, arith, refl, All}
+use Rattle.odht_base.specs.Format.{Format}
+use Rattle.odht_base.specs.Made.{occupied, IsInsertOrder}
+use Rattle.odht_base.specs.Decoded.{counts_as_free}
+use Rattle.odht_base.specs.Table.{Table, slot_count, is_free}
+use Rattle.odht_base.proofs.lemmas.MadeTables.{IsMade-IsInsertOrder}
+use Rattle.odht_base.proofs.lemmas.SlotCounts.{few_slots}
+use Rattle.odht_raw.specs.Parts.{TableParts}
+use Rattle.odht_raw.specs.Waiting.{waiting, IsWaiting, IsPending, AreWholeParts, IsOrderAnswer}
+use Rattle.odht_raw.proofs.lemmas.PartCells.{slots_are, byte_is}
+use Rattle.odht_raw.proofs.lemmas.PendingSlots.{all_wait, all_pending, order_found}
+use Rattle.odht_raw.proofs.raw_table.insert_order.find_order.Given.{Over}
+use Rattle.odht_raw.proofs.raw_table.insert_order.find_order.Goals.{After-list_occupied, Then-near-out}
+use Rattle.odht_raw.proofs.raw_table.insert_order.find_order.Goals as goal
+
+-- what the list of occupied slots is
+module _ (g : Over) (c : After-list_occupied g) where
+  abbrev F : Format
+  F = g.S.SlotHomes.format c.args.table.now
+
+  abbrev T : TableParts
+  T = g.S.SlotHomes.parts c.args.table.now
+
+  module _ (P : Table) (whole : AreWholeParts F P T (length c.args.out.now)) where
+    as_many : T.entries.slots ≡ slot_count P
+    as_many = slots_are F c.requires.homes.format P _ _ whole.parts _ c.requires.homes.mirrored
+
+    small : slot_count P ≤ 2 ^ 63
+    small = few_slots (slot_count P) whole.valid.placed.slots
+
+    list : c.list_occupied.new.out ≡ map waiting (occupied P)
+    list = c.list_occupied.ensures P (sym as_many ∙ sym c.slots.ensures)
+        (subst (λ (bs : List ℕ). (i : ℕ) → i < c.slots.result → counts_as_free (slice_index bs i) ≡ is_free P.cells i) (sym c.control_bytes.ensures.value)
+        (λ i l. byte_is F c.requires.homes.format P _ _ whole.parts i (omega (arith, l, c.slots.ensures, as_many))))
+        whole.counted
+
+-- none of them is placed yet
+pub place_near-near-requires-clause-begun : goal.place_near-near-requires-clause-begun
+place_near-near-requires-clause-begun g c =
+    let at = (goal.at.place_near-near-requires-clause-begun g c).After-list_occupied in
+    let P = c.requires.whole.0 in
+    let whole = c.requires.whole.1 in
+    let waits = subst (All (IsWaiting (slot_count P))) (sym (list g at P whole)) (all_wait P (small g at P whole)) in
+    record {
+      within = omega arith;
+      waiting = subst (λ s. All (IsWaiting s) c.list_occupied.new.out) (sym (as_many g at P whole)) waits;
+      pending = λ Q is.
+          let same = subst (AreWholeParts (g.S.SlotHomes.format c.args.table.now) Q (g.S.SlotHomes.parts c.args.table.now)) c.list_occupied.auto.out is in
+          subst (IsPending (g.S.SlotHomes.format c.args.table.now) Q []) (sym (list g at Q same)) (all_pending Q (small g at Q same) (g.S.SlotHomes.format c.args.table.now));
+    }
+
+-- where all are placed by then, that is an order
+module _ (g : Over) (c : Then-near-out g) (P : Table) (whole : AreWholeParts (g.S.SlotHomes.format c.args.table.now) P (g.S.SlotHomes.parts c.args.table.now) (length c.args.out.now)) where
+  same : length c.place_near-near.new.slots ≡ length c.args.out.now
+  same = c.place_near-near.auto.slots ∙ c.list_occupied.auto.out
+
+  order : IsInsertOrder (g.S.SlotHomes.format c.args.table.now) P c.place_near-near.new.slots
+  order =
+      order_found (g.S.SlotHomes.format c.args.table.now) P (g.S.SlotHomes.parts c.args.table.now) c.place_near-near.new.slots _ same whole c.place_near-near.result (omega (arith, c.if-near-out.true))
+      (c.place_near-near.ensures.begun.pending P (subst (AreWholeParts (g.S.SlotHomes.format c.args.table.now) P (g.S.SlotHomes.parts c.args.table.now)) (sym same) whole))
+
+pub returns-then-near-out : goal.returns-then-near-out
+returns-then-near-out g c = record {
+  order = λ P whole t. order g c P whole;
+  made = λ P whole. (λ t. (IsMade-IsInsertOrder (g.S.SlotHomes.format c.args.table.now) P whole.valid).1 (c.place_near-near.new.slots, order g c P whole), λ made. refl);
+}
+
+-- what the others give
+pub returns : goal.returns
+returns g c =
+    subst (λ n. IsOrderAnswer (g.S.SlotHomes.format c.args.table.now) (g.S.SlotHomes.parts c.args.table.now) n c.place_others.new.out c.place_others.result) (c.place_near-near.auto.slots ∙ c.list_occupied.auto.out) c.place_others.ensures
