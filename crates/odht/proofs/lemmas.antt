@@ -25,6 +25,8 @@ pub mod Rebuilding
 pub mod Lookups
 -- many lookups by a lookup of each
 pub mod ManyGets
+-- an order of inserts of such a table
+pub mod DynOrders
 -- lookups of keys that are lists of bytes
 pub mod DynLookups
 -- valid bytes, opened with the lengths that their header states
