@@ -24,6 +24,7 @@
 mod file;
 mod growth;
 mod lists;
+mod orders;
 mod owned;
 mod prefix;
 mod short_bytes;

@@ -59,7 +59,12 @@ fn places<C: Config>(bytes: &[u8]) -> (usize, usize) {
 #[inline(never)]
 fn occupied_from<C: Config>(bytes: &[u8], from: usize) -> usize {
     let (slots, control) = places::<C>(bytes);
-    let own = &bytes[control + from..control + slots];
+    occupied_in(&bytes[control + from..control + slots])
+}
+
+/// How many of these control bytes are those of occupied slots.
+#[inline(always)]
+pub fn occupied_in(own: &[u8]) -> usize {
     // a piece has no more than a byte counts, so that many are added at once
     let in_piece = |piece: &[u8]| -> u8 {
         piece.iter().map(|control| u8::from(!is_empty_or_deleted(*control))).sum()

@@ -6,9 +6,10 @@
 mod common;
 
 use common::frame::Named;
+use common::orders::{exchanged, first_order};
 use common::outcomes::outcome;
 use common::random::Random;
-use common::reading::{Format, Reading};
+use common::reading::{Format, Hash, Reading};
 use common::writing::Writing;
 use odht::configs::U64ToU32;
 use odht::dynamic::{DynError, DynTable, Layout};
@@ -48,6 +49,24 @@ fn bound_is_kept<H: HashFn>(table: &DynTable<H, &[u8]>, reading: &Reading<'_>, g
     assert_eq!(table.searches_within(groups), reading.first_longer(groups).is_none());
 }
 
+// Compares the orders of inserts that are found of a valid table with the first search. Returns whether there is one.
+fn orders_are_found<H: HashFn>(table: &DynTable<H, &[u8]>, reading: &Reading<'_>) -> bool {
+    let mut expected = vec![0; reading.count()];
+    let is_made = first_order(reading, &mut expected);
+    let mut found = vec![usize::MAX; reading.count()];
+    assert_eq!(table.insert_order(&mut found), is_made);
+    assert_eq!(found, expected);
+    let numbers = table.insert_order_scratch();
+    assert_eq!(numbers, 3 * reading.slots());
+    for numbers in [numbers, numbers + 1, numbers - 1] {
+        let mut found = vec![usize::MAX; reading.count()];
+        assert_eq!(table.insert_order_with(&mut found, &mut vec![usize::MAX; numbers]), is_made);
+        assert!(!is_made || found == expected);
+    }
+    assert!(!is_made || reading.is_insert_order(&expected));
+    is_made
+}
+
 // Compares each call with the second reading.
 fn compare<H: HashFn>(table: &DynTable<H, &[u8]>, reading: &Reading<'_>, random: &mut Random) {
     let Format { key, value, .. } = reading.format;
@@ -55,6 +74,7 @@ fn compare<H: HashFn>(table: &DynTable<H, &[u8]>, reading: &Reading<'_>, random:
     assert_eq!((table.len(), table.is_empty()), (reading.count(), reading.count() == 0));
     assert_eq!(table.raw_bytes(), reading.bytes);
     assert_eq!(table.check_rest().err().map(|error| error.to_string()), reading.check_error());
+    assert!(orders_are_found(table, reading));
     for groups in [0, 1, 2, random.below(reading.slots() / 16 + 2)] {
         bound_is_kept(table, reading, groups);
     }
@@ -132,6 +152,39 @@ fn each_length_of<H: Named>(least: usize) {
 fn each_length() {
     each_length_of::<FxHashFn>(0);
     each_length_of::<UnHashFn>(4);
+}
+
+// A nearly full table of few homes, with some slots exchanged. Whether inserts make it, if it is valid.
+fn exchange(key: usize, value: usize, random: &mut Random) -> Option<bool> {
+    let format = Format::new(key, value, Hash::Un);
+    let slots = 16 << random.below(3);
+    let mut table = Writing::with_slots(format, slots, u16::MAX);
+    for _ in 0..slots - 1 - random.below(3) {
+        let (mut key, value) = (some_bytes(random, key), some_bytes(random, value));
+        let last = key.len() - 4;
+        key[last] %= 1 << (key[0] % 4);
+        table.insert(&key, &value);
+    }
+    let bytes = exchanged(random, &table.reading());
+    let reading = Reading::new(format, &bytes);
+    let table = DynTable::<UnHashFn, _>::open_as_stated(&bytes[..]).ok()?;
+    table.verify().then(|| orders_are_found(&table, &reading))
+}
+
+// No ready configuration has keys of these lengths.
+#[test]
+fn tables_that_no_inserts_make() {
+    let (mut random, mut made, mut unmade) = (Random(9), 0, 0);
+    for key in [5, 6, 7, 9, 13, 17, 21, 33, 63, 65, 255] {
+        for round in 0..400 {
+            match exchange(key, [0, 1, 6, 40][round % 4], &mut random) {
+                Some(true) => made += 1,
+                Some(false) => unmade += 1,
+                None => {}
+            }
+        }
+    }
+    assert!(made > 200 && unmade > 40, "{made} made, {unmade} not");
 }
 
 #[test]

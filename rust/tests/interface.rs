@@ -54,6 +54,15 @@ fn slices_are_as_long_as_they_have_to_be() {
         assert!(end.contains("a number for each item"));
     }
     let sized = Dyn::open_as_stated(table.raw_bytes().to_vec()).unwrap();
+    for length in [0, 1, 3] {
+        let mut order = vec![0; length];
+        assert!(words(|| sized.insert_order(&mut order)).contains("a number for each item"));
+        let end = words(|| sized.insert_order_with(&mut order, &mut [0; 48]));
+        assert!(end.contains("a number for each item"));
+    }
+    let counted = changed(table.raw_bytes(), &[(8, 1)]);
+    let counted = Dyn::open_as_stated(counted).unwrap();
+    assert!(words(|| counted.insert_order(&mut [0])).contains("that of the occupied slots"));
     let length = view.grown_len().unwrap();
     for length in [0, length - 1, length + 1, 2 * length] {
         let mut out = vec![0; length];

@@ -219,6 +219,8 @@ fn the_other_calls_take_no_memory() {
     let (_, made) = granting(0, || {
         assert!(table.insert_order(&mut order) && table.contains_key(&3));
         assert!(table.insert_order_with(&mut order, &mut scratch));
+        let twin = DynTable::<FxHashFn, _>::open_as_stated(table.raw_bytes()).unwrap();
+        assert!(twin.insert_order(&mut order) && twin.insert_order_with(&mut order, &mut scratch));
         assert_eq!((table.get(&3), table.get_counted(&99).0), (Some(21), None));
         table.get_all(&[1, 2, 99], &mut values);
         assert_eq!((table.iter().count(), table.iter_from(0).count(), table.len()), (13, 13, 13));

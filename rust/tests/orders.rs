@@ -1,63 +1,28 @@
 //! The order of inserts that is found, and what is left in the list where there is none, beside the search as it was
-//! written first: each earlier slot of a probe order by a binary search, and the whole list sorted after each pass. The
-//! search in linear time finds the same order.
+//! written first (`common/orders.rs`). The search in linear time, and both in a table whose lengths are numbers, find
+//! the same order.
 
 mod common;
 
+use common::orders::{exchanged, first_order};
 use common::random::Random;
 use common::reading::{Format, Hash, Reading};
 use odht::configs::{DirectU32ToU32, U64ToU32};
-use odht::HashTableOwned;
+use odht::dynamic::DynTable;
+use odht::{FxHashFn, HashTableOwned};
 
 type Table = HashTableOwned<U64ToU32>;
 
 const FORMAT: Format = Format::new(8, 4, Hash::Fx);
-
-// What is added to a slot that waits.
-const WAITING: usize = 1 << 63;
-
-fn first_order(table: Reading<'_>, out: &mut [usize]) -> bool {
-    for (listed, slot) in out.iter_mut().zip(table.occupied()) {
-        *listed = WAITING + slot;
-    }
-    let mut placed = 0;
-    while placed < out.len() {
-        let ready = place_ready(table, &mut out[placed..]);
-        if ready == 0 {
-            return false;
-        }
-        placed += ready;
-    }
-    true
-}
-
-fn place_ready(table: Reading<'_>, slots: &mut [usize]) -> usize {
-    let mut placed = 0;
-    for at in 0..slots.len() {
-        let slot = slots[at] - WAITING;
-        let mut order = FORMAT.order_of(table.key(slot), table.slots());
-        let stop = order.find(|it| *it == slot || is_waiting(*it, slots));
-        if stop == Some(slot) {
-            slots[at] = slot;
-            placed += 1;
-        }
-    }
-    slots.sort_unstable();
-    placed
-}
-
-fn is_waiting(slot: usize, slots: &[usize]) -> bool {
-    let index = slots.partition_point(|listed| *listed % WAITING < slot);
-    slots.get(index) == Some(&(WAITING + slot))
-}
 
 // Whether there is an order, after both searches did the same.
 fn is_made(table: &Table) -> bool {
     let mut found = vec![0; table.len()];
     let mut expected = vec![0; table.len()];
     let is_found = table.insert_order(&mut found);
-    assert_eq!(is_found, first_order(Reading::new(FORMAT, table.raw_bytes()), &mut expected));
+    assert_eq!(is_found, first_order(&Reading::new(FORMAT, table.raw_bytes()), &mut expected));
     assert_eq!(found, expected);
+    same_with_lengths_as_numbers(table, is_found, &found);
     if is_found {
         same_in_linear_time(table, &found);
     } else {
@@ -69,6 +34,20 @@ fn is_made(table: &Table) -> bool {
 // The answer with so much scratch, of numbers that mean nothing.
 fn with_scratch(table: &Table, out: &mut [usize], numbers: usize) -> bool {
     table.insert_order_with(out, &mut vec![0x5a5a; numbers])
+}
+
+// A table of these bytes whose lengths are numbers does the same.
+fn same_with_lengths_as_numbers(table: &Table, is_made: bool, expected: &[usize]) {
+    let twin = DynTable::<FxHashFn, _>::open_as_stated(table.raw_bytes()).unwrap();
+    let mut found = vec![usize::MAX; twin.len()];
+    assert_eq!(twin.insert_order(&mut found), is_made);
+    assert_eq!(found, expected);
+    assert_eq!(twin.insert_order_scratch(), table.insert_order_scratch());
+    for numbers in [twin.insert_order_scratch(), 0] {
+        let mut order = vec![usize::MAX; twin.len()];
+        assert_eq!(twin.insert_order_with(&mut order, &mut vec![0x5a5a; numbers]), is_made);
+        assert!(!is_made || order == expected);
+    }
 }
 
 // With as much scratch as it takes, with more and with less the order is the same.
@@ -91,25 +70,6 @@ fn table(random: &mut Random, items: usize, firsts: usize, shift: u32) -> Table 
         table.insert(&key, &(table.len() as u32));
     }
     table
-}
-
-// Exchanges entries and control bytes of some slots. None where the bytes are no valid table any more.
-fn exchanged(random: &mut Random, table: &Table) -> Option<Table> {
-    let mut bytes = table.raw_bytes().to_vec();
-    let reading = Reading::new(FORMAT, table.raw_bytes());
-    let slots = reading.slots();
-    for _ in 0..[1, 3, slots][random.below(3)] {
-        let slot = random.below(slots);
-        let near = if random.comes(50) { 16 } else { slots };
-        let other = (slot + random.below(near)) % slots;
-        for at in 0..12 {
-            bytes.swap(reading.entry_at(slot) + at, reading.entry_at(other) + at);
-        }
-        bytes.swap(reading.control_at(slot), reading.control_at(other));
-    }
-    let control = reading.control_at(0);
-    bytes.copy_within(control..control + 16, control + slots);
-    Table::from_raw_bytes(&bytes).ok()
 }
 
 #[test]
@@ -171,7 +131,8 @@ fn tables_with_exchanged_slots() {
         let (firsts, shift) = (1 + random.below(30), random.below(12) as u32);
         let table = table(&mut random, items, firsts, shift);
         for _ in 0..4 {
-            match exchanged(&mut random, &table).map(|it| is_made(&it)) {
+            let bytes = exchanged(&mut random, &Reading::new(FORMAT, table.raw_bytes()));
+            match Table::from_raw_bytes(&bytes).ok().map(|it| is_made(&it)) {
                 Some(true) => made += 1,
                 Some(false) => unmade += 1,
                 None => {}

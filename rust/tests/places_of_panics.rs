@@ -54,6 +54,8 @@ fn panics_are_told_where_the_caller_is() {
         view.get_all(&[1], &mut []);
         view.grow_into(&mut []);
         sized.grow_into(&mut []);
+        sized.insert_order(&mut []);
+        sized.insert_order_with(&mut [], &mut []);
         layout.bytes_needed(1, 0);
         Dyn::init_in_place(layout, vec![0; 256], 1, 0).ok();
         DynTableOwned::<FxHashFn>::with_capacity(layout, 1, 0).ok();
@@ -69,6 +71,6 @@ fn panics_are_told_where_the_caller_is() {
     table.insert(&1, &2);
     for (line, call, (file, panicked)) in found {
         assert!(file.ends_with("places_of_panics.rs"), "{call}: {file}:{panicked}");
-        assert!(panicked >= line && panicked < line + 26, "{call}: line {panicked}");
+        assert!(panicked >= line && panicked < line + 28, "{call}: line {panicked}");
     }
 }

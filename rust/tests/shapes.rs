@@ -7,6 +7,7 @@ use common::frame::{format, Named};
 use common::random::Random;
 use common::reading::{Format, Reading};
 use common::writing::Writing;
+use odht::dynamic::DynTable;
 use odht::{check_all, check_all_within, Config, HashTable, HashTableOwned};
 use std::collections::HashMap;
 use std::fmt::Debug;
@@ -76,6 +77,20 @@ where
     keys.extend((0..50).map(|_| C::Key::some(&mut random)));
     assert!(keys.iter().all(|key| view.get(key) == map.get(key).copied()));
     assert_eq!(view.iter().collect::<HashMap<_, _>>(), map);
+    same_orders(&table, &written.reading());
+}
+
+/// The order of inserts of a table, and of its bytes with lengths that are numbers.
+fn same_orders<C: Config>(table: &HashTableOwned<C>, reading: &Reading<'_>) {
+    let twin = DynTable::<C::H, _>::open_as_stated(table.raw_bytes()).unwrap();
+    let mut orders = [(); 4].map(|()| vec![usize::MAX; table.len()]);
+    let mut scratch = vec![7; table.insert_order_scratch()];
+    assert_eq!(twin.insert_order_scratch(), scratch.len());
+    let [first, second, third, fourth] = &mut orders;
+    assert!(table.insert_order(first) && table.insert_order_with(second, &mut scratch));
+    assert!(twin.insert_order(third) && twin.insert_order_with(fourth, &mut scratch));
+    assert!(reading.is_insert_order(&orders[0]));
+    assert!(orders.iter().all(|order| *order == orders[0]));
 }
 
 /// What opens and is read of bytes of any kind is what the second reading says. An insert changes no more than an entry.

@@ -30,10 +30,15 @@ fn order<const K: usize, const V: usize, H: HashFn>(case: &Case<'_>, is_rising: 
     let is_found = table.insert_order(&mut order);
     let scratch = &mut vec![0; table.insert_order_scratch()];
     assert_eq!(table.insert_order_with(&mut other, scratch), is_found);
+    let layout = Layout { key_len: K as u8, value_len: V as u8 };
+    let twin = DynTable::<H, _>::open(layout, table.raw_bytes()).unwrap();
+    let mut twins = [vec![0; table.len()], vec![0; table.len()]];
+    assert_eq!(twin.insert_order(&mut twins[0]), is_found);
+    assert_eq!(twin.insert_order_with(&mut twins[1], scratch), is_found);
     if !is_found {
         return Answer::word("false");
     }
-    assert_eq!(other, order);
+    assert_eq!((&other, &twins), (&order, &[order.clone(), order.clone()]));
     if is_rising {
         order.sort_unstable();
     }

@@ -6,6 +6,7 @@ mod checks;
 mod collected_items;
 mod dynamic_inserts;
 mod dynamic_lists;
+mod dynamic_orders;
 mod dynamic_tables;
 mod failing_streams;
 mod file_tables;

@@ -2,6 +2,7 @@
 //! docs/FORMAT.md, "Accepted but invalid bytes", beside the second reading.
 
 use super::configs::Plain;
+use super::outcomes::outcome;
 use super::random::Random;
 use super::reading::{Format, Hash, Reading};
 use odht::dynamic::{DynError, DynTable, FileError, FileTable, Layout};
@@ -50,6 +51,7 @@ pub fn calls_stay_in_frame<const K: usize, const V: usize, H: Named>(
     assert_eq!(text(owned.as_ref()), whole);
     if let Ok(owned) = owned {
         assert_eq!(owned.raw_bytes(), bytes);
+        same_orders(&owned);
     }
     bound_is_kept(&reading, &whole, view.as_ref().ok(), 1 + random.below(3));
     if let Ok(view) = view {
@@ -94,6 +96,15 @@ fn lengths_as_numbers<const K: usize, const V: usize, H: Named>(
     let typed: Vec<_> = view.iter_from(0).collect();
     let typed = typed.iter().map(|(slot, (key, value))| (*slot, (&key[..], &value[..])));
     assert!(table.iter_from(0).eq(typed));
+    if reading.count() < 1 << 16 {
+        let mut order = vec![1 << 40; table.len()];
+        let end = outcome(|| table.insert_order(&mut order));
+        let is_counted = reading.occupied().count() == reading.count();
+        assert_eq!(
+            end.err().as_deref().map(|it| it.contains("occupied")),
+            (!is_counted).then_some(true)
+        );
+    }
     for _ in 0..10 {
         let key: [u8; K] = some_key(reading, random);
         let (value, groups) = view.get_counted(&key);
@@ -103,6 +114,20 @@ fn lengths_as_numbers<const K: usize, const V: usize, H: Named>(
         assert_eq!((value.as_deref(), groups), counted);
         assert_eq!(table.get_counted(&[&key[..], &[0]].concat()), (None, 0));
     }
+}
+
+// A valid table whose lengths are numbers has an order of inserts where the typed one has, and it is the same.
+fn same_orders<const K: usize, const V: usize, H: Named>(owned: &HashTableOwned<Plain<K, V, H>>) {
+    let twin = DynTable::<H, _>::open_as_stated(owned.raw_bytes()).unwrap();
+    let mut orders = [(); 4].map(|()| vec![usize::MAX; owned.len()]);
+    let [first, second, third, fourth] = &mut orders;
+    let is_made = owned.insert_order(first);
+    assert_eq!(twin.insert_order(second), is_made);
+    let mut scratch = vec![7; twin.insert_order_scratch()];
+    assert_eq!(owned.insert_order_with(third, &mut scratch), is_made);
+    assert_eq!(twin.insert_order_with(fourth, &mut scratch), is_made);
+    assert!(orders[0] == orders[1]);
+    assert!(!is_made || orders.iter().all(|order| *order == orders[0]));
 }
 
 // Compares what the calls with a bound of searches say of the bytes, and of the view, if there is one, with the second

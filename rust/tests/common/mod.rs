@@ -4,6 +4,7 @@
 
 pub mod configs;
 pub mod frame;
+pub mod orders;
 pub mod outcomes;
 pub mod random;
 pub mod reading;

@@ -1,6 +1,7 @@
 //! Orders of inserts of tables of lists that look random: one is found, it lists the occupied slots, and its inserts
 //! make the table again. Single tables, and tables that no inserts make, are in vectors/insert_orders.txt.
 use crate::tests::checks::{same, same_bytes};
+use crate::tests::dynamic_orders::check_order;
 use odht::bytes::ByteArray;
 use odht::laws::rebuilt;
 use odht::{Config, HashTableOwned};
@@ -98,8 +99,9 @@ fn check_linear_order<C: Config>(
     same(rt, "the same order", other.as_slice(), order);
 }
 
-/// Asserts that an order of inserts is found of a table that was made for so many items at 87 percent, that it lists
-/// each occupied slot once, and that inserts in this order into a new table for as many leave its bytes.
+/// Asserts that an order of inserts is found of a table that was made for so many items at 87 percent, the same where
+/// its lengths are numbers, that it lists each occupied slot once, and that inserts in this order into a new table for as
+/// many leave its bytes.
 pub fn check_insert_order<C: Config>(
     rt: &impl Abort,
     alloc: Global,
@@ -111,6 +113,7 @@ pub fn check_insert_order<C: Config>(
     same(rt, "an order is found", is_found, true);
     check_linear_order(rt, alloc, table, order.as_slice());
     let bytes = Bytes(table.raw_bytes());
+    check_order::<C::H>(rt, alloc, bytes.0, order.as_slice());
     check_slots(rt, alloc, bytes, order.as_slice());
     let items = items_of::<C>(rt, alloc, bytes, order.as_slice());
     let again: HashTableOwned<C> = rebuilt(alloc, items.as_slice(), max_item_count, 87).expect(
