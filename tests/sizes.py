@@ -3,7 +3,7 @@
 
   tests/sizes.py PROGRAM
 
-The tables, and what `check`, `count`, `dump`, `keys` and `get` write of them, are computed by docs/FORMAT.md alone
+The tables, and what `check`, `count`, `dump`, `order`, `keys` and `get` write of them, are computed by docs/FORMAT.md alone
 (crates/odht_tool/data/tables.py); `build` of some pairs and `put` of the others make the same bytes. Where a ready shape
 has the lengths the texts are its own, and the table is left out: tests/tool has those. The last line counts the runs.
 """
@@ -40,6 +40,7 @@ def runs(case, name, capacity):
     yield ["dump", "x", hash], "", case.dump
     yield ["dump", "x"], "", case.dump
     yield ["dump", "x", hash, "--slots"], "", case.slots
+    yield ["order", "x", hash], "", case.order
     yield ["keys", "x", hash], "", case.key_lines
     yield ["keys", "x", key], "", case.key_lines
     yield ["get", "x", hash, *case.key_lines.split("\n")[:-1]], "", case.dump

@@ -6,11 +6,12 @@ complete -c odht -n __fish_use_subcommand -f -a get -d 'looks keys up; with - in
 complete -c odht -n __fish_use_subcommand -f -a dump -d 'tells each pair'
 complete -c odht -n __fish_use_subcommand -f -a keys -d 'tells each key'
 complete -c odht -n __fish_use_subcommand -f -a find -d 'tells each table that is inside a file'
+complete -c odht -n __fish_use_subcommand -f -a order -d 'tells each pair in an order of inserts that makes the table'
 complete -c odht -n __fish_use_subcommand -f -a build -d 'makes a table file of the lines of standard input'
 complete -c odht -n __fish_use_subcommand -f -a put -d 'adds the lines of standard input to a table file'
 complete -c odht -n __fish_use_subcommand -f -a rebuild -d 'makes a table file anew, of another load factor or hash function'
 complete -c odht -n __fish_use_subcommand -f -a help -d 'is the help of a command'
-complete -c odht -n '__fish_seen_subcommand_from help' -f -a 'info check count get dump keys find build put rebuild'
+complete -c odht -n '__fish_seen_subcommand_from help' -f -a 'info check count get dump keys find order build put rebuild'
 complete -c odht -n '__fish_seen_subcommand_from info' -l help
 complete -c odht -n '__fish_seen_subcommand_from info' -l whole
 complete -c odht -n '__fish_seen_subcommand_from info' -l at -x -d 'a number below 2^64'
@@ -39,6 +40,12 @@ complete -c odht -n '__fish_seen_subcommand_from keys' -l hash -x -a 'fx unhash'
 complete -c odht -n '__fish_seen_subcommand_from keys' -l at -x -d 'a number below 2^64'
 complete -c odht -n '__fish_seen_subcommand_from find' -l help
 complete -c odht -n '__fish_seen_subcommand_from find' -l whole
+complete -c odht -n '__fish_seen_subcommand_from order' -l help
+complete -c odht -n '__fish_seen_subcommand_from order' -l whole
+complete -c odht -n '__fish_seen_subcommand_from order' -l key -x -d 'u32, u64, i32, i64, u32be, u64be, hexN or text N'
+complete -c odht -n '__fish_seen_subcommand_from order' -l value -x -d 'u32, u64, i32, i64, u32be, u64be, none, hexN or text N'
+complete -c odht -n '__fish_seen_subcommand_from order' -l hash -x -a 'fx unhash' -d 'fx or unhash'
+complete -c odht -n '__fish_seen_subcommand_from order' -l at -x -d 'a number below 2^64'
 complete -c odht -n '__fish_seen_subcommand_from build' -l help
 complete -c odht -n '__fish_seen_subcommand_from build' -l key -x -d 'u32, u64, i32, i64, u32be, u64be, hexN or text N'
 complete -c odht -n '__fish_seen_subcommand_from build' -l value -x -d 'u32, u64, i32, i64, u32be, u64be, none, hexN or text N'

@@ -15,6 +15,7 @@ DISPATCHERS = {
     "keys/keys_of": "list_keys",
     "get/get_words_of": "get_words",
     "get/get_lines_of": "get_lines",
+    "order/order_of": "order_pairs",
 }
 
 

@@ -3,95 +3,14 @@ of them: those in tests/tool/tables, and tests/script/hex.cases.
 
 It shares no code with the programs. Run it anywhere: `python3 tables.py`."""
 import os
-import struct
 
-FREE = 255
+from model import Table, fx, unhash
+
 # docs/TOOL.md: the bound of searches, in groups, where `--whole` is not given, and what `check` then writes
 BOUND = 128
 VALID = "valid, and no search reads more than 128 groups\n"
 HERE = os.path.dirname(os.path.abspath(__file__))
 TESTS = os.path.join(HERE, "..", "..", "..", "tests")
-
-
-def fx(key):
-    state, at = 0, 0
-
-    def step(state, number):
-        state = ((state << 5) | (state >> 59)) & (2 ** 64 - 1)
-        return ((state ^ number) * 0x517cc1b727220a95) % 2 ** 64
-
-    while len(key) - at >= 8:
-        state, at = step(state, int.from_bytes(key[at:at + 8], "little")), at + 8
-    for size in (4, 2, 1):
-        if len(key) - at >= size:
-            state, at = step(state, int.from_bytes(key[at:at + size], "little")), at + size
-    return state % 2 ** 32
-
-
-def unhash(key):
-    return int.from_bytes(key[-4:], "little")
-
-
-class Table:
-    def __init__(self, key_size, value_size, hash, percent, capacity):
-        self.key_size, self.value_size, self.hash = key_size, value_size, hash
-        self.factor = percent * 65535 // 100
-        self.cells = [None] * self.slots_for(capacity)
-
-    def slots_for(self, items):
-        slots = 16
-        while slots * self.factor < 65536 * items:
-            slots *= 2
-        return slots
-
-    def order_from(self, home):
-        slots = len(self.cells)
-        for j in range(slots // 16):
-            for i in range(16):
-                yield j + 1, (home + 8 * j * (j + 1) + i) % slots
-
-    def order(self, key):
-        return self.order_from(self.hash(key) % len(self.cells))
-
-    def groups_to_free(self, home):
-        """How many groups a search from this home reads at most: up to one with a free slot, or all."""
-        for groups, slot in self.order_from(home):
-            if self.cells[slot] is None:
-                return groups
-        return len(self.cells) // 16
-
-    def count(self):
-        return sum(cell is not None for cell in self.cells)
-
-    def most(self):
-        return len(self.cells) * self.factor // 65536
-
-    def find(self, key):
-        for groups, slot in self.order(key):
-            if self.cells[slot] is None or self.cells[slot][0] == key:
-                return groups, slot
-
-    def put(self, key, value):
-        _, slot = self.find(key)
-        if self.cells[slot] is None and self.count() >= self.most():
-            pairs = [cell for cell in self.cells if cell is not None]
-            self.cells = [None] * self.slots_for(max(1, 2 * len(pairs)))
-            for pair in pairs:
-                self.cells[self.find(pair[0])[1]] = pair
-            _, slot = self.find(key)
-        self.cells[slot] = (key, value)
-
-    def controls(self):
-        return bytes(FREE if cell is None else self.hash(cell[0]) >> 25 for cell in self.cells)
-
-    def image(self):
-        header = b"ODHT" + bytes([1, self.key_size, self.value_size, 32])
-        header += struct.pack("<QQ", self.count(), len(self.cells)) + bytes([0, 0, 0, 2])
-        header += struct.pack("<HH", self.factor, 0)
-        zeros = bytes(self.key_size + self.value_size)
-        entries = b"".join(zeros if cell is None else cell[0] + cell[1] for cell in self.cells)
-        controls = self.controls()
-        return header + entries + controls + controls[:16]
 
 
 def number(data):
@@ -143,6 +62,17 @@ def dump_text(table, key_text, value_text):
     return "".join(f"{key_text(k)}\t{value_text(v)}\n" for k, v in filter(None, table.cells))
 
 
+def order_text(table, key_text, value_text):
+    """The lines of an insert order: these pairs, put into an empty table of as many slots, have to make the same one."""
+    pairs = [table.cells[slot] for slot in table.insert_order()]
+    remade = Table(table.key_size, table.value_size, table.hash, 1, 0)
+    remade.factor, remade.cells = table.factor, [None] * len(table.cells)
+    for key, value in pairs:
+        remade.put(key, value)
+    assert remade.image() == table.image()
+    return "".join(f"{key_text(k)}\t{value_text(v)}\n" for k, v in pairs)
+
+
 def slots_text(table, key_text, value_text):
     text = ""
     for slot, cell in enumerate(table.cells):
@@ -184,6 +114,7 @@ class Case:
         self.info = info_text(self.table, percent)
         self.dump = dump_text(self.table, key_text, value_text)
         self.slots = slots_text(self.table, key_text, value_text)
+        self.order = order_text(self.table, key_text, value_text)
         self.keys = "".join(key_text(cell[0]) + "\r\n" for cell in filter(None, self.table.cells))
         self.key_lines = "".join(key_text(cell[0]) + "\n" for cell in filter(None, self.table.cells))
         self.pairs = "".join(f"{key_text(k)}\t{value_text(v)}\n" for k, v in pairs)
@@ -209,6 +140,13 @@ class Case:
             self.run_text(title, args, "", rule).rstrip("\n") + "\n" + block("stderr", errors) + "status: 1\n\n"
             for title, args, errors in runs)
 
+    def ordered_text(self):
+        """The case of `order`, and that what it writes makes the table."""
+        file, words = f"{self.name}.odht", self.words.split(" --capacity")[0]
+        room = f"--capacity {self.table.most()}"
+        return (self.run_text("order", f"order {file}{self.kinds}", "", self.order)
+                + self.run_text("build in this order", f"build {file} {words} {room}", self.order, "", "after"))
+
     def write_cases(self):
         """The runs of all commands; `info` alone where no words build the table."""
         file, hash = f"{self.name}.odht", self.hash_words
@@ -226,6 +164,7 @@ class Case:
             if self.kinds or self.is_other:
                 text += self.run_text("put what is there", f"put {file}{self.kinds}", self.dump, "")
             text += self.run_text("build", f"build {file} {self.words}", self.pairs, "", "after")
+            text += self.ordered_text()
         write_test(f"tool/tables/{self.name}.cases", text)
 
 
@@ -389,7 +328,25 @@ def write_bound_cases():
     text += case("get", "get one_home.odht 8450048", "8450048\t0\n")
     text += case("put", "put one_home.odht", "", "0\t0\n").rstrip("\n") + "\n" + failure
     text += case("put --whole", "put one_home.odht --whole", "", "0\t0\n")
+    text += case("order", "order one_home.odht", "").rstrip("\n") + "\n" + failure
+    text += case("order --whole", "order one_home.odht --whole", made.order)
     write_test("tool/tables/one_home.cases", text)
+
+
+def write_unmade_cases():
+    """A table that no inserts make: the key in slot 0 passes slot 48, whose key passes slot 0."""
+    made = Case("unmade", "", 4, 4, unhash, 87, 48, [(le(slot, 4), le(slot, 4)) for slot in [*range(32), *range(48, 64)]])
+    cells = made.table.cells
+    cells[0], cells[48] = (le(64 + 48, 4), le(0, 4)), (le(64, 4), le(48, 4))
+    assert len(cells) == 64 and made.table.insert_order() is None
+    assert all(made.table.find(cell[0])[1] == slot for slot, cell in enumerate(cells) if cell is not None)
+    made.write_file()
+    text = HEAD + made.run_text("check", "check unmade.odht --hash unhash", "", f"unmade.odht: {VALID}")
+    text += made.run_text("dump", "dump unmade.odht", "", dump_text(made.table, number, number))
+    told = block("stderr", "odht: unmade.odht: no inserts make this table\n") + "status: 1\n\n"
+    for title, args in ("order", "order unmade.odht"), ("order --whole", "order unmade.odht --whole"):
+        text += made.run_text(title, args, "", "").rstrip("\n") + "\n" + told
+    write_test("tool/tables/unmade.cases", text)
 
 
 def rebuilt(table, hash, percent):
@@ -445,4 +402,5 @@ if __name__ == "__main__":
     write_hex_case()
     write_find_cases()
     write_bound_cases()
+    write_unmade_cases()
     write_rebuilt_cases()

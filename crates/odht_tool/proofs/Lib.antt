@@ -14,6 +14,8 @@ pub mod Passes
 pub mod Counts
 -- how `find` ends
 pub mod FindEnds
+-- the pairs of an insert order
+pub mod Ordered
 -- the tables that `rebuild` makes, and their failures
 pub mod NewTables
 -- worked examples of the definitions

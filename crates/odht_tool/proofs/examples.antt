@@ -7,5 +7,7 @@ pub mod Gots
 pub mod GotLines
 -- pairs that are inserted
 pub mod Inserted
+-- what `order` writes
+pub mod Orders
 -- what `rebuild` makes
 pub mod Rebuilds

@@ -17,5 +17,7 @@ pub mod Faults
 pub mod Sizes
 -- what `keys` and `count` do
 pub mod Listings
+-- what `order` does
+pub mod Orders
 -- what `rebuild` makes
 pub mod Rebuilds

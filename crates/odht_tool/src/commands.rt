@@ -2,6 +2,7 @@
 use odht_tool_core::arguments::{Command, Keys, Reading, Request, is_stream, parse};
 use odht_tool_core::failure::Failure;
 use odht_tool_core::files::{read_file, read_input};
+use odht_tool_core::forms::Kinds;
 use odht_tool_core::front::table_at;
 use odht_tool_core::help::{write_help, write_version};
 use odht_tool_core::info::info_file;
@@ -21,6 +22,7 @@ mod dump;
 mod find;
 mod get;
 mod keys;
+mod order;
 mod rebuild;
 
 /// Does what the words ask for. Each failure is reported by a line on `errors`; where that cannot
@@ -239,6 +241,9 @@ fn run_reading<I: BufRead, O: Write, E: Write>(
             is_slots,
         } => dump::dump_file(bytes, *hash, *kinds, *is_slots, output),
         Reading::Keys { hash, kinds } => keys::keys_file(bytes, *hash, *kinds, output),
+        Reading::Order { hash, kinds, bound } => {
+            order_in(alloc, file, bytes, *hash, *kinds, *bound, output, errors)
+        }
     }
 }
 
@@ -290,6 +295,25 @@ fn find_in<O: Write, E: Write>(
     if !status.is_done() {
         // A line that cannot be written is no failure.
         let _ = find::write_none(file, errors);
+    }
+    Ok(status)
+}
+
+// Writes the pairs of a file in an order of inserts. Where no inserts make the table, a line on `errors` says so.
+fn order_in<O: Write, E: Write>(
+    alloc: Global,
+    file: &str,
+    bytes: &[u8],
+    hash: Option<Hash>,
+    kinds: Kinds,
+    bound: Option<usize>,
+    output: &mut O,
+    errors: &mut E,
+) -> Result<Status, Failure> {
+    let status = order::order_file(alloc, bytes, hash, kinds, bound, output)?;
+    if !status.is_done() {
+        // A line that cannot be written is no failure.
+        let _ = order::write_unmade(file, errors);
     }
     Ok(status)
 }

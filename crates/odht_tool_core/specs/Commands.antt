@@ -7,7 +7,7 @@ use Rattle.std.specs.Prelude.{ℕ, List, [], ◌∷◌, codes}
 use Rattle.odht_tool_core.specs.declared.arguments.topics.Setting.{Setting}
 use Rattle.odht_tool_core.specs.declared.arguments.topics.Setting.TheVariants.{Help, Slots, Whole, Progress, BreakLinks, At, Hash, Key, Value, Percent, Capacity}
 use Rattle.odht_tool_core.specs.declared.arguments.topics.Topic.{Topic}
-use Rattle.odht_tool_core.specs.declared.arguments.topics.Topic.TheVariants.{Info, Check, Count, Get, Dump, Keys, Find, Build, Put, Rebuild}
+use Rattle.odht_tool_core.specs.declared.arguments.topics.Topic.TheVariants.{Info, Check, Count, Get, Dump, Keys, Find, Order, Build, Put, Rebuild}
 
 abbrev pub command_name : Topic → List ℕ
 command_name Info = codes "info"
@@ -17,12 +17,13 @@ command_name Get = codes "get"
 command_name Dump = codes "dump"
 command_name Keys = codes "keys"
 command_name Find = codes "find"
+command_name Order = codes "order"
 command_name Build = codes "build"
 command_name Put = codes "put"
 command_name Rebuild = codes "rebuild"
 
 abbrev pub commands : List Topic
-commands = Info ∷ Check ∷ Count ∷ Get ∷ Dump ∷ Keys ∷ Find ∷ Build ∷ Put ∷ Rebuild ∷ []
+commands = Info ∷ Check ∷ Count ∷ Get ∷ Dump ∷ Keys ∷ Find ∷ Order ∷ Build ∷ Put ∷ Rebuild ∷ []
 
 abbrev pub option_name : Setting → List ℕ
 option_name Help = codes "--help"
@@ -45,6 +46,7 @@ options_of Get = Help ∷ Key ∷ Value ∷ Hash ∷ At ∷ []
 options_of Dump = Help ∷ Slots ∷ Key ∷ Value ∷ Hash ∷ At ∷ []
 options_of Keys = Help ∷ Key ∷ Hash ∷ At ∷ []
 options_of Find = Help ∷ Whole ∷ []
+options_of Order = Help ∷ Whole ∷ Key ∷ Value ∷ Hash ∷ At ∷ []
 options_of Build = Help ∷ Key ∷ Value ∷ Hash ∷ Percent ∷ Capacity ∷ Progress ∷ BreakLinks ∷ []
 options_of Put = Help ∷ Key ∷ Value ∷ Whole ∷ Hash ∷ Progress ∷ BreakLinks ∷ []
 options_of Rebuild = Help ∷ Percent ∷ Whole ∷ Hash ∷ Progress ∷ BreakLinks ∷ []

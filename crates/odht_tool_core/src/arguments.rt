@@ -116,6 +116,11 @@ pub enum Reading {
     Find {
         bound: Option<usize>,
     },
+    Order {
+        hash: Option<Hash>,
+        kinds: Kinds,
+        bound: Option<usize>,
+    },
     // end readings
 }
 

@@ -48,6 +48,8 @@ fn summary_of(topic: Topic) -> &'static str {
         Topic::Dump => "odht dump FILE       tells each pair\n",
         Topic::Keys => "odht keys FILE       tells each key\n",
         Topic::Find => "odht find FILE       tells each table that is inside a file\n",
+        Topic::Order =>
+            "odht order FILE      tells each pair in an order of inserts that makes the table\n",
         Topic::Build => {
             "odht build FILE --key SHAPE --value SHAPE
                      makes a table file of the lines of standard input\n"
@@ -78,6 +80,7 @@ fn text_of(topic: Topic) -> &'static str {
         Topic::Dump => DUMP,
         Topic::Keys => KEYS,
         Topic::Find => FIND,
+        Topic::Order => ORDER,
         Topic::Build => BUILD,
         Topic::Put => PUT,
         Topic::Rebuild => REBUILD,
@@ -167,6 +170,18 @@ odht find FILE [--whole]
     unhash or both), and what the check finds: valid, rejected, or long where a
     search may read more than 128 groups of control bytes (not so with --whole).
     Status 1 where there is none.
+";
+
+const ORDER: &str = "\
+odht order FILE [--whole] [--key SHAPE] [--value SHAPE]
+                [--hash fx|unhash] [--at OFFSET]
+    Writes a line for each pair, as `odht dump` does, in an order in which inserts
+    into an empty table of as many slots and the same load factor make the same
+    bytes. Where no inserts make the table a line on standard error says so, and
+    the status is 1. The file is checked before, as by `odht check`; --whole is as
+    there. It has to be of a ready shape. The hash function is the one that all
+    control bytes fit, unless --hash names it; --key and --value name texts other
+    than those of the ready shape, as in `odht build`.
 ";
 
 const BUILD: &str = "\

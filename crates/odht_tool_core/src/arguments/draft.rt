@@ -224,7 +224,8 @@ impl Draft {
                 is_slots: self.is_slots,
             },
             Topic::Keys => Reading::Keys { hash, kinds },
-            _ => Reading::Find { bound },
+            Topic::Find => Reading::Find { bound },
+            _ => Reading::Order { hash, kinds, bound },
             // end readings
         }
     }

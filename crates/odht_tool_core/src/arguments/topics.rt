@@ -16,13 +16,14 @@ pub enum Topic {
     Dump,
     Keys,
     Find,
+    Order,
     Build,
     Put,
     Rebuild,
 }
 
 /// All commands, in the order of the help text.
-pub(crate) const TOPICS: [Topic; 10] = [
+pub(crate) const TOPICS: [Topic; 11] = [
     Topic::Info,
     Topic::Check,
     Topic::Count,
@@ -30,6 +31,7 @@ pub(crate) const TOPICS: [Topic; 10] = [
     Topic::Dump,
     Topic::Keys,
     Topic::Find,
+    Topic::Order,
     Topic::Build,
     Topic::Put,
     Topic::Rebuild,
@@ -68,6 +70,7 @@ impl Topic {
             Topic::Dump => "dump",
             Topic::Keys => "keys",
             Topic::Find => "find",
+            Topic::Order => "order",
             Topic::Build => "build",
             Topic::Put => "put",
             Topic::Rebuild => "rebuild",
@@ -107,6 +110,14 @@ impl Topic {
             ],
             Topic::Keys => &[Setting::Help, Setting::Key, Setting::Hash, Setting::At],
             Topic::Find => &[Setting::Help, Setting::Whole],
+            Topic::Order => &[
+                Setting::Help,
+                Setting::Whole,
+                Setting::Key,
+                Setting::Value,
+                Setting::Hash,
+                Setting::At,
+            ],
             Topic::Build => &[
                 Setting::Help,
                 Setting::Key,

@@ -94,6 +94,7 @@ pub enum Reading {
     Dump { hash: Option<Hash>, kinds: Kinds, is_slots: bool },
     Keys { hash: Option<Hash>, kinds: Kinds },
     Find { bound: Option<usize> },
+    Order { hash: Option<Hash>, kinds: Kinds, bound: Option<usize> },
     // end readings
 }
 

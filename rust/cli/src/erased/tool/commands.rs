@@ -3,6 +3,7 @@
 use crate::erased::core::arguments::{is_stream, parse, Command, Keys, Reading, Request};
 use crate::erased::core::failure::Failure;
 use crate::erased::core::files::{read_file, read_input};
+use crate::erased::core::forms::Kinds;
 use crate::erased::core::front::table_at;
 use crate::erased::core::help::{write_help, write_version};
 use crate::erased::core::info::info_file;
@@ -23,6 +24,7 @@ mod dump;
 mod find;
 mod get;
 mod keys;
+mod order;
 mod rebuild;
 
 /// Does what the words ask for. Each failure is reported by a line on `errors`; where that cannot
@@ -206,6 +208,9 @@ fn run_reading<I: BufRead, O: Write, E: Write>(
             dump::dump_file(bytes, *hash, *kinds, *is_slots, output)
         }
         Reading::Keys { hash, kinds } => keys::keys_file(bytes, *hash, *kinds, output),
+        Reading::Order { hash, kinds, bound } => {
+            order_in(alloc, file, bytes, *hash, *kinds, *bound, output, errors)
+        }
     }
 }
 
@@ -257,6 +262,25 @@ fn find_in<O: Write, E: Write>(
     if !status.is_done() {
         // A line that cannot be written is no failure.
         let _ = find::write_none(file, errors);
+    }
+    Ok(status)
+}
+
+// Writes the pairs of a file in an order of inserts. Where no inserts make the table, a line on `errors` says so.
+fn order_in<O: Write, E: Write>(
+    alloc: Global,
+    file: &str,
+    bytes: &[u8],
+    hash: Option<Hash>,
+    kinds: Kinds,
+    bound: Option<usize>,
+    output: &mut O,
+    errors: &mut E,
+) -> Result<Status, Failure> {
+    let status = order::order_file(alloc, bytes, hash, kinds, bound, output)?;
+    if !status.is_done() {
+        // A line that cannot be written is no failure.
+        let _ = order::write_unmade(file, errors);
     }
     Ok(status)
 }

@@ -15,6 +15,7 @@ use crate::proved::tables::{FxHashFn, UnHashFn};
 pub mod builds;
 pub mod gets;
 pub mod listings;
+pub mod orders;
 
 /// The lengths of a shape.
 pub fn layout_of(shape: OtherShape) -> Layout {

@@ -214,7 +214,8 @@ impl Draft {
             Topic::Count => Reading::Count { hash, bound },
             Topic::Dump => Reading::Dump { hash, kinds, is_slots: self.is_slots },
             Topic::Keys => Reading::Keys { hash, kinds },
-            _ => Reading::Find { bound },
+            Topic::Find => Reading::Find { bound },
+            _ => Reading::Order { hash, kinds, bound },
             // end readings
         }
     }
