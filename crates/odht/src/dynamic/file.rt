@@ -113,17 +113,15 @@ impl<H: HashFn, S: ReadAt + Drop> FileTable<H, S> {
         if offset.checked_add(len as u64).is_none() {
             return Err(FileError::Read(ReadError::EarlyEnd));
         }
-        match reads::open_header::<H, S>(&source, layout, offset, len) {
-            Ok((slots, items)) => Ok(FileTable {
-                source,
-                at: offset,
-                layout,
-                slots,
-                items,
-                hash: PhantomData,
-            }),
-            Err(error) => Err(error),
-        }
+        let (slots, items) = reads::open_header::<H, S>(&source, layout, offset, len)?;
+        Ok(FileTable {
+            source,
+            at: offset,
+            layout,
+            slots,
+            items,
+            hash: PhantomData,
+        })
     }
 
     /// The lengths of keys and values.
@@ -158,10 +156,8 @@ impl<H: HashFn, S: ReadAt + Drop> FileTable<H, S> {
         ensures other { length key.now ≢ self.now.key_len → result ≡ Err (FileError.Table
             (DynError.WrongKeyLength self.now.key_len (length key.now))) }
     {
-        match self.get_counted(key) {
-            Ok((value, _)) => Ok(value),
-            Err(error) => Err(error),
-        }
+        let (value, _) = self.get_counted(key)?;
+        Ok(value)
     }
 
     /// `get`, and how many groups of control bytes it read: on valid bytes those up to the first slot of the key's
@@ -198,9 +194,7 @@ impl<H: HashFn, S: ReadAt + Drop> FileTable<H, S> {
         ensures other { length key.now ≢ self.now.key_len → result ≡ Err (FileError.Table
             (DynError.WrongKeyLength self.now.key_len (length key.now))) }
     {
-        match self.get(key) {
-            Ok(value) => Ok(value.is_some()),
-            Err(error) => Err(error),
-        }
+        let value = self.get(key)?;
+        Ok(value.is_some())
     }
 }
