@@ -19,6 +19,7 @@ FIELDS = {
     "--whole": ("bound", "Option<usize>", "bound"),
     "KEY..": ("keys", "Keys", "keys"),
     "--slots": ("is_slots", "bool", "is_slots: self.is_slots"),
+    "--json": ("is_json", "bool", "is_json: self.is_json"),
 }
 # these become none: where there is --help nothing is run, the offset is that of each such command, and what is said of
 # values stands with what is said of keys

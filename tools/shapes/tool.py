@@ -12,6 +12,7 @@ MADE = "made of shapes.txt by tools/shapes; `make exports` makes it anew"
 DISPATCHERS = {
     "dump/dump_pairs_of": "dump_pairs",
     "dump/dump_slots_of": "dump_slots_as",
+    "dump_json/dump_ready": "dump_objects",
     "keys/keys_of": "list_keys",
     "get/get_words_of": "get_words",
     "get/get_lines_of": "get_lines",

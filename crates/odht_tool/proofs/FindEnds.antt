@@ -10,14 +10,14 @@ use Rattle.odht_tool_core.specs.declared.failure.Failure.{Failure}
 use Rattle.odht_tool_core.specs.declared.failure.Failure.TheVariants.{Output, Refused}
 
 -- where the search fails nothing is written
-pub not_found : (B : List ℕ) (o : Option ℕ) (old : Option (List ℕ)) (f : Failure) → IsFindFailure B f → AreFound B o old old (Err f)
-not_found B o old (Output error) h = absurd h
-not_found B o old f h = (h, Keeps-refl old)
+pub not_found : (B : List ℕ) (t : List ℕ → List ℕ) (old : Option (List ℕ)) (f : Failure) → IsFindFailure B f → AreFound B t old old (Err f)
+not_found B t old (Output error) h = absurd h
+not_found B t old f h = (h, Keeps-refl old)
 
 -- where the writer fails there were tables to write
-pub not_written : (B : List ℕ) (o : Option ℕ) (old new : Option (List ℕ)) (f : Failure) → IsOutputFailure f → AreTablesAsked B → AreFound B o old new (Err f)
-not_written B o old new (Output error) h a = a
-not_written B o old new f h a = absurd h
+pub not_written : (B : List ℕ) (t : List ℕ → List ℕ) (old new : Option (List ℕ)) (f : Failure) → IsOutputFailure f → AreTablesAsked B → AreFound B t old new (Err f)
+not_written B t old new (Output error) h a = a
+not_written B t old new f h a = absurd h
 
 -- the line of a table that opens fails by the writer alone
 pub only_writer : (T : List ℕ) (r : Result (Unit {0}) Failure) → info_refusal T ≡ None → IfErr r (IsRowFailure T) → IfErr r IsOutputFailure

@@ -18,5 +18,7 @@ pub mod FindEnds
 pub mod Ordered
 -- the tables that `rebuild` makes, and their failures
 pub mod NewTables
+-- what ends as a text allows, also where memory may be short
+pub mod InMemory
 -- worked examples of the definitions
 pub mod examples

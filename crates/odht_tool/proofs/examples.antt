@@ -11,3 +11,5 @@ pub mod Inserted
 pub mod Orders
 -- what `rebuild` makes
 pub mod Rebuilds
+-- what `check`, `dump` and `find` write with --json
+pub mod Objects

@@ -2,9 +2,9 @@
 --     table_text B o at    the line of the table at the offset `at`
 --     tables_text B o ts   those of the tables at the offsets ts
 --     none_text file       the line on standard error where there is none
---     AreTablesWritten B o old new s    the lines of all tables in B were written, which took the writer from the bytes old
+--     AreTablesWritten B f old new s    the text f of all tables in B was written, which took the writer from the bytes old
 --                          to new, and the status s says whether there is one
---     AreFound B o old new r   a call that took a writer from the bytes old to new and returned r did that; only the writer,
+--     AreFound B f old new r   a call that took a writer from the bytes old to new and returned r did that; only the writer,
 --                          memory, or headers that overlap may have kept it from that
 use Rattle.std.specs.Prelude.{◌≡◌, ℕ, List, drop, length, ◌≤◌, nat_lt, flat_map, codes, ◌++◌, Option, None, Result, Ok, Err, if◌then◌else◌}
 use Rattle.std.specs.Io.KnownBytes.{Appends, Keeps}
@@ -28,11 +28,11 @@ tables_text B o ts = flat_map (table_text B o) ts
 abbrev pub none_text : List ℕ → List ℕ
 none_text file = codes "odht: " ++ (file ++ codes ": no table is in it\n")
 
-pub record AreTablesWritten (B : List ℕ) (o : Option ℕ) (old new : Option (List ℕ)) (status : Status) : Type 0 where
+pub record AreTablesWritten (B : List ℕ) (f : List ℕ → List ℕ) (old new : Option (List ℕ)) (status : Status) : Type 0 where
   pub tables : List ℕ
   pub found : AreTables B 0 tables
   pub honest : false_slots B 0 tables ≤ length B
-  pub written : Appends old new (tables_text B o tables)
+  pub written : Appends old new (f tables)
   pub returned : status ≡ (if nat_lt 0 (length tables) then Done else NotDone)
 
 -- where the writer failed there were tables to write
@@ -41,7 +41,7 @@ pub record AreTablesAsked (B : List ℕ) : Type 0 where
   pub found : AreTables B 0 tables
   pub honest : false_slots B 0 tables ≤ length B
 
-abbrev pub AreFound : List ℕ → Option ℕ → Option (List ℕ) → Option (List ℕ) → Result Status Failure → Type 0
-AreFound B o old new (Ok status) = AreTablesWritten B o old new status
-AreFound B o old new (Err (Output error)) = AreTablesAsked B
-AreFound B o old new (Err failure) = IsFindFailure B failure × Keeps old new
+abbrev pub AreFound : List ℕ → (List ℕ → List ℕ) → Option (List ℕ) → Option (List ℕ) → Result Status Failure → Type 0
+AreFound B f old new (Ok status) = AreTablesWritten B f old new status
+AreFound B f old new (Err (Output error)) = AreTablesAsked B
+AreFound B f old new (Err failure) = IsFindFailure B failure × Keeps old new

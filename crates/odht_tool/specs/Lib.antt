@@ -21,3 +21,7 @@ pub mod Listings
 pub mod Orders
 -- what `rebuild` makes
 pub mod Rebuilds
+-- what `check` and `find` write with --json
+pub mod JsonTexts
+-- what `dump` writes with --json
+pub mod DumpJson

@@ -17,9 +17,12 @@ use std::rt::{Clock, Files};
 
 mod build;
 mod check;
+mod check_json;
 mod count;
 mod dump;
+mod dump_json;
 mod find;
+mod find_json;
 mod get;
 mod keys;
 mod order;
@@ -218,8 +221,14 @@ fn run_reading<I: BufRead, O: Write, E: Write>(
     errors: &mut E,
 ) -> Result<Status, Failure> {
     match reading {
-        Reading::Info { bound } => info_file(alloc, bytes, *bound, output),
-        Reading::Check { hash, bound } => { check_one(file, bytes, *hash, *bound, output, errors) }
+        Reading::Info { bound, is_json } => {
+            info_file(alloc, file, bytes, *bound, *is_json, output)
+        }
+        Reading::Check {
+            hash,
+            bound,
+            is_json,
+        } => check_one(alloc, file, bytes, *hash, *bound, *is_json, output, errors),
         Reading::Count { hash, bound } => {
             let name = if is_one { None } else { Some(file) };
             count_one(alloc, name, bytes, *hash, *bound, output)
@@ -234,12 +243,21 @@ fn run_reading<I: BufRead, O: Write, E: Write>(
             kinds,
             keys: Keys::Lines,
         } => get::get_file_lines(alloc, bytes, *hash, *kinds, input, output),
-        Reading::Find { bound } => find_in(alloc, file, bytes, *bound, output, errors),
+        Reading::Find { bound, is_json } => {
+            find_in(alloc, file, bytes, *bound, *is_json, output, errors)
+        }
         Reading::Dump {
             hash,
             kinds,
             is_slots,
-        } => dump::dump_file(bytes, *hash, *kinds, *is_slots, output),
+            is_json,
+        } => {
+            if *is_json {
+                dump_json::dump_file(bytes, *hash, *kinds, *is_slots, output)
+            } else {
+                dump::dump_file(bytes, *hash, *kinds, *is_slots, output)
+            }
+        }
         Reading::Keys { hash, kinds } => keys::keys_file(bytes, *hash, *kinds, output),
         Reading::Order { hash, kinds, bound } => {
             order_in(alloc, file, bytes, *hash, *kinds, *bound, output, errors)
@@ -249,14 +267,20 @@ fn run_reading<I: BufRead, O: Write, E: Write>(
 
 // Checks a file. Where another hash function fits, a line on `errors` names it.
 fn check_one<O: Write, E: Write>(
+    alloc: Global,
     file: &str,
     bytes: &[u8],
     hash: Option<Hash>,
     bound: Option<usize>,
+    is_json: bool,
     output: &mut O,
     errors: &mut E,
 ) -> Result<Status, Failure> {
-    let status = check::check_file(file, bytes, hash, bound, output)?;
+    let status = if is_json {
+        check_json::check_file(alloc, file, bytes, hash, bound, output)?
+    } else {
+        check::check_file(file, bytes, hash, bound, output)?
+    };
     if !status.is_done()
         && let Some(other) = check::hint_of(bytes, hash)
     {
@@ -288,10 +312,11 @@ fn find_in<O: Write, E: Write>(
     file: &str,
     bytes: &[u8],
     bound: Option<usize>,
+    is_json: bool,
     output: &mut O,
     errors: &mut E,
 ) -> Result<Status, Failure> {
-    let status = find::find_file(alloc, bytes, bound, output)?;
+    let status = find::find_file(alloc, file, bytes, bound, is_json, output)?;
     if !status.is_done() {
         // A line that cannot be written is no failure.
         let _ = find::write_none(file, errors);

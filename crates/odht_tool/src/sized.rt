@@ -21,6 +21,7 @@ use odht_tool_core::shapes::Hash;
 pub mod builds;
 pub mod gets;
 pub mod listings;
+pub mod objects;
 pub mod orders;
 
 /// The lengths of a shape.

@@ -38,5 +38,9 @@ pub mod Refusals
 pub mod Fronts
 -- the search for tables inside some bytes
 pub mod Finds
+-- texts of JSON, and bytes that stand for themselves in them
+pub mod JsonTexts
+-- fields of objects of JSON that are written one after the other
+pub mod JsonFields
 -- worked examples of the definitions
 pub mod examples

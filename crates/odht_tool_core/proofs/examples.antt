@@ -23,3 +23,5 @@ pub mod Slips
 pub mod Forms
 -- plain texts, and what they are stored as
 pub mod Texts
+-- texts of JSON
+pub mod JsonTexts

@@ -13,8 +13,9 @@
 --     groups_text h o cs l the lines of the hash function h, or of none, of the histogram, and of the longest search for a
 --                          present key, by the bound o
 --     info_text n          all lines
---     IsInfoDone B o old new r `info` of the bytes B by the bound o, which took the writer from the bytes old to new and returned r,
---                          wrote the numbers of B; only opening, memory or the writer may have kept it from that
+--     IsInfoDone t B o old new r   `info` of the bytes B by the bound o, which took the writer from the bytes old to new and
+--                          returned r, wrote the text t of the numbers of B; only opening, memory or the writer may have
+--                          kept it from that
 use Rattle.std.specs.Prelude.{◌≡◌, ℕ, ◌+◌, ◌-◌, ◌*◌, ◌/◌, min, max, ◌&&◌, ◌==◌, nat_lt, List, [], ◌∷◌, ◌++◌, length, replicate, flat_map, slice_index, codes, decimal, Option, Some, None, Result, Ok, Err, if◌then◌else◌}
 use Rattle.std.specs.Io.KnownBytes.{Appends, Keeps}
 use Rattle.std.specs.List.{range_with_len}
@@ -87,7 +88,7 @@ info_text n =
     ++ groups_text n.hash n.bound n.histogram.counts.items n.histogram.longest
     ++ groups_line (codes "longest miss  ") n.bound n.longest_miss
 
-abbrev pub IsInfoDone : List ℕ → Option ℕ → Option (List ℕ) → Option (List ℕ) → Result Status Failure → Type 0
-IsInfoDone B o old new (Ok status) = (status ≡ Done) × ((n : Numbers) × AreNumbers B o n × Appends old new (info_text n))
-IsInfoDone B o old new (Err (Output error)) = info_refusal B ≡ None
-IsInfoDone B o old new (Err failure) = IsInfoFailure B failure × Keeps old new
+abbrev pub IsInfoDone : (Numbers → List ℕ) → List ℕ → Option ℕ → Option (List ℕ) → Option (List ℕ) → Result Status Failure → Type 0
+IsInfoDone t B o old new (Ok status) = (status ≡ Done) × ((n : Numbers) × AreNumbers B o n × Appends old new (t n))
+IsInfoDone t B o old new (Err (Output error)) = info_refusal B ≡ None
+IsInfoDone t B o old new (Err failure) = IsInfoFailure B failure × Keeps old new

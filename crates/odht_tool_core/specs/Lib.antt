@@ -53,3 +53,11 @@ pub mod ReadAs
 pub mod PlainTexts
 -- texts that are no key or no value
 pub mod Misreads
+-- texts of JSON
+pub mod Json
+-- what `dump --slots --json` writes
+pub mod JsonSlots
+-- what `info --json` writes
+pub mod InfoJson
+-- what `find --json` writes of a table
+pub mod FindJson

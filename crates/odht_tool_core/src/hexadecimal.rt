@@ -1,10 +1,11 @@
 //! Words of hexadecimal digits that are read as bytes, of a length that is known at run time alone.
-ghost use Rattle.std.specs.Prelude.{◌≡◌, ◌↔◌, ◌*◌, IsTrue, length};
+ghost use Rattle.std.specs.Prelude.{◌≡◌, ◌↔◌, ◌*◌, IsTrue, None, length};
 ghost use Rattle.std.specs.Char.{is_ascii_hexdigit};
 ghost use Rattle.std.specs.List.{AllPass};
-ghost use Rattle.odht_tool_core.specs.Texts.{IsHexWord, WritesBytes};
+ghost use Rattle.odht_tool_core.specs.Json.{is_simple};
+ghost use Rattle.odht_tool_core.specs.Texts.{IsHexWord, WritesBytes, hex_text};
 
-use crate::text::{are_digits, digit_value};
+use crate::text::digit_value;
 
 /// Whether the word is two hexadecimal digits, of either case, for each of so many bytes as there are in `bytes`, which
 /// then become these; else they are not changed.
@@ -32,4 +33,19 @@ fn put_digits(word: &[u8], bytes: &mut [u8])
         let low = digit_value(word[2 * at + 1]);
         bytes[at] = 16 * (high % 16) + low % 16;
     }
+}
+
+/// Whether each byte is a hexadecimal digit, of either case.
+pub(crate) fn are_digits(word: &[u8]) -> bool
+    ensures { IsTrue result ↔ AllPass is_ascii_hexdigit word.now }
+{
+    word.iter().all(|digit| digit.is_ascii_hexdigit())
+}
+
+/// None: the text of these bytes has digits alone, which stand for themselves in JSON.
+pub(crate) fn no_plain_bytes(bytes: &[u8]) -> Option<&[u8]>
+    ensures none { result ≡ None }
+    ensures digits { AllPass is_simple (hex_text bytes.now) }
+{
+    None
 }

@@ -4,6 +4,7 @@ ghost use Rattle.std.specs.Prelude.{OnOk, length};
 ghost use Rattle.std.specs.Io.KnownBytes.{Appends};
 ghost use Rattle.odht_tool_core.specs.InfoNumbers.{IsHistogram, largest};
 ghost use Rattle.odht_tool_core.specs.InfoTexts.{bar, longer_mark, tally_line, tallies_text};
+ghost use Rattle.odht_tool_core.specs.InfoJson.{count_item, counts_array, counts_text};
 
 use std::alloc::{AllocError, Global};
 use std::io::{self, Write};
@@ -58,6 +59,44 @@ impl Histogram {
             self.write_tally(index, most, output)?;
         }
         Ok(())
+    }
+
+    /// Writes an array of JSON: for each number of groups up to the largest the count. The last of 64 counts is that of all
+    /// larger numbers too.
+    pub fn write_array<W: Write>(&self, output: &mut W) -> io::Result<()>
+        requires { length self.now.counts.items ≡ 64 }
+        ensures { OnOk result (Appends (W.contents output.old) (W.contents output.new)
+            (counts_array self.now.counts.items self.now.longest)) }
+    {
+        output.write_all(b"[")?;
+        self.write_counts(output)?;
+        output.write_all(b"]")
+    }
+
+    // Writes the counts, with a comma before each but the first.
+    fn write_counts<W: Write>(&self, output: &mut W) -> io::Result<()>
+        requires { length self.now.counts.items ≡ 64 }
+        ensures { OnOk result (Appends (W.contents output.old) (W.contents output.new)
+            (counts_text self.now.counts.items self.now.longest)) }
+    {
+        for index in 0..self.longest.min(MOST) {
+            self.write_count(index, output)?;
+        }
+        Ok(())
+    }
+
+    // Writes a count, with a comma before it but before the first.
+    fn write_count<W: Write>(&self, index: usize, output: &mut W) -> io::Result<()>
+        requires { index < length self.now.counts.items }
+        ensures { OnOk result (Appends (W.contents output.old) (W.contents output.new)
+            (count_item self.now.counts.items index)) }
+    {
+        let count = self.counts[index];
+        if index == 0 {
+            write!(output, "{count}")
+        } else {
+            write!(output, ",{count}")
+        }
     }
 
     // Writes the line of a count.

@@ -1,11 +1,13 @@
 //! `odht info`: what a table file of any shape holds.
 ghost use Rattle.std.specs.Prelude.{◌≡◌, ◌++◌, OnOk, length};
 ghost use Rattle.std.specs.Io.KnownBytes.{Appends};
+ghost use Rattle.odht_tool_core.specs.InfoJson.{info_as};
 ghost use Rattle.odht_tool_core.specs.InfoTexts.{number_line, lengths_text, sizes_text, hash_name};
 ghost use Rattle.odht_tool_core.specs.InfoTexts.{groups_line, groups_text, info_text, IsInfoDone};
 
 use crate::failure::Failure;
 use crate::histogram::Histogram;
+use crate::info_json::write_object;
 use crate::numbers::{Numbers, numbers_of};
 use crate::shapes::Hash;
 use crate::status::Status;
@@ -13,20 +15,41 @@ use odht_header::header::HEADER_SIZE;
 use std::alloc::Global;
 use std::io::{self, Write};
 
-/// `odht info` of the bytes of a file: writes sizes, counts, load factors, and how many groups a
-/// search reads for the items and for absent keys, up to the bound.
+/// `odht info` of the bytes of the file of this name: writes sizes, counts, load factors, and how many groups a
+/// search reads for the items and for absent keys, up to the bound; with `is_json` as an object of JSON.
 pub fn info_file<O: Write>(
     alloc: Global,
+    file: &str,
     bytes: &[u8],
     bound: Option<usize>,
+    is_json: bool,
     output: &mut O,
 ) -> Result<Status, Failure>
-    ensures { IsInfoDone bytes.now bound (O.contents output.old) (O.contents output.new) result }
+    ensures { IsInfoDone (info_as is_json file.now) bytes.now bound
+        (O.contents output.old) (O.contents output.new) result }
 {
     let numbers = numbers_of(alloc, bytes, bound)?;
-    match write_all(&numbers, output) {
+    match write_as(file, &numbers, is_json, output) {
         Ok(()) => Ok(Status::Done),
         Err(error) => Err(Failure::Output(error)),
+    }
+}
+
+// The lines, or the object.
+fn write_as<O: Write>(
+    file: &str,
+    numbers: &Numbers,
+    is_json: bool,
+    output: &mut O,
+) -> io::Result<()>
+    requires { length numbers.now.histogram.counts.items ≡ 64 }
+    ensures { OnOk result (Appends (O.contents output.old) (O.contents output.new)
+        (info_as is_json file.now numbers.now)) }
+{
+    if is_json {
+        write_object(file, numbers, output)
+    } else {
+        write_all(numbers, output)
     }
 }
 

@@ -42,6 +42,13 @@ pub(crate) fn write_plain<W: Write>(bytes: &[u8], output: &mut W) -> io::Result<
     output.write_all(&bytes[..text_len(bytes)])
 }
 
+/// The bytes without the zeros at their end.
+pub(crate) fn plain_of(bytes: &[u8]) -> &[u8]
+    ensures { result.now ≡ plain_text bytes.now }
+{
+    &bytes[..text_len(bytes)]
+}
+
 // How many bytes there are without the zeros at the end.
 fn text_len(bytes: &[u8]) -> usize
     ensures { result ≡ length bytes.now - suffix_len is_zero bytes.now }

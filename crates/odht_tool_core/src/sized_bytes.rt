@@ -5,7 +5,7 @@ ghost use Rattle.odht_tool_core.specs.Misreads.{hex_wanted};
 ghost use Rattle.odht_tool_core.specs.Texts.{IsHexWord, WritesBytes, hex_text};
 
 use crate::forms::Form;
-use crate::hexadecimal::read_digits;
+use crate::hexadecimal::{no_plain_bytes, read_digits};
 use crate::misread::Wanted;
 use crate::text::{Text, write_bytes};
 use odht_raw::raw_table::ShortBytes;
@@ -30,6 +30,10 @@ impl Text for ShortBytes {
 
     fn parse(word: &[u8], form: Form) -> Option<ShortBytes> {
         parse_sized(word, form.len())
+    }
+
+    fn plain_bytes(&self, _form: Form) -> Option<&[u8]> {
+        no_plain_bytes(self.as_slice())
     }
 
     fn write<W: Write>(&self, _form: Form, output: &mut W) -> io::Result<()> {

@@ -2,7 +2,7 @@
 //! text, and nothing at all.
 ghost use Rattle.std.specs.Prelude.{◌≡◌, ◌↔◌, ◌<◌, ◌≤◌, ◌*◌, ◌%◌, ◌^◌, ℕ};
 ghost use Rattle.std.specs.Prelude.{List, [], length, take, max, slice_index, Some};
-ghost use Rattle.std.specs.Prelude.{IfErr, IfSome, IsFalse, IsOk, IsSome, IsTrue, OnOk};
+ghost use Rattle.std.specs.Prelude.{IfErr, IfSome, IsFalse, IsNone, IsOk, IsSome, IsTrue, OnOk};
 ghost use Rattle.std.specs.Prelude.{decimal, false};
 ghost use Rattle.std.specs.Char.{is_ascii_hexdigit, to_ascii_lowercase};
 ghost use Rattle.std.specs.Fmt.{digit_glyph};
@@ -13,6 +13,7 @@ ghost use Rattle.odht_tool_core.specs.Digits.{IsValueOf};
 ghost use Rattle.std.specs.Int.{w32, w64};
 ghost use Rattle.odht_tool_core.specs.Forms.{number_text, IsNumberText, StandsForNumber};
 ghost use Rattle.odht_tool_core.specs.Forms.{bytes_text, IsBytesText, StandsForBytes};
+ghost use Rattle.odht_tool_core.specs.Json.{is_simple};
 ghost use Rattle.odht_tool_core.specs.Misreads.{IsWanted, bytes_wanted, number_wanted};
 ghost use Rattle.odht_tool_core.specs.declared.misread.Wanted.{Wanted};
 ghost use Rattle.odht_tool_core.specs.declared.misread.Wanted.TheVariants.{Nothing, U32, U64, I32, I64};
@@ -20,8 +21,9 @@ ghost use Rattle.odht_tool_core.specs.Texts.{IsNumberWord, IsHexWord, WritesByte
 
 use crate::digits::{parse_number, write_number};
 use crate::forms::Form;
+use crate::hexadecimal::{are_digits, no_plain_bytes};
 use crate::misread::Wanted;
-use crate::plain::{parse_plain, write_plain};
+use crate::plain::{parse_plain, plain_of, write_plain};
 use crate::signed::{parse_signed, write_signed};
 use std::io::{self, Write};
 
@@ -46,6 +48,11 @@ pub trait Text: Copy {
     fn parse(word: &[u8], form: Form) -> Option<Self>
         ensures value { IfSome result (stands_for form word.now) }
         ensures some { IsSome result ↔ is_word form word.now };
+
+    /// The text, where it may have any bytes. None where each is a character that stands for itself in a string of JSON.
+    fn plain_bytes(&self, form: Form) -> Option<&[u8]>
+        ensures some { IfSome result (λ t. t.now ≡ text form self.now) }
+        ensures none { IsNone result → AllPass is_simple (text form self.now) };
 
     /// Writes the text.
     fn write<W: Write>(&self, form: Form, output: &mut W) -> io::Result<()>
@@ -78,6 +85,10 @@ impl Text for u32 {
                 Some(number.swap_bytes())
             }
         }
+    }
+
+    fn plain_bytes(&self, _form: Form) -> Option<&[u8]> {
+        None
     }
 
     #[inline(always)]
@@ -117,6 +128,10 @@ impl Text for u64 {
         }
     }
 
+    fn plain_bytes(&self, _form: Form) -> Option<&[u8]> {
+        None
+    }
+
     #[inline(always)]
     fn write<W: Write>(&self, form: Form, output: &mut W) -> io::Result<()> {
         match form {
@@ -144,6 +159,10 @@ impl Text for () {
         if word.is_empty() { Some(()) } else { None }
     }
 
+    fn plain_bytes(&self, _form: Form) -> Option<&[u8]> {
+        None
+    }
+
     fn write<W: Write>(&self, _form: Form, output: &mut W) -> io::Result<()> {
         output.write_all(b"")
     }
@@ -169,6 +188,13 @@ impl<const N: usize> Text for [u8; N] {
         match form {
             Form::Plain => parse_plain(word),
             _ => parse_bytes(word),
+        }
+    }
+
+    fn plain_bytes(&self, form: Form) -> Option<&[u8]> {
+        match form {
+            Form::Plain => Some(plain_of(self)),
+            _ => no_plain_bytes(self),
         }
     }
 
@@ -250,13 +276,6 @@ fn parse_long<const N: usize>(word: &[u8]) -> Option<[u8; N]>
         bytes[at] = 16 * (high % 16) + low % 16;
     }
     Some(bytes)
-}
-
-/// Whether each byte is a hexadecimal digit, of either case.
-pub(crate) fn are_digits(word: &[u8]) -> bool
-    ensures { IsTrue result ↔ AllPass is_ascii_hexdigit word.now }
-{
-    word.iter().all(|digit| digit.is_ascii_hexdigit())
 }
 
 fn max_of(a: u8, b: u8) -> u8

@@ -13,7 +13,7 @@ pub const SAME_PATHS: [&str; 5] = [
 pub const SHIM_PATHS: [&str; 2] = ["std::alloc::AllocError", "std::alloc::Global"];
 
 /// Paths of std that are the same, and that programs alone use.
-pub const SAME_OF_PROGRAMS: [&str; 12] = [
+pub const SAME_OF_PROGRAMS: [&str; 13] = [
     "std::io",
     "std::io::self",
     "std::io::BufRead",
@@ -25,6 +25,7 @@ pub const SAME_OF_PROGRAMS: [&str; 12] = [
     "std::os::unix::fs::PermissionsExt",
     "std::os::unix::fs::fchown",
     "std::process::ExitCode",
+    "std::str::from_utf8",
     "std::time::Duration",
 ];
 

@@ -2,12 +2,14 @@
 ghost use Rattle.std.specs.Prelude.{◌≡◌, ℕ, true, drop, None, IfErr, OnOk};
 ghost use Rattle.std.specs.Io.KnownBytes.{Appends};
 ghost use Rattle.odht_tool.specs.FindLines.{table_text, tables_text, none_text, AreFound};
+ghost use Rattle.odht_tool.specs.JsonTexts.{found_text};
 ghost use Rattle.odht_tool.specs.Outcomes.{check_word};
 ghost use Rattle.odht_tool_core.specs.Endings.{IsOutputFailure};
 ghost use Rattle.odht_tool_core.specs.Finds.{AreTables, is_table};
 ghost use Rattle.odht_tool_core.specs.AnyShapes.{found_any};
 
 use crate::commands::check::check_any;
+use crate::commands::find_json;
 use odht::error::Error;
 use odht_tool_core::failure::Failure;
 use odht_tool_core::find::{find_tables, write_row};
@@ -17,18 +19,22 @@ use odht_tool_core::status::Status;
 use std::alloc::Global;
 use std::io::{self, Write};
 
-/// `odht find` of the bytes of a file: writes a line for each table inside them. The status is `NotDone` where there is
-/// none. `Forged` where there are headers that overlap, as `find_tables` says.
+/// `odht find` of the bytes of the file of this name: writes a line for each table inside them; with `is_json` an object
+/// of JSON. The status is `NotDone` where there is none. `Forged` where there are headers that overlap, as `find_tables`
+/// says.
 pub fn find_file<O: Write>(
     alloc: Global,
+    file: &str,
     bytes: &[u8],
     bound: Option<usize>,
+    is_json: bool,
     output: &mut O,
 ) -> Result<Status, Failure>
-    ensures { AreFound bytes.now bound (O.contents output.old) (O.contents output.new) result }
+    ensures { AreFound bytes.now (found_text file.now bytes.now bound is_json)
+        (O.contents output.old) (O.contents output.new) result }
 {
     let tables = find_tables(alloc, bytes)?;
-    write_tables(bytes, tables.as_slice(), bound, output)?;
+    write_found(file, bytes, tables.as_slice(), bound, is_json, output)?;
     Ok(Status::of(tables.len() > 0))
 }
 
@@ -38,6 +44,27 @@ pub fn write_none<E: Write>(file: &str, errors: &mut E) -> io::Result<()>
         (Appends (E.contents errors.old) (E.contents errors.new) (none_text file.now)) }
 {
     writeln!(errors, "odht: {file}: no table is in it")
+}
+
+// Writes the tables at these offsets, in lines or as an object.
+fn write_found<O: Write>(
+    file: &str,
+    bytes: &[u8],
+    tables: &[usize],
+    bound: Option<usize>,
+    is_json: bool,
+    output: &mut O,
+) -> Result<(), Failure>
+    requires { AreTables bytes.now 0 tables.now }
+    ensures ok { OnOk result (Appends (O.contents output.old) (O.contents output.new)
+        (found_text file.now bytes.now bound is_json tables.now)) }
+    ensures err { IfErr result IsOutputFailure }
+{
+    if is_json {
+        find_json::write_tables(file, bytes, tables, bound, output)
+    } else {
+        write_tables(bytes, tables, bound, output)
+    }
 }
 
 // Writes the lines of the tables at these offsets.
@@ -74,8 +101,8 @@ fn write_table<O: Write>(
     write_row(at, table, check_word(table, bound), output)
 }
 
-// What the check says of a table; `-` where its control bytes fit no hash function.
-fn check_word(table: &[u8], bound: Option<usize>) -> &'static str
+/// What the check says of a table; `-` where its control bytes fit no hash function.
+pub(crate) fn check_word(table: &[u8], bound: Option<usize>) -> &'static str
     ensures { result.now ≡ check_word bound table.now (found_any table.now None) }
 {
     let Ok(shape) = found_any(table, None) else {

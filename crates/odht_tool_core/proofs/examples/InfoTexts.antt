@@ -70,25 +70,25 @@ whole h is = ap₂ (λ cs l. codes "key bytes     4\nvalue bytes   4\nheader byt
 
 -- ---- what a call did
 -- bytes that do not open: their error, and nothing is written
-pub refused : IsInfoDone (79 ∷ 68 ∷ []) None (Some (codes "a")) (Some (codes "a")) (Err (Refused (TooShort 2)))
+pub refused : IsInfoDone info_text (79 ∷ 68 ∷ []) None (Some (codes "a")) (Some (codes "a")) (Err (Refused (TooShort 2)))
 unfolding opened
 refused = (refl, refl)
 
-pub refused_late : IsInfoDone (79 ∷ 68 ∷ []) None (Some (codes "a")) (Some (codes "ab")) (Err (Refused (TooShort 2))) → ⊥
+pub refused_late : IsInfoDone info_text (79 ∷ 68 ∷ []) None (Some (codes "a")) (Some (codes "ab")) (Err (Refused (TooShort 2))) → ⊥
 refused_late h = unequal_lists (codes "ab") (codes "a") refl h.1
 
-pub not_refused : IsInfoDone (79 ∷ 68 ∷ []) None (Some (codes "a")) (Some (codes "ab")) (Ok Done) → ⊥
+pub not_refused : IsInfoDone info_text (79 ∷ 68 ∷ []) None (Some (codes "a")) (Some (codes "ab")) (Ok Done) → ⊥
 unfolding opened
 not_refused h = cc (h.1.1.opens)
 
 -- out of memory: nothing is written
-pub no_memory : IsInfoDone one_bytes None (Some (codes "a")) (Some (codes "a")) (Err Memory)
+pub no_memory : IsInfoDone info_text one_bytes None (Some (codes "a")) (Some (codes "a")) (Err Memory)
 unfolding opened
 no_memory = (refl, refl)
 
 -- a text is written, and the status is `Done`
-pub silent : IsInfoDone one_bytes None (Some []) (Some []) (Ok Done) → ⊥
+pub silent : IsInfoDone info_text one_bytes None (Some []) (Some []) (Ok Done) → ⊥
 silent h = cc (h.1.2)
 
-pub other_status : IsInfoDone one_bytes None None None (Ok NotDone) → ⊥
+pub other_status : IsInfoDone info_text one_bytes None None None (Ok NotDone) → ⊥
 other_status h = cc

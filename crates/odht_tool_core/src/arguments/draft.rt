@@ -29,6 +29,7 @@ pub(super) struct Draft {
     capacity: usize,
     is_help: bool,
     is_slots: bool,
+    is_json: bool,
     is_whole: bool,
     breaks_links: bool,
     has_progress: bool,
@@ -52,6 +53,7 @@ impl Draft {
             capacity: 12,
             is_help: false,
             is_slots: false,
+            is_json: false,
             is_whole: false,
             breaks_links: false,
             has_progress: false,
@@ -100,6 +102,7 @@ impl Draft {
         match setting {
             Setting::Help => self.is_help = true,
             Setting::Slots => self.is_slots = true,
+            Setting::Json => self.is_json = true,
             Setting::Whole => self.is_whole = true,
             Setting::Progress => self.has_progress = true,
             Setting::BreakLinks => self.breaks_links = true,
@@ -215,16 +218,27 @@ impl Draft {
         let (hash, kinds, bound) = (self.hash, self.kinds, bound_of(self.is_whole));
         match self.topic {
             // begin readings: made of commands.txt by tools/commands; `make manual` makes it anew
-            Topic::Info => Reading::Info { bound },
-            Topic::Check => Reading::Check { hash, bound },
+            Topic::Info => Reading::Info {
+                bound,
+                is_json: self.is_json,
+            },
+            Topic::Check => Reading::Check {
+                hash,
+                bound,
+                is_json: self.is_json,
+            },
             Topic::Count => Reading::Count { hash, bound },
             Topic::Dump => Reading::Dump {
                 hash,
                 kinds,
                 is_slots: self.is_slots,
+                is_json: self.is_json,
             },
             Topic::Keys => Reading::Keys { hash, kinds },
-            Topic::Find => Reading::Find { bound },
+            Topic::Find => Reading::Find {
+                bound,
+                is_json: self.is_json,
+            },
             _ => Reading::Order { hash, kinds, bound },
             // end readings
         }

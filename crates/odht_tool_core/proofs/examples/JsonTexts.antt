@@ -1,0 +1,49 @@
+-- Worked examples: texts of JSON.
+use Rattle.std.proofs.Common.{◌≡◌, true, false, refl, [], ◌∷◌, Some, None}
+use Rattle.std.specs.Prelude.{codes}
+use Rattle.std.specs.Fmt.{digits}
+use Rattle.std.specs.Char.{encode_utf8}
+use Rattle.std.specs.Str.{chars, is_utf8}
+use Rattle.odht_header.proofs.examples.Opened.{opened}
+use Rattle.odht_tool_core.specs.FindJson.{table_object}
+use Rattle.odht_tool_core.specs.InfoJson.{counts_array, hash_or_null, longest_hit}
+use Rattle.odht_tool_core.specs.InfoNumbers.{tallies}
+use Rattle.odht_tool_core.specs.Json.{is_simple, json_object, json_string, number_field, number_or_null, pair_object, string_field, text_field, truth}
+use Rattle.odht_tool_core.specs.JsonSlots.{slot_object}
+use Rattle.odht_tool_core.specs.Texts.{hex_text}
+use Rattle.odht_tool_core.specs.declared.shapes.Hash.TheVariants.{Fx}
+use Rattle.odht_tool_core.proofs.examples.Shapes.{one_bytes}
+
+-- a quote and a backslash, bytes below 32, and an e with an accent
+pub strings : (json_string (codes "a b") ≡ codes "\"a b\"") × (json_string (codes "\"\\") ≡ codes "\"\\\"\\\\\"") × (json_string (10 ∷ 27 ∷ []) ≡ codes "\"\\u000a\\u001b\"") × (json_string (195 ∷ 169 ∷ []) ≡ 34 ∷ 195 ∷ 169 ∷ 34 ∷ [])
+strings = (refl, refl, refl, refl)
+
+-- which bytes stand for themselves
+pub simple : (is_simple 65 ≡ true) × (is_simple 34 ≡ false) × (is_simple 92 ≡ false) × (is_simple 31 ≡ false) × (is_simple 128 ≡ false)
+simple = (refl, refl, refl, refl, refl)
+
+-- no field, and some
+pub objects : (json_object [] ≡ codes "{}") × (json_object (number_field (codes "n") 12 ∷ (codes "valid", truth true) ∷ (codes "bound", number_or_null None) ∷ []) ≡ codes "{\"n\":12,\"valid\":true,\"bound\":null}")
+unfolding digits
+objects = (refl, refl)
+
+-- the byte 233 alone is no UTF-8
+pub texts : (text_field (codes "key") (195 ∷ 169 ∷ []) ≡ string_field (codes "key") (195 ∷ 169 ∷ [])) × (text_field (codes "key") (233 ∷ []) ≡ string_field (codes "key_hex") (codes "e9"))
+unfolding chars is_utf8 encode_utf8
+texts = (refl, refl)
+
+-- a pair, and that of a slot
+pub pairs : (pair_object hex_text hex_text (65 ∷ [], 66 ∷ []) ≡ codes "{\"key\":\"41\",\"value\":\"42\"}\n")
+    × (slot_object hex_text hex_text 3 97 1 (65 ∷ [], 66 ∷ []) ≡ codes "{\"slot\":3,\"control\":97,\"groups\":1,\"key\":\"41\",\"value\":\"42\"}\n")
+unfolding chars is_utf8 encode_utf8 pair_object slot_object digits
+pairs = (refl, refl)
+
+-- two keys by one group, none by two, one by three; and without a hash function
+pub counts : (counts_array (tallies (1 ∷ 3 ∷ 1 ∷ [])) 3 ≡ codes "[2,0,1]") × (counts_array (tallies []) 0 ≡ codes "[]") × (longest_hit None 0 ≡ None) × (longest_hit (Some Fx) 3 ≡ Some 3) × (hash_or_null (Some Fx) ≡ codes "\"fx\"") × (hash_or_null None ≡ codes "null")
+unfolding tallies digits
+counts = (refl, refl, refl, refl, refl, refl)
+
+-- a table inside a file
+pub found : table_object 2 one_bytes (codes "valid") ≡ codes "{\"offset\":2,\"bytes\":192,\"key_bytes\":4,\"value_bytes\":4,\"items\":1,\"slots\":16,\"load_percent\":6,\"hash\":\"unhash\",\"check\":\"valid\"}"
+unfolding opened digits table_object
+found = refl

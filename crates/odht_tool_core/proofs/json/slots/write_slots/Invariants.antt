@@ -1,0 +1,13 @@
+use Rattle.std.specs.Io.KnownBytes.{Appends}
+use Rattle.odht_header.specs.Coding.{coding_of}
+use Rattle.odht_tool_core.specs.JsonSlots.{slot_objects}
+use Rattle.odht_tool_core.proofs.json.slots.write_slots.Given as goal
+
+-- the objects of the slots so far are written
+abbrev pub invariant-loop-slot : goal.invariant-loop-slot
+invariant-loop-slot g l =
+    let c = coding_of g.C.EncodedKey.ByteArray.LEN g.C.EncodedKey.ByteArray.bytes g.C.EncodedKey.ByteArray.of_bytes
+    g.C.EncodedValue.ByteArray.LEN g.C.EncodedValue.ByteArray.bytes g.C.EncodedValue.ByteArray.of_bytes
+    g.C.H.HashFn.hash g.C.Config.encode_key g.C.Config.encode_value g.C.Config.decode_key g.C.Config.decode_value in
+    Appends (g.O.Write.contents l.initial.output) (g.O.Write.contents l.output)
+    (slot_objects c (g.C.Key.Text.text (g.F.Forms.pair l.forms).0) (g.C.Value.Text.text (g.F.Forms.pair l.forms).1) (record { control = l.control; entries = l.entries }) l.slot)
