@@ -30,6 +30,7 @@ LISTED = command_list.read()[0]
 COMMANDS = [([it.name, "table"], b"") for it in LISTED if it.is_reading and it.is_of_files]
 COMMANDS += [
     (["dump", "-"], None),
+    *(([it, "table", "--json"], b"") for it in ("info", "check", "find", "dump")),
     (["count", "table", "-"], None),
     (["get", "table", "3", "7"], b""),
     (["get", "table", "x"], b""),
@@ -157,7 +158,7 @@ def main(*words):
             print(f"FAILED {what}\n0 passed, 1 failed")
             return 1
         runs = [["tests/cases.py", program, "made=erased", "tests/tool"]]
-        runs.append(["tests/sizes.py", program])
+        runs += [["tests/sizes.py", program], ["tests/objects.py", program]]
         if os.environ.get("ODHT_TOOL"):
             runs.append(["tests/beside.py", os.environ["ODHT_TOOL"], program])
         failed = 0
