@@ -1,5 +1,5 @@
 -- Worked examples: slots that wait in the search for an insert order, in the table with 15 in slot 15 and 31 in slot 0.
-use Rattle.std.proofs.Common.{◌≡◌, ◌<◌, ◌≤◌, ◌+◌, ◌%◌, ◌∙◌, inl, inr, ℕ, zero, suc, List, refl, true, false, true≢false, sym, ap, ap₂, subst, arith, [], ◌∷◌, get_or, All, AllPairs, Contains, lit<, lit≤}
+use Rattle.std.proofs.Common.{◌≡◌, ◌<◌, ◌≤◌, ◌+◌, ◌%◌, ◌∙◌, inl, inr, ℕ, zero, suc, List, refl, true, false, true≢false, sym, ap, ap₂, subst, arith, [], ◌∷◌, replicate, length, get_or, All, AllPairs, Contains, lit<, lit≤}
 use Rattle.std.proofs.lemmas.Bool.{cases_lt}
 use Rattle.std.proofs.lemmas.List.Sorted.{IsPermutation-refl, IsPermutation-append_comm, length_permutation}
 use Rattle.odht_base.specs.Decoded.{decoded_cells}
@@ -18,6 +18,7 @@ use Rattle.odht_base.proofs.lemmas.Parts.{decoded_cells-parts}
 use Rattle.odht_base.proofs.lemmas.Placed.{IsPlaced-tests}
 use Rattle.odht_base.proofs.lemmas.SoFar.{so_far_none}
 use Rattle.odht_raw.specs.Frontiers.{AreFrontiers}
+use Rattle.odht_raw.specs.Homes.{HasHomes}
 use Rattle.odht_raw.specs.Parts.{TableParts}
 use Rattle.odht_raw.specs.Waiting.{waiting, slot_of, placed_of, IsWaiting, AreRising, WaitsWithin, WaitsBehind, IsLeft, IsFrontier, IsUnblocked, IsPending, AreListed, IsBegun, IsFar, AreWholeParts, IsWhole, IsOrderAnswer}
 use Rattle.odht_raw.specs.declared.raw_table.insert_order.Frontier.{Frontier}
@@ -194,6 +195,18 @@ direct_format = record {
   value_short = lit≤ tt;
   hash_small = λ b is. un-lt b (subst (λ n. 4 ≤ n) (sym is.len) (lit≤ tt)) is.each;
 }
+
+-- its keys have homes among sixteen slots with a mirror
+pub homed : HasHomes direct_config parts
+unfolding opened
+homed = record { format = direct_format; slots = record { power = refl; least = lit≤ tt }; mirrored = refl }
+
+-- they have none without the mirror, and none among no slots
+abbrev bare : List ℕ
+bare = replicate 16 255
+
+pub homes_refused : (HasHomes direct_config (record { control = bare; entries = parts.entries }) → ⊥) × (HasHomes direct_config (record { control = bare; entries = record { slots = 0; bytes = [] } }) → ⊥)
+homes_refused = (λ h. let n : length bare ≡ 16 = refl in omega (arith, h.mirrored, n), λ h. omega (arith, h.slots.least))
 
 -- each table that has these parts has the same cells
 same_cells : (P : Table) → AreWholeParts direct_config P parts 2 → P.cells ≡ fifteen_first.cells
