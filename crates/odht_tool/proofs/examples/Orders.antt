@@ -7,11 +7,12 @@ use Rattle.odht_header.proofs.examples.Apart.{unequal_lists}
 use Rattle.odht_header.proofs.examples.Opened.{opened}
 use Rattle.odht_base.specs.Bounds.{first_longer}
 use Rattle.odht_header.specs.Refusals.{check_refusal_by}
+use Rattle.odht_header.specs.declared.error.Error.TheVariants.{Unreachable}
 use Rattle.odht_tool.specs.Orders.{IsFileOrdered, IsOrderText, order_of_shape, unmade_text}
 use Rattle.odht_tool_core.specs.AnyShapes.{other_coding}
 use Rattle.odht_tool_core.specs.ReadyShapes.{shape_coding, shape_format}
 use Rattle.odht_tool_core.specs.Texts.{hex_text}
-use Rattle.odht_tool_core.specs.declared.failure.Failure.TheVariants.{Memory}
+use Rattle.odht_tool_core.specs.declared.failure.Failure.TheVariants.{Refused, Memory}
 use Rattle.odht_tool_core.specs.declared.forms.Form.TheVariants.{Own}
 use Rattle.odht_tool_core.specs.declared.shapes.Hash.TheVariants.{Unhash}
 use Rattle.odht_tool_core.specs.declared.shapes.ready.Shape.TheVariants.{DirectU32ToU32}
@@ -44,11 +45,11 @@ written_without_memory h = unequal_lists (codes "ab") (codes "a") refl h.1
 pub in_hex : IsOrderText (other_coding (other 4 4 Unhash)) hex_text hex_text fifteen_first (codes "0f000000\t0f000000\n1f000000\t1f000000\n")
 in_hex = (15 ∷ 0 ∷ [], fifteen_order, refl)
 
--- a table of keys of six and values of two bytes
-pub other_no_memory : IsFileOrdered other_bytes None unsaid None (Some (codes "a")) (Some (codes "a")) (Err Memory)
+-- a table of keys of six and values of two bytes, in which a search does not reach slot 5
+pub other_refused : IsFileOrdered other_bytes None unsaid None (Some (codes "a")) (Some (codes "a")) (Err (Refused (Unreachable 5)))
 unfolding opened first_longer digits
-other_no_memory = (refl, refl)
+other_refused = (refl, refl)
 
-pub other_written_without_memory : IsFileOrdered other_bytes None unsaid None (Some (codes "a")) (Some (codes "ab")) (Err Memory) → ⊥
+pub other_written_though_refused : IsFileOrdered other_bytes None unsaid None (Some (codes "a")) (Some (codes "ab")) (Err (Refused (Unreachable 5))) → ⊥
 unfolding opened
-other_written_without_memory h = unequal_lists (codes "ab") (codes "a") refl h.1
+other_written_though_refused h = unequal_lists (codes "ab") (codes "a") refl h.1
