@@ -6,6 +6,7 @@ mod common;
 
 use common::outcomes::outcome;
 use common::random::Random;
+use odht::dynamic::DynTable;
 use odht::{Config, HashFn, HashTable, HashTableOwned, UnHashFn};
 use std::cell::RefCell;
 
@@ -93,6 +94,11 @@ fn reads(owned: &HashTableOwned<Fickle>, random: &mut Random) {
     let mut order = vec![0; owned.len()];
     run(|| owned.insert_order(&mut order));
     run(|| owned.insert_order_with(&mut order, &mut vec![0; owned.insert_order_scratch()]));
+    let twin = run(|| DynTable::<FickleHash, _>::open_as_stated(owned.raw_bytes()));
+    if let Some(Ok(twin)) = twin {
+        run(|| twin.insert_order(&mut order));
+        run(|| twin.insert_order_with(&mut order, &mut vec![0; twin.insert_order_scratch()]));
+    }
     run(|| (format!("{owned:?}").len(), owned.clone().len()));
     run(|| (*owned == owned.clone(), owned.has_same_bytes(owned)));
     let view = run(|| HashTable::<Fickle, _>::try_from_raw_bytes(owned.raw_bytes()));

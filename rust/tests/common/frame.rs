@@ -96,15 +96,7 @@ fn lengths_as_numbers<const K: usize, const V: usize, H: Named>(
     let typed: Vec<_> = view.iter_from(0).collect();
     let typed = typed.iter().map(|(slot, (key, value))| (*slot, (&key[..], &value[..])));
     assert!(table.iter_from(0).eq(typed));
-    if reading.count() < 1 << 16 {
-        let mut order = vec![1 << 40; table.len()];
-        let end = outcome(|| table.insert_order(&mut order));
-        let is_counted = reading.occupied().count() == reading.count();
-        assert_eq!(
-            end.err().as_deref().map(|it| it.contains("occupied")),
-            (!is_counted).then_some(true)
-        );
-    }
+    orders_are_looked_for(&table, reading);
     for _ in 0..10 {
         let key: [u8; K] = some_key(reading, random);
         let (value, groups) = view.get_counted(&key);
@@ -114,6 +106,22 @@ fn lengths_as_numbers<const K: usize, const V: usize, H: Named>(
         assert_eq!((value.as_deref(), groups), counted);
         assert_eq!(table.get_counted(&[&key[..], &[0]].concat()), (None, 0));
     }
+}
+
+// On any bytes that are opened an order is looked for exactly where the item count is that of the occupied slots.
+fn orders_are_looked_for<H: HashFn>(table: &DynTable<H, &[u8]>, reading: &Reading<'_>) {
+    if reading.count() > 1 << 16 {
+        return;
+    }
+    let mut order = vec![1 << 40; reading.count()];
+    let mut scratch = vec![1 << 40; table.insert_order_scratch()];
+    let ends = [
+        outcome(|| table.insert_order(&mut order)),
+        outcome(|| table.insert_order_with(&mut order, &mut scratch)),
+    ];
+    let is_counted = reading.occupied().count() == reading.count();
+    assert!(ends.iter().all(|end| end.is_ok() == is_counted));
+    assert!(ends.iter().flat_map(|end| end.as_ref().err()).all(|it| it.contains("occupied")));
 }
 
 // A valid table whose lengths are numbers has an order of inserts where the typed one has, and it is the same.
