@@ -105,6 +105,8 @@ static void null_any(void)
     EXPECT(odht_any_contains(&layout, bytes, 112, NULL, 0), ODHT_BAD_LENGTHS);
     EXPECT(odht_any_get_all(&layout, bytes, 112, 0, NULL, 0, NULL, 0, NULL, 0), ODHT_OK);
     EXPECT(odht_any_walk(&layout, bytes, 112, &cursor, 0, NULL, 0, NULL, 0, NULL), ODHT_TOO_SMALL);
+    EXPECT(odht_any_insert_order(&layout, NULL, 0, NULL, 0, NULL, 0), ODHT_TOO_SHORT);
+    EXPECT(odht_any_insert_order(&layout, bytes, 112, NULL, 0, NULL, 0), ODHT_BAD_LENGTHS);
     EXPECT(odht_any_grow(&layout, bytes, 112, NULL, 0, NULL), ODHT_TOO_SMALL);
     EXPECT(odht_any_build(&layout, 0, NULL, 0, NULL, 0, 87, NULL, 0, NULL), ODHT_TOO_SMALL);
     EXPECT(odht_any_build(&layout, 0, NULL, 0, NULL, 0, 87, bytes, 112, NULL), ODHT_OK);

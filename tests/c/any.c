@@ -206,6 +206,7 @@ static void each_answers(odht_layout layout, uint32_t status)
     STATUS(odht_any_insert(&layout, bytes, NUMBERS_LEN, key, layout.key_len, value,
                            layout.value_len, former, layout.value_len),
            status);
+    STATUS(odht_any_insert_order(&layout, bytes, NUMBERS_LEN, len, 1, more, 1), status);
     STATUS(odht_any_grow(&layout, bytes, NUMBERS_LEN, out, 512, len), status);
     STATUS(odht_any_build(&layout, 0, out, 0, out, 0, 87, bytes, NUMBERS_LEN, len), status);
     EQUAL(*len, 5);

@@ -165,6 +165,18 @@ pub mod any {
             count: *mut usize,
         ) -> u32;
 
+        /// An order of inserts that makes the table, with an array of scratch: three numbers for each slot, or fewer.
+        #[link_name = "odht_any_insert_order"]
+        pub fn insert_order(
+            layout: *const Layout,
+            bytes: *const u8,
+            bytes_len: usize,
+            slots: *mut usize,
+            slots_len: usize,
+            scratch: *mut usize,
+            scratch_len: usize,
+        ) -> u32;
+
         /// Inserts a key with its value, or gives a key that is there another value.
         #[link_name = "odht_any_insert"]
         pub fn insert(

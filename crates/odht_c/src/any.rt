@@ -7,6 +7,7 @@ ghost use Rattle.odht_header.specs.Refusals.{view_refusal, check_refusal, check_
 ghost use Rattle.odht_calls.specs.Statuses.{status_or_ok};
 ghost use Rattle.odht_calls.specs.Layouts.{AnyAnswers, SizedAnswers};
 ghost use Rattle.odht_calls.specs.Layouts.{ContainsAnswers, LayoutAnswers};
+ghost use Rattle.odht_calls.specs.Orders.{ScratchAnswers};
 ghost use Rattle.odht_calls.specs.Places.{PlaceAnswers};
 ghost use Rattle.odht_calls.specs.Pieces.{AnyWalkAnswers, AnyGetAllAnswers, AnyInsertAllAnswers};
 ghost use Rattle.odht_calls.specs.Pieces.{AnyBuildAnswers};
@@ -15,7 +16,7 @@ ghost use Rattle.odht_calls.specs.Reads.{GetAnswers, LenAnswers, SizesAnswers};
 ghost use Rattle.odht_calls.specs.Writes.{BytesNeededAnswers, InitAnswers, InsertAnswers};
 ghost use Rattle.odht_calls.specs.Grows.{GrowAnswers};
 
-use odht_calls::any::{AnyLayout, build, lists, places, read, walk, write};
+use odht_calls::any::{AnyLayout, build, lists, order, places, read, walk, write};
 
 /// Writes to `len` how many bytes a new table for so many items has: status 0. `BAD_PERCENT` where the load factor is
 /// not from 1 to 100 percent, `CAPACITY` where no slot count is enough or the length does not fit `usize`; then `len`
@@ -240,6 +241,29 @@ pub extern "C" fn odht_any_walk(
         item_count.new }
 {
     walk::walk(*layout, bytes, cursor, room, keys, values, item_count)
+}
+
+/// Writes to `out`, whose length is the item count, the occupied slots in an order in which inserts make the table:
+/// status 0. Their pairs, inserted in this order into an empty table of as many slots and the same load factor, make
+/// exactly these bytes. `UNMADE` where no list of inserts makes the table: what `out` then holds is unspecified. The
+/// number of the first error of the whole check, or `BAD_LENGTHS` where the length of `out` is not the number of items;
+/// then `out` and `scratch` are unchanged.
+///
+/// `scratch` is memory for the search, whatever it holds; what it holds after status 0 and `UNMADE` is unspecified.
+/// Allocates nothing. It costs the whole check, and then, with three numbers of scratch for each slot or more, time in
+/// proportion to the slots, and to the groups that the longest search of each home reads. With fewer these are the
+/// passes over the items of the shapes' calls.
+#[unsafe(no_mangle)]
+pub extern "C" fn odht_any_insert_order(
+    layout: &AnyLayout,
+    bytes: &[u8],
+    out: &mut [usize],
+    scratch: &mut [usize],
+) -> u32
+    ensures { AnyAnswers layout.now result ((out.new ≡ out.old) × (scratch.new ≡ scratch.old))
+        (λ c. ScratchAnswers c bytes.now out.old scratch.old result out.new scratch.new) }
+{
+    order::insert_order(*layout, bytes, out, scratch)
 }
 
 /// Gives the key this value: status 0 where the key was new, `REPLACED` where it had a value, which is written to

@@ -18,7 +18,7 @@ use Rattle.odht_header.proofs.examples.Apart.{unequal, unequal_lists}
 use Rattle.odht_header.proofs.examples.Invalid.{unmade_accepted}
 use Rattle.odht_header.proofs.examples.Opened.{opened}
 use Rattle.odht_raw.proofs.lemmas.WholeChecks.{valid_check}
-use Rattle.odht_calls.specs.Orders.{OrderAnswers}
+use Rattle.odht_calls.specs.Orders.{OrderAnswers, ScratchAnswers}
 use Rattle.odht_calls.proofs.examples.Tables.{direct_coding, direct_format, same_table}
 use Rattle.odht_calls.proofs.lemmas.Opened.{never_refused}
 use Rattle.odht_calls.proofs.lemmas.Ordered.{refused_order, lengths_order, done_order, unmade_order}
@@ -130,3 +130,19 @@ order_other_status_refused h = unequal 36 37 refl ((h.unmade unmade unmade_image
 -- slot order is none of inserts here
 pub order_by_slots_refused : OrderAnswers direct_coding fifteen_bytes (9 ∷ 9 ∷ []) 0 (0 ∷ 15 ∷ []) → ⊥
 order_by_slots_refused h = slot_order_refused (h.order fifteen_first fifteen_image refl)
+
+-- with two elements of scratch, which the search may write to
+pub scratch_answer : ScratchAnswers direct_coding fifteen_bytes (9 ∷ 9 ∷ []) (7 ∷ 7 ∷ []) 0 (15 ∷ 0 ∷ []) (1 ∷ 2 ∷ [])
+scratch_answer = record { order = fifteen_answer; unwritten = λ is_other is_known. absurd (is_other refl) }
+
+-- bytes that the whole check rejects leave them as they are
+pub scratch_padded : ScratchAnswers direct_coding padded (9 ∷ 9 ∷ []) (7 ∷ 7 ∷ []) 11 (9 ∷ 9 ∷ []) (7 ∷ 7 ∷ [])
+scratch_padded = record { order = padded_order; unwritten = λ is_other is_known. refl }
+
+-- and the others are refused
+pub scratch_written_refused : ScratchAnswers direct_coding padded (9 ∷ 9 ∷ []) (7 ∷ 7 ∷ []) 11 (9 ∷ 9 ∷ []) (7 ∷ 8 ∷ []) → ⊥
+scratch_written_refused h = unequal_lists (7 ∷ 8 ∷ []) (7 ∷ 7 ∷ []) refl (h.unwritten (unequal 11 0 refl) (unequal 11 37 refl))
+
+-- an order in which inserts do not make the table is none with scratch either
+pub scratch_by_slots_refused : ScratchAnswers direct_coding fifteen_bytes (9 ∷ 9 ∷ []) [] 0 (0 ∷ 15 ∷ []) [] → ⊥
+scratch_by_slots_refused h = order_by_slots_refused h.order

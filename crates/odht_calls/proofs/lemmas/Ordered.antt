@@ -1,14 +1,27 @@
 -- What the call for an order of inserts answers.
-use Rattle.std.proofs.Common.{◌≡◌, ◌∙◌, ℕ, List, refl, arith, length, Some, None}
+use Rattle.std.proofs.Common.{◌≡◌, ◌∙◌, ◌<◌, ℕ, List, All, get_or, sym, subst, refl, arith, length, Some, None}
+use Rattle.std.proofs.lemmas.List.{get_or_default}
+use Rattle.odht_base.specs.Format.{Format}
 use Rattle.odht_base.specs.Made.{IsMade, IsInsertOrder}
 use Rattle.odht_base.specs.Table.{Table, count}
 use Rattle.odht_base.specs.Valid.{IsImage, IsValidBytes}
 use Rattle.odht_header.specs.Coding.{Coding}
-use Rattle.odht_header.specs.Refusals.{check_refusal}
+use Rattle.odht_header.specs.Refusals.{check_refusal, check_refusal_by}
 use Rattle.odht_header.specs.declared.error.Error.{Error}
+use Rattle.odht_header.proofs.lemmas.FirstErrors.{option_or-None}
+use Rattle.odht_raw.proofs.lemmas.Openings.{view_refusal-accepted}
+use Rattle.odht_raw.proofs.lemmas.WholeChecks.{valid_late}
 use Rattle.odht_calls.specs.Orders.{OrderAnswers}
 use Rattle.odht_calls.specs.Statuses.{status_of, done, bad_lengths, unmade}
 use Rattle.odht_calls.proofs.lemmas.Refused.{known, not_none}
+
+-- bytes in which the whole check finds no error are valid
+pub checked_valid : (F : Format) (B : List ℕ) → ((i : ℕ) → get_or B i 0 < 256) → check_refusal F B ≡ None → IsValidBytes F B
+unfolding check_refusal_by
+checked_valid F B small e =
+    let both = option_or-None _ _ e in
+    let each : All (λ x. x < 256) B = λ k d h. subst (λ x. x < 256) (sym (get_or_default B k d 0 h)) (small k) in
+    (valid_late F None B each (view_refusal-accepted F B both.0) both.1).0
 
 module _ {K V : Type 0} (c : Coding K V) (B out : List ℕ) where
   -- for bytes that the whole check rejects
