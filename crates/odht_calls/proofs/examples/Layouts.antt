@@ -1,5 +1,5 @@
 -- Worked examples: layouts, and calls with them.
-use Rattle.std.proofs.Common.{◌≡◌, ℕ, List, ap, refl, lit≤, arith, Option, Some, None}
+use Rattle.std.proofs.Common.{◌≡◌, ℕ, List, ap, refl, lit≤, arith, Some, None}
 use Rattle.odht_header.specs.Coding.{Coding}
 use Rattle.odht_calls.specs.declared.any.AnyLayout.{AnyLayout}
 use Rattle.odht_calls.specs.Layouts.{IsLayout, IsFoundBy, SizedAnswers, AnyAnswers, LayoutAnswers}

@@ -1,5 +1,5 @@
 -- Keys or values that lie one after the other in bytes: how many there are, and what reads and writes one.
-use Rattle.std.proofs.Common.{◌≡◌, ◌≤◌, ◌<◌, ◌+◌, ◌*◌, ◌-◌, ◌∙◌, ◌++◌, ℕ, zero, suc, sym, ap, subst, refl, arith, List, [], ◌∷◌, Some, take, drop, set, length, length-take-le, length-drop, slice_get, zero-mul, suc-mul}
+use Rattle.std.proofs.Common.{◌≡◌, ◌≤◌, ◌<◌, ◌+◌, ◌*◌, ◌∙◌, ◌++◌, ℕ, zero, suc, sym, ap, subst, refl, arith, List, [], ◌∷◌, Some, take, drop, set, length, length-take-le, length-drop, slice_get, zero-mul, suc-mul}
 use Rattle.std.proofs.Math.Nat.{mul-le-mul_right}
 use Rattle.std.proofs.lemmas.List.{drop-drop, drop-take, take-take, take_at, drop_at, take-append-le, drop-append-le}
 use Rattle.std.specs.List.{zip}

@@ -16,7 +16,6 @@ use Rattle.odht_calls.proofs.lemmas.AnyLists.{pieces_bytes, pairs_bytes}
 use Rattle.odht_calls.proofs.lemmas.HandedOut.{bad_build, large_build, short_build, done_build}
 use Rattle.odht_calls.proofs.lemmas.NewBuilds.{fresh_empty, new_exists}
 use Rattle.odht_calls.proofs.lemmas.Pieces.{length-pieces}
-use Rattle.odht_calls.proofs.any.build.build_pieces.Given.{Over}
 use Rattle.odht_calls.proofs.any.build.build_pieces.Goals.{In-Some}
 use Rattle.odht_calls.proofs.any.build.build_pieces.Goals as goal
 

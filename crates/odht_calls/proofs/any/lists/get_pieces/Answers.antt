@@ -1,6 +1,6 @@
-use Rattle.std.proofs.Common.{◌≡◌, ◌∙◌, ◌+◌, ◌*◌, ◌≤◌, ◌<◌, ℕ, List, sym, ap, subst, refl, arith, length, Option, Some, None, slice_get}
+use Rattle.std.proofs.Common.{◌≡◌, ◌∙◌, ◌+◌, ◌<◌, sym, subst, arith, length}
 use Rattle.std.specs.Option.{option_copied}
-use Rattle.odht_base.specs.Format.{Format, format_of}
+use Rattle.odht_base.specs.Format.{format_of}
 use Rattle.odht_raw.specs.Sized.{bytes_coding}
 use Rattle.odht.specs.Gets.{IsGet}
 use Rattle.odht_calls.specs.Lookups.{with_found}

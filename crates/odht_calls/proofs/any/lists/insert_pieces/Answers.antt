@@ -1,7 +1,6 @@
-use Rattle.std.proofs.Common.{rules, ◌≡◌, ◌∙◌, ◌+◌, ◌*◌, ◌≤◌, ◌<◌, ℕ, List, sym, ap, subst, refl, arith, length, take, Option, Some, None, Result, Ok, Err, slice_get}
+use Rattle.std.proofs.Common.{rules, ◌≡◌, ◌∙◌, ◌≤◌, ℕ, List, sym, ap, subst, refl, arith, length, take, Option, Some, Result, Ok, Err, slice_get}
 use Rattle.std.specs.List.{zip}
 use Rattle.odht_base.specs.Format.{Format, IsFormat, format_of}
-use Rattle.odht_header.specs.Coding.{Coding}
 use Rattle.odht_header.specs.declared.error.Error.{Error}
 use Rattle.odht_header.specs.declared.error.Error.TheVariants.{Full}
 use Rattle.odht_header.proofs.lemmas.Formats.{IsFormat-format_of}

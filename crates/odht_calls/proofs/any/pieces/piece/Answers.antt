@@ -1,4 +1,4 @@
-use Rattle.std.proofs.Common.{◌≡◌, ◌∙◌, ◌+◌, ◌-◌, ◌*◌, sym, ap, refl, arith, take, drop, length, Some}
+use Rattle.std.proofs.Common.{◌≡◌, ◌∙◌, ◌+◌, ◌-◌, ◌*◌, sym, ap, arith, take, drop, Some}
 use Rattle.odht_calls.proofs.lemmas.Pieces.{piece_at}
 use Rattle.odht_calls.proofs.any.pieces.piece.Goals as goal
 

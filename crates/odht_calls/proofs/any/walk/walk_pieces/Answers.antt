@@ -1,7 +1,7 @@
-use Rattle.std.proofs.Common.{◌≡◌, ◌∙◌, ◌+◌, ◌++◌, ◌≤◌, ◌<◌, ◌*◌, ℕ, List, [], ◌∷◌, All, Bor, sym, ap, subst, refl, arith, length, map, drop, append_assoc}
+use Rattle.std.proofs.Common.{◌≡◌, ◌∙◌, ◌+◌, ◌++◌, ◌<◌, ℕ, List, [], ◌∷◌, All, Bor, sym, ap, subst, refl, arith, length, map, drop, append_assoc}
 use Rattle.std.proofs.lemmas.List.{map-append, length_push}
 use Rattle.std.proofs.lemmas.List.Elements.{All-head, All-tail}
-use Rattle.odht_base.specs.Format.{Format, format_of}
+use Rattle.odht_base.specs.Format.{format_of}
 use Rattle.odht_base.specs.Decoded.{header_slots}
 use Rattle.odht_base.specs.SlotWalks.{slots_from}
 use Rattle.odht_base.specs.Table.{Pair, Table, slot_count}
