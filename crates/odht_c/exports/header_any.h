@@ -148,7 +148,8 @@ ODHT_CALL(uint32_t, any_walk,
    has three numbers for each slot (odht_any_sizes tells how many slots), or more, the search takes time in proportion
    to the slots, and to the groups that the longest search from each slot reads. Where it has fewer, or none (any
    pointer and 0, or NULL where ODHT_TAKES_NULL is 1), it takes the time of odht_S_insert_order; the answer is the
-   same. Both follow the whole check. */
+   same. Before the search comes the whole check: for bytes of strangers call odht_any_check_within first, which bounds
+   the time of both. */
 ODHT_CALL(uint32_t, any_insert_order,
     (const odht_layout *layout, const uint8_t *bytes, size_t bytes_len, size_t *slots, size_t slots_len,
         size_t *scratch, size_t scratch_len),

@@ -178,7 +178,8 @@
  *     begins. Else it takes one or two binary searches among the waiting items for each
  *     group up to its own, but for those that were passed before from the same slot on,
  *     as far as that is kept, for 64 such slots. After the pass those that still wait
- *     are sorted. It allocates nothing.
+ *     are sorted. It allocates nothing. For tables of strangers there is
+ *     odht_any_insert_order, which takes scratch.
  *
  * odht_S_grow(bytes, bytes_len, out, out_len, *len)
  *     Writes the table that this one grows into to out: with slots for twice as many
