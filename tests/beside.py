@@ -23,7 +23,7 @@ import command_list
 TABLES = f"{TOP}/crates/odht_tool/data"
 COMMANDS = [it.name for it in command_list.read()[0]]
 # more of these, and words that are no command
-COMMANDS += "count get build put help --version -V inof chek buid".split() + [""]
+COMMANDS += "count get diff build put help --version -V inof chek buid".split() + [""]
 FILES = "table table table table - none folder link dangling loop odd".split()
 WORDS = """--hash fx unhash --at 0 7 99999999999999999999 --whole --slots -- - -h --help --key u64 u32 hex16 hex8 none
     hex0 --value --percent 87 0 100 101 --capacity 5 1000 18446744073709551615 --break-links --progress x -x --hsah
@@ -73,6 +73,8 @@ def words(dice):
         found += ["--key", dice.choice(key), "--value", dice.choice(value)]
     if command in ("get", "dump", "keys", "put") and dice.random() < 0.3:
         found += ["--key", dice.choice(["i64", "u64be", "u64", "i32", "text:8", "text:16"])]
+    if command == "diff" and dice.random() < 0.9:
+        found.append(dice.choice(["second", "second", "second", "table", "-"]))
     if command == "get":
         found += dice.choices(["-", "3", "5", "00" * 16, "x", "1", "7"], k=dice.choice([1, 1, 2, 4]))
     return [os.fsencode(it) for it in found + dice.choices(WORDS, k=dice.choice([0, 0, 0, 1, 1, 2, 3]))]
@@ -93,10 +95,11 @@ def left(folder):
 
 def ended(program, given, folder):
     """Runs a program in a new folder. Returns how it ended, and what it left."""
-    args, table, lines = given
+    args, table, second, lines = given
     os.mkdir(folder)
-    with open(f"{folder}/table", "wb") as it:
-        it.write(table)
+    for name, content in (("table", table), ("second", second)):
+        with open(f"{folder}/{name}", "wb") as it:
+            it.write(content)
     os.chmod(f"{folder}/table", 0o640)
     os.mkdir(f"{folder}/folder")
     for name, to in (("link", b"table"), ("dangling", b"made"), ("loop", b"loop"), ("odd", b"\xff")):
@@ -117,7 +120,9 @@ def main(proved, erased, seed="1", count="400"):
     with tempfile.TemporaryDirectory(prefix="odht-beside-") as room:
         for _ in range(int(count)):
             lines = b"".join(line(dice) for _ in range(dice.choice([0, 1, 3, 20, 3000])))
-            given = words(dice), changed(dice.choice(tables), dice), dice.choice([lines, lines[:-1], tables[0]])
+            table = dice.choice(tables)
+            second = changed(dice.choice([table, dice.choice(tables)]), dice)
+            given = words(dice), changed(table, dice), second, dice.choice([lines, lines[:-1], tables[0]])
             one, other = (ended(os.path.abspath(it), given, f"{room}/run") for it in (proved, erased))
             if one != other:
                 print(f"FAILED {given[0]}: {one[:3]}\n    and {other[:3]}, of a table of {len(given[1])} bytes")

@@ -91,7 +91,7 @@ status: 2
 
 def absent(commands):
     """A file that is not there, by each command that reads one."""
-    lines = rows(f"{it.name} absent.odht{' 1' * (len(it.words) - 1)}" for it in commands if not it.is_making)
+    lines = rows(f"{it.name} absent.odht{' 1' * (len(it.words) - 1)}" for it in commands if not it.is_making and not it.is_comparing)
     return f"""== a file that is not there
 for words:
 {lines}args: \\{{words}}

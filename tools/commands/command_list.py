@@ -79,7 +79,12 @@ class Command:
     @property
     def is_reading(self):
         """Whether it reads its file alone. What makes or replaces a file has an option for its other names."""
-        return not self.has("--break-links")
+        return not self.has("--break-links") and not self.is_comparing
+
+    @property
+    def is_comparing(self):
+        """Whether it compares its file with another. Then it fails with the status 2."""
+        return "OTHER" in self.words
 
     @property
     def is_making(self):

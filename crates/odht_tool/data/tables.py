@@ -112,6 +112,7 @@ class Case:
             self.table.put(key, value)
         self.hash_words = " --hash unhash" if hash is unhash and (key_size == 4 or is_other) else ""
         self.info = info_text(self.table, percent)
+        self.key_text, self.value_text = key_text, value_text
         self.dump = dump_text(self.table, key_text, value_text)
         self.slots = slots_text(self.table, key_text, value_text)
         self.order = order_text(self.table, key_text, value_text)

@@ -20,5 +20,7 @@ pub mod Ordered
 pub mod NewTables
 -- what ends as a text allows, also where memory may be short
 pub mod InMemory
+-- two tables that are compared
+pub mod Diffed
 -- worked examples of the definitions
 pub mod examples

@@ -92,7 +92,7 @@ ok_of (Err x) e = cc
 
 -- ---- formats and failures
 -- the format of a shape is of its lengths and its hash function
-format_is : (s : AnyShape) → format_of (typed_len (any_key s)) (typed_len (any_value s)) (hash_of (any_hash s)) ≡ any_format s
+pub format_is : (s : AnyShape) → format_of (typed_len (any_key s)) (typed_len (any_value s)) (hash_of (any_hash s)) ≡ any_format s
 format_is (Ready s) = refl
 format_is (Other o) = refl
 

@@ -13,3 +13,5 @@ pub mod Orders
 pub mod Rebuilds
 -- what `check`, `dump` and `find` write with --json
 pub mod Objects
+-- what `diff` does
+pub mod Diffs

@@ -25,3 +25,5 @@ pub mod Rebuilds
 pub mod JsonTexts
 -- what `dump` writes with --json
 pub mod DumpJson
+-- what `diff` does
+pub mod Diffs

@@ -19,6 +19,7 @@ mod build;
 mod check;
 mod check_json;
 mod count;
+mod diff;
 mod dump;
 mod dump_json;
 mod find;
@@ -47,12 +48,13 @@ where
         Ok(Request::Version) => finish("version", of_output(write_version(output)), errors),
         Ok(Request::Run { file, command }) => {
             let file = file.as_str();
+            let failed = command.failed();
             let done = run_command(rt, file, command, input, output, errors);
             let done = match output.flush() {
                 Ok(()) => done,
                 Err(error) => done.and(Err(Failure::Output(error))),
             };
-            finish(file, done, errors)
+            finish_as(file, done, failed, errors)
         }
         Err(misuse) => {
             let _ = writeln!(errors, "odht: {misuse}");
@@ -83,6 +85,7 @@ where
         }
         Command::Build(options) => build::build(rt, file, options, input, output, errors),
         Command::Rebuild(options) => rebuild::rebuild(rt, file, options, errors),
+        Command::Diff(options) => diff::diff(rt, file, options, input, output, errors),
         Command::Put {
             hash,
             kinds,
@@ -345,12 +348,22 @@ fn order_in<O: Write, E: Write>(
 
 // Reports a failure, after the file's name.
 fn finish<E: Write>(file: &str, done: Result<Status, Failure>, errors: &mut E) -> Status {
+    finish_as(file, done, Status::NotDone, errors)
+}
+
+// The same where the run then ends so.
+fn finish_as<E: Write>(
+    file: &str,
+    done: Result<Status, Failure>,
+    failed: Status,
+    errors: &mut E,
+) -> Status {
     match done {
         Ok(status) => status,
-        Err(Failure::Output(error)) if error.kind() == ErrorKind::BrokenPipe => Status::NotDone,
+        Err(Failure::Output(error)) if error.kind() == ErrorKind::BrokenPipe => failed,
         Err(failure) => {
             let _ = writeln!(errors, "odht: {file}: {failure}");
-            Status::NotDone
+            failed
         }
     }
 }

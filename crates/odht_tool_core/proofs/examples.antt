@@ -25,3 +25,5 @@ pub mod Forms
 pub mod Texts
 -- texts of JSON
 pub mod JsonTexts
+-- the texts of stored bytes
+pub mod StoredTexts

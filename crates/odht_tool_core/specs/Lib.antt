@@ -51,6 +51,8 @@ pub mod Forms
 pub mod ReadAs
 -- plain texts, which are stored with zeros behind them
 pub mod PlainTexts
+-- texts of stored bytes
+pub mod StoredTexts
 -- texts that are no key or no value
 pub mod Misreads
 -- texts of JSON

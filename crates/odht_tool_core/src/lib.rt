@@ -42,3 +42,4 @@ pub mod status;
 mod stored;
 pub mod targets;
 pub mod text;
+pub mod typed;

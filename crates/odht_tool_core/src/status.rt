@@ -14,6 +14,8 @@ pub enum Status {
     NotDone,
     /// The words cannot be parsed.
     Misused,
+    /// Two tables could not be compared.
+    Trouble,
 }
 
 impl Status {
@@ -22,11 +24,12 @@ impl Status {
         ensures done { self ≡ Status.Done → result ≡ 0 }
         ensures not_done { self ≡ Status.NotDone → result ≡ 1 }
         ensures misused { self ≡ Status.Misused → result ≡ 2 }
+        ensures trouble { self ≡ Status.Trouble → result ≡ 2 }
     {
         match self {
             Status::Done => 0,
             Status::NotDone => 1,
-            Status::Misused => 2,
+            Status::Misused | Status::Trouble => 2,
         }
     }
 

@@ -59,7 +59,7 @@ other_rule h = let both = h.0 in cc
 abbrev pub start : Table
 start = empty 16 57015
 
-made : fresh 0 87 ≡ Some start
+pub made : fresh 0 87 ≡ Some start
 unfolding opened slots_for
 made = refl
 

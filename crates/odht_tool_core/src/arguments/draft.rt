@@ -1,7 +1,8 @@
 //! A command of which some words are parsed.
 use super::topics::{Setting, Topic};
 use super::{
-    BuildOptions, Command, CommandMisuse, Keys, Misuse, Reading, RebuildOptions, Request, is_stream,
+    BuildOptions, Command, CommandMisuse, DiffOptions, Keys, Misuse, Reading, RebuildOptions,
+    Request, is_stream,
 };
 use crate::any::AnyShape;
 use crate::digits::parse_number;
@@ -176,6 +177,7 @@ impl Draft {
                 has_progress: self.has_progress,
             }),
             Topic::Get => self.get(is_stream),
+            Topic::Diff => self.diff(is_stream),
             _ if self.has_second_stream(is_stream) => Err(CommandMisuse::TwiceInput),
             _ => {
                 let reading = self.reading();
@@ -262,6 +264,26 @@ impl Draft {
                 keys,
             },
         })
+    }
+
+    // `diff`, of which the one word is the other file.
+    fn diff(mut self, is_stream_first: bool) -> Result<Command, CommandMisuse> {
+        if self.words.is_empty() {
+            return Err(CommandMisuse::Missing("OTHER"));
+        }
+        let other = self.words.remove(0);
+        if !self.words.is_empty() {
+            return Err(CommandMisuse::ExtraWord(self.words.remove(0)));
+        }
+        if is_stream_first && is_stream(other.as_str()) {
+            return Err(CommandMisuse::TwiceInput);
+        }
+        Ok(Command::Diff(DiffOptions {
+            other,
+            hash: self.hash,
+            kinds: self.kinds,
+            bound: bound_of(self.is_whole),
+        }))
     }
 
     fn build(self) -> Result<Command, CommandMisuse> {

@@ -1,0 +1,25 @@
+-- The texts of stored bytes.
+--     stored_text f p b    the text, in the form f, of the key or value of the type p that is stored as the bytes b
+--     key_text t b         that of a key, by the texts t
+--     value_text t b       that of a value
+--     texts_of s fs        the texts of the shape s in the forms fs
+use Rattle.std.specs.Prelude.{ℕ, List}
+use Rattle.odht_tool_core.specs.AnyShapes.{any_key, any_value}
+use Rattle.odht_tool_core.specs.ReadyShapes.{typed_of, typed_text}
+use Rattle.odht_tool_core.specs.declared.any.AnyShape.{AnyShape}
+use Rattle.odht_tool_core.specs.declared.forms.Form.{Form}
+use Rattle.odht_tool_core.specs.declared.forms.GivenForms.{GivenForms}
+use Rattle.odht_tool_core.specs.declared.shapes.Part.{Part}
+use Rattle.odht_tool_core.specs.declared.typed.Texts.{Texts}
+
+abbrev pub stored_text : Form → Part → List ℕ → List ℕ
+stored_text f p b = typed_text f p (typed_of p b)
+
+abbrev pub key_text : Texts → List ℕ → List ℕ
+key_text t = stored_text t.forms.key t.key
+
+abbrev pub value_text : Texts → List ℕ → List ℕ
+value_text t = stored_text t.forms.value t.value
+
+abbrev pub texts_of : AnyShape → GivenForms → Texts
+texts_of s fs = record { key = any_key s; value = any_value s; forms = fs }

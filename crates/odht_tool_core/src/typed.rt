@@ -1,0 +1,94 @@
+//! The texts of keys and values, of their stored bytes and their types.
+ghost use Rattle.std.specs.Prelude.{◌≡◌, length, OnOk};
+ghost use Rattle.std.specs.Io.KnownBytes.{Appends};
+ghost use Rattle.odht_tool_core.specs.Forms.{bytes_text};
+ghost use Rattle.odht_tool_core.specs.ReadyShapes.{typed_len};
+ghost use Rattle.odht_tool_core.specs.StoredTexts.{key_text, stored_text, texts_of, value_text};
+ghost use Rattle.odht_tool_core.specs.Texts.{pair_line};
+
+use crate::any::AnyShape;
+use crate::forms::{Form, GivenForms};
+use crate::plain::write_plain;
+use crate::shapes::Part;
+use crate::text::{Text, write_bytes};
+use odht_base::bytes::ByteArray;
+use std::io::{self, Write};
+
+/// In which texts the keys and the values of a table are written.
+#[derive(Clone, Copy)]
+pub struct Texts {
+    /// The type of keys.
+    pub key: Part,
+    /// The type of values.
+    pub value: Part,
+    /// Their forms.
+    pub forms: GivenForms,
+}
+
+impl Texts {
+    /// Those of a shape, in these forms.
+    pub fn of(shape: AnyShape, forms: GivenForms) -> Texts
+        ensures { result ≡ texts_of shape forms }
+    {
+        Texts {
+            key: shape.key(),
+            value: shape.value(),
+            forms,
+        }
+    }
+
+    /// Writes the text of the key that is stored as these bytes.
+    pub fn write_key<W: Write>(self, key: &[u8], output: &mut W) -> io::Result<()>
+        requires { length key.now ≡ typed_len self.key }
+        ensures { OnOk result (Appends (W.contents output.old) (W.contents output.new)
+            (key_text self key.now)) }
+    {
+        write_stored(self.key, self.forms.key, key, output)
+    }
+
+    /// Writes the text of the value that is stored as these bytes.
+    pub fn write_value<W: Write>(self, value: &[u8], output: &mut W) -> io::Result<()>
+        requires { length value.now ≡ typed_len self.value }
+        ensures { OnOk result (Appends (W.contents output.old) (W.contents output.new)
+            (value_text self value.now)) }
+    {
+        write_stored(self.value, self.forms.value, value, output)
+    }
+
+    /// Writes a line of the key and the value that are stored as these bytes.
+    pub fn write_pair<W: Write>(self, key: &[u8], value: &[u8], output: &mut W) -> io::Result<()>
+        requires key { length key.now ≡ typed_len self.key }
+        requires value { length value.now ≡ typed_len self.value }
+        ensures { OnOk result (Appends (W.contents output.old) (W.contents output.new)
+            (pair_line (key_text self) (value_text self) (key.now, value.now))) }
+    {
+        self.write_key(key, output)?;
+        output.write_all(b"\t")?;
+        self.write_value(value, output)?;
+        output.write_all(b"\n")
+    }
+}
+
+// Writes the text, in this form, of the key or the value of this type that is stored as these bytes.
+fn write_stored<W: Write>(part: Part, form: Form, bytes: &[u8], output: &mut W) -> io::Result<()>
+    requires { length bytes.now ≡ typed_len part }
+    ensures { OnOk result (Appends (W.contents output.old) (W.contents output.new)
+        (stored_text form part bytes.now)) }
+{
+    match part {
+        Part::Nothing => output.write_all(b""),
+        Part::U32 => u32::from_le_bytes(<[u8; 4]>::from_slice(bytes)).write(form, output),
+        Part::U64 => u64::from_le_bytes(<[u8; 8]>::from_slice(bytes)).write(form, output),
+        Part::Bytes(_) => write_stored_bytes(form, bytes, output),
+    }
+}
+
+fn write_stored_bytes<W: Write>(form: Form, bytes: &[u8], output: &mut W) -> io::Result<()>
+    ensures { OnOk result (Appends (W.contents output.old) (W.contents output.new)
+        (bytes_text form bytes.now)) }
+{
+    match form {
+        Form::Plain => write_plain(bytes, output),
+        _ => write_bytes(bytes, output),
+    }
+}
