@@ -450,7 +450,8 @@ typedef struct odht_view {
  *     begins. Else it takes one or two binary searches among the waiting items for each
  *     group up to its own, but for those that were passed before from the same slot on,
  *     as far as that is kept, for 64 such slots. After the pass those that still wait
- *     are sorted. It allocates nothing.
+ *     are sorted. It allocates nothing. For tables of strangers there is
+ *     odht_any_insert_order, which takes scratch.
  *
  * odht_S_grow(bytes, bytes_len, out, out_len, *len)
  *     Writes the table that this one grows into to out: with slots for twice as many
@@ -886,8 +887,8 @@ ODHT_NODISCARD extern uint32_t odht_version(void);
  *
  * The calls odht_any_* take the lengths of keys and values, and the hash function, as a layout, and keys and values as
  * pointers to so many bytes. They read and write the same bytes as the calls of a shape of these lengths, and answer
- * the same; what is said above of odht_S_NAME goes for odht_any_NAME. There are none of insert_order, build_growing and
- * views. Of each call but odht_any_layout_of two answers come before all others, and with both nothing is written:
+ * the same; what is said above of odht_S_NAME goes for odht_any_NAME. There are none of build_growing and views. Of
+ * each call but odht_any_layout_of two answers come before all others, and with both nothing is written:
  *
  * - BAD_LAYOUT: no hash function has the number of the layout, or its keys are shorter than the function needs.
  *   ODHT_HASH_UN needs four bytes.
@@ -1024,6 +1025,21 @@ ODHT_CALL(uint32_t, any_walk,
     return odht_symbol_any_walk(layout, odht_read_uint8_t(bytes, bytes_len), bytes_len, cursor,
         room, odht_write_uint8_t(keys, keys_len), keys_len, odht_write_uint8_t(values, values_len),
         values_len, count ? count : &unwanted);)
+
+/* OK: the occupied slots, in an order of inserts. UNMADE: no inserts make the table, and what slots holds is
+   unspecified. An error, 1 to 16, or then BAD_LENGTHS, where slots_len is not the number of items: slots and scratch
+   are unchanged. Scratch is memory for the search, and may hold anything, before it and after OK and UNMADE. Where it
+   has three numbers for each slot (odht_any_sizes tells how many slots), or more, the search takes time in proportion
+   to the slots, and to the groups that the longest search from each slot reads. Where it has fewer, or none (any
+   pointer and 0, or NULL where ODHT_TAKES_NULL is 1), it takes the time of odht_S_insert_order; the answer is the
+   same. Before the search comes the whole check: for bytes of strangers call odht_any_check_within first, which bounds
+   the time of both. */
+ODHT_CALL(uint32_t, any_insert_order,
+    (const odht_layout *layout, const uint8_t *bytes, size_t bytes_len, size_t *slots, size_t slots_len,
+        size_t *scratch, size_t scratch_len),
+    return odht_symbol_any_insert_order(layout, odht_read_uint8_t(bytes, bytes_len), bytes_len,
+        odht_write_size_t(slots, slots_len), slots_len, odht_write_size_t(scratch, scratch_len),
+        scratch_len);)
 
 /* OK: the key was new. REPLACED: the former value is written, unless former is NULL (as
    ODHT_TAKES_NULL says). FULL, or an error, 1 to 7:

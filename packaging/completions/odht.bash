@@ -6,11 +6,11 @@ _odht() {
         before=${COMP_WORDS[COMP_CWORD-2]}
     fi
     if [ "$COMP_CWORD" = 1 ]; then
-        COMPREPLY=($(compgen -W 'info check count get dump keys find order build put rebuild help --help --version' -- "$word"))
+        COMPREPLY=($(compgen -W 'info check count get dump keys find order diff build put rebuild help --help --version' -- "$word"))
         return
     fi
     case $before in
-        help) COMPREPLY=($(compgen -W 'info check count get dump keys find order build put rebuild' -- "$word")); return;;
+        help) COMPREPLY=($(compgen -W 'info check count get dump keys find order diff build put rebuild' -- "$word")); return;;
         --at) COMPREPLY=(); return;;
         --hash) COMPREPLY=($(compgen -W 'fx unhash' -- "$word")); return;;
         --key) COMPREPLY=(); return;;
@@ -19,14 +19,15 @@ _odht() {
         --capacity) COMPREPLY=(); return;;
     esac
     case ${COMP_WORDS[1]}:$word in
-        info:-*) COMPREPLY=($(compgen -W '--help --whole --at' -- "$word"));;
-        check:-*) COMPREPLY=($(compgen -W '--help --whole --hash --at' -- "$word"));;
+        info:-*) COMPREPLY=($(compgen -W '--help --whole --json --at' -- "$word"));;
+        check:-*) COMPREPLY=($(compgen -W '--help --whole --json --hash --at' -- "$word"));;
         count:-*) COMPREPLY=($(compgen -W '--help --whole --hash --at' -- "$word"));;
         get:-*) COMPREPLY=($(compgen -W '--help --key --value --hash --at' -- "$word"));;
-        dump:-*) COMPREPLY=($(compgen -W '--help --slots --key --value --hash --at' -- "$word"));;
+        dump:-*) COMPREPLY=($(compgen -W '--help --slots --json --key --value --hash --at' -- "$word"));;
         keys:-*) COMPREPLY=($(compgen -W '--help --key --hash --at' -- "$word"));;
-        find:-*) COMPREPLY=($(compgen -W '--help --whole' -- "$word"));;
+        find:-*) COMPREPLY=($(compgen -W '--help --whole --json' -- "$word"));;
         order:-*) COMPREPLY=($(compgen -W '--help --whole --key --value --hash --at' -- "$word"));;
+        diff:-*) COMPREPLY=($(compgen -W '--help --whole --key --value --hash' -- "$word"));;
         build:-*) COMPREPLY=($(compgen -W '--help --key --value --hash --percent --capacity --progress --break-links' -- "$word"));;
         put:-*) COMPREPLY=($(compgen -W '--help --key --value --whole --hash --progress --break-links' -- "$word"));;
         rebuild:-*) COMPREPLY=($(compgen -W '--help --percent --whole --hash --progress --break-links' -- "$word"));;

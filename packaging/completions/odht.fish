@@ -7,16 +7,19 @@ complete -c odht -n __fish_use_subcommand -f -a dump -d 'tells each pair'
 complete -c odht -n __fish_use_subcommand -f -a keys -d 'tells each key'
 complete -c odht -n __fish_use_subcommand -f -a find -d 'tells each table that is inside a file'
 complete -c odht -n __fish_use_subcommand -f -a order -d 'tells each pair in an order of inserts that makes the table'
+complete -c odht -n __fish_use_subcommand -f -a diff -d 'tells how the pairs of two tables differ'
 complete -c odht -n __fish_use_subcommand -f -a build -d 'makes a table file of the lines of standard input'
 complete -c odht -n __fish_use_subcommand -f -a put -d 'adds the lines of standard input to a table file'
 complete -c odht -n __fish_use_subcommand -f -a rebuild -d 'makes a table file anew, of another load factor or hash function'
 complete -c odht -n __fish_use_subcommand -f -a help -d 'is the help of a command'
-complete -c odht -n '__fish_seen_subcommand_from help' -f -a 'info check count get dump keys find order build put rebuild'
+complete -c odht -n '__fish_seen_subcommand_from help' -f -a 'info check count get dump keys find order diff build put rebuild'
 complete -c odht -n '__fish_seen_subcommand_from info' -l help
 complete -c odht -n '__fish_seen_subcommand_from info' -l whole
+complete -c odht -n '__fish_seen_subcommand_from info' -l json
 complete -c odht -n '__fish_seen_subcommand_from info' -l at -x -d 'a number below 2^64'
 complete -c odht -n '__fish_seen_subcommand_from check' -l help
 complete -c odht -n '__fish_seen_subcommand_from check' -l whole
+complete -c odht -n '__fish_seen_subcommand_from check' -l json
 complete -c odht -n '__fish_seen_subcommand_from check' -l hash -x -a 'fx unhash' -d 'fx or unhash'
 complete -c odht -n '__fish_seen_subcommand_from check' -l at -x -d 'a number below 2^64'
 complete -c odht -n '__fish_seen_subcommand_from count' -l help
@@ -30,6 +33,7 @@ complete -c odht -n '__fish_seen_subcommand_from get' -l hash -x -a 'fx unhash' 
 complete -c odht -n '__fish_seen_subcommand_from get' -l at -x -d 'a number below 2^64'
 complete -c odht -n '__fish_seen_subcommand_from dump' -l help
 complete -c odht -n '__fish_seen_subcommand_from dump' -l slots
+complete -c odht -n '__fish_seen_subcommand_from dump' -l json
 complete -c odht -n '__fish_seen_subcommand_from dump' -l key -x -d 'u32, u64, i32, i64, u32be, u64be, hexN or text N'
 complete -c odht -n '__fish_seen_subcommand_from dump' -l value -x -d 'u32, u64, i32, i64, u32be, u64be, none, hexN or text N'
 complete -c odht -n '__fish_seen_subcommand_from dump' -l hash -x -a 'fx unhash' -d 'fx or unhash'
@@ -40,12 +44,18 @@ complete -c odht -n '__fish_seen_subcommand_from keys' -l hash -x -a 'fx unhash'
 complete -c odht -n '__fish_seen_subcommand_from keys' -l at -x -d 'a number below 2^64'
 complete -c odht -n '__fish_seen_subcommand_from find' -l help
 complete -c odht -n '__fish_seen_subcommand_from find' -l whole
+complete -c odht -n '__fish_seen_subcommand_from find' -l json
 complete -c odht -n '__fish_seen_subcommand_from order' -l help
 complete -c odht -n '__fish_seen_subcommand_from order' -l whole
 complete -c odht -n '__fish_seen_subcommand_from order' -l key -x -d 'u32, u64, i32, i64, u32be, u64be, hexN or text N'
 complete -c odht -n '__fish_seen_subcommand_from order' -l value -x -d 'u32, u64, i32, i64, u32be, u64be, none, hexN or text N'
 complete -c odht -n '__fish_seen_subcommand_from order' -l hash -x -a 'fx unhash' -d 'fx or unhash'
 complete -c odht -n '__fish_seen_subcommand_from order' -l at -x -d 'a number below 2^64'
+complete -c odht -n '__fish_seen_subcommand_from diff' -l help
+complete -c odht -n '__fish_seen_subcommand_from diff' -l whole
+complete -c odht -n '__fish_seen_subcommand_from diff' -l key -x -d 'u32, u64, i32, i64, u32be, u64be, hexN or text N'
+complete -c odht -n '__fish_seen_subcommand_from diff' -l value -x -d 'u32, u64, i32, i64, u32be, u64be, none, hexN or text N'
+complete -c odht -n '__fish_seen_subcommand_from diff' -l hash -x -a 'fx unhash' -d 'fx or unhash'
 complete -c odht -n '__fish_seen_subcommand_from build' -l help
 complete -c odht -n '__fish_seen_subcommand_from build' -l key -x -d 'u32, u64, i32, i64, u32be, u64be, hexN or text N'
 complete -c odht -n '__fish_seen_subcommand_from build' -l value -x -d 'u32, u64, i32, i64, u32be, u64be, none, hexN or text N'

@@ -5,9 +5,9 @@
 --     options_of t         the options that the command t has
 use Rattle.std.specs.Prelude.{ℕ, List, [], ◌∷◌, codes}
 use Rattle.odht_tool_core.specs.declared.arguments.topics.Setting.{Setting}
-use Rattle.odht_tool_core.specs.declared.arguments.topics.Setting.TheVariants.{Help, Slots, Whole, Progress, BreakLinks, At, Hash, Key, Value, Percent, Capacity}
+use Rattle.odht_tool_core.specs.declared.arguments.topics.Setting.TheVariants.{Help, Slots, Json, Whole, Progress, BreakLinks, At, Hash, Key, Value, Percent, Capacity}
 use Rattle.odht_tool_core.specs.declared.arguments.topics.Topic.{Topic}
-use Rattle.odht_tool_core.specs.declared.arguments.topics.Topic.TheVariants.{Info, Check, Count, Get, Dump, Keys, Find, Order, Build, Put, Rebuild}
+use Rattle.odht_tool_core.specs.declared.arguments.topics.Topic.TheVariants.{Info, Check, Count, Get, Dump, Keys, Find, Order, Diff, Build, Put, Rebuild}
 
 abbrev pub command_name : Topic → List ℕ
 command_name Info = codes "info"
@@ -18,16 +18,18 @@ command_name Dump = codes "dump"
 command_name Keys = codes "keys"
 command_name Find = codes "find"
 command_name Order = codes "order"
+command_name Diff = codes "diff"
 command_name Build = codes "build"
 command_name Put = codes "put"
 command_name Rebuild = codes "rebuild"
 
 abbrev pub commands : List Topic
-commands = Info ∷ Check ∷ Count ∷ Get ∷ Dump ∷ Keys ∷ Find ∷ Order ∷ Build ∷ Put ∷ Rebuild ∷ []
+commands = Info ∷ Check ∷ Count ∷ Get ∷ Dump ∷ Keys ∷ Find ∷ Order ∷ Diff ∷ Build ∷ Put ∷ Rebuild ∷ []
 
 abbrev pub option_name : Setting → List ℕ
 option_name Help = codes "--help"
 option_name Slots = codes "--slots"
+option_name Json = codes "--json"
 option_name Whole = codes "--whole"
 option_name Progress = codes "--progress"
 option_name BreakLinks = codes "--break-links"
@@ -39,14 +41,15 @@ option_name Percent = codes "--percent"
 option_name Capacity = codes "--capacity"
 
 abbrev pub options_of : Topic → List Setting
-options_of Info = Help ∷ Whole ∷ At ∷ []
-options_of Check = Help ∷ Whole ∷ Hash ∷ At ∷ []
+options_of Info = Help ∷ Whole ∷ Json ∷ At ∷ []
+options_of Check = Help ∷ Whole ∷ Json ∷ Hash ∷ At ∷ []
 options_of Count = Help ∷ Whole ∷ Hash ∷ At ∷ []
 options_of Get = Help ∷ Key ∷ Value ∷ Hash ∷ At ∷ []
-options_of Dump = Help ∷ Slots ∷ Key ∷ Value ∷ Hash ∷ At ∷ []
+options_of Dump = Help ∷ Slots ∷ Json ∷ Key ∷ Value ∷ Hash ∷ At ∷ []
 options_of Keys = Help ∷ Key ∷ Hash ∷ At ∷ []
-options_of Find = Help ∷ Whole ∷ []
+options_of Find = Help ∷ Whole ∷ Json ∷ []
 options_of Order = Help ∷ Whole ∷ Key ∷ Value ∷ Hash ∷ At ∷ []
+options_of Diff = Help ∷ Whole ∷ Key ∷ Value ∷ Hash ∷ []
 options_of Build = Help ∷ Key ∷ Value ∷ Hash ∷ Percent ∷ Capacity ∷ Progress ∷ BreakLinks ∷ []
 options_of Put = Help ∷ Key ∷ Value ∷ Whole ∷ Hash ∷ Progress ∷ BreakLinks ∷ []
 options_of Rebuild = Help ∷ Percent ∷ Whole ∷ Hash ∷ Progress ∷ BreakLinks ∷ []

@@ -113,10 +113,12 @@ pub enum Reading {
     // begin readings: made of commands.txt by tools/commands; `make manual` makes it anew
     Info {
         bound: Option<usize>,
+        is_json: bool,
     },
     Check {
         hash: Option<Hash>,
         bound: Option<usize>,
+        is_json: bool,
     },
     Count {
         hash: Option<Hash>,
@@ -131,6 +133,7 @@ pub enum Reading {
         hash: Option<Hash>,
         kinds: Kinds,
         is_slots: bool,
+        is_json: bool,
     },
     Keys {
         hash: Option<Hash>,
@@ -138,6 +141,7 @@ pub enum Reading {
     },
     Find {
         bound: Option<usize>,
+        is_json: bool,
     },
     Order {
         hash: Option<Hash>,

@@ -17,13 +17,14 @@ pub enum Topic {
     Keys,
     Find,
     Order,
+    Diff,
     Build,
     Put,
     Rebuild,
 }
 
 /// All commands, in the order of the help text.
-pub(crate) const TOPICS: [Topic; 11] = [
+pub(crate) const TOPICS: [Topic; 12] = [
     Topic::Info,
     Topic::Check,
     Topic::Count,
@@ -32,6 +33,7 @@ pub(crate) const TOPICS: [Topic; 11] = [
     Topic::Keys,
     Topic::Find,
     Topic::Order,
+    Topic::Diff,
     Topic::Build,
     Topic::Put,
     Topic::Rebuild,
@@ -71,6 +73,7 @@ impl Topic {
             Topic::Keys => "keys",
             Topic::Find => "find",
             Topic::Order => "order",
+            Topic::Diff => "diff",
             Topic::Build => "build",
             Topic::Put => "put",
             Topic::Rebuild => "rebuild",
@@ -80,7 +83,7 @@ impl Topic {
     /// Whether words may come after the file: more files, or keys.
     pub(crate) fn takes_words(self) -> bool {
         match self {
-            Topic::Check | Topic::Count | Topic::Get => true,
+            Topic::Check | Topic::Count | Topic::Get | Topic::Diff => true,
             _ => false,
         }
     }
@@ -90,8 +93,14 @@ impl Topic {
         ensures { result.now ≡ options_of self }
     {
         match self {
-            Topic::Info => &[Setting::Help, Setting::Whole, Setting::At],
-            Topic::Check => &[Setting::Help, Setting::Whole, Setting::Hash, Setting::At],
+            Topic::Info => &[Setting::Help, Setting::Whole, Setting::Json, Setting::At],
+            Topic::Check => &[
+                Setting::Help,
+                Setting::Whole,
+                Setting::Json,
+                Setting::Hash,
+                Setting::At,
+            ],
             Topic::Count => &[Setting::Help, Setting::Whole, Setting::Hash, Setting::At],
             Topic::Get => &[
                 Setting::Help,
@@ -103,13 +112,14 @@ impl Topic {
             Topic::Dump => &[
                 Setting::Help,
                 Setting::Slots,
+                Setting::Json,
                 Setting::Key,
                 Setting::Value,
                 Setting::Hash,
                 Setting::At,
             ],
             Topic::Keys => &[Setting::Help, Setting::Key, Setting::Hash, Setting::At],
-            Topic::Find => &[Setting::Help, Setting::Whole],
+            Topic::Find => &[Setting::Help, Setting::Whole, Setting::Json],
             Topic::Order => &[
                 Setting::Help,
                 Setting::Whole,
@@ -117,6 +127,13 @@ impl Topic {
                 Setting::Value,
                 Setting::Hash,
                 Setting::At,
+            ],
+            Topic::Diff => &[
+                Setting::Help,
+                Setting::Whole,
+                Setting::Key,
+                Setting::Value,
+                Setting::Hash,
             ],
             Topic::Build => &[
                 Setting::Help,
@@ -160,6 +177,7 @@ impl fmt::Display for Topic {
 pub enum Setting {
     Help,
     Slots,
+    Json,
     Whole,
     Progress,
     BreakLinks,
@@ -202,6 +220,7 @@ impl Setting {
         match self {
             Setting::Help => "--help",
             Setting::Slots => "--slots",
+            Setting::Json => "--json",
             Setting::Whole => "--whole",
             Setting::Progress => "--progress",
             Setting::BreakLinks => "--break-links",
@@ -219,6 +238,7 @@ impl Setting {
         match self {
             Setting::Help
             | Setting::Slots
+            | Setting::Json
             | Setting::Whole
             | Setting::Progress
             | Setting::BreakLinks => None,

@@ -15,6 +15,7 @@ use std::marker::PhantomData;
 
 mod file;
 mod growth;
+mod insert_order;
 mod inserts;
 mod lists;
 mod lookups;

@@ -24,6 +24,7 @@ pub(crate) use by_hash;
 
 pub mod build;
 pub mod lists;
+pub mod order;
 mod pieces;
 pub mod places;
 pub mod read;

@@ -4,7 +4,7 @@
 //! Statuses have the names of include/odht.h without `ODHT_`. Each call but `layout_of` answers `BAD_LAYOUT` where no
 //! hash function has the number of the layout, or keys are shorter than it needs; then nothing is written.
 
-use crate::erased::calls::any::{build, lists, places, read, walk, write, AnyLayout};
+use crate::erased::calls::any::{build, lists, order, places, read, walk, write, AnyLayout};
 
 /// Writes to `len` how many bytes a new table for so many items has: status 0. `BAD_PERCENT` where the load factor is
 /// not from 1 to 100 percent, `CAPACITY` where no slot count is enough or the length does not fit `usize`; then `len`
@@ -246,6 +246,32 @@ pub unsafe extern "C" fn odht_any_walk(
     let keys = unsafe { crate::lists::list_mut(keys, keys_len) };
     let values = unsafe { crate::lists::list_mut(values, values_len) };
     walk::walk(*layout, bytes, cursor, room, keys, values, item_count)
+}
+
+/// Writes to `out`, whose length is the item count, the occupied slots in an order in which inserts make the table:
+/// status 0. Their pairs, inserted in this order into an empty table of as many slots and the same load factor, make
+/// exactly these bytes. `UNMADE` where no list of inserts makes the table: what `out` then holds is unspecified. The
+/// number of the first error of the whole check, or `BAD_LENGTHS` where the length of `out` is not the number of items;
+/// then `out` and `scratch` are unchanged.
+///
+/// `scratch` is memory for the search, whatever it holds; what it holds after status 0 and `UNMADE` is unspecified.
+/// Allocates nothing. It costs the whole check, and then, with three numbers of scratch for each slot or more, time in
+/// proportion to the slots, and to the groups that the longest search of each home reads. With fewer these are the
+/// passes over the items of the shapes' calls.
+#[unsafe(no_mangle)]
+pub unsafe extern "C" fn odht_any_insert_order(
+    layout: &AnyLayout,
+    bytes: *const u8,
+    bytes_len: usize,
+    out: *mut usize,
+    out_len: usize,
+    scratch: *mut usize,
+    scratch_len: usize,
+) -> u32 {
+    let bytes = unsafe { crate::lists::list(bytes, bytes_len) };
+    let out = unsafe { crate::lists::list_mut(out, out_len) };
+    let scratch = unsafe { crate::lists::list_mut(scratch, scratch_len) };
+    order::insert_order(*layout, bytes, out, scratch)
 }
 
 /// Gives the key this value: status 0 where the key was new, `REPLACED` where it had a value, which is written to

@@ -4,6 +4,7 @@
 use crate::erased::core::any::AnyShape;
 use crate::erased::core::forms::{GivenForms, Kinds};
 use crate::erased::core::shapes::Hash;
+use crate::erased::core::status::Status;
 use crate::host::prelude::*;
 use crate::proved::base::load::Percent;
 use crate::shim::Global;
@@ -38,6 +39,16 @@ pub struct RebuildOptions {
     pub bound: Option<usize>,
     pub breaks_links: bool,
     pub has_progress: bool,
+}
+
+/// The options of `diff`, and the file that it compares with its first one.
+pub struct DiffOptions {
+    pub other: String,
+    pub hash: Option<Hash>,
+    /// What is said of the keys and values of the first file.
+    pub kinds: Kinds,
+    /// The bound of searches, in groups, by which both are checked; none with `--whole`.
+    pub bound: Option<usize>,
 }
 
 /// Where the keys of a lookup are.
@@ -82,6 +93,17 @@ pub enum Command {
         has_progress: bool,
     },
     Rebuild(RebuildOptions),
+    Diff(DiffOptions),
+}
+
+impl Command {
+    /// How the run ends where the command fails.
+    pub fn failed(&self) -> Status {
+        match self {
+            Command::Diff(_) => Status::Trouble,
+            _ => Status::NotDone,
+        }
+    }
 }
 
 /// A command that reads its file alone. A bound is one of searches, in groups; none with `--whole`.

@@ -106,8 +106,8 @@ fn write_words<O: Write>(fits: &str, checked: &str, output: &mut O) -> io::Resul
     writeln!(output, "{fits}\t{checked}")
 }
 
-// The hash functions that all control bytes agree with.
-fn fits_word(table: &StoredTable<'_>) -> &'static str {
+/// The hash functions that all control bytes agree with.
+pub(crate) fn fits_word(table: &StoredTable<'_>) -> &'static str {
     match (table.agrees(Hash::Fx), table.agrees(Hash::Unhash)) {
         (true, true) => "both",
         (true, false) => "fx",

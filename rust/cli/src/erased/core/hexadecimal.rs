@@ -1,7 +1,7 @@
 // Made by `make rust` of crates/odht_tool_core/src/hexadecimal.rt.
 //! Words of hexadecimal digits that are read as bytes, of a length that is known at run time alone.
 
-use crate::erased::core::text::{are_digits, digit_value};
+use crate::erased::core::text::digit_value;
 use crate::host::prelude::*;
 
 /// Whether the word is two hexadecimal digits, of either case, for each of so many bytes as there are in `bytes`, which
@@ -21,4 +21,14 @@ fn put_digits(word: &[u8], bytes: &mut [u8]) {
         let low = digit_value(word[2 * at + 1]);
         bytes[at] = 16 * (high % 16) + low % 16;
     }
+}
+
+/// Whether each byte is a hexadecimal digit, of either case.
+pub(crate) fn are_digits(word: &[u8]) -> bool {
+    word.iter().all(|digit| digit.is_ascii_hexdigit())
+}
+
+/// None: the text of these bytes has digits alone, which stand for themselves in JSON.
+pub(crate) fn no_plain_bytes(bytes: &[u8]) -> Option<&[u8]> {
+    None
 }

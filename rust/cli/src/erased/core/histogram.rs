@@ -40,6 +40,32 @@ impl Histogram {
         Ok(())
     }
 
+    /// Writes an array of JSON: for each number of groups up to the largest the count. The last of 64 counts is that of all
+    /// larger numbers too.
+    pub fn write_array<W: Write>(&self, output: &mut W) -> io::Result<()> {
+        output.write_all(b"[")?;
+        self.write_counts(output)?;
+        output.write_all(b"]")
+    }
+
+    // Writes the counts, with a comma before each but the first.
+    fn write_counts<W: Write>(&self, output: &mut W) -> io::Result<()> {
+        for index in 0..self.longest.min(MOST) {
+            self.write_count(index, output)?;
+        }
+        Ok(())
+    }
+
+    // Writes a count, with a comma before it but before the first.
+    fn write_count<W: Write>(&self, index: usize, output: &mut W) -> io::Result<()> {
+        let count = self.counts[index];
+        if index == 0 {
+            write!(output, "{count}")
+        } else {
+            write!(output, ",{count}")
+        }
+    }
+
     // Writes the line of a count.
     fn write_tally<W: Write>(&self, index: usize, most: usize, output: &mut W) -> io::Result<()> {
         let groups = index + 1;

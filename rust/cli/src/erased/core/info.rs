@@ -3,6 +3,7 @@
 
 use crate::erased::core::failure::Failure;
 use crate::erased::core::histogram::Histogram;
+use crate::erased::core::info_json::write_object;
 use crate::erased::core::numbers::{numbers_of, Numbers};
 use crate::erased::core::shapes::Hash;
 use crate::erased::core::status::Status;
@@ -11,18 +12,34 @@ use crate::proved::header::header::HEADER_SIZE;
 use crate::shim::Global;
 use std::io::{self, Write};
 
-/// `odht info` of the bytes of a file: writes sizes, counts, load factors, and how many groups a
-/// search reads for the items and for absent keys, up to the bound.
+/// `odht info` of the bytes of the file of this name: writes sizes, counts, load factors, and how many groups a
+/// search reads for the items and for absent keys, up to the bound; with `is_json` as an object of JSON.
 pub fn info_file<O: Write>(
     alloc: Global,
+    file: &str,
     bytes: &[u8],
     bound: Option<usize>,
+    is_json: bool,
     output: &mut O,
 ) -> Result<Status, Failure> {
     let numbers = numbers_of(alloc, bytes, bound)?;
-    match write_all(&numbers, output) {
+    match write_as(file, &numbers, is_json, output) {
         Ok(()) => Ok(Status::Done),
         Err(error) => Err(Failure::Output(error)),
+    }
+}
+
+// The lines, or the object.
+fn write_as<O: Write>(
+    file: &str,
+    numbers: &Numbers,
+    is_json: bool,
+    output: &mut O,
+) -> io::Result<()> {
+    if is_json {
+        write_object(file, numbers, output)
+    } else {
+        write_all(numbers, output)
     }
 }
 

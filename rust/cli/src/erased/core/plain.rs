@@ -28,6 +28,11 @@ pub(crate) fn write_plain<W: Write>(bytes: &[u8], output: &mut W) -> io::Result<
     output.write_all(&bytes[..text_len(bytes)])
 }
 
+/// The bytes without the zeros at their end.
+pub(crate) fn plain_of(bytes: &[u8]) -> &[u8] {
+    &bytes[..text_len(bytes)]
+}
+
 // How many bytes there are without the zeros at the end.
 fn text_len(bytes: &[u8]) -> usize {
     let mut count = bytes.len();

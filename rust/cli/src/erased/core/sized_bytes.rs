@@ -2,7 +2,7 @@
 //! Keys and values of a length that is known at run time alone, as text: two hexadecimal digits for each byte.
 
 use crate::erased::core::forms::Form;
-use crate::erased::core::hexadecimal::read_digits;
+use crate::erased::core::hexadecimal::{no_plain_bytes, read_digits};
 use crate::erased::core::misread::Wanted;
 use crate::erased::core::text::{write_bytes, Text};
 use crate::host::prelude::*;
@@ -20,6 +20,10 @@ impl Text for ShortBytes {
 
     fn parse(word: &[u8], form: Form) -> Option<ShortBytes> {
         parse_sized(word, form.len())
+    }
+
+    fn plain_bytes(&self, _form: Form) -> Option<&[u8]> {
+        no_plain_bytes(self.as_slice())
     }
 
     fn write<W: Write>(&self, _form: Form, output: &mut W) -> io::Result<()> {

@@ -14,6 +14,8 @@ pub enum Status {
     NotDone,
     /// The words cannot be parsed.
     Misused,
+    /// Two tables could not be compared.
+    Trouble,
 }
 
 impl Status {
@@ -22,7 +24,7 @@ impl Status {
         match self {
             Status::Done => 0,
             Status::NotDone => 1,
-            Status::Misused => 2,
+            Status::Misused | Status::Trouble => 2,
         }
     }
 

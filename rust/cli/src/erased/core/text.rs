@@ -4,8 +4,9 @@
 
 use crate::erased::core::digits::{parse_number, write_number};
 use crate::erased::core::forms::Form;
+use crate::erased::core::hexadecimal::{are_digits, no_plain_bytes};
 use crate::erased::core::misread::Wanted;
-use crate::erased::core::plain::{parse_plain, write_plain};
+use crate::erased::core::plain::{parse_plain, plain_of, write_plain};
 use crate::erased::core::signed::{parse_signed, write_signed};
 use crate::host::prelude::*;
 use std::io::{self, Write};
@@ -17,6 +18,9 @@ pub trait Text: Copy {
 
     /// The value of which the word is the text. None where it is the text of no such value.
     fn parse(word: &[u8], form: Form) -> Option<Self>;
+
+    /// The text, where it may have any bytes. None where each is a character that stands for itself in a string of JSON.
+    fn plain_bytes(&self, form: Form) -> Option<&[u8]>;
 
     /// Writes the text.
     fn write<W: Write>(&self, form: Form, output: &mut W) -> io::Result<()>;
@@ -39,6 +43,10 @@ impl Text for u32 {
                 Some(number.swap_bytes())
             }
         }
+    }
+
+    fn plain_bytes(&self, _form: Form) -> Option<&[u8]> {
+        None
     }
 
     #[inline(always)]
@@ -70,6 +78,10 @@ impl Text for u64 {
         }
     }
 
+    fn plain_bytes(&self, _form: Form) -> Option<&[u8]> {
+        None
+    }
+
     #[inline(always)]
     fn write<W: Write>(&self, form: Form, output: &mut W) -> io::Result<()> {
         match form {
@@ -93,6 +105,10 @@ impl Text for () {
         }
     }
 
+    fn plain_bytes(&self, _form: Form) -> Option<&[u8]> {
+        None
+    }
+
     fn write<W: Write>(&self, _form: Form, output: &mut W) -> io::Result<()> {
         output.write_all(b"")
     }
@@ -110,6 +126,13 @@ impl<const N: usize> Text for [u8; N] {
         match form {
             Form::Plain => parse_plain(word),
             _ => parse_bytes(word),
+        }
+    }
+
+    fn plain_bytes(&self, form: Form) -> Option<&[u8]> {
+        match form {
+            Form::Plain => Some(plain_of(self)),
+            _ => no_plain_bytes(self),
         }
     }
 
@@ -174,11 +197,6 @@ fn parse_long<const N: usize>(word: &[u8]) -> Option<[u8; N]> {
         bytes[at] = 16 * (high % 16) + low % 16;
     }
     Some(bytes)
-}
-
-/// Whether each byte is a hexadecimal digit, of either case.
-pub(crate) fn are_digits(word: &[u8]) -> bool {
-    word.iter().all(|digit| digit.is_ascii_hexdigit())
 }
 
 fn max_of(a: u8, b: u8) -> u8 {

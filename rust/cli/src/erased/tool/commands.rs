@@ -19,9 +19,13 @@ use std::os::fd::AsFd;
 
 mod build;
 mod check;
+mod check_json;
 mod count;
+mod diff;
 mod dump;
+mod dump_json;
 mod find;
+mod find_json;
 mod get;
 mod keys;
 mod order;
@@ -46,12 +50,13 @@ where
         Ok(Request::Version) => finish("version", of_output(write_version(output)), errors),
         Ok(Request::Run { file, command }) => {
             let file = file.as_str();
+            let failed = command.failed();
             let done = run_command(rt, file, command, input, output, errors);
             let done = match output.flush() {
                 Ok(()) => done,
                 Err(error) => done.and(Err(Failure::Output(error))),
             };
-            finish(file, done, errors)
+            finish_as(file, done, failed, errors)
         }
         Err(misuse) => {
             let _ = writeln!(errors, "odht: {misuse}");
@@ -78,6 +83,7 @@ where
         }
         Command::Build(options) => build::build(rt, file, options, input, output, errors),
         Command::Rebuild(options) => rebuild::rebuild(rt, file, options, errors),
+        Command::Diff(options) => diff::diff(rt, file, options, input, output, errors),
         Command::Put { hash, kinds, bound, breaks_links, has_progress } => {
             let target = Target::find(rt, file, breaks_links)?;
             let bytes = read_file(rt, target.path())?;
@@ -191,8 +197,10 @@ fn run_reading<I: BufRead, O: Write, E: Write>(
     errors: &mut E,
 ) -> Result<Status, Failure> {
     match reading {
-        Reading::Info { bound } => info_file(alloc, bytes, *bound, output),
-        Reading::Check { hash, bound } => check_one(file, bytes, *hash, *bound, output, errors),
+        Reading::Info { bound, is_json } => info_file(alloc, file, bytes, *bound, *is_json, output),
+        Reading::Check { hash, bound, is_json } => {
+            check_one(alloc, file, bytes, *hash, *bound, *is_json, output, errors)
+        }
         Reading::Count { hash, bound } => {
             let name = if is_one { None } else { Some(file) };
             count_one(alloc, name, bytes, *hash, *bound, output)
@@ -203,9 +211,15 @@ fn run_reading<I: BufRead, O: Write, E: Write>(
         Reading::Get { hash, kinds, keys: Keys::Lines } => {
             get::get_file_lines(alloc, bytes, *hash, *kinds, input, output)
         }
-        Reading::Find { bound } => find_in(alloc, file, bytes, *bound, output, errors),
-        Reading::Dump { hash, kinds, is_slots } => {
-            dump::dump_file(bytes, *hash, *kinds, *is_slots, output)
+        Reading::Find { bound, is_json } => {
+            find_in(alloc, file, bytes, *bound, *is_json, output, errors)
+        }
+        Reading::Dump { hash, kinds, is_slots, is_json } => {
+            if *is_json {
+                dump_json::dump_file(bytes, *hash, *kinds, *is_slots, output)
+            } else {
+                dump::dump_file(bytes, *hash, *kinds, *is_slots, output)
+            }
         }
         Reading::Keys { hash, kinds } => keys::keys_file(bytes, *hash, *kinds, output),
         Reading::Order { hash, kinds, bound } => {
@@ -216,14 +230,20 @@ fn run_reading<I: BufRead, O: Write, E: Write>(
 
 // Checks a file. Where another hash function fits, a line on `errors` names it.
 fn check_one<O: Write, E: Write>(
+    alloc: Global,
     file: &str,
     bytes: &[u8],
     hash: Option<Hash>,
     bound: Option<usize>,
+    is_json: bool,
     output: &mut O,
     errors: &mut E,
 ) -> Result<Status, Failure> {
-    let status = check::check_file(file, bytes, hash, bound, output)?;
+    let status = if is_json {
+        check_json::check_file(alloc, file, bytes, hash, bound, output)?
+    } else {
+        check::check_file(file, bytes, hash, bound, output)?
+    };
     if !status.is_done() {
         if let Some(other) = check::hint_of(bytes, hash) {
             // A hint that cannot be written is no failure.
@@ -255,10 +275,11 @@ fn find_in<O: Write, E: Write>(
     file: &str,
     bytes: &[u8],
     bound: Option<usize>,
+    is_json: bool,
     output: &mut O,
     errors: &mut E,
 ) -> Result<Status, Failure> {
-    let status = find::find_file(alloc, bytes, bound, output)?;
+    let status = find::find_file(alloc, file, bytes, bound, is_json, output)?;
     if !status.is_done() {
         // A line that cannot be written is no failure.
         let _ = find::write_none(file, errors);
@@ -287,12 +308,22 @@ fn order_in<O: Write, E: Write>(
 
 // Reports a failure, after the file's name.
 fn finish<E: Write>(file: &str, done: Result<Status, Failure>, errors: &mut E) -> Status {
+    finish_as(file, done, Status::NotDone, errors)
+}
+
+// The same where the run then ends so.
+fn finish_as<E: Write>(
+    file: &str,
+    done: Result<Status, Failure>,
+    failed: Status,
+    errors: &mut E,
+) -> Status {
     match done {
         Ok(status) => status,
-        Err(Failure::Output(error)) if error.kind() == ErrorKind::BrokenPipe => Status::NotDone,
+        Err(Failure::Output(error)) if error.kind() == ErrorKind::BrokenPipe => failed,
         Err(failure) => {
             let _ = writeln!(errors, "odht: {file}: {failure}");
-            Status::NotDone
+            failed
         }
     }
 }

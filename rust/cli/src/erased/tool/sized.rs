@@ -13,8 +13,10 @@ use crate::proved::tables::memory_layout::{check_opening, check_sized, check_siz
 use crate::proved::tables::{FxHashFn, UnHashFn};
 
 pub mod builds;
+pub mod diffs;
 pub mod gets;
 pub mod listings;
+pub mod objects;
 pub mod orders;
 
 /// The lengths of a shape.

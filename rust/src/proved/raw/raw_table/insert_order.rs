@@ -2,9 +2,7 @@
 //! An order of inserts that makes a table, found within the buffer that it is written to.
 
 use super::waiting::{list_occupied, WAITING};
-use super::RawTable;
-use crate::proved::raw::bytes::ByteArray;
-use crate::proved::raw::hash::HashFn;
+use super::SlotHomes;
 use crate::proved::raw::swisstable_group_query::REFERENCE_GROUP_SIZE;
 
 // How many frontiers are kept from one search to the next. Few homes have long searches at a time, and one that is
@@ -23,104 +21,86 @@ struct Frontier {
     position: usize,
 }
 
-impl<'a, K: ByteArray, V: ByteArray, H: HashFn> RawTable<'a, K, V, H> {
-    /// Whether some list of inserts, growths included, makes the table (`IsMade`). Where one does, `out` lists its
-    /// occupied slots so that their pairs, inserted in this order into an empty table of as many slots and the same
-    /// load factor, make exactly this table. Otherwise the numbers in `out` have no meaning. The parts are those of a
-    /// valid table, and `out` has as many items as the table has pairs.
-    ///
-    /// A pass goes through the waiting slots in slot order, and places each whose earlier slots in the probe order of
-    /// its key are all placed. Passes are made until no slot waits, or a pass places none: at most one pass more than
-    /// there are slots that wait for a slot of a higher index. In a pass a slot in the first group of its probe order
-    /// and not below its home takes one step. Any other takes one or two binary searches in the list of the pass for
-    /// each group up to its own, but for those that were passed before from the same home, as far as that is kept, for
-    /// 64 homes. After each pass the slots that still wait are sorted. It allocates nothing.
-    pub fn insert_order(&self, out: &mut [usize]) -> bool {
-        list_occupied(self.control, self.entries.len(), out);
-        let near = self.place_near(out);
-        if near == out.len() {
-            return true;
-        }
-        self.place_others(out, near)
+/// `RawTable::insert_order` of any parts whose keys have homes.
+///
+/// It goes through the slots once, up to the first that is not near its home, and then pass by pass.
+pub(super) fn find_order<S: SlotHomes>(table: &S, out: &mut [usize]) -> bool {
+    list_occupied(table.control_bytes(), table.slots(), out);
+    let near = place_near(table, out);
+    if near == out.len() {
+        return true;
     }
+    place_others(table, out, near)
+}
 
-    // Places slots in their order, as long as each is near its home. None that waits is before it in the probe order of
-    // its key then, so that it is ready. Returns how many were placed.
-    fn place_near(&self, slots: &mut [usize]) -> usize {
-        // Its invariant is used: the slots are a slot count, and have control bytes and a mirror.
-        let _ = &self.control;
-        for at in 0..slots.len() {
-            let slot = slots[at] - WAITING;
-            if !is_near(slot, self.home_of(slot)) {
-                return at;
-            }
+// Places slots in their order, as long as each is near its home. None that waits is before it in the probe order of
+// its key then, so that it is ready. Returns how many were placed.
+fn place_near<S: SlotHomes>(table: &S, slots: &mut [usize]) -> usize {
+    for at in 0..slots.len() {
+        let slot = slots[at] - WAITING;
+        if !is_near(slot, table.home_of(slot)) {
+            return at;
+        }
+        slots[at] = slot;
+    }
+    slots.len()
+}
+
+// `insert_order` of the slots that still wait, where the first `placed` are placed.
+//
+// It is a call of its own, since it sets the frontiers up, and most tables with few pairs need none.
+#[inline(never)]
+fn place_others<S: SlotHomes>(table: &S, out: &mut [usize], placed: usize) -> bool {
+    let mut frontiers = [Frontier::at(0); FRONTIERS];
+    let mut placed = placed;
+    while placed < out.len() {
+        let ready = place_ready(table, &mut out[placed..], &mut frontiers);
+        if ready == 0 {
+            return false;
+        }
+        placed += ready;
+    }
+    true
+}
+
+// Goes once through the slots that wait, and places each that is ready by then. At the end the placed slots come
+// first, in slot order, and after them the others. Returns how many were placed.
+fn place_ready<S: SlotHomes>(
+    table: &S,
+    slots: &mut [usize],
+    frontiers: &mut [Frontier; FRONTIERS],
+) -> usize {
+    let mut placed = 0;
+    // One more than the last slot that was left to wait, or 0.
+    let mut left = 0;
+    for at in 0..slots.len() {
+        let slot = slots[at] - WAITING;
+        if is_ready(table, slot, left, slots, frontiers) {
             slots[at] = slot;
-        }
-        slots.len()
-    }
-
-    // `insert_order` of the slots that still wait, where the first `placed` are placed.
-    //
-    // It is a call of its own, since it sets the frontiers up, and most tables with few pairs need none.
-    #[inline(never)]
-    fn place_others(&self, out: &mut [usize], placed: usize) -> bool {
-        // Its invariant is used: the slots are a slot count.
-        let _ = &self.control;
-        let mut frontiers = [Frontier::at(0); FRONTIERS];
-        let mut placed = placed;
-        while placed < out.len() {
-            let ready = self.place_ready(&mut out[placed..], &mut frontiers);
-            if ready == 0 {
-                return false;
-            }
-            placed += ready;
-        }
-        true
-    }
-
-    // Goes once through the slots that wait, and places each that is ready by then. At the end the placed slots come
-    // first, in slot order, and after them the others. Returns how many were placed.
-    fn place_ready(&self, slots: &mut [usize], frontiers: &mut [Frontier; FRONTIERS]) -> usize {
-        let mut placed = 0;
-        // One more than the last slot that was left to wait, or 0.
-        let mut left = 0;
-        for at in 0..slots.len() {
-            let slot = slots[at] - WAITING;
-            if self.is_ready(slot, left, slots, frontiers) {
-                slots[at] = slot;
-                placed += 1;
-            } else {
-                left = slot + 1;
-            }
-        }
-        sort_placed_first(slots, placed);
-        placed
-    }
-
-    // Whether no slot before this one in the probe order of its key waits. In most cases the slots before it begin at
-    // its home and end next to it, so that all of them were looked at before in the pass.
-    #[inline]
-    fn is_ready(
-        &self,
-        slot: usize,
-        left: usize,
-        slots: &[usize],
-        frontiers: &mut [Frontier; FRONTIERS],
-    ) -> bool {
-        let home = self.home_of(slot);
-        if is_near(slot, home) {
-            left <= home
+            placed += 1;
         } else {
-            is_unblocked_from(home, slot, self.entries.len() - 1, left, slots, frontiers)
+            left = slot + 1;
         }
     }
+    sort_placed_first(slots, placed);
+    placed
+}
 
-    // The home of the key in a slot.
-    #[inline(always)]
-    pub(super) fn home_of(&self, slot: usize) -> usize {
-        // Hashed as a slice of the entries, long keys take more instructions.
-        let key = K::from_slice(self.entries.key_bytes_of(slot));
-        H::hash(key.as_slice()) as usize & (self.entries.len() - 1)
+// Whether no slot before this one in the probe order of its key waits. In most cases the slots before it begin at
+// its home and end next to it, so that all of them were looked at before in the pass.
+#[inline]
+fn is_ready<S: SlotHomes>(
+    table: &S,
+    slot: usize,
+    left: usize,
+    slots: &[usize],
+    frontiers: &mut [Frontier; FRONTIERS],
+) -> bool {
+    let home = table.home_of(slot);
+    if is_near(slot, home) {
+        left <= home
+    } else {
+        is_unblocked_from(home, slot, table.slots() - 1, left, slots, frontiers)
     }
 }
 

@@ -62,12 +62,8 @@ impl<H: HashFn, S: ReadAt> FileTable<H, S> {
         if offset.checked_add(len as u64).is_none() {
             return Err(FileError::Read(ReadError::EarlyEnd));
         }
-        match reads::open_header::<H, S>(&source, layout, offset, len) {
-            Ok((slots, items)) => {
-                Ok(FileTable { source, at: offset, layout, slots, items, hash: PhantomData })
-            }
-            Err(error) => Err(error),
-        }
+        let (slots, items) = reads::open_header::<H, S>(&source, layout, offset, len)?;
+        Ok(FileTable { source, at: offset, layout, slots, items, hash: PhantomData })
     }
 
     /// The lengths of keys and values.
@@ -88,10 +84,8 @@ impl<H: HashFn, S: ReadAt> FileTable<H, S> {
     /// The first error: `Table` with `WrongKeyLength` where the key has another length than the table's keys, and
     /// nothing is read; then `Read` with that of a read.
     pub fn get(&self, key: &[u8]) -> Result<Option<ShortBytes>, FileError> {
-        match self.get_counted(key) {
-            Ok((value, _)) => Ok(value),
-            Err(error) => Err(error),
-        }
+        let (value, _) = self.get_counted(key)?;
+        Ok(value)
     }
 
     /// `get`, and how many groups of control bytes it read: on valid bytes those up to the first slot of the key's
@@ -115,9 +109,7 @@ impl<H: HashFn, S: ReadAt> FileTable<H, S> {
 
     /// Whether the key has a value. The errors are those of [`FileTable::get`], and so are the reads.
     pub fn contains_key(&self, key: &[u8]) -> Result<bool, FileError> {
-        match self.get(key) {
-            Ok(value) => Ok(value.is_some()),
-            Err(error) => Err(error),
-        }
+        let value = self.get(key)?;
+        Ok(value.is_some())
     }
 }

@@ -2,7 +2,8 @@
 //! A command of which some words are parsed.
 use super::topics::{Setting, Topic};
 use super::{
-    is_stream, BuildOptions, Command, CommandMisuse, Keys, Misuse, Reading, RebuildOptions, Request,
+    is_stream, BuildOptions, Command, CommandMisuse, DiffOptions, Keys, Misuse, Reading,
+    RebuildOptions, Request,
 };
 use crate::erased::core::any::AnyShape;
 use crate::erased::core::digits::parse_number;
@@ -30,6 +31,7 @@ pub(super) struct Draft {
     capacity: usize,
     is_help: bool,
     is_slots: bool,
+    is_json: bool,
     is_whole: bool,
     breaks_links: bool,
     has_progress: bool,
@@ -50,6 +52,7 @@ impl Draft {
             capacity: 12,
             is_help: false,
             is_slots: false,
+            is_json: false,
             is_whole: false,
             breaks_links: false,
             has_progress: false,
@@ -98,6 +101,7 @@ impl Draft {
         match setting {
             Setting::Help => self.is_help = true,
             Setting::Slots => self.is_slots = true,
+            Setting::Json => self.is_json = true,
             Setting::Whole => self.is_whole = true,
             Setting::Progress => self.has_progress = true,
             Setting::BreakLinks => self.breaks_links = true,
@@ -171,6 +175,7 @@ impl Draft {
                 has_progress: self.has_progress,
             }),
             Topic::Get => self.get(is_stream),
+            Topic::Diff => self.diff(is_stream),
             _ if self.has_second_stream(is_stream) => Err(CommandMisuse::TwiceInput),
             _ => {
                 let reading = self.reading();
@@ -209,12 +214,14 @@ impl Draft {
         let (hash, kinds, bound) = (self.hash, self.kinds, bound_of(self.is_whole));
         match self.topic {
             // begin readings: made of commands.txt by tools/commands; `make manual` makes it anew
-            Topic::Info => Reading::Info { bound },
-            Topic::Check => Reading::Check { hash, bound },
+            Topic::Info => Reading::Info { bound, is_json: self.is_json },
+            Topic::Check => Reading::Check { hash, bound, is_json: self.is_json },
             Topic::Count => Reading::Count { hash, bound },
-            Topic::Dump => Reading::Dump { hash, kinds, is_slots: self.is_slots },
+            Topic::Dump => {
+                Reading::Dump { hash, kinds, is_slots: self.is_slots, is_json: self.is_json }
+            }
             Topic::Keys => Reading::Keys { hash, kinds },
-            Topic::Find => Reading::Find { bound },
+            Topic::Find => Reading::Find { bound, is_json: self.is_json },
             _ => Reading::Order { hash, kinds, bound },
             // end readings
         }
@@ -234,6 +241,26 @@ impl Draft {
             at: self.at,
             reading: Reading::Get { hash: self.hash, kinds: self.kinds, keys },
         })
+    }
+
+    // `diff`, of which the one word is the other file.
+    fn diff(mut self, is_stream_first: bool) -> Result<Command, CommandMisuse> {
+        if self.words.is_empty() {
+            return Err(CommandMisuse::Missing("OTHER"));
+        }
+        let other = self.words.remove(0);
+        if !self.words.is_empty() {
+            return Err(CommandMisuse::ExtraWord(self.words.remove(0)));
+        }
+        if is_stream_first && is_stream(other.as_str()) {
+            return Err(CommandMisuse::TwiceInput);
+        }
+        Ok(Command::Diff(DiffOptions {
+            other,
+            hash: self.hash,
+            kinds: self.kinds,
+            bound: bound_of(self.is_whole),
+        }))
     }
 
     fn build(self) -> Result<Command, CommandMisuse> {

@@ -7,27 +7,47 @@ use crate::erased::core::found::found_any;
 use crate::erased::core::front::table_at;
 use crate::erased::core::status::Status;
 use crate::erased::tool::commands::check::check_any;
+use crate::erased::tool::commands::find_json;
 use crate::host::prelude::*;
 use crate::proved::tables::error::Error;
 use crate::shim::Global;
 use std::io::{self, Write};
 
-/// `odht find` of the bytes of a file: writes a line for each table inside them. The status is `NotDone` where there is
-/// none. `Forged` where there are headers that overlap, as `find_tables` says.
+/// `odht find` of the bytes of the file of this name: writes a line for each table inside them; with `is_json` an object
+/// of JSON. The status is `NotDone` where there is none. `Forged` where there are headers that overlap, as `find_tables`
+/// says.
 pub fn find_file<O: Write>(
     alloc: Global,
+    file: &str,
     bytes: &[u8],
     bound: Option<usize>,
+    is_json: bool,
     output: &mut O,
 ) -> Result<Status, Failure> {
     let tables = find_tables(alloc, bytes)?;
-    write_tables(bytes, tables.as_slice(), bound, output)?;
+    write_found(file, bytes, tables.as_slice(), bound, is_json, output)?;
     Ok(Status::of(tables.len() > 0))
 }
 
 /// Writes a line that tells that no table is in a file.
 pub fn write_none<E: Write>(file: &str, errors: &mut E) -> io::Result<()> {
     writeln!(errors, "odht: {file}: no table is in it")
+}
+
+// Writes the tables at these offsets, in lines or as an object.
+fn write_found<O: Write>(
+    file: &str,
+    bytes: &[u8],
+    tables: &[usize],
+    bound: Option<usize>,
+    is_json: bool,
+    output: &mut O,
+) -> Result<(), Failure> {
+    if is_json {
+        find_json::write_tables(file, bytes, tables, bound, output)
+    } else {
+        write_tables(bytes, tables, bound, output)
+    }
 }
 
 // Writes the lines of the tables at these offsets.
@@ -54,8 +74,8 @@ fn write_table<O: Write>(
     write_row(at, table, check_word(table, bound), output)
 }
 
-// What the check says of a table; `-` where its control bytes fit no hash function.
-fn check_word(table: &[u8], bound: Option<usize>) -> &'static str {
+/// What the check says of a table; `-` where its control bytes fit no hash function.
+pub(crate) fn check_word(table: &[u8], bound: Option<usize>) -> &'static str {
     let Ok(shape) = found_any(table, None) else {
         return "-";
     };
