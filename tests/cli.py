@@ -38,6 +38,7 @@ COMMANDS += [
     (["get", "table", "-"], LINES.replace(b"\t", b"\n")),
     (["put", "table"], LINES),
     (["rebuild", "table", "--percent", "50"], b""),
+    (["delete", "table", *map(str, range(40))], b""),
     (["build", "made", "--key", "u64", "--value", "u32"], LINES),
     (["build", "-", "--key", "hex32", "--value", "none"], b"00" * 32 + b"\n"),
     (["get", "other", "000000", "0a0b0c"], b""),

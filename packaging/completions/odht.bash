@@ -30,6 +30,7 @@ _odht() {
         diff:-*) COMPREPLY=($(compgen -W '--help --whole --key --value --hash' -- "$word"));;
         build:-*) COMPREPLY=($(compgen -W '--help --key --value --hash --percent --capacity --progress --break-links' -- "$word"));;
         put:-*) COMPREPLY=($(compgen -W '--help --key --value --whole --hash --progress --break-links' -- "$word"));;
+        delete:-*) COMPREPLY=($(compgen -W '--help --key --whole --hash --progress --break-links' -- "$word"));;
         rebuild:-*) COMPREPLY=($(compgen -W '--help --percent --whole --hash --progress --break-links' -- "$word"));;
         *) mapfile -t COMPREPLY < <(compgen -f -- "$word");;
     esac

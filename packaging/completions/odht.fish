@@ -10,6 +10,7 @@ complete -c odht -n __fish_use_subcommand -f -a order -d 'tells each pair in an 
 complete -c odht -n __fish_use_subcommand -f -a diff -d 'tells how the pairs of two tables differ'
 complete -c odht -n __fish_use_subcommand -f -a build -d 'makes a table file of the lines of standard input'
 complete -c odht -n __fish_use_subcommand -f -a put -d 'adds the lines of standard input to a table file'
+complete -c odht -n __fish_use_subcommand -f -a delete -d 'takes keys out of a table file'
 complete -c odht -n __fish_use_subcommand -f -a rebuild -d 'makes a table file anew, of another load factor or hash function'
 complete -c odht -n __fish_use_subcommand -f -a help -d 'is the help of a command'
 complete -c odht -n '__fish_seen_subcommand_from help' -f -a 'info check count get dump keys find order diff build put rebuild'
@@ -71,6 +72,12 @@ complete -c odht -n '__fish_seen_subcommand_from put' -l whole
 complete -c odht -n '__fish_seen_subcommand_from put' -l hash -x -a 'fx unhash' -d 'fx or unhash'
 complete -c odht -n '__fish_seen_subcommand_from put' -l progress
 complete -c odht -n '__fish_seen_subcommand_from put' -l break-links
+complete -c odht -n '__fish_seen_subcommand_from delete' -l help
+complete -c odht -n '__fish_seen_subcommand_from delete' -l key -x -d 'u32, u64, i32, i64, u32be, u64be, hexN or text N'
+complete -c odht -n '__fish_seen_subcommand_from delete' -l whole
+complete -c odht -n '__fish_seen_subcommand_from delete' -l hash -x -a 'fx unhash' -d 'fx or unhash'
+complete -c odht -n '__fish_seen_subcommand_from delete' -l progress
+complete -c odht -n '__fish_seen_subcommand_from delete' -l break-links
 complete -c odht -n '__fish_seen_subcommand_from rebuild' -l help
 complete -c odht -n '__fish_seen_subcommand_from rebuild' -l percent -x -d 'a number from 1 to 100'
 complete -c odht -n '__fish_seen_subcommand_from rebuild' -l whole

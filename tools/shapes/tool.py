@@ -17,7 +17,10 @@ DISPATCHERS = {
     "get/get_words_of": "get_words",
     "get/get_lines_of": "get_lines",
     "order/order_of": "order_pairs",
+    "delete/keys_of_ready": "keys_of",
 }
+# those of them without type parameters
+PLAIN = {"delete/keys_of_ready"}
 
 
 def number_part(type_name):
@@ -169,10 +172,11 @@ def answers(shapes, dispatcher, called):
     """What the prover asks for of a function that goes from a shape to its configuration: an answer for each."""
     text = f"-- An answer for each shape: {MADE}.\n"
     text += f"use Rattle.odht_tool.proofs.commands.{dispatcher.replace('/', '.')}.Goals as goal\n"
+    given = "c" if dispatcher in PLAIN else "g c"
     for at, shape in enumerate(shapes):
         goal = f"returns-in-{shape.configuration}"
         call = f"c.{called}" if at == 0 else f"c.{called}-in-{shape.configuration}"
-        text += f"\npub {goal} : goal.{goal}\n{goal} g c = rw c.in-{shape.configuration}.is {call}.ensures\n"
+        text += f"\npub {goal} : goal.{goal}\n{goal} {given} = rw c.in-{shape.configuration}.is {call}.ensures\n"
     return text
 
 

@@ -106,7 +106,7 @@ class Case:
                  value_text=number, kinds="", is_other=False):
         self.is_other = is_other
         self.name, self.words, self.table = name, words, Table(key_size, value_size, hash, percent, capacity)
-        self.kinds = f" {kinds}" if kinds else ""
+        self.kinds, self.key_text = f" {kinds}" if kinds else "", key_text
         self.key_kind = self.kinds.split(" --value")[0]
         for key, value in pairs:
             self.table.put(key, value)
@@ -384,6 +384,47 @@ def write_rebuilt_cases():
     write_test("tool/tables/rebuilt.cases", text)
 
 
+def shown(word):
+    """A word of printable characters as messages have it: of a long one its front, and how long it is."""
+    return f'"{word[:60]}"' + (f"... ({len(word)} bytes)" if len(word) > 60 else "")
+
+
+def deleted(table, keys):
+    """The table of as many slots and the same load factor, with the pairs of all other keys in slot order."""
+    new = Table(table.key_size, table.value_size, table.hash, 87, 0)
+    new.factor, new.cells = table.factor, [None] * len(table.cells)
+    for key, value in filter(None, table.cells):
+        if key not in keys:
+            new.put(key, value)
+    assert len(new.cells) == len(table.cells)
+    return new
+
+
+def write_deleted_cases():
+    """What `delete` has to make of tables: of some of their keys, of all, and of words of absent keys after these."""
+    made = {case.name: case for case in cases()}
+    text = HEAD
+    for name, words, step, absent in [
+            ("u64_u32", "", 2, ""), ("u64_u32", "--progress", 1, ""), ("u32_u32", "", 3, ""),
+            ("u32_u32", "--hash fx", 2, "9 4294967295"), ("direct", "", 2, ""), ("direct", "--hash=unhash", 7, "1 65"),
+            ("one_pair", "--whole", 1, "7"), ("no_pairs", "", 1, "0"), ("bytes16_u32", "", 2, ""),
+            ("bytes16_set", "", 4, "00" * 16), ("bytes20_u64", "", 2, ""), ("bytes32_u64", "", 2, ""),
+            ("bytes32_set", "", 1, ""), ("i64_i32", "", 2, "-3"), ("i32_u32be", "", 3, ""), ("u64be_i64", "", 2, "3"),
+            ("text16_text16", "", 3, "no_value"), ("odd_sizes", "", 3, "ffffff"), ("empty_key", "", 1, ""),
+            ("words_12_5", "", 5, ""), ("long_key", "", 2, "ff" * 255), ("short_direct", "", 2, ""), ("empty", "", 1, "1")]:
+        case, file = made[name], "_".join(["deleted", name, str(step)])
+        keys = [key for key, _ in filter(None, case.table.cells) if " " not in case.key_text(key)][::step]
+        with open(os.path.join(HERE, f"{file}.odht"), "wb") as out:
+            out.write(deleted(case.table, keys).image())
+        named = " ".join([case.key_text(key) or '""' for key in keys] + absent.split())
+        lines = "".join(f'odht: {name}.odht: the key {shown(word)} is absent\n' for word in absent.split())
+        text += (f"== delete of each {step}. key of {name}\nbefore {name}.odht: < crates/odht_tool/data/{name}.odht\n"
+                 f"args: delete {name}.odht {named}{case.key_kind}{words and ' '}{words}\n"
+                 f"after {name}.odht: < crates/odht_tool/data/{file}.odht\n"
+                 + (block("stderr", lines) + "status: 1\n" if lines else "") + "\n")
+    write_test("tool/tables/deleted.cases", text)
+
+
 def write_hex_case():
     """The bytes of the table of the largest key and the largest value, on one line of digits."""
     table = Table(8, 4, fx, 95, 3)
@@ -405,3 +446,4 @@ if __name__ == "__main__":
     write_bound_cases()
     write_unmade_cases()
     write_rebuilt_cases()
+    write_deleted_cases()

@@ -22,5 +22,9 @@ pub mod NewTables
 pub mod InMemory
 -- two tables that are compared
 pub mod Diffed
+-- the tables that `delete` makes
+pub mod Deletions
+-- keys that a table has values for, and keys that are absent
+pub mod AbsentKeys
 -- worked examples of the definitions
 pub mod examples

@@ -14,14 +14,12 @@ use Rattle.odht_base.proofs.lemmas.DistinctKeys.{last-apart, walk-KeysApart}
 use Rattle.odht_base.proofs.lemmas.FreeSlots.{fresh-slots, slot_count-empty, count-fresh, map_of-fresh, max_items-holds}
 use Rattle.odht_base.proofs.lemmas.FreshRuns.{insert_owned-PlacesBelow}
 use Rattle.odht_base.proofs.lemmas.TableInserts.{insert_owned-IsInsert}
-use Rattle.odht_header.specs.Coding.{Coding}
 use Rattle.odht_header.specs.Refusals.{check_refusal_by}
 use Rattle.odht_header.specs.declared.error.Error.{Error}
-use Rattle.odht.specs.Dynamic.{DynStore, dyn_coding, dyn_format, dyn_store}
+use Rattle.odht.specs.Dynamic.{DynStore, dyn_format, dyn_store}
 use Rattle.odht.specs.DynOwned.{IsDynInsertOwned, IsOwnedAnswer}
-use Rattle.odht.specs.Inserts.{IsInsertOwned}
 use Rattle.odht.specs.Lists.{IsAfterInserts}
-use Rattle.odht.specs.Tables.{InTable, OfTable}
+use Rattle.odht.specs.Tables.{OfTable}
 use Rattle.odht.specs.declared.dynamic.DynError.TheVariants.{Rejected}
 use Rattle.odht.proofs.lemmas.ListInserts.{inserted_more}
 use Rattle.odht_tool.specs.Rebuilds.{IsNewFailure, IsRebuilt, IsLateFailure, IsRebuildFailure, is_failure, new_hash, rebuild_refusal, refusal_of_hash, refusal_of_shape, refused_by, rehashed}
@@ -34,7 +32,7 @@ use Rattle.odht_tool_core.specs.declared.failure.Failure.{Failure}
 use Rattle.odht_tool_core.specs.declared.shapes.Hash.{Hash}
 
 -- a value, or else none
-or_none : {X : Type 0} (o : Option X) → option_or o None ≡ o
+pub or_none : {X : Type 0} (o : Option X) → option_or o None ≡ o
 or_none None = refl
 or_none (Some x) = refl
 
@@ -61,10 +59,7 @@ made_anew F G percent P start B placed new inserted =
     }
 
 -- ---- one more pair
-module _ (h : List ℕ → ℕ) (before t : DynStore (List ℕ)) (same : t ≡ dyn_store before.key_len before.value_len t.store) where
-  abbrev F : Format
-  F = dyn_format before h
-
+module _ (h : List ℕ → ℕ) (t : DynStore (List ℕ)) where
   -- an insert that was accepted
   accepted : (k v : List ℕ) (C : List ℕ) (o : Option (List ℕ)) → IsDynInsertOwned t h k v (Ok o) C → (a : Option (List ℕ)) × IsOwnedAnswer t h k v C (Ok a)
   accepted k v C o one = go one.answer one.is one.holds
@@ -73,17 +68,21 @@ module _ (h : List ℕ → ℕ) (before t : DynStore (List ℕ)) (same : t ≡ d
       go (Ok a) e holds = (a, holds)
       go (Err x) e holds = absurd (let both : Ok o ≡ Err (Rejected x) = e in cc)
 
-  pub one_inserted : (ps : List Pair) (k v : List ℕ) (o : Option (List ℕ)) (C : List ℕ)
-      → OfTable F before.store (λ P. IsAfterInserts F (insert_owned F) P ps t.store) → IsDynInsertOwned t h k v (Ok o) C
-      → OfTable F before.store (λ P. IsAfterInserts F (insert_owned F) P (ps ++ record { key = k; value = v } ∷ []) C)
-  one_inserted ps k v o C so_far one P is =
-      let coding : dyn_coding t h ≡ dyn_coding before h = ap (λ (s : DynStore (List ℕ)). dyn_coding s h) same in
-      let was = so_far P is in
-      let a = accepted k v C o one in
-      let valid : InTable (dyn_coding before h) t.store (λ c Q. IsInsertOwned c Q k v (Ok a.0) C) =
-      subst (λ (c : Coding (List ℕ) (List ℕ)). InTable c t.store (λ c Q. IsInsertOwned c Q k v (Ok a.0) C)) coding a.1.on_valid in
-      let into = (valid was.table was.image).inserted in
+  pub one_more : (P : Table) (ps : List Pair) (k v : List ℕ) (o : Option (List ℕ)) (C : List ℕ) → (let F = dyn_format t h in IsAfterInserts F (insert_owned F) P ps t.store)
+      → IsDynInsertOwned t h k v (Ok o) C → (let F = dyn_format t h in IsAfterInserts F (insert_owned F) P (ps ++ record { key = k; value = v } ∷ []) C)
+  one_more P ps k v o C was one =
+      let F = dyn_format t h in
+      let into = ((accepted k v C o one).1.on_valid was.table was.image).inserted in
       inserted_more F (insert_owned F) (insert_owned-IsInsert F) (insert_owned-PlacesBelow F) P ps (record { key = k; value = v }) t.store C was into.table into.inserted into.image
+
+-- the same of a table of the lengths of another
+pub one_inserted : (h : List ℕ → ℕ) (before t : DynStore (List ℕ)) → t ≡ dyn_store before.key_len before.value_len t.store → (ps : List Pair) (k v : List ℕ) (o : Option (List ℕ)) (C : List ℕ)
+    → (let F = dyn_format before h in OfTable F before.store (λ P. IsAfterInserts F (insert_owned F) P ps t.store)) → IsDynInsertOwned t h k v (Ok o) C
+    → (let F = dyn_format before h in OfTable F before.store (λ P. IsAfterInserts F (insert_owned F) P (ps ++ record { key = k; value = v } ∷ []) C))
+one_inserted h before t same ps k v o C so_far one P is =
+    let formats : dyn_format t h ≡ dyn_format before h = ap (λ (s : DynStore (List ℕ)). dyn_format s h) same in
+    let was = subst (λ (X : Format). IsAfterInserts X (insert_owned X) P ps t.store) (sym formats) (so_far P is) in
+    subst (λ (X : Format). IsAfterInserts X (insert_owned X) P (ps ++ record { key = k; value = v } ∷ []) C) formats (one_more h t P ps k v o C was one)
 
 -- a result that is no error is a value
 pub ok_of : {X E : Type 0} (r : Result X E) → is_err r ≡ false → (x : X) × (r ≡ Ok x)

@@ -15,3 +15,5 @@ pub mod Rebuilds
 pub mod Objects
 -- what `diff` does
 pub mod Diffs
+-- what `delete` makes
+pub mod Deletes

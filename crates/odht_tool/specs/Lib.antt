@@ -27,3 +27,5 @@ pub mod JsonTexts
 pub mod DumpJson
 -- what `diff` does
 pub mod Diffs
+-- what `delete` makes
+pub mod Deletes

@@ -19,6 +19,7 @@ mod build;
 mod check;
 mod check_json;
 mod count;
+mod delete;
 mod diff;
 mod dump;
 mod dump_json;
@@ -27,7 +28,7 @@ mod find_json;
 mod get;
 mod keys;
 mod order;
-mod rebuild;
+pub mod rebuild;
 
 /// Does what the words ask for. Each failure is reported by a line on `errors`; where that cannot
 /// be written either, the status alone reports it. Where nobody reads `output` any more, nothing is
@@ -84,6 +85,7 @@ where
             read_files(rt, file, others, at, &reading, input, output, errors)
         }
         Command::Build(options) => build::build(rt, file, options, input, output, errors),
+        Command::Delete(options) => delete::delete(rt, file, &options, errors),
         Command::Rebuild(options) => rebuild::rebuild(rt, file, options, errors),
         Command::Diff(options) => diff::diff(rt, file, options, input, output, errors),
         Command::Put {

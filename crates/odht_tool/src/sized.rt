@@ -19,6 +19,7 @@ use odht_tool_core::failure::Failure;
 use odht_tool_core::shapes::Hash;
 
 pub mod builds;
+pub mod deletes;
 pub mod diffs;
 pub mod gets;
 pub mod listings;

@@ -7,7 +7,7 @@ use Rattle.std.specs.Prelude.{ℕ, List, [], ◌∷◌, codes}
 use Rattle.odht_tool_core.specs.declared.arguments.topics.Setting.{Setting}
 use Rattle.odht_tool_core.specs.declared.arguments.topics.Setting.TheVariants.{Help, Slots, Json, Whole, Progress, BreakLinks, At, Hash, Key, Value, Percent, Capacity}
 use Rattle.odht_tool_core.specs.declared.arguments.topics.Topic.{Topic}
-use Rattle.odht_tool_core.specs.declared.arguments.topics.Topic.TheVariants.{Info, Check, Count, Get, Dump, Keys, Find, Order, Diff, Build, Put, Rebuild}
+use Rattle.odht_tool_core.specs.declared.arguments.topics.Topic.TheVariants.{Info, Check, Count, Get, Dump, Keys, Find, Order, Diff, Build, Put, Delete, Rebuild}
 
 abbrev pub command_name : Topic → List ℕ
 command_name Info = codes "info"
@@ -21,10 +21,11 @@ command_name Order = codes "order"
 command_name Diff = codes "diff"
 command_name Build = codes "build"
 command_name Put = codes "put"
+command_name Delete = codes "delete"
 command_name Rebuild = codes "rebuild"
 
 abbrev pub commands : List Topic
-commands = Info ∷ Check ∷ Count ∷ Get ∷ Dump ∷ Keys ∷ Find ∷ Order ∷ Diff ∷ Build ∷ Put ∷ Rebuild ∷ []
+commands = Info ∷ Check ∷ Count ∷ Get ∷ Dump ∷ Keys ∷ Find ∷ Order ∷ Diff ∷ Build ∷ Put ∷ Delete ∷ Rebuild ∷ []
 
 abbrev pub option_name : Setting → List ℕ
 option_name Help = codes "--help"
@@ -52,4 +53,5 @@ options_of Order = Help ∷ Whole ∷ Key ∷ Value ∷ Hash ∷ At ∷ []
 options_of Diff = Help ∷ Whole ∷ Key ∷ Value ∷ Hash ∷ []
 options_of Build = Help ∷ Key ∷ Value ∷ Hash ∷ Percent ∷ Capacity ∷ Progress ∷ BreakLinks ∷ []
 options_of Put = Help ∷ Key ∷ Value ∷ Whole ∷ Hash ∷ Progress ∷ BreakLinks ∷ []
+options_of Delete = Help ∷ Key ∷ Whole ∷ Hash ∷ Progress ∷ BreakLinks ∷ []
 options_of Rebuild = Help ∷ Percent ∷ Whole ∷ Hash ∷ Progress ∷ BreakLinks ∷ []

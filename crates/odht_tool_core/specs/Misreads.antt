@@ -8,6 +8,7 @@
 --     place_text n         the number of a line of standard input, where there is one
 --     misread_text n f w t what is said of the text t, in line n of standard input where there is one, by its fault f, where
 --                          w is wanted
+--     absent_line file t   the line that tells of the text t, of a key that is not in the file
 --     part_of f line       the part of a line in which the fault f is: what comes before its first tab, what comes after it,
 --                          or all
 --     wanted_by f w v      what is wanted there, where w is wanted of keys and v of values
@@ -78,6 +79,9 @@ fault_text Value w text = codes "the value " ++ shown_text text ++ codes " is no
 
 abbrev pub misread_text : Option ℕ → LineFault → Wanted → List ℕ → List ℕ
 misread_text number fault w text = place_text number ++ fault_text fault w text
+
+abbrev pub absent_line : List ℕ → List ℕ → List ℕ
+absent_line file text = codes "odht: " ++ (file ++ (codes ": the key " ++ (shown_text text ++ codes " is absent\n")))
 
 -- ---- of a line
 abbrev pub part_of : LineFault → List ℕ → List ℕ

@@ -50,6 +50,19 @@ pub struct DiffOptions {
     pub bound: Option<usize>,
 }
 
+/// The options of `delete`.
+#[derive(Drop)]
+pub struct DeleteOptions {
+    /// The keys.
+    pub words: Vec<String>,
+    pub hash: Option<Hash>,
+    pub kinds: Kinds,
+    /// The bound of searches, in groups, by which the file is checked; none with `--whole`.
+    pub bound: Option<usize>,
+    pub breaks_links: bool,
+    pub has_progress: bool,
+}
+
 /// Where the keys of a lookup are.
 #[derive(Drop)]
 pub enum Keys {
@@ -93,6 +106,7 @@ pub enum Command {
         breaks_links: bool,
         has_progress: bool,
     },
+    Delete(DeleteOptions),
     Rebuild(RebuildOptions),
     Diff(DiffOptions),
 }

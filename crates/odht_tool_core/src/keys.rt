@@ -1,15 +1,18 @@
 //! Words of the command line, and lines of an input, that are read as keys.
 ghost use Rattle.std.specs.Prelude.{◌≡◌, [], ◌∷◌, ◌++◌, Ok, IfOk, IfErr, OnOk, map, string_bytes};
+ghost use Rattle.std.specs.Io.KnownBytes.{Appends};
 ghost use Rattle.std.specs.List.{AllZip};
 ghost use Rattle.odht_tool_core.specs.Keys.{IsReadAs, IsNoKeyLine, TellsWord, TellsFault, IsNextKey};
+ghost use Rattle.odht_tool_core.specs.Misreads.{absent_line};
 
 use crate::failure::{Failure, LineFault};
 use crate::forms::Form;
 use crate::lines::{is_left_out, read_line};
 use crate::misread::Misread;
+use crate::shown::Shown;
 use crate::text::Text;
 use std::alloc::Global;
-use std::io::{self, BufRead};
+use std::io::{self, BufRead, Write};
 
 /// The keys of the words, or the first word that is none.
 pub fn parse_keys<K: Text>(alloc: Global, words: &[String], form: Form) -> Result<Vec<K>, Failure>
@@ -41,6 +44,15 @@ fn wrong_key<K: Text>(alloc: Global, word: &str, form: Form) -> Failure
         Ok(message) => Failure::Misread(message),
         Err(_) => Failure::Memory,
     }
+}
+
+/// Writes a line of this key, which is to be deleted, and is absent.
+pub fn write_absent<E: Write>(file: &str, word: &str, errors: &mut E) -> io::Result<()>
+    ensures { OnOk result (Appends (E.contents errors.old) (E.contents errors.new)
+        (absent_line file.now word.now)) }
+{
+    let word = Shown(word.as_bytes());
+    writeln!(errors, "odht: {file}: the key {word} is absent")
 }
 
 /// Adds a key.

@@ -173,11 +173,22 @@ fn insert_pairs<S: HashFn, H: HashFn, R: Clock, E: Write>(
         if table.insert(key, value).is_err() {
             return Err(Failure::Memory);
         }
-        count = count.saturating_add(1);
-        if count % BATCH == 0 {
-            // A progress line that cannot be written is no failure.
-            let _ = progress.report_pairs(rt, count, errors);
-        }
+        count = counted_pair(rt, count, &mut progress, errors);
     }
     Ok(())
+}
+
+/// Counts a pair. A line of progress may then be due.
+pub fn counted_pair<R: Clock, E: Write>(
+    rt: &R,
+    count: u64,
+    progress: &mut Progress,
+    errors: &mut E,
+) -> u64 {
+    let count = count.saturating_add(1);
+    if count % BATCH == 0 {
+        // A progress line that cannot be written is no failure.
+        let _ = progress.report_pairs(rt, count, errors);
+    }
+    count
 }

@@ -1,7 +1,8 @@
 //! A command of which some words are parsed.
 use super::topics::{Setting, Topic};
 use super::{
-    BuildOptions, Command, CommandMisuse, DiffOptions, Keys, Misuse, Reading, RebuildOptions,
+    BuildOptions, Command, CommandMisuse, DeleteOptions, DiffOptions, Keys, Misuse, Reading,
+    RebuildOptions,
     Request, is_stream,
 };
 use crate::any::AnyShape;
@@ -167,7 +168,10 @@ impl Draft {
     fn command(self, is_stream: bool) -> Result<Command, CommandMisuse> {
         match self.topic {
             Topic::Build => self.build(),
-            Topic::Put | Topic::Rebuild if is_stream => Err(CommandMisuse::Replaced),
+            Topic::Put | Topic::Delete | Topic::Rebuild if is_stream => Err(
+                CommandMisuse::Replaced,
+            ),
+            Topic::Delete => self.delete(),
             Topic::Rebuild => Ok(Command::Rebuild(self.rebuilding())),
             Topic::Put => Ok(Command::Put {
                 hash: self.hash,
@@ -188,6 +192,21 @@ impl Draft {
                 })
             }
         }
+    }
+
+    // `delete`, of which the words are keys.
+    fn delete(self) -> Result<Command, CommandMisuse> {
+        if self.words.is_empty() {
+            return Err(CommandMisuse::Missing("KEY"));
+        }
+        Ok(Command::Delete(DeleteOptions {
+            words: self.words,
+            hash: self.hash,
+            kinds: self.kinds,
+            bound: bound_of(self.is_whole),
+            breaks_links: self.breaks_links,
+            has_progress: self.has_progress,
+        }))
     }
 
     // What is said to `rebuild`.

@@ -20,11 +20,12 @@ pub enum Topic {
     Diff,
     Build,
     Put,
+    Delete,
     Rebuild,
 }
 
 /// All commands, in the order of the help text.
-pub(crate) const TOPICS: [Topic; 12] = [
+pub(crate) const TOPICS: [Topic; 13] = [
     Topic::Info,
     Topic::Check,
     Topic::Count,
@@ -36,6 +37,7 @@ pub(crate) const TOPICS: [Topic; 12] = [
     Topic::Diff,
     Topic::Build,
     Topic::Put,
+    Topic::Delete,
     Topic::Rebuild,
 ];
 
@@ -76,6 +78,7 @@ impl Topic {
             Topic::Diff => "diff",
             Topic::Build => "build",
             Topic::Put => "put",
+            Topic::Delete => "delete",
             Topic::Rebuild => "rebuild",
         }
     }
@@ -83,7 +86,7 @@ impl Topic {
     /// Whether words may come after the file: more files, or keys.
     pub(crate) fn takes_words(self) -> bool {
         match self {
-            Topic::Check | Topic::Count | Topic::Get | Topic::Diff => true,
+            Topic::Check | Topic::Count | Topic::Get | Topic::Diff | Topic::Delete => true,
             _ => false,
         }
     }
@@ -149,6 +152,14 @@ impl Topic {
                 Setting::Help,
                 Setting::Key,
                 Setting::Value,
+                Setting::Whole,
+                Setting::Hash,
+                Setting::Progress,
+                Setting::BreakLinks,
+            ],
+            Topic::Delete => &[
+                Setting::Help,
+                Setting::Key,
                 Setting::Whole,
                 Setting::Hash,
                 Setting::Progress,

@@ -92,6 +92,7 @@ pub enum Command {
         breaks_links: bool,
         has_progress: bool,
     },
+    Delete(DeleteOptions),
     Rebuild(RebuildOptions),
     Diff(DiffOptions),
 }

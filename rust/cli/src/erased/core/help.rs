@@ -57,6 +57,10 @@ fn summary_of(topic: Topic) -> &'static str {
                      makes a table file of the lines of standard input\n"
         }
         Topic::Put => "odht put FILE        adds the lines of standard input to a table file\n",
+        Topic::Delete => {
+            "odht delete FILE KEY..
+                     takes keys out of a table file\n"
+        }
         Topic::Rebuild =>
             "odht rebuild FILE    makes a table file anew, of another load factor or hash function\n",
         // end summaries
@@ -85,6 +89,7 @@ fn text_of(topic: Topic) -> &'static str {
         Topic::Order => ORDER,
         Topic::Build => BUILD,
         Topic::Put => PUT,
+        Topic::Delete => DELETE,
         Topic::Rebuild => REBUILD,
         // end names
     }
@@ -218,6 +223,23 @@ odht put FILE [--key SHAPE] [--value SHAPE] [--whole] [--hash fx|unhash]
     hexadecimal digits. Owner, group, permissions and symbolic links of the file are
     kept; one with hard links is not replaced without --break-links, with which its
     other names keep the old file.
+";
+
+const DELETE: &str = "\
+odht delete FILE KEY.. [--key SHAPE] [--whole] [--hash fx|unhash]
+                       [--progress] [--break-links]
+    Makes a new table of the slot count, the load factor and the hash function of
+    FILE, inserts the pairs of all other keys in slot order, and stores it in the
+    place of the older one, which stays where something fails; `odht rebuild` makes
+    it smaller. A line on standard error tells of each key that is absent, and the
+    status is then 1; the others are taken out all the same. Where a word is no key
+    nothing is written. The file is checked before, as by `odht check`; --whole is
+    as there. The hash function is the one that all control bytes fit, unless --hash
+    names it; --key names another text than that of the ready shape, as in `odht
+    build`; where no ready shape has these sizes keys are hexadecimal digits. Owner,
+    group, permissions and symbolic links of the file are kept; one with hard links
+    is not replaced without --break-links, with which its other names keep the old
+    file.
 ";
 
 const REBUILD: &str = "\

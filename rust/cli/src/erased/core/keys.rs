@@ -5,10 +5,11 @@ use crate::erased::core::failure::{Failure, LineFault};
 use crate::erased::core::forms::Form;
 use crate::erased::core::lines::{is_left_out, read_line};
 use crate::erased::core::misread::Misread;
+use crate::erased::core::shown::Shown;
 use crate::erased::core::text::Text;
 use crate::host::prelude::*;
 use crate::shim::Global;
-use std::io::{self, BufRead};
+use std::io::{self, BufRead, Write};
 
 /// The keys of the words, or the first word that is none.
 pub fn parse_keys<K: Text>(alloc: Global, words: &[String], form: Form) -> Result<Vec<K>, Failure> {
@@ -33,6 +34,12 @@ fn wrong_key<K: Text>(alloc: Global, word: &str, form: Form) -> Failure {
         Ok(message) => Failure::Misread(message),
         Err(_) => Failure::Memory,
     }
+}
+
+/// Writes a line of this key, which is to be deleted, and is absent.
+pub fn write_absent<E: Write>(file: &str, word: &str, errors: &mut E) -> io::Result<()> {
+    let word = Shown(word.as_bytes());
+    writeln!(errors, "odht: {file}: the key {word} is absent")
 }
 
 /// Adds a key.

@@ -82,6 +82,7 @@ where
             read_files(rt, file, others, at, &reading, input, output, errors)
         }
         Command::Build(options) => build::build(rt, file, options, input, output, errors),
+        Command::Delete(options) => delete::delete(rt, file, &options, errors),
         Command::Rebuild(options) => rebuild::rebuild(rt, file, options, errors),
         Command::Diff(options) => diff::diff(rt, file, options, input, output, errors),
         Command::Put { hash, kinds, bound, breaks_links, has_progress } => {

@@ -165,7 +165,10 @@ impl Draft {
     fn command(self, is_stream: bool) -> Result<Command, CommandMisuse> {
         match self.topic {
             Topic::Build => self.build(),
-            Topic::Put | Topic::Rebuild if is_stream => Err(CommandMisuse::Replaced),
+            Topic::Put | Topic::Delete | Topic::Rebuild if is_stream => {
+                Err(CommandMisuse::Replaced)
+            }
+            Topic::Delete => self.delete(),
             Topic::Rebuild => Ok(Command::Rebuild(self.rebuilding())),
             Topic::Put => Ok(Command::Put {
                 hash: self.hash,
@@ -182,6 +185,21 @@ impl Draft {
                 Ok(Command::Read { others: self.words, at: self.at, reading })
             }
         }
+    }
+
+    // `delete`, of which the words are keys.
+    fn delete(self) -> Result<Command, CommandMisuse> {
+        if self.words.is_empty() {
+            return Err(CommandMisuse::Missing("KEY"));
+        }
+        Ok(Command::Delete(DeleteOptions {
+            words: self.words,
+            hash: self.hash,
+            kinds: self.kinds,
+            bound: bound_of(self.is_whole),
+            breaks_links: self.breaks_links,
+            has_progress: self.has_progress,
+        }))
     }
 
     // What is said to `rebuild`.

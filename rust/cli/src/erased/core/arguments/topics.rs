@@ -18,6 +18,7 @@ pub enum Topic {
     Order,
     Build,
     Put,
+    Delete,
     Rebuild,
 }
 
@@ -33,6 +34,7 @@ pub(crate) const TOPICS: [Topic; 11] = [
     Topic::Order,
     Topic::Build,
     Topic::Put,
+    Topic::Delete,
     Topic::Rebuild,
 ];
 
@@ -60,6 +62,7 @@ impl Topic {
             Topic::Order => "order",
             Topic::Build => "build",
             Topic::Put => "put",
+            Topic::Delete => "delete",
             Topic::Rebuild => "rebuild",
         }
     }
@@ -67,7 +70,7 @@ impl Topic {
     /// Whether words may come after the file: more files, or keys.
     pub(crate) fn takes_words(self) -> bool {
         match self {
-            Topic::Check | Topic::Count | Topic::Get => true,
+            Topic::Check | Topic::Count | Topic::Get | Topic::Delete => true,
             _ => false,
         }
     }
@@ -113,6 +116,14 @@ impl Topic {
                 Setting::Help,
                 Setting::Key,
                 Setting::Value,
+                Setting::Whole,
+                Setting::Hash,
+                Setting::Progress,
+                Setting::BreakLinks,
+            ],
+            Topic::Delete => &[
+                Setting::Help,
+                Setting::Key,
                 Setting::Whole,
                 Setting::Hash,
                 Setting::Progress,
