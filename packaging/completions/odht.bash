@@ -6,11 +6,11 @@ _odht() {
         before=${COMP_WORDS[COMP_CWORD-2]}
     fi
     if [ "$COMP_CWORD" = 1 ]; then
-        COMPREPLY=($(compgen -W 'info check count get dump keys find order diff build put rebuild help --help --version' -- "$word"))
+        COMPREPLY=($(compgen -W 'info check count get dump keys find order diff build put delete rebuild help --help --version' -- "$word"))
         return
     fi
     case $before in
-        help) COMPREPLY=($(compgen -W 'info check count get dump keys find order diff build put rebuild' -- "$word")); return;;
+        help) COMPREPLY=($(compgen -W 'info check count get dump keys find order diff build put delete rebuild' -- "$word")); return;;
         --at) COMPREPLY=(); return;;
         --hash) COMPREPLY=($(compgen -W 'fx unhash' -- "$word")); return;;
         --key) COMPREPLY=(); return;;

@@ -13,7 +13,7 @@ complete -c odht -n __fish_use_subcommand -f -a put -d 'adds the lines of standa
 complete -c odht -n __fish_use_subcommand -f -a delete -d 'takes keys out of a table file'
 complete -c odht -n __fish_use_subcommand -f -a rebuild -d 'makes a table file anew, of another load factor or hash function'
 complete -c odht -n __fish_use_subcommand -f -a help -d 'is the help of a command'
-complete -c odht -n '__fish_seen_subcommand_from help' -f -a 'info check count get dump keys find order diff build put rebuild'
+complete -c odht -n '__fish_seen_subcommand_from help' -f -a 'info check count get dump keys find order diff build put delete rebuild'
 complete -c odht -n '__fish_seen_subcommand_from info' -l help
 complete -c odht -n '__fish_seen_subcommand_from info' -l whole
 complete -c odht -n '__fish_seen_subcommand_from info' -l json

@@ -51,6 +51,18 @@ pub struct DiffOptions {
     pub bound: Option<usize>,
 }
 
+/// The options of `delete`.
+pub struct DeleteOptions {
+    /// The keys.
+    pub words: Vec<String>,
+    pub hash: Option<Hash>,
+    pub kinds: Kinds,
+    /// The bound of searches, in groups, by which the file is checked; none with `--whole`.
+    pub bound: Option<usize>,
+    pub breaks_links: bool,
+    pub has_progress: bool,
+}
+
 /// Where the keys of a lookup are.
 pub enum Keys {
     /// These words.
@@ -110,13 +122,13 @@ impl Command {
 /// A command that reads its file alone. A bound is one of searches, in groups; none with `--whole`.
 pub enum Reading {
     // begin readings: made of commands.txt by tools/commands; `make manual` makes it anew
-    Info { bound: Option<usize> },
-    Check { hash: Option<Hash>, bound: Option<usize> },
+    Info { bound: Option<usize>, is_json: bool },
+    Check { hash: Option<Hash>, bound: Option<usize>, is_json: bool },
     Count { hash: Option<Hash>, bound: Option<usize> },
     Get { hash: Option<Hash>, kinds: Kinds, keys: Keys },
-    Dump { hash: Option<Hash>, kinds: Kinds, is_slots: bool },
+    Dump { hash: Option<Hash>, kinds: Kinds, is_slots: bool, is_json: bool },
     Keys { hash: Option<Hash>, kinds: Kinds },
-    Find { bound: Option<usize> },
+    Find { bound: Option<usize>, is_json: bool },
     Order { hash: Option<Hash>, kinds: Kinds, bound: Option<usize> },
     // end readings
 }

@@ -52,6 +52,10 @@ fn summary_of(topic: Topic) -> &'static str {
         Topic::Find => "odht find FILE       tells each table that is inside a file\n",
         Topic::Order =>
             "odht order FILE      tells each pair in an order of inserts that makes the table\n",
+        Topic::Diff => {
+            "odht diff FILE OTHER
+                     tells how the pairs of two tables differ\n"
+        }
         Topic::Build => {
             "odht build FILE --key SHAPE --value SHAPE
                      makes a table file of the lines of standard input\n"
@@ -87,6 +91,7 @@ fn text_of(topic: Topic) -> &'static str {
         Topic::Keys => KEYS,
         Topic::Find => FIND,
         Topic::Order => ORDER,
+        Topic::Diff => DIFF,
         Topic::Build => BUILD,
         Topic::Put => PUT,
         Topic::Delete => DELETE,
@@ -109,7 +114,7 @@ understood.
 
 // begin texts: made of commands.txt by tools/commands; `make manual` makes it anew
 const INFO: &str = "\
-odht info FILE [--whole] [--at OFFSET]
+odht info FILE [--whole] [--json] [--at OFFSET]
     Prints sizes, item and slot count, load factors, the hash function that the
     control bytes agree with, how many items are found by reading one group of
     control bytes, two, and so on, and how many groups the longest search reads
@@ -118,16 +123,26 @@ odht info FILE [--whole] [--at OFFSET]
     The file may have any key and value sizes. Only its header and its length are
     checked. With --at the table begins at that byte of the file; bytes after its
     end are not read.
+    --json         an object of JSON: file, key_bytes, value_bytes, header_bytes,
+                   all_bytes, items, slots, maximum, load_percent,
+                   maximum_load_percent, hash (fx, unhash or null), bound (of
+                   groups; null with --whole), histogram (how many items by one
+                   group, by two, and so on; the 64th has all above), longest_hit
+                   (null without a hash function), longest_miss. A number of
+                   groups that is above the bound is one more than it
 ";
 
 const CHECK: &str = "\
-odht check FILE.. [--whole] [--hash fx|unhash] [--at OFFSET]
+odht check FILE.. [--whole] [--json] [--hash fx|unhash] [--at OFFSET]
     Prints the name of each file, and that it is valid, or the first rule of the
     format that it breaks, and then ends with status 1. A search that may read
     more than 128 groups of control bytes breaks a rule too, so that no file takes
     long to check; with --whole it does not. The shape is the first of the file's
     key and value sizes, and of the hash function that --hash names; `odht build
     --help` lists them. Other sizes are of fx, unless --hash names unhash.
+    --json         an object of JSON for each file: file, valid (true or false),
+                   bound (of groups; null with --whole), rule (the first that it
+                   breaks, or null)
 ";
 
 const COUNT: &str = "\
@@ -151,14 +166,18 @@ odht get FILE KEY.. [--key SHAPE] [--value SHAPE] [--hash fx|unhash]
 ";
 
 const DUMP: &str = "\
-odht dump FILE [--slots] [--key SHAPE] [--value SHAPE] [--hash fx|unhash]
-               [--at OFFSET]
+odht dump FILE [--slots] [--json] [--key SHAPE] [--value SHAPE]
+               [--hash fx|unhash] [--at OFFSET]
     Writes a line for each pair, in slot order: KEY, a tab and VALUE. With --slots
     the slot, the control byte and the number of groups that a search for the key
     looks at stand before them, with tabs too. The hash function is the one that
     all control bytes fit, unless --hash names it. Keys and values have the texts
     of the ready shape, unless --key and --value name others, as in `odht build`;
     where no ready shape has these sizes they are hexadecimal digits.
+    --json         an object of JSON on each line: key and value, strings of these
+                   texts, numbers too; before them with --slots slot, control and
+                   groups, which are numbers. A text:N that is no UTF-8 is, as
+                   key_hex or value_hex, the hexadecimal digits of its bytes
 ";
 
 const KEYS: &str = "\
@@ -170,13 +189,16 @@ odht keys FILE [--key SHAPE] [--hash fx|unhash] [--at OFFSET]
 ";
 
 const FIND: &str = "\
-odht find FILE [--whole]
+odht find FILE [--whole] [--json]
     Prints each table that is inside a file, at whatever byte it begins: its offset,
     for --at, its length, the sizes of keys and values, the item count, the slot
     count, the load in percent, the hash function that the control bytes fit (fx,
     unhash or both), and what the check finds: valid, rejected, or long where a
     search may read more than 128 groups of control bytes (not so with --whole).
     Status 1 where there is none.
+    --json         an object of JSON: file, and tables, an array of objects: offset,
+                   bytes, key_bytes, value_bytes, items, slots, load_percent, hash
+                   and check, as above
 ";
 
 const ORDER: &str = "\
@@ -186,9 +208,22 @@ odht order FILE [--whole] [--key SHAPE] [--value SHAPE]
     into an empty table of as many slots and the same load factor make the same
     bytes. Where no inserts make the table a line on standard error says so, and
     the status is 1. The file is checked before, as by `odht check`; --whole is as
-    there. It has to be of a ready shape. The hash function is the one that all
-    control bytes fit, unless --hash names it; --key and --value name texts other
-    than those of the ready shape, as in `odht build`.
+    there. The hash function is the one that all control bytes fit, unless --hash
+    names it; --key and --value name texts other than those of the ready shape, as
+    in `odht build`.
+";
+
+const DIFF: &str = "\
+odht diff FILE OTHER [--whole] [--key SHAPE] [--value SHAPE]
+                     [--hash fx|unhash]
+    Writes a line for each pair of FILE whose key is not in OTHER, in slot order: a
+    hyphen, KEY and VALUE, with tabs between; where OTHER has another value: ~, KEY,
+    VALUE and that value. Then +, KEY and VALUE for each pair of OTHER whose key is
+    not in FILE, in its slot order. Where no pair differs the one line is `same bytes`
+    or `same pairs, other bytes`. Status 0: the pairs are the same; 1: they differ;
+    2: the command failed. Both files are checked before, as by `odht check`. Their
+    slot counts, load factors and hash functions may differ; their key and value
+    sizes may not. Keys and values have the texts of FILE, as in `odht dump`.
 ";
 
 const BUILD: &str = "\

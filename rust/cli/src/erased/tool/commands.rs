@@ -21,6 +21,7 @@ mod build;
 mod check;
 mod check_json;
 mod count;
+mod delete;
 mod diff;
 mod dump;
 mod dump_json;
@@ -29,7 +30,7 @@ mod find_json;
 mod get;
 mod keys;
 mod order;
-mod rebuild;
+pub mod rebuild;
 
 /// Does what the words ask for. Each failure is reported by a line on `errors`; where that cannot
 /// be written either, the status alone reports it. Where nobody reads `output` any more, nothing is

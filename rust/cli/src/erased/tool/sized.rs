@@ -13,6 +13,7 @@ use crate::proved::tables::memory_layout::{check_opening, check_sized, check_siz
 use crate::proved::tables::{FxHashFn, UnHashFn};
 
 pub mod builds;
+pub mod deletes;
 pub mod diffs;
 pub mod gets;
 pub mod listings;

@@ -2,8 +2,8 @@
 //! A command of which some words are parsed.
 use super::topics::{Setting, Topic};
 use super::{
-    is_stream, BuildOptions, Command, CommandMisuse, DiffOptions, Keys, Misuse, Reading,
-    RebuildOptions, Request,
+    is_stream, BuildOptions, Command, CommandMisuse, DeleteOptions, DiffOptions, Keys, Misuse,
+    Reading, RebuildOptions, Request,
 };
 use crate::erased::core::any::AnyShape;
 use crate::erased::core::digits::parse_number;

@@ -16,6 +16,7 @@ pub enum Topic {
     Keys,
     Find,
     Order,
+    Diff,
     Build,
     Put,
     Delete,
@@ -23,7 +24,7 @@ pub enum Topic {
 }
 
 /// All commands, in the order of the help text.
-pub(crate) const TOPICS: [Topic; 11] = [
+pub(crate) const TOPICS: [Topic; 13] = [
     Topic::Info,
     Topic::Check,
     Topic::Count,
@@ -32,6 +33,7 @@ pub(crate) const TOPICS: [Topic; 11] = [
     Topic::Keys,
     Topic::Find,
     Topic::Order,
+    Topic::Diff,
     Topic::Build,
     Topic::Put,
     Topic::Delete,
@@ -60,6 +62,7 @@ impl Topic {
             Topic::Keys => "keys",
             Topic::Find => "find",
             Topic::Order => "order",
+            Topic::Diff => "diff",
             Topic::Build => "build",
             Topic::Put => "put",
             Topic::Delete => "delete",
@@ -70,7 +73,7 @@ impl Topic {
     /// Whether words may come after the file: more files, or keys.
     pub(crate) fn takes_words(self) -> bool {
         match self {
-            Topic::Check | Topic::Count | Topic::Get | Topic::Delete => true,
+            Topic::Check | Topic::Count | Topic::Get | Topic::Diff | Topic::Delete => true,
             _ => false,
         }
     }
@@ -78,8 +81,10 @@ impl Topic {
     /// Its options.
     pub(crate) fn options(self) -> &'static [Setting] {
         match self {
-            Topic::Info => &[Setting::Help, Setting::Whole, Setting::At],
-            Topic::Check => &[Setting::Help, Setting::Whole, Setting::Hash, Setting::At],
+            Topic::Info => &[Setting::Help, Setting::Whole, Setting::Json, Setting::At],
+            Topic::Check => {
+                &[Setting::Help, Setting::Whole, Setting::Json, Setting::Hash, Setting::At]
+            }
             Topic::Count => &[Setting::Help, Setting::Whole, Setting::Hash, Setting::At],
             Topic::Get => {
                 &[Setting::Help, Setting::Key, Setting::Value, Setting::Hash, Setting::At]
@@ -87,13 +92,14 @@ impl Topic {
             Topic::Dump => &[
                 Setting::Help,
                 Setting::Slots,
+                Setting::Json,
                 Setting::Key,
                 Setting::Value,
                 Setting::Hash,
                 Setting::At,
             ],
             Topic::Keys => &[Setting::Help, Setting::Key, Setting::Hash, Setting::At],
-            Topic::Find => &[Setting::Help, Setting::Whole],
+            Topic::Find => &[Setting::Help, Setting::Whole, Setting::Json],
             Topic::Order => &[
                 Setting::Help,
                 Setting::Whole,
@@ -102,6 +108,9 @@ impl Topic {
                 Setting::Hash,
                 Setting::At,
             ],
+            Topic::Diff => {
+                &[Setting::Help, Setting::Whole, Setting::Key, Setting::Value, Setting::Hash]
+            }
             Topic::Build => &[
                 Setting::Help,
                 Setting::Key,
@@ -152,6 +161,7 @@ impl fmt::Display for Topic {
 pub enum Setting {
     Help,
     Slots,
+    Json,
     Whole,
     Progress,
     BreakLinks,
@@ -183,6 +193,7 @@ impl Setting {
         match self {
             Setting::Help => "--help",
             Setting::Slots => "--slots",
+            Setting::Json => "--json",
             Setting::Whole => "--whole",
             Setting::Progress => "--progress",
             Setting::BreakLinks => "--break-links",
@@ -200,6 +211,7 @@ impl Setting {
         match self {
             Setting::Help
             | Setting::Slots
+            | Setting::Json
             | Setting::Whole
             | Setting::Progress
             | Setting::BreakLinks => None,

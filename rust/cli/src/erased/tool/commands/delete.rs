@@ -52,7 +52,8 @@ fn deleted<R: AllocGlobal + Clock, E: Write>(
     options: &DeleteOptions,
     errors: &mut E,
 ) -> Result<(Vec<u8>, Status), Failure> {
-    let (bytes, words) = (bytes.as_slice(), options.words.as_slice());
+    let bytes = bytes.as_slice();
+    let words = options.words.as_slice();
     let found = read_any(bytes, options.hash, options.kinds)?;
     let (shape, forms) = found;
     match check_any(shape, bytes, options.bound) {
