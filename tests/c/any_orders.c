@@ -33,27 +33,34 @@ static void check_unwritten(const size_t *sizes, size_t count)
     ALL_BYTES((const uint8_t *)sizes, count * sizeof *sizes, FILL);
 }
 
-/* The answer and the order for each length of scratch: this status, and one order, which is returned. */
-static const size_t *order_of(const struct reading *table, size_t items, uint32_t status)
+/* The slots that the call writes with so many numbers of scratch, and this status. */
+static const size_t *order_with(const struct reading *table, size_t items, size_t scratch_len,
+                                uint32_t status)
 {
     odht_layout layout = layout_of(table->shape);
-    const size_t *first = NULL;
+    size_t *scratch = sizes_of(scratch_len);
+    size_t *slots = sizes_of(items);
+
+    STATUS(odht_any_insert_order(&layout, table->bytes, table->len, slots, items, scratch,
+                                 scratch_len),
+           status);
+    /* enough scratch is used */
+    if (scratch_len >= ENOUGH)
+        HOLDS(scratch[0] != *sizes_of(1));
+    return slots;
+}
+
+/* The same status for each length of scratch, and with ODHT_OK one order, which is returned. */
+static const size_t *order_of(const struct reading *table, size_t items, uint32_t status)
+{
+    const size_t *first = order_with(table, items, scratch_lens[0], status);
 
     freeze(table->bytes);
-    for (size_t row = 0; row < sizeof scratch_lens / sizeof scratch_lens[0]; row++) {
-        size_t scratch_len = scratch_lens[row];
-        size_t *scratch = sizes_of(scratch_len);
-        size_t *slots = sizes_of(items);
+    for (size_t row = 1; row < sizeof scratch_lens / sizeof scratch_lens[0]; row++) {
+        const size_t *slots = order_with(table, items, scratch_lens[row], status);
 
-        STATUS(odht_any_insert_order(&layout, table->bytes, table->len, slots, items, scratch,
-                                     scratch_len),
-               status);
-        /* the search in time in proportion to the slots has written to it */
-        if (scratch_len >= ENOUGH)
-            HOLDS(scratch[0] != *sizes_of(1));
-        if (first != NULL && status == ODHT_OK)
+        if (status == ODHT_OK)
             SAME_BYTES(slots, first, items * sizeof *slots);
-        first = first == NULL ? slots : first;
     }
     return first;
 }
@@ -140,6 +147,26 @@ static struct reading exchanged_table(struct shape shape)
     return table;
 }
 
+/* The orders of a full table, and of one that no inserts make, where keys are long enough for these. */
+static void orders_of_lengths(struct shape shape, struct random *random)
+{
+    size_t before = buffer_count();
+    size_t least = shape.hash == FX ? 1 : 4;
+
+    in_case("key and value", 1000 * shape.key + shape.value);
+    if (shape.key >= least) {
+        struct reading table = random_table(shape, random);
+
+        check_order(&table, order_of(&table, MOST, ODHT_OK), MOST);
+    }
+    if (shape.key >= least && shape.key > 1) {
+        struct reading table = exchanged_table(shape);
+
+        order_of(&table, IN_HOMES, ODHT_UNMADE);
+    }
+    drop_buffers_since(before);
+}
+
 static void orders_make_tables_of_many_lengths(void)
 {
     static const size_t key_lens[] = { 1, 2, 3, 4, 5, 8, 12, 16, 19, 20, 32, 33, 255 };
@@ -147,24 +174,13 @@ static void orders_make_tables_of_many_lengths(void)
     struct random random = { 74 };
 
     for (size_t key = 0; key < sizeof key_lens / sizeof key_lens[0]; key++)
-        for (size_t value = 0; value < sizeof value_lens / sizeof value_lens[0]; value++)
-            for (enum hash hash = FX; hash <= UN; hash++) {
-                struct shape shape = { key_lens[key], value_lens[value], hash };
-                size_t before = buffer_count();
+        for (size_t value = 0; value < sizeof value_lens / sizeof value_lens[0]; value++) {
+            struct shape by_fx = { key_lens[key], value_lens[value], FX };
+            struct shape by_un = { key_lens[key], value_lens[value], UN };
 
-                in_case("key and value", 1000 * shape.key + shape.value);
-                if (hash == FX || shape.key >= 4) {
-                    struct reading table = random_table(shape, &random);
-
-                    check_order(&table, order_of(&table, MOST, ODHT_OK), MOST);
-                }
-                if (shape.key >= (hash == FX ? 2 : 4)) {
-                    struct reading table = exchanged_table(shape);
-
-                    order_of(&table, IN_HOMES, ODHT_UNMADE);
-                }
-                drop_buffers_since(before);
-            }
+            orders_of_lengths(by_fx, &random);
+            orders_of_lengths(by_un, &random);
+        }
 }
 
 static void orders_are_those_of_the_shapes(void)
@@ -262,8 +278,8 @@ static void spoiled_bytes_have_the_answers_of_the_shape(void)
 static void an_empty_table_has_an_order(void)
 {
     odht_layout layout = { 3, 0, ODHT_HASH_FX };
-    const uint8_t *bytes = empty_table(layout, image_len((struct shape){ 3, 0, FX }, SLOTS));
     size_t len = image_len((struct shape){ 3, 0, FX }, SLOTS);
+    const uint8_t *bytes = empty_table(layout, len);
 
     freeze(bytes);
     STATUS(odht_any_insert_order(&layout, bytes, len, sizes_of(0), 0, sizes_of(48), 48), ODHT_OK);

@@ -61,8 +61,8 @@ impl Histogram {
         Ok(())
     }
 
-    /// Writes an array of JSON: for each number of groups up to the largest the count. The last of 64 counts is that of all
-    /// larger numbers too.
+    /// Writes an array of JSON: for each number of groups up to the largest the count. The last of 64 counts is that
+    /// of all larger numbers too.
     pub fn write_array<W: Write>(&self, output: &mut W) -> io::Result<()>
         requires { length self.now.counts.items ≡ 64 }
         ensures { OnOk result (Appends (W.contents output.old) (W.contents output.new)

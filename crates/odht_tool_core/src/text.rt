@@ -49,7 +49,7 @@ pub trait Text: Copy {
         ensures value { IfSome result (stands_for form word.now) }
         ensures some { IsSome result ↔ is_word form word.now };
 
-    /// The text, where it may have any bytes. None where each is a character that stands for itself in a string of JSON.
+    /// The text, where it may have any bytes. None where each is a character that stands for itself in strings of JSON.
     fn plain_bytes(&self, form: Form) -> Option<&[u8]>
         ensures some { IfSome result (λ t. t.now ≡ text form self.now) }
         ensures none { IsNone result → AllPass is_simple (text form self.now) };

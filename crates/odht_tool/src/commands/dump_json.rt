@@ -23,8 +23,8 @@ use odht_tool_core::status::{Status, of_output};
 use odht_tool_core::text::Text;
 use std::io::{self, Write};
 
-/// `odht dump --json` of the bytes of a file, with `--slots` or without: writes an object for each pair, in slot order, on a
-/// line.
+/// `odht dump --json` of the bytes of a file, with `--slots` or without: writes an object for each pair, in slot order, on
+/// a line.
 pub fn dump_file<O: Write>(
     bytes: &[u8],
     hash: Option<Hash>,

@@ -24,8 +24,8 @@ use odht_tool_core::shapes::Hash;
 use odht_tool_core::status::{Status, of_output};
 use std::io::{self, Write};
 
-/// `odht dump --json` of bytes of a shape, with `--slots` or without: writes an object for each pair, in slot order, on a
-/// line.
+/// `odht dump --json` of bytes of a shape, with `--slots` or without: writes an object for each pair, in slot order, on
+/// a line.
 pub fn dump_other<O: Write>(
     shape: OtherShape,
     bytes: &[u8],

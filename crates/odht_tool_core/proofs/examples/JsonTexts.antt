@@ -1,17 +1,19 @@
 -- Worked examples: texts of JSON.
-use Rattle.std.proofs.Common.{◌≡◌, true, false, refl, [], ◌∷◌, Some, None}
+use Rattle.std.proofs.Common.{◌≡◌, true, false, refl, [], ◌∷◌, ◌++◌, Some, None, ap₂}
 use Rattle.std.specs.Prelude.{codes}
 use Rattle.std.specs.Fmt.{digits}
 use Rattle.std.specs.Char.{encode_utf8}
 use Rattle.std.specs.Str.{chars, is_utf8}
 use Rattle.odht_header.proofs.examples.Opened.{opened}
 use Rattle.odht_tool_core.specs.FindJson.{table_object}
-use Rattle.odht_tool_core.specs.InfoJson.{counts_array, hash_or_null, longest_hit}
-use Rattle.odht_tool_core.specs.InfoNumbers.{tallies}
+use Rattle.odht_tool_core.specs.InfoJson.{count_fields, counts_array, hash_or_null, info_as, length_fields, longest_hit}
+use Rattle.odht_tool_core.specs.InfoNumbers.{tallies, largest, IsHistogram}
 use Rattle.odht_tool_core.specs.Json.{is_simple, json_object, json_string, number_field, number_or_null, pair_object, string_field, text_field, truth}
 use Rattle.odht_tool_core.specs.JsonSlots.{slot_object}
 use Rattle.odht_tool_core.specs.Texts.{hex_text}
-use Rattle.odht_tool_core.specs.declared.shapes.Hash.TheVariants.{Fx}
+use Rattle.odht_tool_core.specs.declared.histogram.Histogram.{Histogram}
+use Rattle.odht_tool_core.specs.declared.numbers.Numbers.{Numbers}
+use Rattle.odht_tool_core.specs.declared.shapes.Hash.TheVariants.{Fx, Unhash}
 use Rattle.odht_tool_core.proofs.examples.Shapes.{one_bytes}
 
 -- a quote and a backslash, bytes below 32, and an e with an accent
@@ -42,6 +44,29 @@ pairs = (refl, refl)
 pub counts : (counts_array (tallies (1 ∷ 3 ∷ 1 ∷ [])) 3 ≡ codes "[2,0,1]") × (counts_array (tallies []) 0 ≡ codes "[]") × (longest_hit None 0 ≡ None) × (longest_hit (Some Fx) 3 ≡ Some 3) × (hash_or_null (Some Fx) ≡ codes "\"fx\"") × (hash_or_null None ≡ codes "null")
 unfolding tallies digits
 counts = (refl, refl, refl, refl, refl, refl)
+
+-- all numbers of a table
+abbrev one : Histogram → Numbers
+one h = record {
+  key_size = 4;
+  value_size = 4;
+  len = 192;
+  item_count = 1;
+  slot_count = 16;
+  max_item_count = 1;
+  load = 6;
+  max_load = 7;
+  hash = Some Unhash;
+  bound = Some 128;
+  histogram = h;
+  longest_miss = 1;
+}
+
+pub whole : (h : Histogram) → IsHistogram (1 ∷ []) h → info_as true (codes "a") (one h) ≡ codes "{\"file\":\"a\",\"key_bytes\":4,\"value_bytes\":4,\"header_bytes\":32,\"all_bytes\":192,\"items\":1,\"slots\":16,\"maximum\":1,\"load_percent\":6,\"maximum_load_percent\":7,\"hash\":\"unhash\",\"bound\":128,\"histogram\":[1],\"longest_hit\":1,\"longest_miss\":1}\n"
+unfolding tallies largest digits
+whole h is =
+    let front = string_field (codes "file") (codes "a") ∷ (length_fields (one h) ++ count_fields (one h)) in
+    ap₂ (λ cs l. json_object (front ++ ((codes "hash", hash_or_null (Some Unhash)) ∷ (codes "bound", number_or_null (Some 128)) ∷ (codes "histogram", counts_array cs l) ∷ (codes "longest_hit", number_or_null (longest_hit (Some Unhash) l)) ∷ number_field (codes "longest_miss") 1 ∷ [])) ++ (10 ∷ [])) is.counts is.longest
 
 -- a table inside a file
 pub found : table_object 2 one_bytes (codes "valid") ≡ codes "{\"offset\":2,\"bytes\":192,\"key_bytes\":4,\"value_bytes\":4,\"items\":1,\"slots\":16,\"load_percent\":6,\"hash\":\"unhash\",\"check\":\"valid\"}"

@@ -22,8 +22,8 @@ use odht_header::config::{Coded, Config};
 use odht_raw::memory_layout::{Allocation, Entries};
 use std::io::{self, Write};
 
-/// `odht dump --slots --json` of bytes of a configuration: writes an object for each occupied slot, in slot order, in texts
-/// of these forms.
+/// `odht dump --slots --json` of bytes of a configuration: writes an object for each occupied slot, in slot order, in
+/// texts of these forms.
 pub fn dump_slot_objects<C: Config, F: Forms, O: Write>(
     bytes: &[u8],
     forms: F,
