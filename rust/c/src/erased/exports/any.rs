@@ -255,9 +255,9 @@ pub unsafe extern "C" fn odht_any_walk(
 /// then `out` and `scratch` are unchanged.
 ///
 /// `scratch` is memory for the search, whatever it holds; what it holds after status 0 and `UNMADE` is unspecified.
-/// Allocates nothing. It costs the whole check, and then, with three numbers of scratch for each slot or more, time in
-/// proportion to the slots, and to the groups that the longest search of each home reads. With fewer these are the
-/// passes over the items of the shapes' calls.
+/// Allocates nothing. It costs the whole check; and then, with three numbers of scratch for each slot or more, time in
+/// proportion to the slots, and to the groups that the longest search of each home reads, and with fewer the passes
+/// over the items of the shapes' calls.
 #[unsafe(no_mangle)]
 pub unsafe extern "C" fn odht_any_insert_order(
     layout: &AnyLayout,

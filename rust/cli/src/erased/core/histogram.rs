@@ -40,8 +40,8 @@ impl Histogram {
         Ok(())
     }
 
-    /// Writes an array of JSON: for each number of groups up to the largest the count. The last of 64 counts is that of all
-    /// larger numbers too.
+    /// Writes an array of JSON: for each number of groups up to the largest the count. The last of 64 counts is that
+    /// of all larger numbers too.
     pub fn write_array<W: Write>(&self, output: &mut W) -> io::Result<()> {
         output.write_all(b"[")?;
         self.write_counts(output)?;

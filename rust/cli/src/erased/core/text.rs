@@ -19,7 +19,7 @@ pub trait Text: Copy {
     /// The value of which the word is the text. None where it is the text of no such value.
     fn parse(word: &[u8], form: Form) -> Option<Self>;
 
-    /// The text, where it may have any bytes. None where each is a character that stands for itself in a string of JSON.
+    /// The text, where it may have any bytes. None where each is a character that stands for itself in strings of JSON.
     fn plain_bytes(&self, form: Form) -> Option<&[u8]>;
 
     /// Writes the text.

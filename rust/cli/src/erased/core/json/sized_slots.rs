@@ -10,8 +10,8 @@ use crate::proved::base::swisstable_group_query::is_empty_or_deleted;
 use crate::proved::raw::raw_table::SizedTable;
 use std::io::{self, Write};
 
-/// Writes an object for each occupied slot, in slot order, on a line: its number, its control byte, how many groups a search
-/// reads, and its pair.
+/// Writes an object for each occupied slot, in slot order, on a line: its number, its control byte, how many groups a
+/// search reads, and its pair.
 pub fn write_sized_objects<H: HashFn, O: Write>(
     table: &SizedTable<'_, H>,
     output: &mut O,

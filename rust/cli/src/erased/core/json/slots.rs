@@ -15,8 +15,8 @@ use crate::proved::header::config::Config;
 use crate::proved::raw::memory_layout::{Allocation, Entries};
 use std::io::{self, Write};
 
-/// `odht dump --slots --json` of bytes of a configuration: writes an object for each occupied slot, in slot order, in texts
-/// of these forms.
+/// `odht dump --slots --json` of bytes of a configuration: writes an object for each occupied slot, in slot order, in
+/// texts of these forms.
 pub fn dump_slot_objects<C: Config, F: Forms, O: Write>(
     bytes: &[u8],
     forms: F,

@@ -17,8 +17,8 @@ use crate::proved::tables::config::Config;
 use crate::proved::tables::{HashTable, Iter};
 use std::io::{self, Write};
 
-/// `odht dump --json` of the bytes of a file, with `--slots` or without: writes an object for each pair, in slot order, on a
-/// line.
+/// `odht dump --json` of the bytes of a file, with `--slots` or without: writes an object for each pair, in slot order, on
+/// a line.
 pub fn dump_file<O: Write>(
     bytes: &[u8],
     hash: Option<Hash>,

@@ -15,8 +15,8 @@ use crate::proved::tables::raw_table::SizedIter;
 use crate::proved::tables::{FxHashFn, UnHashFn};
 use std::io::{self, Write};
 
-/// `odht dump --json` of bytes of a shape, with `--slots` or without: writes an object for each pair, in slot order, on a
-/// line.
+/// `odht dump --json` of bytes of a shape, with `--slots` or without: writes an object for each pair, in slot order, on
+/// a line.
 pub fn dump_other<O: Write>(
     shape: OtherShape,
     bytes: &[u8],
