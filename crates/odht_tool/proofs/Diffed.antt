@@ -1,5 +1,5 @@
 -- Two tables that are compared.
-use Rattle.std.proofs.Common.{◌≡◌, ◌∙◌, ◌++◌, ◌∷◌, [], ◌==◌, ◌&&◌, ◌<◌, ℕ, suc, Bool, true, false, true≢false, List, Option, Some, None, Ok, Err, Bor, All, IfSome, length, refl, sym, ap, subst, arith}
+use Rattle.std.proofs.Common.{◌≡◌, ◌∙◌, ◌++◌, ◌∷◌, [], ◌==◌, ◌&&◌, ℕ, suc, Bool, true, false, true≢false, List, Option, Some, None, Ok, Err, Bor, All, IfSome, length, refl, sym, ap, arith}
 use Rattle.std.specs.Prelude.{option_map}
 use Rattle.std.specs.Option.{option_copied}
 use Rattle.std.specs.Io.KnownBytes.{Appends}
@@ -20,7 +20,6 @@ use Rattle.odht_tool_core.specs.Endings.{IsDone, IsOutputFailure}
 use Rattle.odht_tool_core.specs.ReadyShapes.{hash_of, typed_len}
 use Rattle.odht_tool_core.specs.StoredTexts.{key_text, texts_of, value_text}
 use Rattle.odht_tool_core.specs.declared.any.AnyShape.{AnyShape}
-use Rattle.odht_tool_core.specs.declared.any.AnyShape.TheVariants.{Ready, Other}
 use Rattle.odht_tool_core.specs.declared.failure.Failure.{Failure}
 use Rattle.odht_tool_core.specs.declared.forms.GivenForms.{GivenForms}
 use Rattle.odht_tool_core.specs.declared.shapes.Hash.{Hash}

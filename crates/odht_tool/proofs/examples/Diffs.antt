@@ -2,7 +2,7 @@
 --     it k v               the pair of the texts k and v
 --     old, new             two lists of pairs
 --     numbers k v          the own texts of keys of the type k and values of the type v
-use Rattle.std.proofs.Common.{◌≡◌, ℕ, refl, arith, List, [], ◌∷◌, ◌++◌, true, false, Some, None, Ok, Err}
+use Rattle.std.proofs.Common.{◌≡◌, ℕ, refl, arith, List, [], ◌∷◌, true, false, Some, None, Ok, Err}
 use Rattle.std.specs.Prelude.{codes}
 use Rattle.std.specs.Fmt.{digits}
 use Rattle.odht_base.specs.Bounds.{first_longer}
@@ -13,6 +13,7 @@ use Rattle.odht_base.proofs.lemmas.FreeSlots.{fresh-IsValid}
 use Rattle.odht_header.specs.declared.error.Error.TheVariants.{TooShort, SearchTooLong}
 use Rattle.odht_header.proofs.examples.Apart.{unequal_lists}
 use Rattle.odht_header.proofs.examples.Opened.{opened}
+use Rattle.odht_raw.proofs.lemmas.Accepted.{IsAccepted-IsValidBytes}
 use Rattle.odht_tool.specs.Diffs.{FitTexts, change_line, diff_line, diff_of, diff_text, have_same_sizes, pairs_diff, same_text, side_line, side_mark, side_text, sizes_of, sizes_text, told, whole_any}
 use Rattle.odht_tool.specs.declared.sized.diffs.Side.TheVariants.{First, Second}
 use Rattle.odht_tool_core.specs.Endings.Outcome.{writes}
@@ -109,13 +110,14 @@ pub other_value : (B : List ℕ) → FitTexts (numbers U64 U64) (shape_format U6
 other_value B h = let e = h.value in omega arith
 
 pub no_table : FitTexts (numbers U64 U32) (shape_format U64ToU32) [] → ⊥
-no_table h = let e = h.valid.1.bytes in cc
+unfolding opened
+no_table h = let accepted = IsAccepted-IsValidBytes (shape_format U64ToU32) [] h.valid in cc
 
 -- a table of the value 7 for the key 5, and the same with the value 9
 pub tables : (diff_of (Ready DirectU32ToU32) (record { key = Own; value = Own }) one_bytes (Ready DirectU32ToU32) one_bytes ≡ writes (codes "same bytes\n") Done)
     × (diff_of (Ready DirectU32ToU32) (record { key = Own; value = Own }) one_bytes (Ready DirectU32ToU32) (overwritten_at one_bytes 76 (9 ∷ []))
     ≡ writes (codes "~\t5\t7\t9\n") NotDone)
-unfolding digits
+unfolding opened digits
 tables = (refl, refl)
 
 -- ---- of two files

@@ -1,4 +1,4 @@
-use Rattle.std.proofs.Common.{rules, ◌≡◌, ◌∙◌, Err, None, Ok, Some, sym, ap}
+use Rattle.std.proofs.Common.{rules, ◌≡◌, ◌∙◌, Err, None, Some, sym, ap}
 use Rattle.odht_header.specs.Refusals.{check_refusal_by}
 use Rattle.odht_header.proofs.lemmas.FirstErrors.{Ok-checked, Err-checked}
 use Rattle.odht_tool.specs.Diffs.{passed, whole_of}

@@ -1,4 +1,4 @@
-use Rattle.std.proofs.Common.{rules, ◌≡◌, ◌∙◌, List, sym, subst}
+use Rattle.std.proofs.Common.{rules, ◌≡◌, ◌∙◌, sym, subst}
 use Rattle.odht.specs.Dynamic.{dyn_format}
 use Rattle.odht_base.specs.Decoded.{decoded_pairs}
 use Rattle.odht_base.specs.Format.{Format, format_of}

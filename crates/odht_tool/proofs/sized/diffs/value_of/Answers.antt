@@ -1,4 +1,4 @@
-use Rattle.std.proofs.Common.{rules, ◌≡◌, ◌≤◌, arith}
+use Rattle.std.proofs.Common.{◌≤◌, arith}
 use Rattle.odht.specs.Dynamic.{dyn_format}
 use Rattle.odht_base.specs.Format.{Format, IsFormat}
 use Rattle.odht_header.proofs.lemmas.Formats.{IsFormat-format_of}
