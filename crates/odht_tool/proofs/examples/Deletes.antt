@@ -7,6 +7,7 @@ use Rattle.odht_base.specs.Map.{map_of}
 use Rattle.odht_base.specs.Table.{Pair, Table, empty, walk}
 use Rattle.odht_base.proofs.lemmas.FreeSlots.{fresh-IsValid}
 use Rattle.odht_header.specs.declared.error.Error.TheVariants.{TooShort, SearchTooLong}
+use Rattle.odht_base.specs.Bounds.{first_longer}
 use Rattle.odht_header.proofs.examples.Opened.{opened}
 use Rattle.odht.proofs.lemmas.ListInserts.{inserted_none}
 use Rattle.odht_tool.specs.Deletes.{IsDeleted, IsDeleteFailure, absent_lines, cleared, have_values, is_among, without}
@@ -71,7 +72,7 @@ unfolding opened
 other_rule h = let both : Memory ≡ Refused (TooShort 2) = h in cc
 
 pub bound : IsDeleteFailure one_bytes None own (Some 0) [] (Refused (SearchTooLong 0 0))
-unfolding opened
+unfolding opened first_longer
 bound = refl
 
 pub other_text : IsDeleteFailure one_bytes None (record { key = Some (record { part = U64; form = Own }); value = None }) None [] (OtherKey U32)
