@@ -167,7 +167,8 @@ fn texts_comments_and_operators_stay() {
 #[test]
 fn macros_that_are_declared_are_kept() {
     let source = "macro_rules! m { ($a:expr) => { $a::<low::b, C>() } } fn f() { m!(x) }";
-    let wanted = "macro_rules! m { ($a:expr) => { $a::<crate::all::low::b, C>() } } fn f() { m!(x) }";
+    let wanted =
+        "macro_rules! m { ($a:expr) => { $a::<crate::all::low::b, C>() } } fn f() { m!(x) }";
     all_leave(&[(source, wanted)]);
 }
 
