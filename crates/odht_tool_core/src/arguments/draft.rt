@@ -2,8 +2,7 @@
 use super::topics::{Setting, Topic};
 use super::{
     BuildOptions, Command, CommandMisuse, DeleteOptions, DiffOptions, Keys, Misuse, Reading,
-    RebuildOptions,
-    Request, is_stream,
+    RebuildOptions, Request, is_stream,
 };
 use crate::any::AnyShape;
 use crate::digits::parse_number;
