@@ -1,5 +1,5 @@
 # made by tools/manual.py of the program's help texts
-complete -c odht -n __fish_use_subcommand -f -a info -d 'tells what a table file holds, of any key and value sizes'
+complete -c odht -n __fish_use_subcommand -f -a info -d 'tells what each table file holds, of any key and value sizes'
 complete -c odht -n __fish_use_subcommand -f -a check -d 'tells whether each file is a valid table'
 complete -c odht -n __fish_use_subcommand -f -a count -d 'tells how many items each table has'
 complete -c odht -n __fish_use_subcommand -f -a get -d 'looks keys up; with - instead of keys, those of standard input'

@@ -227,7 +227,7 @@ fn run_reading<I: BufRead, O: Write, E: Write>(
 ) -> Result<Status, Failure> {
     match reading {
         Reading::Info { bound, is_json } => {
-            info_file(alloc, file, bytes, *bound, *is_json, output)
+            info_file(alloc, file, is_one, bytes, *bound, *is_json, output)
         }
         Reading::Check {
             hash,

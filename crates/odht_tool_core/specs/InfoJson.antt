@@ -3,7 +3,8 @@
 --     hash_or_null h       the name of the hash function, or null where there is none
 --     longest_hit h l      the longest search for a present key, where there is a hash function
 --     info_object name n   the object of the file of this name, on a line
---     info_as j name n     that; without j the lines of `info`
+--     named_text o name n  the lines of `info`, after a line of the file's name where it is not the only one, o
+--     info_as j o name n   the object; without j these lines
 -- A number of groups that is above the bound is one more than the bound.
 use Rattle.std.specs.Prelude.{ℕ, Bool, min, ◌==◌, List, [], ◌∷◌, ◌++◌, flat_map, slice_index, codes, decimal, Option, Some, None, if◌then◌else◌}
 use Rattle.std.specs.List.{range_with_len}
@@ -60,5 +61,11 @@ info_object name n =
     json_object (string_field (codes "file") name ∷ (length_fields n ++ (count_fields n ++ ((codes "hash", hash_or_null n.hash) ∷ group_fields n))))
     ++ (10 ∷ [])
 
-abbrev pub info_as : Bool → List ℕ → Numbers → List ℕ
-info_as is_json name n = if is_json then info_object name n else info_text n
+abbrev pub file_line : List ℕ → List ℕ
+file_line name = codes "file          " ++ (name ++ (10 ∷ []))
+
+abbrev pub named_text : Bool → List ℕ → Numbers → List ℕ
+named_text is_one name n = if is_one then info_text n else file_line name ++ info_text n
+
+abbrev pub info_as : Bool → Bool → List ℕ → Numbers → List ℕ
+info_as is_json is_one name n = if is_json then info_object name n else named_text is_one name n

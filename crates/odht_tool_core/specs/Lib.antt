@@ -63,3 +63,5 @@ pub mod JsonSlots
 pub mod InfoJson
 -- what `find --json` writes of a table
 pub mod FindJson
+-- the lines of progress
+pub mod Progress

@@ -40,7 +40,7 @@ fn summary_of(topic: Topic) -> &'static str {
     match topic {
         // begin summaries: made of commands.txt by tools/commands; `make manual` makes it anew
         Topic::Info =>
-            "odht info FILE       tells what a table file holds, of any key and value sizes\n",
+            "odht info FILE..     tells what each table file holds, of any key and value sizes\n",
         Topic::Check => "odht check FILE..    tells whether each file is a valid table\n",
         Topic::Count => "odht count FILE..    tells how many items each table has\n",
         Topic::Get =>
@@ -112,15 +112,15 @@ understood.
 
 // begin texts: made of commands.txt by tools/commands; `make manual` makes it anew
 const INFO: &str = "\
-odht info FILE [--whole] [--json] [--at OFFSET]
+odht info FILE.. [--whole] [--json] [--at OFFSET]
     Prints sizes, item and slot count, load factors, the hash function that the
     control bytes agree with, how many items are found by reading one group of
-    control bytes, two, and so on, and how many groups the longest search reads
-    for a key that is there (hit) and for one that is not (miss). Above 128 groups
-    it does not count further, so that no file takes long; with --whole it does.
-    The file may have any key and value sizes. Only its header and its length are
-    checked. With --at the table begins at that byte of the file; bytes after its
-    end are not read.
+    control bytes, two, and so on, and how many groups the longest search reads for
+    a key that is there (hit) and for one that is not (miss). Above 128 groups it
+    does not count further, so that no file takes long; with --whole it does. Where
+    there are more files, the name of each comes first. The file may have any key
+    and value sizes. Only its header and its length are checked. With --at the table
+    begins at that byte of the file; bytes after its end are not read.
     --json         an object of JSON: file, key_bytes, value_bytes, header_bytes,
                    all_bytes, items, slots, maximum, load_percent,
                    maximum_load_percent, hash (fx, unhash or null), bound (of

@@ -1,7 +1,7 @@
 //! `odht info`: what a table file of any shape holds.
 ghost use Rattle.std.specs.Prelude.{◌≡◌, ◌++◌, OnOk, length};
 ghost use Rattle.std.specs.Io.KnownBytes.{Appends};
-ghost use Rattle.odht_tool_core.specs.InfoJson.{info_as};
+ghost use Rattle.odht_tool_core.specs.InfoJson.{file_line, info_as};
 ghost use Rattle.odht_tool_core.specs.InfoTexts.{number_line, lengths_text, sizes_text, hash_name};
 ghost use Rattle.odht_tool_core.specs.InfoTexts.{groups_line, groups_text, info_text, IsInfoDone};
 
@@ -16,41 +16,56 @@ use std::alloc::Global;
 use std::io::{self, Write};
 
 /// `odht info` of the bytes of the file of this name: writes sizes, counts, load factors, and how many groups a
-/// search reads for the items and for absent keys, up to the bound; with `is_json` as an object of JSON.
+/// search reads for the items and for absent keys, up to the bound, after a line of its name where it is not the only
+/// one; with `is_json` as an object of JSON.
 pub fn info_file<O: Write>(
     alloc: Global,
     file: &str,
+    is_one: bool,
     bytes: &[u8],
     bound: Option<usize>,
     is_json: bool,
     output: &mut O,
 ) -> Result<Status, Failure>
-    ensures { IsInfoDone (info_as is_json file.now) bytes.now bound
+    ensures { IsInfoDone (info_as is_json is_one file.now) bytes.now bound
         (O.contents output.old) (O.contents output.new) result }
 {
     let numbers = numbers_of(alloc, bytes, bound)?;
-    match write_as(file, &numbers, is_json, output) {
+    match write_as(file, is_one, &numbers, is_json, output) {
         Ok(()) => Ok(Status::Done),
         Err(error) => Err(Failure::Output(error)),
     }
 }
 
-// The lines, or the object.
+// The lines, with the name of the file where it is not the only one, or the object.
 fn write_as<O: Write>(
     file: &str,
+    is_one: bool,
     numbers: &Numbers,
     is_json: bool,
     output: &mut O,
 ) -> io::Result<()>
     requires { length numbers.now.histogram.counts.items ≡ 64 }
     ensures { OnOk result (Appends (O.contents output.old) (O.contents output.new)
-        (info_as is_json file.now numbers.now)) }
+        (info_as is_json is_one file.now numbers.now)) }
 {
     if is_json {
         write_object(file, numbers, output)
-    } else {
+    } else if is_one {
         write_all(numbers, output)
+    } else {
+        write_named(file, numbers, output)
     }
+}
+
+// The lines, after one of the file's name.
+fn write_named<O: Write>(file: &str, numbers: &Numbers, output: &mut O) -> io::Result<()>
+    requires { length numbers.now.histogram.counts.items ≡ 64 }
+    ensures { OnOk result (Appends (O.contents output.old) (O.contents output.new)
+        (file_line file.now ++ info_text numbers.now)) }
+{
+    writeln!(output, "file          {file}")?;
+    write_all(numbers, output)
 }
 
 fn write_all<O: Write>(numbers: &Numbers, output: &mut O) -> io::Result<()>

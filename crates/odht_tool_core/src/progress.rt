@@ -1,63 +1,161 @@
 //! The line that reports the progress of a long run.
+ghost use Rattle.std.specs.Prelude.{◌≡◌, OnOk, replicate};
+ghost use Rattle.std.specs.Io.KnownBytes.{Appends};
+ghost use Rattle.odht_tool_core.specs.Progress.{copied_line, drawn_bar, filled, progress_bar, taken_line};
+
 use std::io::{self, Write};
 use std::rt::Clock;
 use std::time::{Duration, Instant};
 
-/// When the next line is due.
+/// How many characters wide the bar is.
+const WIDTH: u128 = 40;
+
+/// What a run has taken of its input.
+#[derive(Clone, Copy)]
+pub struct Taken {
+    pub lines: u64,
+    /// How many pairs the table has by now.
+    pub pairs: u64,
+    /// The bytes of the lines, with one for the end of each.
+    pub bytes: u64,
+}
+
+/// When the next line is due, and what is known of the input.
 #[derive(Clone, Copy)]
 pub struct Progress {
+    begun: Option<Instant>,
     since: Option<Instant>,
+    drawn: Option<u64>,
 }
 
 impl Progress {
-    /// A line each second from now on, where they are requested. Without a clock there are none.
-    pub fn new<R: Clock>(rt: &R, is_asked: bool) -> Progress {
-        let since = if is_asked {
+    /// A line each second from now on, where they are requested; with a bar, where the input is said to have so many
+    /// bytes. Without a clock there are none.
+    pub fn new<R: Clock>(rt: &R, is_asked: bool, drawn: Option<u64>) -> Progress {
+        let begun = if is_asked {
             Instant::now(rt).ok()
         } else {
             None
         };
-        Progress { since }
-    }
-
-    /// Writes a line where a second or more has passed since the last one, or since the start.
-    pub fn report<R: Clock, E: Write>(
-        &mut self,
-        rt: &R,
-        line_count: u64,
-        errors: &mut E,
-    ) -> io::Result<()> {
-        if self.is_due(rt)? {
-            writeln!(errors, "odht: {line_count} lines")
-        } else {
-            Ok(())
+        Progress {
+            begun,
+            since: begun,
+            drawn,
         }
     }
 
-    /// The same of pairs.
+    /// Writes a line of what is taken, where a second or more has passed since the last one, or since the start.
+    pub fn report<R: Clock, E: Write>(
+        &mut self,
+        rt: &R,
+        taken: Taken,
+        errors: &mut E,
+    ) -> io::Result<()> {
+        match self.due(rt)? {
+            Some(seconds) => write_taken(taken, seconds, self.drawn, errors),
+            None => Ok(()),
+        }
+    }
+
+    /// The same of pairs that are copied from a table.
     pub fn report_pairs<R: Clock, E: Write>(
         &mut self,
         rt: &R,
         pair_count: u64,
         errors: &mut E,
     ) -> io::Result<()> {
-        if self.is_due(rt)? {
-            writeln!(errors, "odht: {pair_count} pairs")
-        } else {
-            Ok(())
+        match self.due(rt)? {
+            Some(seconds) => write_copied(pair_count, seconds, errors),
+            None => Ok(()),
         }
     }
 
-    // Whether a line is due. The next one is then due a second later.
-    fn is_due<R: Clock>(&mut self, rt: &R) -> io::Result<bool> {
-        let Some(since) = self.since else {
-            return Ok(false);
+    // The seconds since the start, where a line is due. The next one is then due a second later.
+    fn due<R: Clock>(&mut self, rt: &R) -> io::Result<Option<u64>> {
+        let (Some(begun), Some(since)) = (self.begun, self.since) else {
+            return Ok(None);
         };
         let now = Instant::now(rt)?;
         if now.duration_since(since) < Duration::from_secs(1) {
-            return Ok(false);
+            return Ok(None);
         }
         self.since = Some(now);
-        Ok(true)
+        Ok(Some(now.duration_since(begun).as_secs()))
     }
+}
+
+/// Writes how much of the input is taken after so many seconds, with a bar, where it is said to have so many bytes.
+pub fn write_taken<E: Write>(
+    taken: Taken,
+    seconds: u64,
+    drawn: Option<u64>,
+    errors: &mut E,
+) -> io::Result<()>
+    ensures { OnOk result (Appends (E.contents errors.old) (E.contents errors.new)
+        (taken_line taken seconds drawn)) }
+{
+    let Taken {
+        lines,
+        pairs,
+        bytes,
+    } = taken;
+    write!(
+        errors,
+        "odht: {lines} lines, {pairs} pairs, {bytes} bytes, {seconds} seconds"
+    )?;
+    write_drawn(bytes, drawn, errors)?;
+    errors.write_all(b"\n")
+}
+
+/// Writes how many pairs are copied after so many seconds.
+pub fn write_copied<E: Write>(pairs: u64, seconds: u64, errors: &mut E) -> io::Result<()>
+    ensures { OnOk result (Appends (E.contents errors.old) (E.contents errors.new)
+        (copied_line pairs seconds)) }
+{
+    writeln!(errors, "odht: {pairs} pairs, {seconds} seconds")
+}
+
+// The bar, where one is drawn.
+fn write_drawn<E: Write>(bytes: u64, drawn: Option<u64>, errors: &mut E) -> io::Result<()>
+    ensures { OnOk result (Appends (E.contents errors.old) (E.contents errors.new)
+        (drawn_bar bytes drawn)) }
+{
+    match drawn {
+        None => errors.write_all(b""),
+        Some(total) => {
+            errors.write_all(b"  ")?;
+            write_bar(bytes, total, errors)
+        }
+    }
+}
+
+// A bar of forty characters, `#` for the share of the bytes that is taken, and `.` for the rest.
+fn write_bar<E: Write>(bytes: u64, total: u64, errors: &mut E) -> io::Result<()>
+    ensures { OnOk result (Appends (E.contents errors.old) (E.contents errors.new)
+        (progress_bar bytes total)) }
+{
+    let signs = filled(bytes, total);
+    write_signs(b'#', signs, errors)?;
+    write_signs(b'.', WIDTH - signs, errors)
+}
+
+// How many of the forty characters stand for what is taken.
+fn filled(bytes: u64, total: u64) -> u128
+    ensures { result ≡ filled bytes total }
+{
+    if total == 0 {
+        return WIDTH;
+    }
+    (bytes as u128 * WIDTH / total as u128).min(WIDTH)
+}
+
+// Writes a character so many times.
+fn write_signs<E: Write>(sign: u8, count: u128, errors: &mut E) -> io::Result<()>
+    ensures { OnOk result (Appends (E.contents errors.old) (E.contents errors.new)
+        (replicate count sign)) }
+{
+    for _ in 0..count {
+        errors.write_all(&[sign])?;
+    }
+    Ok(())
 }

@@ -62,7 +62,7 @@ one h = record {
   longest_miss = 1;
 }
 
-pub whole : (h : Histogram) → IsHistogram (1 ∷ []) h → info_as true (codes "a") (one h) ≡ codes "{\"file\":\"a\",\"key_bytes\":4,\"value_bytes\":4,\"header_bytes\":32,\"all_bytes\":192,\"items\":1,\"slots\":16,\"maximum\":1,\"load_percent\":6,\"maximum_load_percent\":7,\"hash\":\"unhash\",\"bound\":128,\"histogram\":[1],\"longest_hit\":1,\"longest_miss\":1}\n"
+pub whole : (h : Histogram) → IsHistogram (1 ∷ []) h → info_as true true (codes "a") (one h) ≡ codes "{\"file\":\"a\",\"key_bytes\":4,\"value_bytes\":4,\"header_bytes\":32,\"all_bytes\":192,\"items\":1,\"slots\":16,\"maximum\":1,\"load_percent\":6,\"maximum_load_percent\":7,\"hash\":\"unhash\",\"bound\":128,\"histogram\":[1],\"longest_hit\":1,\"longest_miss\":1}\n"
 unfolding tallies largest digits
 whole h is =
     let front = string_field (codes "file") (codes "a") ∷ (length_fields (one h) ++ count_fields (one h)) in

@@ -86,7 +86,12 @@ impl Topic {
     /// Whether words may come after the file: more files, or keys.
     pub(crate) fn takes_words(self) -> bool {
         match self {
-            Topic::Check | Topic::Count | Topic::Get | Topic::Diff | Topic::Delete => true,
+            Topic::Info
+            | Topic::Check
+            | Topic::Count
+            | Topic::Get
+            | Topic::Diff
+            | Topic::Delete => true,
             _ => false,
         }
     }

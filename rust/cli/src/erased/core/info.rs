@@ -13,34 +13,45 @@ use crate::shim::Global;
 use std::io::{self, Write};
 
 /// `odht info` of the bytes of the file of this name: writes sizes, counts, load factors, and how many groups a
-/// search reads for the items and for absent keys, up to the bound; with `is_json` as an object of JSON.
+/// search reads for the items and for absent keys, up to the bound, after a line of its name where it is not the only
+/// one; with `is_json` as an object of JSON.
 pub fn info_file<O: Write>(
     alloc: Global,
     file: &str,
+    is_one: bool,
     bytes: &[u8],
     bound: Option<usize>,
     is_json: bool,
     output: &mut O,
 ) -> Result<Status, Failure> {
     let numbers = numbers_of(alloc, bytes, bound)?;
-    match write_as(file, &numbers, is_json, output) {
+    match write_as(file, is_one, &numbers, is_json, output) {
         Ok(()) => Ok(Status::Done),
         Err(error) => Err(Failure::Output(error)),
     }
 }
 
-// The lines, or the object.
+// The lines, with the name of the file where it is not the only one, or the object.
 fn write_as<O: Write>(
     file: &str,
+    is_one: bool,
     numbers: &Numbers,
     is_json: bool,
     output: &mut O,
 ) -> io::Result<()> {
     if is_json {
         write_object(file, numbers, output)
-    } else {
+    } else if is_one {
         write_all(numbers, output)
+    } else {
+        write_named(file, numbers, output)
     }
+}
+
+// The lines, after one of the file's name.
+fn write_named<O: Write>(file: &str, numbers: &Numbers, output: &mut O) -> io::Result<()> {
+    writeln!(output, "file          {file}")?;
+    write_all(numbers, output)
 }
 
 fn write_all<O: Write>(numbers: &Numbers, output: &mut O) -> io::Result<()> {

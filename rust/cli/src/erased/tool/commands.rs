@@ -199,7 +199,9 @@ fn run_reading<I: BufRead, O: Write, E: Write>(
     errors: &mut E,
 ) -> Result<Status, Failure> {
     match reading {
-        Reading::Info { bound, is_json } => info_file(alloc, file, bytes, *bound, *is_json, output),
+        Reading::Info { bound, is_json } => {
+            info_file(alloc, file, is_one, bytes, *bound, *is_json, output)
+        }
         Reading::Check { hash, bound, is_json } => {
             check_one(alloc, file, bytes, *hash, *bound, *is_json, output, errors)
         }
