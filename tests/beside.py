@@ -71,6 +71,8 @@ def words(dice):
     if command == "build" and dice.random() < 0.8:
         key, value = ["u64", "u32", "hex16", "i64", "u64be", "text:8"], ["u32", "u64", "none", "i32", "u32be"]
         found += ["--key", dice.choice(key), "--value", dice.choice(value)]
+        said = ["--duplicates=first", "--duplicates=error", "--duplicates=x", "--delimiter=,", "--delimiter=3", "--check-only"]
+        found += dice.choices(said, k=dice.choice([0, 0, 1, 2]))
     if command in ("get", "dump", "keys", "put") and dice.random() < 0.3:
         found += ["--key", dice.choice(["i64", "u64be", "u64", "i32", "text:8", "text:16"])]
     if command == "diff" and dice.random() < 0.9:

@@ -41,6 +41,13 @@ COMMANDS += [
     (["delete", "table", *map(str, range(40))], b""),
     (["build", "made", "--key", "u64", "--value", "u32"], LINES),
     (["build", "-", "--key", "hex32", "--value", "none"], b"00" * 32 + b"\n"),
+    (["build", "made", "--key", "u64", "--value", "u32", "--duplicates", "first"], LINES),
+    (["build", "made", "--key", "u64", "--value", "u32", "--duplicates", "error"], b"1\t2\n1\t3\n"),
+    (["build", "made", "--key", "u64", "--value", "u32", "--delimiter", ","], LINES.replace(b"\t", b",")),
+    (["build", "made", "--key", "u64", "--value", "u32", "--delimiter", ","], b"1\t2\n"),
+    (["build", "made", "--key", "u64", "--value", "u32", "--check-only"], b"1\t2\nx\t2\n"),
+    (["build", "made", "--key", "hex3", "--value", "hex5", "--duplicates", "first"],
+     b"".join(b"%06x\t0102030405\n" % it for it in range(40))),
     (["get", "other", "000000", "0a0b0c"], b""),
     (["get", "other", "-"], b"000000\n"),
     (["put", "other"], b"0a0b0c\t0102030405\n"),
@@ -163,6 +170,7 @@ def main(*words):
             return 1
         runs = [["tests/cases.py", program, "made=erased", "tests/tool"]]
         runs += [["tests/sizes.py", program], ["tests/objects.py", program]]
+        runs.append(["tests/lines.py", program])
         if os.environ.get("ODHT_TOOL"):
             runs.append(["tests/beside.py", os.environ["ODHT_TOOL"], program])
         failed = 0

@@ -16,6 +16,7 @@ use std::os::fd::AsFd;
 use std::rt::{Clock, Files};
 
 mod build;
+mod build_lines;
 mod check;
 mod check_json;
 mod count;

@@ -1,14 +1,14 @@
 //! Pairs of lines that are inserted into a table, a batch at a time, and the file that it becomes.
-ghost use Rattle.std.specs.Prelude.{◌≡◌, Err, OnErr, OnOk, length};
+ghost use Rattle.std.specs.Prelude.{◌≡◌, Err, IfOk, OnErr, OnOk, length};
 ghost use Rattle.odht_tool.specs.Faults.{IsTold};
-ghost use Rattle.odht_tool.specs.Inserted.{AreInserted};
+ghost use Rattle.odht_tool.specs.Inserted.{AreInserted, IsNewInsert};
 ghost use Rattle.odht_tool_core.specs.declared.failure.Failure.TheVariants.{Memory};
 
 use odht_tool_core::failure::Failure;
 use odht_tool_core::files::replace_file;
 use odht_tool_core::forms::Forms;
+use odht_tool_core::line_messages::line_message;
 use odht_tool_core::lines::read_pair_as;
-use odht_tool_core::misread::Misread;
 use odht_tool_core::progress::Progress;
 use odht_tool_core::status::{Status, of_output};
 use odht_tool_core::targets::Target;
@@ -18,6 +18,7 @@ use std::io::{BufRead, Write};
 use std::os::fd::AsFd;
 use std::rt::{Clock, Files};
 
+pub mod lines;
 mod tables;
 
 /// How many pairs are inserted at once.
@@ -42,6 +43,13 @@ pub trait Inserts: Drop {
     fn insert_pairs(&mut self, pairs: &[(Self::Key, Self::Value)]) -> Result<(), Failure>
         ensures inserted { OnOk result (AreInserted (coding self.old) (bytes self.old) pairs.now
             (bytes self.new)) }
+        ensures memory { OnErr result (result ≡ Err Memory) };
+
+    /// Inserts the pair where its key has no value, and returns whether that is so. `Memory` where there is none for a
+    /// larger table.
+    fn insert_new(&mut self, key: &Self::Key, value: &Self::Value) -> Result<bool, Failure>
+        ensures new { IfOk result (λ new. IsNewInsert (coding self.old) (bytes self.old)
+            key.now value.now new (bytes self.new)) }
         ensures memory { OnErr result (result ≡ Err Memory) };
 
     /// All bytes.
@@ -130,13 +138,13 @@ fn told<K: Text, V: Text, F: Forms>(
     line: &[u8],
     forms: F,
 ) -> Failure
-    ensures { IsTold (K.wants (F.pair forms).0) (V.wants (F.pair forms).1)
+    ensures { IsTold (F.delimiter forms) (K.wants (F.pair forms).0) (V.wants (F.pair forms).1)
         line.now failure result }
 {
     match failure {
         Failure::Line { number, fault } => {
             let wanted = (K::wanted(forms.key()), V::wanted(forms.value()));
-            match Misread::of_line(number, fault, wanted, line).message(alloc) {
+            match line_message(alloc, number, fault, wanted, line, forms.delimiter()) {
                 Ok(message) => Failure::Misread(message),
                 Err(_) => Failure::Memory,
             }

@@ -65,3 +65,7 @@ pub mod InfoJson
 pub mod FindJson
 -- the lines of progress
 pub mod Progress
+-- the words that say which line of a key counts
+pub mod DuplicateWords
+-- lines of a key and a value, and what is said of others
+pub mod PairLines

@@ -9,8 +9,8 @@
 --     misread_text n f w t what is said of the text t, in line n of standard input where there is one, by its fault f, where
 --                          w is wanted
 --     absent_line file t   the line that tells of the text t, of a key that is not in the file
---     part_of f line       the part of a line in which the fault f is: what comes before its first tab, what comes after it,
---                          or all
+--     part_of d f line     the part of a line in which the fault f is: what comes before its first byte d, what comes after
+--                          it, or all
 --     wanted_by f w v      what is wanted there, where w is wanted of keys and v of values
 use Rattle.std.specs.Prelude.{◌≡◌, ℕ, ◌+◌, ◌*◌, ◌^◌, ◌==◌, List, [], ◌++◌, codes, decimal, take, drop, Option, Some, None, if◌then◌else◌}
 use Rattle.std.specs.List.{position_or_len}
@@ -84,10 +84,10 @@ abbrev pub absent_line : List ℕ → List ℕ → List ℕ
 absent_line file text = codes "odht: " ++ (file ++ (codes ": the key " ++ (shown_text text ++ codes " is absent\n")))
 
 -- ---- of a line
-abbrev pub part_of : LineFault → List ℕ → List ℕ
-part_of NoTab line = line
-part_of Key line = take (position_or_len (λ x. x == 9) line) line
-part_of Value line = drop (position_or_len (λ x. x == 9) line + 1) line
+abbrev pub part_of : ℕ → LineFault → List ℕ → List ℕ
+part_of d NoTab line = line
+part_of d Key line = take (position_or_len (λ x. x == d) line) line
+part_of d Value line = drop (position_or_len (λ x. x == d) line + 1) line
 
 abbrev pub wanted_by : LineFault → Wanted → Wanted → Wanted
 wanted_by NoTab key value = key

@@ -7,11 +7,14 @@ use crate::status::Status;
 use odht_base::load::Percent;
 use std::alloc::Global;
 
+mod delimiters;
 mod draft;
+mod duplicates;
 mod misuse;
 pub(crate) mod topics;
 
 use draft::Draft;
+pub use duplicates::Duplicates;
 pub use misuse::{CommandMisuse, Misuse};
 pub use topics::{Setting, Topic};
 
@@ -20,6 +23,12 @@ pub use topics::{Setting, Topic};
 pub struct BuildOptions {
     pub shape: AnyShape,
     pub forms: GivenForms,
+    /// Which line of a key counts.
+    pub duplicates: Duplicates,
+    /// The byte between key and value.
+    pub delimiter: u8,
+    /// Whether lines are only checked, and no file is made.
+    pub is_check: bool,
     /// For how many items room is made at first.
     pub capacity: usize,
     pub percent: Percent,

@@ -36,8 +36,11 @@ impl Form {
 /// The forms of keys and of values.
 pub trait Forms: Copy {
     ghost use Rattle.odht_tool_core.specs.declared.forms.Form.{Form};
+    ghost use Rattle.std.specs.Prelude.{ℕ};
 
     ghost pair: { Self → Form × Form };
+
+    ghost delimiter: { Self → ℕ };
 
     /// That of keys.
     fn key(self) -> Form
@@ -46,6 +49,10 @@ pub trait Forms: Copy {
     /// That of values.
     fn value(self) -> Form
         ensures { result ≡ (pair self).1 };
+
+    /// The byte that stands between key and value on a line.
+    fn delimiter(self) -> u8
+        ensures { result ≡ delimiter self };
 }
 
 /// The forms of a shape's own. What is generic in forms is compiled for these once more, and asks nothing when it runs.
@@ -57,6 +64,8 @@ impl Forms for OwnForms {
 
     ghost pair = { λ forms. (Own, Own) };
 
+    ghost delimiter = { λ forms. 9 };
+
     #[inline(always)]
     fn key(self) -> Form {
         Form::Own
@@ -65,6 +74,11 @@ impl Forms for OwnForms {
     #[inline(always)]
     fn value(self) -> Form {
         Form::Own
+    }
+
+    #[inline(always)]
+    fn delimiter(self) -> u8 {
+        b'\t'
     }
 }
 
@@ -80,12 +94,44 @@ pub struct GivenForms {
 impl Forms for GivenForms {
     ghost pair = { λ forms. (forms.key, forms.value) };
 
+    ghost delimiter = { λ forms. 9 };
+
     fn key(self) -> Form {
         self.key
     }
 
     fn value(self) -> Form {
         self.value
+    }
+
+    #[inline(always)]
+    fn delimiter(self) -> u8 {
+        b'\t'
+    }
+}
+
+/// Any forms, with this byte between key and value.
+#[derive(Clone, Copy)]
+pub struct LineForms {
+    pub forms: GivenForms,
+    pub delimiter: u8,
+}
+
+impl Forms for LineForms {
+    ghost pair = { λ lines. (lines.forms.key, lines.forms.value) };
+
+    ghost delimiter = { λ lines. lines.delimiter };
+
+    fn key(self) -> Form {
+        self.forms.key
+    }
+
+    fn value(self) -> Form {
+        self.forms.value
+    }
+
+    fn delimiter(self) -> u8 {
+        self.delimiter
     }
 }
 
@@ -103,12 +149,19 @@ impl Forms for HexForms {
 
     ghost pair = { λ forms. (Hex forms.key_len, Hex forms.value_len) };
 
+    ghost delimiter = { λ forms. 9 };
+
     fn key(self) -> Form {
         Form::Hex(self.key_len)
     }
 
     fn value(self) -> Form {
         Form::Hex(self.value_len)
+    }
+
+    #[inline(always)]
+    fn delimiter(self) -> u8 {
+        b'\t'
     }
 }
 

@@ -1,13 +1,16 @@
 //! The lines of standard input.
-ghost use Rattle.std.specs.Prelude.{◌≡◌, ◌≢◌, [], Ok, IfErr, IfOk, IsTrue, IsFalse, OnOk};
+ghost use Rattle.std.specs.Prelude.{◌≡◌, ◌≢◌, [], All, Ok, IfErr, IfOk, IfSome, IsTrue, IsFalse, OnOk};
 ghost use Rattle.std.specs.Io.BufRead.{ends_with_byte, strip_last};
 ghost use Rattle.std.specs.Io.KnownBytes.{IsAtEnd, Keeps};
 ghost use Rattle.std.specs.IoError.{error_kind};
 ghost use Rattle.odht_tool_core.specs.InputLines.{IsBehind, IsEnding, IsNextLine};
 ghost use Rattle.odht_tool_core.specs.InputLines.{IsTakenThrough, without_end};
+ghost use Rattle.odht_tool_core.specs.Keys.{IsReadAs};
+ghost use Rattle.odht_tool_core.specs.PairLines.{AreParts, IsFaultOf, IsNextPair, IsPairOf};
 
 use crate::failure::{Failure, LineFault};
-use crate::forms::{Forms, OwnForms};
+use crate::forms::{Form, Forms, OwnForms};
+use crate::misread::Wanted;
 use crate::places::{cut_at, place_of};
 use crate::text::Text;
 use std::io::{self, BufRead, ErrorKind};
@@ -133,7 +136,13 @@ pub fn read_pair_as<K: Text, V: Text, F: Forms, I: BufRead>(
     line: &mut Vec<u8>,
     number: u64,
     forms: F,
-) -> Result<Option<(K, V)>, Failure> {
+) -> Result<Option<(K, V)>, Failure>
+    ensures { IfOk result (λ read. IfSome read (IsNextPair (F.delimiter forms)
+        (V.wants (F.pair forms).1)
+        (IsReadAs (K.is_word (F.pair forms).0) (K.stands_for (F.pair forms).0))
+        (IsReadAs (V.is_word (F.pair forms).1) (V.stands_for (F.pair forms).1))
+        (I.remaining input.old) (I.remaining input.new) line.new.items)) }
+{
     if !read_line(input, line).map_err(Failure::Input)? {
         return Ok(None);
     }
@@ -185,19 +194,36 @@ pub(crate) fn is_left_out<I: BufRead>(input: &mut I, line: &mut Vec<u8>) -> io::
     Ok(!is_next)
 }
 
-// The key and the value of a line: on either side of its first tab, or, where a value is nothing, of a line without a
-// tab.
-fn parse_pair<K: Text, V: Text, F: Forms>(line: &[u8], forms: F) -> Result<(K, V), LineFault> {
-    let (key, value) = match cut_at(line, b'\t') {
-        Some(parts) => parts,
-        None => {
-            if !V::wanted(forms.value()).is_nothing() {
-                return Err(LineFault::NoTab);
-            }
-            (line, b"".as_slice())
-        }
+// The key and the value of a line: on either side of the first byte that stands between them, or, where a value is
+// nothing, of a line without that byte.
+fn parse_pair<K: Text, V: Text, F: Forms>(line: &[u8], forms: F) -> Result<(K, V), LineFault>
+    ensures pair { IfOk result (IsPairOf (F.delimiter forms) (V.wants (F.pair forms).1)
+        (IsReadAs (K.is_word (F.pair forms).0) (K.stands_for (F.pair forms).0))
+        (IsReadAs (V.is_word (F.pair forms).1) (V.stands_for (F.pair forms).1)) line.now) }
+    ensures fault { IfErr result (IsFaultOf (F.delimiter forms) (V.wants (F.pair forms).1)
+        (K.is_word (F.pair forms).0) (V.is_word (F.pair forms).1) line.now) }
+{
+    let (key, value) = parts_of::<V>(line, forms.delimiter(), forms.value())?;
+    let Some(key) = K::parse(key, forms.key()) else {
+        return Err(LineFault::Key);
     };
-    let key = K::parse(key, forms.key()).ok_or(LineFault::Key)?;
-    let value = V::parse(value, forms.value()).ok_or(LineFault::Value)?;
+    let Some(value) = V::parse(value, forms.value()) else {
+        return Err(LineFault::Value);
+    };
     Ok((key, value))
+}
+
+// What is on either side of the first delimiter of a line.
+#[inline(always)]
+fn parts_of<V: Text>(line: &[u8], delimiter: u8, form: Form) -> Result<(&[u8], &[u8]), LineFault>
+    ensures parts { IfOk result
+        (λ parts. AreParts delimiter (V.wants form) line.now parts.0.now parts.1.now) }
+    ensures fault { IfErr result (λ fault. (fault ≡ LineFault.NoTab)
+        × All (λ x. x ≢ delimiter) line.now × (V.wants form ≢ Wanted.Nothing)) }
+{
+    match cut_at(line, delimiter) {
+        Some(parts) => Ok(parts),
+        None if V::wanted(form).is_nothing() => Ok((line, b"".as_slice())),
+        None => Err(LineFault::NoTab),
+    }
 }

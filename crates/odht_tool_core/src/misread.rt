@@ -1,5 +1,5 @@
 //! Texts that are no key or no value, as messages tell of them.
-ghost use Rattle.std.specs.Prelude.{◌≡◌, IfOk, Some, string_bytes};
+ghost use Rattle.std.specs.Prelude.{◌≡◌, ◌↔◌, IfOk, IsTrue, Some, string_bytes};
 ghost use Rattle.std.specs.Fmt.{WritesOnOk};
 ghost use Rattle.odht_tool_core.specs.Misreads.{fault_text, misread_text, part_of, place_text};
 ghost use Rattle.odht_tool_core.specs.Misreads.{wanted_by, wanted_text};
@@ -31,7 +31,9 @@ pub enum Wanted {
 
 impl Wanted {
     /// Whether it is nothing at all.
-    pub(crate) fn is_nothing(self) -> bool {
+    pub(crate) fn is_nothing(self) -> bool
+        ensures { IsTrue result ↔ (self ≡ Wanted.Nothing) }
+    {
         match self {
             Wanted::Nothing => true,
             _ => false,
@@ -78,23 +80,24 @@ pub struct Misread<'a> {
 }
 
 impl<'a> Misread<'a> {
-    /// The same of a line, by what is wrong with it and what its key and its value should be.
-    pub fn of_line(
+    /// The same of a line, by what is wrong with it, what its key and its value should be, and the byte between them.
+    pub(crate) fn of_line(
         number: u64,
         fault: LineFault,
         wanted: (Wanted, Wanted),
         line: &'a [u8],
+        delimiter: u8,
     ) -> Misread<'a>
         ensures line { result.line ≡ Some number }
         ensures fault { result.fault ≡ fault }
         ensures wanted { result.wanted ≡ wanted_by fault wanted.0 wanted.1 }
-        ensures text { result.text.now ≡ part_of fault line.now }
+        ensures text { result.text.now ≡ part_of delimiter fault line.now }
     {
         let (of_key, of_value) = wanted;
         let (wanted, text) = match fault {
             LineFault::NoTab => (of_key, line),
-            LineFault::Key => (of_key, front_of(line)),
-            LineFault::Value => (of_value, back_of(line)),
+            LineFault::Key => (of_key, front_of(line, delimiter)),
+            LineFault::Value => (of_value, back_of(line, delimiter)),
         };
         Misread {
             line: Some(number),
@@ -114,18 +117,18 @@ impl<'a> Misread<'a> {
     }
 }
 
-// What comes before the first tab of a line.
-fn front_of(line: &[u8]) -> &[u8]
-    ensures { result.now ≡ part_of LineFault.Key line.now }
+/// What comes before the first delimiter of a line.
+pub(crate) fn front_of(line: &[u8], delimiter: u8) -> &[u8]
+    ensures { result.now ≡ part_of delimiter LineFault.Key line.now }
 {
-    &line[..place_of(line, b'\t')]
+    &line[..place_of(line, delimiter)]
 }
 
 // What comes after it.
-fn back_of(line: &[u8]) -> &[u8]
-    ensures { result.now ≡ part_of LineFault.Value line.now }
+fn back_of(line: &[u8], delimiter: u8) -> &[u8]
+    ensures { result.now ≡ part_of delimiter LineFault.Value line.now }
 {
-    let at = place_of(line, b'\t');
+    let at = place_of(line, delimiter);
     if at < line.len() {
         &line[at + 1..]
     } else {
@@ -142,8 +145,11 @@ impl<'a> fmt::Display for Misread<'a> {
     }
 }
 
-// Writes the number of the line, where there is one.
-fn write_place<W: fmt::Write>(line: Option<u64>, f: &mut fmt::Formatter<W>) -> fmt::Result
+/// Writes the number of the line, where there is one.
+pub(crate) fn write_place<W: fmt::Write>(
+    line: Option<u64>,
+    f: &mut fmt::Formatter<W>,
+) -> fmt::Result
     ensures { WritesOnOk W.write_str_gives f.old result (place_text line) f.new }
 {
     match line {

@@ -4,6 +4,7 @@ ghost use Rattle.odht_header.specs.Refusals.{check_refusal_by};
 ghost use Rattle.odht_tool.specs.Outcomes.{copy_failure};
 ghost use Rattle.odht.specs.Inserts.{IsFresh};
 
+use crate::commands::build_lines::build_lines;
 use crate::commands::check::check_bytes;
 use crate::inserts::{insert_into_file, insert_into_stream};
 use crate::shapes::for_shape;
@@ -12,7 +13,7 @@ use odht::HashTableOwned;
 use odht::config::{Coded, Config};
 use odht::load::Percent;
 use odht_tool_core::any::{AnyShape, read_any};
-use odht_tool_core::arguments::{BuildOptions, is_stream};
+use odht_tool_core::arguments::{BuildOptions, Duplicates, is_stream};
 use odht_tool_core::failure::Failure;
 use odht_tool_core::forms::{Forms, GivenForms, Kinds, OwnForms};
 use odht_tool_core::shapes::{Hash, Shape};
@@ -36,6 +37,9 @@ pub fn build<R: Files + AllocGlobal + Clock, I: BufRead, O: Write, E: Write>(
 where
     R::File: AsFd,
 {
+    if !takes_plain_lines(options) {
+        return build_lines(rt, file, options, input, output, errors);
+    }
     let forms = options.forms;
     match options.shape {
         AnyShape::Ready(shape) if forms.are_own() => {
@@ -45,6 +49,15 @@ where
             build_in(rt, file, shape, forms, options, input, output, errors)
         }
         AnyShape::Other(shape) => { build_other(rt, file, shape, options, input, output, errors) }
+    }
+}
+
+// Whether nothing is said of the lines: the last one of a key counts, key and value are on either side of a tab, and the
+// table is stored.
+fn takes_plain_lines(options: BuildOptions) -> bool {
+    match options.duplicates {
+        Duplicates::Last => options.delimiter == b'\t' && !options.is_check,
+        _ => false,
     }
 }
 
@@ -113,7 +126,8 @@ where
     )
 }
 
-fn make_table<C: Config>(
+/// An empty table for so many items.
+pub(super) fn make_table<C: Config>(
     alloc: Global,
     capacity: usize,
     percent: Percent,

@@ -1,7 +1,7 @@
 //! Inserts into the tables of configurations, and of lengths that are known at run time alone.
-ghost use Rattle.std.specs.Prelude.{◌≡◌, Err, OnErr, OnOk};
+ghost use Rattle.std.specs.Prelude.{◌≡◌, Err, IfOk, OnErr, OnOk};
 ghost use Rattle.odht.specs.Dynamic.{dyn_coding};
-ghost use Rattle.odht_tool.specs.Inserted.{AreInserted};
+ghost use Rattle.odht_tool.specs.Inserted.{AreInserted, IsNewInsert};
 ghost use Rattle.odht_tool_core.specs.declared.failure.Failure.TheVariants.{Memory};
 
 use super::Inserts;
@@ -29,6 +29,10 @@ where
         insert_all(self, pairs)
     }
 
+    fn insert_new(&mut self, key: &C::Key, value: &C::Value) -> Result<bool, Failure> {
+        insert_absent(self, key, value)
+    }
+
     fn all_bytes(&self) -> &[u8] {
         self.raw_bytes()
     }
@@ -49,6 +53,25 @@ fn insert_all<C: Config>(
     }
 }
 
+// Inserts the pair where its key has no value, and returns whether that is so.
+fn insert_absent<C: Config>(
+    table: &mut HashTableOwned<C>,
+    key: &C::Key,
+    value: &C::Value,
+) -> Result<bool, Failure>
+    ensures new { IfOk result (λ new. IsNewInsert ⟦<C as Coded>⟧.coding table.old
+        key.now value.now new table.new) }
+    ensures memory { OnErr result (result ≡ Err Memory) }
+{
+    if table.contains_key(key) {
+        return Ok(false);
+    }
+    match table.insert(key, value) {
+        Ok(_) => Ok(true),
+        Err(_) => Err(Failure::Memory),
+    }
+}
+
 impl<H: HashFn> Inserts for DynTableOwned<H> {
     type Key = ShortBytes;
 
@@ -62,6 +85,10 @@ impl<H: HashFn> Inserts for DynTableOwned<H> {
 
     fn insert_pairs(&mut self, pairs: &[(ShortBytes, ShortBytes)]) -> Result<(), Failure> {
         insert_each(self, pairs)
+    }
+
+    fn insert_new(&mut self, key: &ShortBytes, value: &ShortBytes) -> Result<bool, Failure> {
+        insert_absent_bytes(self, key.as_slice(), value.as_slice())
     }
 
     fn all_bytes(&self) -> &[u8] {
@@ -85,4 +112,24 @@ fn insert_each<H: HashFn>(
         }
     }
     Ok(())
+}
+
+// The same of a table of lengths that are known at run time alone, which those of the key and the value are.
+fn insert_absent_bytes<H: HashFn>(
+    table: &mut DynTableOwned<H>,
+    key: &[u8],
+    value: &[u8],
+) -> Result<bool, Failure>
+    ensures new { IfOk result (λ new. IsNewInsert (dyn_coding table.old H.hash) table.old.store
+        key.now value.now new table.new.store) }
+    ensures memory { OnErr result (result ≡ Err Memory) }
+{
+    let is_known = table.contains_key(key);
+    if is_known {
+        return Ok(false);
+    }
+    match table.insert(key, value) {
+        Ok(_) => Ok(true),
+        Err(_) => Err(Failure::Memory),
+    }
 }

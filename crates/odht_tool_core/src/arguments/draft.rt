@@ -1,8 +1,9 @@
 //! A command of which some words are parsed.
+use super::delimiters::delimiter_named;
 use super::topics::{Setting, Topic};
 use super::{
-    BuildOptions, Command, CommandMisuse, DeleteOptions, DiffOptions, Keys, Misuse, Reading,
-    RebuildOptions, Request, is_stream,
+    BuildOptions, Command, CommandMisuse, DeleteOptions, DiffOptions, Duplicates, Keys, Misuse,
+    Reading, RebuildOptions, Request, is_stream,
 };
 use crate::any::AnyShape;
 use crate::digits::parse_number;
@@ -26,12 +27,15 @@ pub(super) struct Draft {
     at: Option<usize>,
     hash: Option<Hash>,
     kinds: Kinds,
+    duplicates: Duplicates,
+    delimiter: u8,
     percent: Percent,
     capacity: usize,
     is_help: bool,
     is_slots: bool,
     is_json: bool,
     is_whole: bool,
+    is_check: bool,
     breaks_links: bool,
     has_progress: bool,
 }
@@ -50,12 +54,15 @@ impl Draft {
                 key: None,
                 value: None,
             },
+            duplicates: Duplicates::Last,
+            delimiter: b'\t',
             percent: Percent::new(87).unwrap(),
             capacity: 12,
             is_help: false,
             is_slots: false,
             is_json: false,
             is_whole: false,
+            is_check: false,
             breaks_links: false,
             has_progress: false,
         }
@@ -105,6 +112,7 @@ impl Draft {
             Setting::Slots => self.is_slots = true,
             Setting::Json => self.is_json = true,
             Setting::Whole => self.is_whole = true,
+            Setting::CheckOnly => self.is_check = true,
             Setting::Progress => self.has_progress = true,
             Setting::BreakLinks => self.breaks_links = true,
             _ => {}
@@ -129,6 +137,8 @@ impl Draft {
             Setting::Hash => self.hash = Some(Hash::named(value)?),
             Setting::Key => self.kinds.key = Some(Kind::named(value)?),
             Setting::Value => self.kinds.value = Some(Kind::named(value)?),
+            Setting::Duplicates => self.duplicates = Duplicates::named(value)?,
+            Setting::Delimiter => self.delimiter = delimiter_named(value)?,
             Setting::Percent => self.percent = parse_percent(value)?,
             Setting::Capacity => self.capacity = parse_number(value.as_bytes())? as usize,
             _ => return None,
@@ -320,6 +330,9 @@ impl Draft {
                 key: key.form,
                 value: value.form,
             },
+            duplicates: self.duplicates,
+            delimiter: self.delimiter,
+            is_check: self.is_check,
             capacity: self.capacity,
             percent: self.percent,
             breaks_links: self.breaks_links,

@@ -1,0 +1,28 @@
+//! Which line counts of those that have one key.
+ghost use Rattle.std.specs.Prelude.{◌≡◌};
+ghost use Rattle.odht_tool_core.specs.DuplicateWords.{duplicates_named};
+
+/// Which line counts of those that have one key.
+#[derive(Clone, Copy, Debug)]
+pub enum Duplicates {
+    /// The last.
+    Last,
+    /// The first; later ones are left out.
+    First,
+    /// A line whose key an earlier line had is a failure.
+    Error,
+}
+
+impl Duplicates {
+    /// What the word asks for: `last`, `first` or `error`.
+    pub(crate) fn named(word: &str) -> Option<Duplicates>
+        ensures { result ≡ duplicates_named word.now }
+    {
+        match word {
+            "last" => Some(Duplicates::Last),
+            "first" => Some(Duplicates::First),
+            "error" => Some(Duplicates::Error),
+            _ => None,
+        }
+    }
+}
