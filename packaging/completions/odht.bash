@@ -15,6 +15,8 @@ _odht() {
         --hash) COMPREPLY=($(compgen -W 'fx unhash' -- "$word")); return;;
         --key) COMPREPLY=(); return;;
         --value) COMPREPLY=(); return;;
+        --duplicates) COMPREPLY=(); return;;
+        --delimiter) COMPREPLY=(); return;;
         --percent) COMPREPLY=(); return;;
         --capacity) COMPREPLY=(); return;;
     esac
@@ -28,7 +30,7 @@ _odht() {
         find:-*) COMPREPLY=($(compgen -W '--help --whole --json' -- "$word"));;
         order:-*) COMPREPLY=($(compgen -W '--help --whole --key --value --hash --at' -- "$word"));;
         diff:-*) COMPREPLY=($(compgen -W '--help --whole --key --value --hash' -- "$word"));;
-        build:-*) COMPREPLY=($(compgen -W '--help --key --value --hash --percent --capacity --progress --break-links' -- "$word"));;
+        build:-*) COMPREPLY=($(compgen -W '--help --key --value --duplicates --delimiter --check-only --hash --percent --capacity --progress --break-links' -- "$word"));;
         put:-*) COMPREPLY=($(compgen -W '--help --key --value --whole --hash --progress --break-links' -- "$word"));;
         delete:-*) COMPREPLY=($(compgen -W '--help --key --whole --hash --progress --break-links' -- "$word"));;
         rebuild:-*) COMPREPLY=($(compgen -W '--help --percent --whole --hash --progress --break-links' -- "$word"));;

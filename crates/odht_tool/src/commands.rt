@@ -11,7 +11,7 @@ use odht_tool_core::shapes::Hash;
 use odht_tool_core::status::{Status, of_output};
 use odht_tool_core::targets::Target;
 use std::alloc::Global;
-use std::io::{BufRead, ErrorKind, Write};
+use std::io::{BufRead, ErrorKind, IsTerminal, Write};
 use std::os::fd::AsFd;
 use std::rt::{Clock, Files};
 
@@ -34,7 +34,7 @@ pub mod rebuild;
 /// Does what the words ask for. Each failure is reported by a line on `errors`; where that cannot
 /// be written either, the status alone reports it. Where nobody reads `output` any more, nothing is
 /// reported.
-pub fn run<R: Files + AllocGlobal + Clock, I: BufRead, O: Write, E: Write>(
+pub fn run<R: Files + AllocGlobal + Clock, I: BufRead, O: Write, E: Write + IsTerminal>(
     rt: &R,
     words: Vec<String>,
     input: &mut I,
@@ -65,7 +65,7 @@ where
     }
 }
 
-fn run_command<R: Files + AllocGlobal + Clock, I: BufRead, O: Write, E: Write>(
+fn run_command<R: Files + AllocGlobal + Clock, I: BufRead, O: Write, E: Write + IsTerminal>(
     rt: &R,
     file: &str,
     command: Command,
@@ -85,7 +85,10 @@ where
             let others = others.as_slice();
             read_files(rt, file, others, at, &reading, input, output, errors)
         }
-        Command::Build(options) => build::build(rt, file, options, input, output, errors),
+        Command::Build(mut options) => {
+            options.watch = options.watch.with_bar(rt, errors);
+            build::build(rt, file, options, input, output, errors)
+        }
         Command::Delete(options) => delete::delete(rt, file, &options, errors),
         Command::Rebuild(options) => rebuild::rebuild(rt, file, options, errors),
         Command::Diff(options) => diff::diff(rt, file, options, input, output, errors),
@@ -94,7 +97,7 @@ where
             kinds,
             bound,
             breaks_links,
-            has_progress,
+            watch,
         } => {
             let target = Target::find(rt, file, breaks_links)?;
             let bytes = read_file(rt, target.path())?;
@@ -105,7 +108,7 @@ where
                 hash,
                 kinds,
                 bound,
-                has_progress,
+                watch.with_bar(rt, errors),
                 input,
                 errors,
             )

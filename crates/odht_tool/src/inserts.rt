@@ -9,7 +9,7 @@ use odht_tool_core::files::replace_file;
 use odht_tool_core::forms::Forms;
 use odht_tool_core::line_messages::line_message;
 use odht_tool_core::lines::read_pair_as;
-use odht_tool_core::progress::Progress;
+use odht_tool_core::progress::{Progress, Taken, Watch};
 use odht_tool_core::status::{Status, of_output};
 use odht_tool_core::targets::Target;
 use odht_tool_core::text::Text;
@@ -27,6 +27,8 @@ const BATCH: usize = 1024;
 /// A table that grows, into which pairs are inserted that have texts.
 pub trait Inserts: Drop {
     ghost use Rattle.std.specs.Prelude.{ℕ, List};
+    ghost use Rattle.odht.specs.Tables.{OfTable};
+    ghost use Rattle.odht_base.specs.Table.{count};
     ghost use Rattle.odht_header.specs.Coding.{Coding};
 
     /// A key.
@@ -52,6 +54,10 @@ pub trait Inserts: Drop {
             key.now value.now new (bytes self.new)) }
         ensures memory { OnErr result (result ≡ Err Memory) };
 
+    /// How many pairs the table has.
+    fn pair_count(&self) -> usize
+        ensures { OfTable (coding self.now).format (bytes self.now) (λ P. result ≡ count P) };
+
     /// All bytes.
     fn all_bytes(&self) -> &[u8]
         ensures { result.now ≡ bytes self.now };
@@ -69,12 +75,12 @@ pub fn insert_into_stream<
     rt: &R,
     mut table: T,
     forms: F,
-    has_progress: bool,
+    watch: Watch,
     input: &mut I,
     output: &mut O,
     errors: &mut E,
 ) -> Result<Status, Failure> {
-    let progress = Progress::new(rt, has_progress);
+    let progress = Progress::new(rt, watch);
     fill(rt, &mut table, progress, forms, input, errors)?;
     of_output(output.write_all(table.all_bytes()))
 }
@@ -85,14 +91,14 @@ pub fn insert_into_file<T: Inserts, F: Forms, R: Files + AllocGlobal + Clock, I:
     target: Target,
     mut table: T,
     forms: F,
-    has_progress: bool,
+    watch: Watch,
     input: &mut I,
     errors: &mut E,
 ) -> Result<Status, Failure>
 where
     R::File: AsFd,
 {
-    let progress = Progress::new(rt, has_progress);
+    let progress = Progress::new(rt, watch);
     fill(rt, &mut table, progress, forms, input, errors)?;
     replace_file(rt, &target, table.all_bytes())?;
     Ok(Status::Done)
@@ -110,6 +116,7 @@ fn fill<T: Inserts, F: Forms, R: AllocGlobal + Clock, I: BufRead, E: Write>(
     let alloc: Global = rt.alloc();
     let mut pairs = Vec::new(alloc);
     let mut line = Vec::new(alloc);
+    let mut bytes: u64 = 0;
     for number in 1..u64::MAX {
         let pair = match read_pair_as::<T::Key, T::Value, F, I>(input, &mut line, number, forms) {
             Ok(Some(pair)) => pair,
@@ -120,13 +127,38 @@ fn fill<T: Inserts, F: Forms, R: AllocGlobal + Clock, I: BufRead, E: Write>(
             }
         };
         pairs.push(pair).or(Err(Failure::Memory))?;
+        bytes = with_line(bytes, line.as_slice());
         if pairs.len() >= BATCH {
             insert_batch(table, &mut pairs)?;
-            // A progress line that cannot be written is no failure.
-            let _ = progress.report(rt, number, errors);
+            report(rt, &mut progress, number, table.pair_count(), bytes, errors);
         }
     }
     insert_batch(table, &mut pairs)
+}
+
+// Reports how far the run is: how many lines were read, of so many bytes, and how many pairs there are by now.
+fn report<R: Clock, E: Write>(
+    rt: &R,
+    progress: &mut Progress,
+    lines: u64,
+    pairs: usize,
+    bytes: u64,
+    errors: &mut E,
+) {
+    let pairs = pairs as u64;
+    let taken = Taken {
+        lines,
+        pairs,
+        bytes,
+    };
+    // A progress line that cannot be written is no failure.
+    let _ = progress.report(rt, taken, errors);
+}
+
+// So many bytes, and those of this line with its end.
+#[inline(always)]
+fn with_line(bytes: u64, line: &[u8]) -> u64 {
+    bytes.saturating_add(line.len() as u64).saturating_add(1)
 }
 
 // The failure with what is said of this line, where the line cannot be parsed.

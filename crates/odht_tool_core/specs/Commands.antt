@@ -5,7 +5,7 @@
 --     options_of t         the options that the command t has
 use Rattle.std.specs.Prelude.{ℕ, List, [], ◌∷◌, codes}
 use Rattle.odht_tool_core.specs.declared.arguments.topics.Setting.{Setting}
-use Rattle.odht_tool_core.specs.declared.arguments.topics.Setting.TheVariants.{Help, Slots, Json, Whole, Progress, BreakLinks, At, Hash, Key, Value, Percent, Capacity}
+use Rattle.odht_tool_core.specs.declared.arguments.topics.Setting.TheVariants.{Help, Slots, Json, Whole, Progress, BreakLinks, CheckOnly, At, Hash, Key, Value, Duplicates, Delimiter, Percent, Capacity}
 use Rattle.odht_tool_core.specs.declared.arguments.topics.Topic.{Topic}
 use Rattle.odht_tool_core.specs.declared.arguments.topics.Topic.TheVariants.{Info, Check, Count, Get, Dump, Keys, Find, Order, Diff, Build, Put, Delete, Rebuild}
 
@@ -34,10 +34,13 @@ option_name Json = codes "--json"
 option_name Whole = codes "--whole"
 option_name Progress = codes "--progress"
 option_name BreakLinks = codes "--break-links"
+option_name CheckOnly = codes "--check-only"
 option_name At = codes "--at"
 option_name Hash = codes "--hash"
 option_name Key = codes "--key"
 option_name Value = codes "--value"
+option_name Duplicates = codes "--duplicates"
+option_name Delimiter = codes "--delimiter"
 option_name Percent = codes "--percent"
 option_name Capacity = codes "--capacity"
 
@@ -51,7 +54,7 @@ options_of Keys = Help ∷ Key ∷ Hash ∷ At ∷ []
 options_of Find = Help ∷ Whole ∷ Json ∷ []
 options_of Order = Help ∷ Whole ∷ Key ∷ Value ∷ Hash ∷ At ∷ []
 options_of Diff = Help ∷ Whole ∷ Key ∷ Value ∷ Hash ∷ []
-options_of Build = Help ∷ Key ∷ Value ∷ Hash ∷ Percent ∷ Capacity ∷ Progress ∷ BreakLinks ∷ []
+options_of Build = Help ∷ Key ∷ Value ∷ Duplicates ∷ Delimiter ∷ CheckOnly ∷ Hash ∷ Percent ∷ Capacity ∷ Progress ∷ BreakLinks ∷ []
 options_of Put = Help ∷ Key ∷ Value ∷ Whole ∷ Hash ∷ Progress ∷ BreakLinks ∷ []
 options_of Delete = Help ∷ Key ∷ Whole ∷ Hash ∷ Progress ∷ BreakLinks ∷ []
 options_of Rebuild = Help ∷ Percent ∷ Whole ∷ Hash ∷ Progress ∷ BreakLinks ∷ []

@@ -2,6 +2,7 @@
 
 use crate::any::AnyShape;
 use crate::forms::{GivenForms, Kinds};
+use crate::progress::Watch;
 use crate::shapes::Hash;
 use crate::status::Status;
 use odht_base::load::Percent;
@@ -33,7 +34,8 @@ pub struct BuildOptions {
     pub capacity: usize,
     pub percent: Percent,
     pub breaks_links: bool,
-    pub has_progress: bool,
+    /// Whether lines of progress are requested.
+    pub watch: Watch,
 }
 
 /// The options of `rebuild`.
@@ -113,7 +115,7 @@ pub enum Command {
         kinds: Kinds,
         bound: Option<usize>,
         breaks_links: bool,
-        has_progress: bool,
+        watch: Watch,
     },
     Delete(DeleteOptions),
     Rebuild(RebuildOptions),

@@ -225,18 +225,24 @@ odht diff FILE OTHER [--whole] [--key SHAPE] [--value SHAPE]
 ";
 
 const BUILD: &str = "\
-odht build FILE --key SHAPE --value SHAPE [--hash fx|unhash]
+odht build FILE --key SHAPE --value SHAPE [--duplicates WORD]
+                [--delimiter C] [--check-only] [--hash fx|unhash]
                 [--percent P] [--capacity N] [--progress] [--break-links]
     Makes a table of the lines of standard input, KEY, a tab and VALUE, and stores
     it as FILE, in the place of an older one, which stays where something fails;
-    with - as FILE it goes to standard output. The last line of a key wins; an
-    empty last line that is no pair is left out. Owner, group, permissions and
-    symbolic links of an older file are kept; one with hard links is not replaced
-    without --break-links. With hexN or none for both, keys and values may have
+    with - as FILE it goes to standard output. The last line of a key wins, unless
+    --duplicates says otherwise; an empty last line that is no pair is left out.
+    Owner, group, permissions and symbolic links of an older file are kept; one with
+    hard links is not replaced without --break-links. With hexN or none for both, keys and values may have
     other sizes than the ready shapes; the hash function is fx then, or --hash.
     SHAPE          u32, u64, none (no bytes), or hexN: N bytes as 2 N digits;
                    i32 and i64 with a sign; u32be and u64be, the highest byte first;
                    text:N, a text of at most N bytes, with zeros behind it
+    --duplicates   which line of a key counts: last, first, or error: a second one
+                   is a failure; else last
+    --delimiter    stands between key and value, else a tab: a printable character
+                   of ASCII that is no quote. The first one on a line ends the key
+    --check-only   reads all lines, and makes no file: FILE is not looked at
     --percent      the load factor, 1 to 100, else 87
     --capacity     the number of items for which room is made at first, else 12
     --progress     a line on standard error each second

@@ -1,10 +1,11 @@
 //! The line that reports the progress of a long run.
-ghost use Rattle.std.specs.Prelude.{◌≡◌, OnOk, replicate};
+ghost use Rattle.std.specs.Prelude.{◌≡◌, None, OnOk, replicate};
 ghost use Rattle.std.specs.Io.KnownBytes.{Appends};
 ghost use Rattle.odht_tool_core.specs.Progress.{copied_line, drawn_bar, filled, progress_bar, taken_line};
 
-use std::io::{self, Write};
-use std::rt::Clock;
+use std::fs;
+use std::io::{self, IsTerminal, Write};
+use std::rt::{Clock, Files};
 use std::time::{Duration, Instant};
 
 /// How many characters wide the bar is.
@@ -20,6 +21,45 @@ pub struct Taken {
     pub bytes: u64,
 }
 
+/// Whether lines of progress are requested, and of how many bytes a bar is drawn in them.
+#[derive(Clone, Copy)]
+pub struct Watch {
+    pub is_asked: bool,
+    pub drawn: Option<u64>,
+}
+
+impl Watch {
+    /// Lines without a bar, where they are requested.
+    pub fn of(is_asked: bool) -> Watch
+        ensures asked { result.is_asked ≡ is_asked }
+        ensures plain { result.drawn ≡ None }
+    {
+        Watch {
+            is_asked,
+            drawn: None,
+        }
+    }
+
+    /// The same lines, with a bar where standard input is a file and `errors` a terminal.
+    pub fn with_bar<R: Files, E: IsTerminal>(self, rt: &R, errors: &E) -> Watch
+        ensures { result.is_asked ≡ self.is_asked }
+    {
+        let is_drawn = self.is_asked && errors.is_terminal();
+        Watch {
+            is_asked: self.is_asked,
+            drawn: if is_drawn { input_len(rt) } else { None },
+        }
+    }
+}
+
+// How many bytes standard input has, where it is a file.
+fn input_len<R: Files>(rt: &R) -> Option<u64> {
+    match fs::metadata(rt, "/dev/stdin") {
+        Ok(found) if found.is_file() => Some(found.len()),
+        _ => None,
+    }
+}
+
 /// When the next line is due, and what is known of the input.
 #[derive(Clone, Copy)]
 pub struct Progress {
@@ -29,10 +69,9 @@ pub struct Progress {
 }
 
 impl Progress {
-    /// A line each second from now on, where they are requested; with a bar, where the input is said to have so many
-    /// bytes. Without a clock there are none.
-    pub fn new<R: Clock>(rt: &R, is_asked: bool, drawn: Option<u64>) -> Progress {
-        let begun = if is_asked {
+    /// A line each second from now on, where they are requested. Without a clock there are none.
+    pub fn new<R: Clock>(rt: &R, watch: Watch) -> Progress {
+        let begun = if watch.is_asked {
             Instant::now(rt).ok()
         } else {
             None
@@ -40,7 +79,7 @@ impl Progress {
         Progress {
             begun,
             since: begun,
-            drawn,
+            drawn: watch.drawn,
         }
     }
 

@@ -16,6 +16,7 @@ use odht_tool_core::any::{AnyShape, read_any};
 use odht_tool_core::arguments::{BuildOptions, Duplicates, is_stream};
 use odht_tool_core::failure::Failure;
 use odht_tool_core::forms::{Forms, GivenForms, Kinds, OwnForms};
+use odht_tool_core::progress::Watch;
 use odht_tool_core::shapes::{Hash, Shape};
 use odht_tool_core::status::Status;
 use odht_tool_core::targets::Target;
@@ -97,8 +98,8 @@ where
     C::Value: Text,
 {
     let table = make_table::<C>(rt.alloc(), options.capacity, options.percent)?;
-    let has_progress = options.has_progress;
-    insert_into_stream(rt, table, forms, has_progress, input, output, errors)
+    let watch = options.watch;
+    insert_into_stream(rt, table, forms, watch, input, output, errors)
 }
 
 fn build_file<C: Config, F: Forms, R: Files + AllocGlobal + Clock, I: BufRead, E: Write>(
@@ -120,7 +121,7 @@ where
         target,
         table,
         forms,
-        options.has_progress,
+        options.watch,
         input,
         errors,
     )
@@ -146,7 +147,7 @@ pub fn put<R: Files + AllocGlobal + Clock, I: BufRead, E: Write>(
     hash: Option<Hash>,
     kinds: Kinds,
     bound: Option<usize>,
-    has_progress: bool,
+    watch: Watch,
     input: &mut I,
     errors: &mut E,
 ) -> Result<Status, Failure>
@@ -162,7 +163,7 @@ where
             forms,
             bytes,
             bound,
-            has_progress,
+            watch,
             input,
             errors,
         ),
@@ -172,7 +173,7 @@ where
             shape,
             bytes,
             bound,
-            has_progress,
+            watch,
             input,
             errors,
         ),
@@ -187,7 +188,7 @@ fn put_ready<R: Files + AllocGlobal + Clock, I: BufRead, E: Write>(
     forms: GivenForms,
     bytes: Vec<u8>,
     bound: Option<usize>,
-    has_progress: bool,
+    watch: Watch,
     input: &mut I,
     errors: &mut E,
 ) -> Result<Status, Failure>
@@ -202,7 +203,7 @@ where
             OwnForms,
             bytes,
             bound,
-            has_progress,
+            watch,
             input,
             errors,
         )
@@ -214,7 +215,7 @@ where
             forms,
             bytes,
             bound,
-            has_progress,
+            watch,
             input,
             errors,
         )
@@ -229,7 +230,7 @@ fn put_in<F: Forms, R: Files + AllocGlobal + Clock, I: BufRead, E: Write>(
     forms: F,
     bytes: Vec<u8>,
     bound: Option<usize>,
-    has_progress: bool,
+    watch: Watch,
     input: &mut I,
     errors: &mut E,
 ) -> Result<Status, Failure>
@@ -238,7 +239,7 @@ where
 {
     for_shape!(
         shape,
-        put_file[F, R, I, E](rt, target, forms, bytes, bound, has_progress, input, errors)
+        put_file[F, R, I, E](rt, target, forms, bytes, bound, watch, input, errors)
     )
 }
 
@@ -249,7 +250,7 @@ fn put_file<C: Config, F: Forms, R: Files + AllocGlobal + Clock, I: BufRead, E: 
     forms: F,
     bytes: Vec<u8>,
     bound: Option<usize>,
-    has_progress: bool,
+    watch: Watch,
     input: &mut I,
     errors: &mut E,
 ) -> Result<Status, Failure>
@@ -259,7 +260,7 @@ where
     R::File: AsFd,
 {
     let table = copy_table::<C>(rt.alloc(), bytes, bound)?;
-    insert_into_file(rt, target, table, forms, has_progress, input, errors)
+    insert_into_file(rt, target, table, forms, watch, input, errors)
 }
 
 fn copy_table<C: Config>(

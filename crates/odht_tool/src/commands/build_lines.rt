@@ -57,11 +57,11 @@ where
         delimiter: options.delimiter,
     };
     if makes_no_table(options) {
-        let has_progress = options.has_progress;
+        let watch = options.watch;
         return check_lines::<C::Key, C::Value, LineForms, R, I, E>(
             rt,
             forms,
-            has_progress,
+            watch,
             input,
             errors,
         );

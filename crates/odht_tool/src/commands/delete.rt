@@ -22,7 +22,7 @@ use odht_tool_core::failure::Failure;
 use odht_tool_core::files::{read_file, replace_file};
 use odht_tool_core::forms::Form;
 use odht_tool_core::keys::{parse_keys, push_key};
-use odht_tool_core::progress::Progress;
+use odht_tool_core::progress::{Progress, Watch};
 use odht_tool_core::shapes::{Hash, Shape};
 use odht_tool_core::status::Status;
 use odht_tool_core::targets::Target;
@@ -71,7 +71,7 @@ fn deleted<R: AllocGlobal + Clock, E: Write>(
     match check_any(shape, bytes, options.bound) {
         Ok(()) => {
             let keys = keys_of_words(rt.alloc(), shape, forms.key, words)?;
-            let progress = Progress::new(rt, options.has_progress);
+            let progress = Progress::new(rt, Watch::of(options.has_progress));
             deleted_for(
                 rt,
                 file,

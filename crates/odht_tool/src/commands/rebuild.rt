@@ -27,7 +27,7 @@ use odht_tool_core::arguments::RebuildOptions;
 use odht_tool_core::failure::Failure;
 use odht_tool_core::files::{read_file, replace_file};
 use odht_tool_core::found::found_any;
-use odht_tool_core::progress::Progress;
+use odht_tool_core::progress::{Progress, Watch};
 use odht_tool_core::shapes::Hash;
 use odht_tool_core::status::Status;
 use odht_tool_core::targets::Target;
@@ -74,7 +74,7 @@ fn rebuilt<R: AllocGlobal + Clock, E: Write>(
     let hash = new_hash(bytes, shape, options.hash)?;
     match check_any(shape, bytes, options.bound) {
         Ok(()) => {
-            let progress = Progress::new(rt, options.has_progress);
+            let progress = Progress::new(rt, Watch::of(options.has_progress));
             rebuilt_for(rt, shape, hash, bytes, options.percent, progress, errors)
         }
         Err(error) => Err(Failure::Refused(error)),

@@ -4,14 +4,14 @@ ghost use Rattle.std.specs.Prelude.{IfErr, OnOk};
 ghost use Rattle.odht_tool.specs.Faults.{TellsRepeated};
 ghost use Rattle.odht_tool.specs.Inserted.{IsLineRefused, IsLineTaken};
 
-use crate::inserts::{BATCH, Inserts, fill, told};
+use crate::inserts::{BATCH, Inserts, fill, report, told, with_line};
 use odht_tool_core::arguments::{BuildOptions, Duplicates, is_stream};
 use odht_tool_core::failure::Failure;
 use odht_tool_core::files::replace_file;
 use odht_tool_core::forms::Forms;
 use odht_tool_core::line_messages::repeated_message;
 use odht_tool_core::lines::read_pair_as;
-use odht_tool_core::progress::Progress;
+use odht_tool_core::progress::{Progress, Watch};
 use odht_tool_core::status::{Status, of_output};
 use odht_tool_core::targets::Target;
 use odht_tool_core::text::Text;
@@ -79,7 +79,7 @@ pub fn insert_lines<
 where
     R::File: AsFd,
 {
-    let progress = Progress::new(rt, options.has_progress);
+    let progress = Progress::new(rt, options.watch);
     match options.duplicates {
         Duplicates::Last => fill(rt, &mut table, progress, forms, input, errors)?,
         Duplicates::First => fill_new(rt, &mut table, progress, forms, false, input, errors)?,
@@ -99,19 +99,23 @@ where
 pub fn check_lines<K: Text, V: Text, F: Forms, R: AllocGlobal + Clock, I: BufRead, E: Write>(
     rt: &R,
     forms: F,
-    has_progress: bool,
+    watch: Watch,
     input: &mut I,
     errors: &mut E,
 ) -> Result<Status, Failure> {
-    let mut progress = Progress::new(rt, has_progress);
+    let mut progress = Progress::new(rt, watch);
     let alloc: Global = rt.alloc();
     let mut line = Vec::new(alloc);
+    let mut bytes: u64 = 0;
     for number in 1..u64::MAX {
         let read = next_pair::<K, V, F, I>(alloc, input, &mut line, number, forms)?;
         if read.is_none() {
             break;
         }
-        report(rt, &mut progress, number, errors);
+        bytes = with_line(bytes, line.as_slice());
+        if number % BATCH as u64 == 0 {
+            report(rt, &mut progress, number, 0, bytes, errors);
+        }
     }
     Ok(Status::Done)
 }
@@ -129,6 +133,7 @@ fn fill_new<T: Inserts, F: Forms, R: AllocGlobal + Clock, I: BufRead, E: Write>(
 ) -> Result<(), Failure> {
     let alloc: Global = rt.alloc();
     let mut line = Vec::new(alloc);
+    let mut bytes: u64 = 0;
     for number in 1..u64::MAX {
         let read = next_pair::<T::Key, T::Value, F, I>(alloc, input, &mut line, number, forms)?;
         let Some((key, value)) = read else {
@@ -136,7 +141,10 @@ fn fill_new<T: Inserts, F: Forms, R: AllocGlobal + Clock, I: BufRead, E: Write>(
         };
         let line = line.as_slice();
         insert_line(alloc, table, &key, &value, is_once, number, line, forms)?;
-        report(rt, &mut progress, number, errors);
+        bytes = with_line(bytes, line);
+        if number % BATCH as u64 == 0 {
+            report(rt, &mut progress, number, table.pair_count(), bytes, errors);
+        }
     }
     Ok(())
 }
@@ -176,14 +184,6 @@ fn insert_line<T: Inserts, F: Forms>(
         Ok(())
     } else {
         Err(repeated(alloc, number, line, forms.delimiter()))
-    }
-}
-
-// Reports how far the run is, now and then.
-fn report<R: Clock, E: Write>(rt: &R, progress: &mut Progress, number: u64, errors: &mut E) {
-    if number % BATCH as u64 == 0 {
-        // A progress line that cannot be written is no failure.
-        let _ = progress.report(rt, number, errors);
     }
 }
 

@@ -33,6 +33,10 @@ where
         insert_absent(self, key, value)
     }
 
+    fn pair_count(&self) -> usize {
+        self.len()
+    }
+
     fn all_bytes(&self) -> &[u8] {
         self.raw_bytes()
     }
@@ -89,6 +93,10 @@ impl<H: HashFn> Inserts for DynTableOwned<H> {
 
     fn insert_new(&mut self, key: &ShortBytes, value: &ShortBytes) -> Result<bool, Failure> {
         insert_absent_bytes(self, key.as_slice(), value.as_slice())
+    }
+
+    fn pair_count(&self) -> usize {
+        self.len()
     }
 
     fn all_bytes(&self) -> &[u8] {

@@ -56,11 +56,11 @@ where
 {
     let forms = forms_of(layout, options.delimiter);
     if makes_no_table(options) {
-        let has_progress = options.has_progress;
+        let watch = options.watch;
         return check_lines::<ShortBytes, ShortBytes, LineForms, R, I, E>(
             rt,
             forms,
-            has_progress,
+            watch,
             input,
             errors,
         );

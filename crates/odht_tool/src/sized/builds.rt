@@ -19,6 +19,7 @@ use odht::{FxHashFn, UnHashFn};
 use odht_tool_core::any::OtherShape;
 use odht_tool_core::arguments::{BuildOptions, is_stream};
 use odht_tool_core::failure::Failure;
+use odht_tool_core::progress::Watch;
 use odht_tool_core::shapes::Hash;
 use odht_tool_core::status::Status;
 use odht_tool_core::targets::Target;
@@ -63,14 +64,14 @@ fn build_lengths<H: HashFn, R: Files + AllocGlobal + Clock, I: BufRead, O: Write
 where
     R::File: AsFd,
 {
-    let (forms, has_progress) = (forms_of(layout), options.has_progress);
+    let (forms, watch) = (forms_of(layout), options.watch);
     if is_stream(file) {
         let table = make_lengths::<H>(rt.alloc(), layout, options.capacity, options.percent)?;
-        insert_into_stream(rt, table, forms, has_progress, input, output, errors)
+        insert_into_stream(rt, table, forms, watch, input, output, errors)
     } else {
         let target = Target::find(rt, file, options.breaks_links)?;
         let table = make_lengths::<H>(rt.alloc(), layout, options.capacity, options.percent)?;
-        insert_into_file(rt, target, table, forms, has_progress, input, errors)
+        insert_into_file(rt, target, table, forms, watch, input, errors)
     }
 }
 
@@ -104,7 +105,7 @@ pub fn put_other<R: Files + AllocGlobal + Clock, I: BufRead, E: Write>(
     shape: OtherShape,
     bytes: Vec<u8>,
     bound: Option<usize>,
-    has_progress: bool,
+    watch: Watch,
     input: &mut I,
     errors: &mut E,
 ) -> Result<Status, Failure>
@@ -120,7 +121,7 @@ where
             layout,
             bytes,
             bound,
-            has_progress,
+            watch,
             input,
             errors,
         ),
@@ -130,7 +131,7 @@ where
             layout,
             bytes,
             bound,
-            has_progress,
+            watch,
             input,
             errors,
         ),
@@ -144,7 +145,7 @@ fn put_lengths<H: HashFn, R: Files + AllocGlobal + Clock, I: BufRead, E: Write>(
     layout: Layout,
     bytes: Vec<u8>,
     bound: Option<usize>,
-    has_progress: bool,
+    watch: Watch,
     input: &mut I,
     errors: &mut E,
 ) -> Result<Status, Failure>
@@ -154,7 +155,7 @@ where
 {
     let table = copy_lengths::<H>(rt.alloc(), layout, bytes, bound)?;
     let forms = forms_of(layout);
-    insert_into_file(rt, target, table, forms, has_progress, input, errors)
+    insert_into_file(rt, target, table, forms, watch, input, errors)
 }
 
 fn copy_lengths<H: HashFn>(

@@ -8,6 +8,7 @@ use super::{
 use crate::any::AnyShape;
 use crate::digits::parse_number;
 use crate::forms::{GivenForms, Kind, Kinds};
+use crate::progress::Watch;
 use crate::shapes::Hash;
 use odht_base::load::Percent;
 use odht_raw::memory_layout::DEFAULT_GROUPS;
@@ -187,7 +188,7 @@ impl Draft {
                 kinds: self.kinds,
                 bound: bound_of(self.is_whole),
                 breaks_links: self.breaks_links,
-                has_progress: self.has_progress,
+                watch: Watch::of(self.has_progress),
             }),
             Topic::Get => self.get(is_stream),
             Topic::Diff => self.diff(is_stream),
@@ -336,7 +337,7 @@ impl Draft {
             capacity: self.capacity,
             percent: self.percent,
             breaks_links: self.breaks_links,
-            has_progress: self.has_progress,
+            watch: Watch::of(self.has_progress),
         }))
     }
 }
