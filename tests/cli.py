@@ -31,6 +31,7 @@ COMMANDS = [([it.name, "table"], b"") for it in LISTED if it.is_reading and it.i
 COMMANDS += [
     (["dump", "-"], None),
     *(([it, "table", "--json"], b"") for it in ("info", "check", "find", "dump")),
+    *((["get", "table", it, "--json"], b"3\n7\n") for it in ("3", "-")),
     (["count", "table", "-"], None),
     (["diff", "table", "-"], None),
     (["get", "table", "3", "7"], b""),
@@ -39,6 +40,8 @@ COMMANDS += [
     (["put", "table"], LINES),
     (["rebuild", "table", "--percent", "50"], b""),
     (["delete", "table", *map(str, range(40))], b""),
+    (["delete", "table", "-"], b"".join(b"%d\n" % it for it in range(10))),
+    (["delete", "other", "-"], b"000000\n0a0b0c\n"),
     (["build", "made", "--key", "u64", "--value", "u32"], LINES),
     (["build", "-", "--key", "hex32", "--value", "none"], b"00" * 32 + b"\n"),
     (["build", "made", "--key", "u64", "--value", "u32", "--duplicates", "first"], LINES),

@@ -79,31 +79,48 @@ def as_dump(name, text, words):
     return [pair(line.split(b"\t"), "--slots" in words) for line in text.split(b"\n")[:-1]]
 
 
+def as_get(name, text, words):
+    rows = [line.split(b"\t") for line in text.split(b"\n")[:-1]]
+    return [pair(row, False) if len(row) == 2 else {**field("key", row[0]), "value": None} for row in rows]
+
+
 def pair(columns, has_slots):
     found = dict(zip(["slot", "control", "groups"], map(int, columns[:3]))) if has_slots else {}
-    for key, text in zip(["key", "value"], columns[-2:]):
-        try:
-            found[key] = text.decode()
-        except UnicodeDecodeError:
-            found[f"{key}_hex"] = text.hex()
-    return found
+    return {**found, **field("key", columns[-2]), **field("value", columns[-1])}
 
 
-READ = {"info": as_info, "check": as_check, "find": as_find, "dump": as_dump}
+def field(name, text):
+    try:
+        return {name: text.decode()}
+    except UnicodeDecodeError:
+        return {f"{name}_hex": text.hex()}
+
+
+READ = {"info": as_info, "check": as_check, "find": as_find, "dump": as_dump, "get": as_get}
 WORDS = [["info"], ["info", "--whole"], ["check"], ["check", "--whole"], ["check", "--hash=unhash"], ["find"],
-         ["find", "--whole"], ["dump"], ["dump", "--slots"]]
+         ["find", "--whole"], ["dump"], ["dump", "--slots"], ["get"]]
 TEXTS = ["--key=text:16", "--value=text:16"]
 
 
-def run(program, words, room):
-    ran = subprocess.run([program, *words], cwd=room, capture_output=True)
+def run(program, words, room, lines=b""):
+    ran = subprocess.run([program, *words], cwd=room, capture_output=True, input=lines)
     return ran.stdout, (ran.returncode, ran.stderr)
+
+
+def looked_up(program, words, name, room):
+    """The words behind the name, and the lines of standard input: for `get` each key, and another that may be absent."""
+    if words[0] != "get":
+        return [], b""
+    dump, _ = run(program, ["dump", *words[1:], "--", name], room)
+    keys = [line.split(b"\t")[0] for line in dump.split(b"\n")[:-1]]
+    return ["-"], b"".join(b"%s\n%s0\n" % (key, key[:-1]) for key in keys)
 
 
 def differs(program, words, name, room):
     """What is wrong with a command on the file of this name, or None."""
-    plain, ended = run(program, [*words, "--", name], room)
-    told, ended_too = run(program, [*words, "--json", "--", name], room)
+    behind, lines = looked_up(program, words, name, room)
+    plain, ended = run(program, [*words, "--", name, *behind], room, lines)
+    told, ended_too = run(program, [*words, "--json", "--", name, *behind], room, lines)
     if ended != ended_too:
         return f"{ended} and {ended_too}"
     try:

@@ -24,7 +24,7 @@ _odht() {
         info:-*) COMPREPLY=($(compgen -W '--help --whole --json --at' -- "$word"));;
         check:-*) COMPREPLY=($(compgen -W '--help --whole --json --hash --at' -- "$word"));;
         count:-*) COMPREPLY=($(compgen -W '--help --whole --hash --at' -- "$word"));;
-        get:-*) COMPREPLY=($(compgen -W '--help --key --value --hash --at' -- "$word"));;
+        get:-*) COMPREPLY=($(compgen -W '--help --json --key --value --hash --at' -- "$word"));;
         dump:-*) COMPREPLY=($(compgen -W '--help --slots --json --key --value --hash --at' -- "$word"));;
         keys:-*) COMPREPLY=($(compgen -W '--help --key --hash --at' -- "$word"));;
         find:-*) COMPREPLY=($(compgen -W '--help --whole --json' -- "$word"));;

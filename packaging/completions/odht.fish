@@ -10,7 +10,7 @@ complete -c odht -n __fish_use_subcommand -f -a order -d 'tells each pair in an 
 complete -c odht -n __fish_use_subcommand -f -a diff -d 'tells how the pairs of two tables differ'
 complete -c odht -n __fish_use_subcommand -f -a build -d 'makes a table file of the lines of standard input'
 complete -c odht -n __fish_use_subcommand -f -a put -d 'adds the lines of standard input to a table file'
-complete -c odht -n __fish_use_subcommand -f -a delete -d 'takes keys out of a table file'
+complete -c odht -n __fish_use_subcommand -f -a delete -d 'takes keys out; with - instead of keys, those of standard input'
 complete -c odht -n __fish_use_subcommand -f -a rebuild -d 'makes a table file anew, of another load factor or hash function'
 complete -c odht -n __fish_use_subcommand -f -a help -d 'is the help of a command'
 complete -c odht -n '__fish_seen_subcommand_from help' -f -a 'info check count get dump keys find order diff build put delete rebuild'
@@ -28,6 +28,7 @@ complete -c odht -n '__fish_seen_subcommand_from count' -l whole
 complete -c odht -n '__fish_seen_subcommand_from count' -l hash -x -a 'fx unhash' -d 'fx or unhash'
 complete -c odht -n '__fish_seen_subcommand_from count' -l at -x -d 'a number below 2^64'
 complete -c odht -n '__fish_seen_subcommand_from get' -l help
+complete -c odht -n '__fish_seen_subcommand_from get' -l json
 complete -c odht -n '__fish_seen_subcommand_from get' -l key -x -d 'u32, u64, i32, i64, u32be, u64be, hexN or text N'
 complete -c odht -n '__fish_seen_subcommand_from get' -l value -x -d 'u32, u64, i32, i64, u32be, u64be, none, hexN or text N'
 complete -c odht -n '__fish_seen_subcommand_from get' -l hash -x -a 'fx unhash' -d 'fx or unhash'

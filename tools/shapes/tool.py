@@ -18,6 +18,7 @@ DISPATCHERS = {
     "get/get_lines_of": "get_lines",
     "order/order_of": "order_pairs",
     "delete/keys_of_ready": "keys_of",
+    "delete_lines/keys_of_ready": "keys_of",
 }
 # those of them without type parameters
 PLAIN = {"delete/keys_of_ready"}

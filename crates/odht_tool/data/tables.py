@@ -401,7 +401,8 @@ def deleted(table, keys):
 
 
 def write_deleted_cases():
-    """What `delete` has to make of tables: of some of their keys, of all, and of words of absent keys after these."""
+    """What `delete` has to make of tables: of some of their keys, of all, and of absent keys after these; of words, and of
+    lines."""
     made = {case.name: case for case in cases()}
     text = HEAD
     for name, words, step, absent in [
@@ -416,12 +417,15 @@ def write_deleted_cases():
         keys = [key for key, _ in filter(None, case.table.cells) if " " not in case.key_text(key)][::step]
         with open(os.path.join(HERE, f"{file}.odht"), "wb") as out:
             out.write(deleted(case.table, keys).image())
-        named = " ".join([case.key_text(key) or '""' for key in keys] + absent.split())
+        named = [case.key_text(key) for key in keys] + absent.split()
         lines = "".join(f'odht: {name}.odht: the key {shown(word)} is absent\n' for word in absent.split())
-        text += (f"== delete of each {step}. key of {name}\nbefore {name}.odht: < crates/odht_tool/data/{name}.odht\n"
-                 f"args: delete {name}.odht {named}{case.key_kind}{words and ' '}{words}\n"
-                 f"after {name}.odht: < crates/odht_tool/data/{file}.odht\n"
-                 + (block("stderr", lines) + "status: 1\n" if lines else "") + "\n")
+        for title, keys, given in [("", " ".join(it or '""' for it in named), ""),
+                                   (", in lines", "-", block("stdin", "".join(f"{it}\n" for it in named)))]:
+            text += (f"== delete of each {step}. key of {name}{title}\n"
+                     f"before {name}.odht: < crates/odht_tool/data/{name}.odht\n"
+                     f"args: delete {name}.odht {keys}{case.key_kind}{words and ' '}{words}\n{given}"
+                     f"after {name}.odht: < crates/odht_tool/data/{file}.odht\n"
+                     + (block("stderr", lines) + "status: 1\n" if lines else "") + "\n")
     write_test("tool/tables/deleted.cases", text)
 
 

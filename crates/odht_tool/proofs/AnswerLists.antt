@@ -9,7 +9,7 @@ use Rattle.std.proofs.lemmas.List.Folds.{list_all-append}
 use Rattle.odht.specs.Lookups.{HaveStored}
 use Rattle.odht_header.specs.Coding.{Coding, HasStored, value_for}
 use Rattle.odht_tool.specs.Gets.{AreAnswers}
-use Rattle.odht_tool_core.specs.Texts.{answer_line, answers_text}
+use Rattle.odht_tool_core.specs.Texts.{answers_by}
 
 -- as many words as keys
 pub AllZip-length : {X Y : Type 0} (R : X → Y → Type 0) (xs : List X) (ys : List Y) → AllZip R xs ys → length xs ≡ length ys
@@ -40,14 +40,14 @@ appended_kept (Some x) (Some y) None xs p q = absurd q
 appended_kept (Some x) (Some y) (Some z) xs p q = q ∙ p
 
 -- the lines of answers in two parts
-pub answers_append : {K V : Type 0} (f : K → List ℕ) (g : V → List ℕ) (ks ls : List K) (vs ws : List (Option V)) → length vs ≡ length ks
-    → answers_text f g (ks ++ ls) (vs ++ ws) ≡ answers_text f g ks vs ++ answers_text f g ls ws
-answers_append f g [] ls [] ws e = refl
-answers_append f g [] ls (v ∷ vs) ws e = absurd (omega (arith, e))
-answers_append f g (k ∷ ks) ls [] ws e = absurd (omega (arith, e))
-answers_append f g (k ∷ ks) ls (v ∷ vs) ws e =
-    ap (λ t. answer_line f g (k, v) ++ t) (answers_append f g ks ls vs ws (omega (arith, e)))
-    ∙ sym (append_assoc (answer_line f g (k, v)) (answers_text f g ks vs) (answers_text f g ls ws))
+pub answers_append : {K V : Type 0} (l : K × Option V → List ℕ) (ks ls : List K) (vs ws : List (Option V)) → length vs ≡ length ks
+    → answers_by l (ks ++ ls) (vs ++ ws) ≡ answers_by l ks vs ++ answers_by l ls ws
+answers_append l [] ls [] ws e = refl
+answers_append l [] ls (v ∷ vs) ws e = absurd (omega (arith, e))
+answers_append l (k ∷ ks) ls [] ws e = absurd (omega (arith, e))
+answers_append l (k ∷ ks) ls (v ∷ vs) ws e =
+    ap (λ t. l (k, v) ++ t) (answers_append l ks ls vs ws (omega (arith, e)))
+    ∙ sym (append_assoc (l (k, v)) (answers_by l ks vs) (answers_by l ls ws))
 
 -- what is stored with the keys of each part is so with those of both
 stored_append : {K V : Type 0} (c : Coding K V) (B : List ℕ) (ks ls : List K) (vs ws : List (Option V)) → length vs ≡ length ks → HaveStored c B ks vs → HaveStored c B ls ws
@@ -67,9 +67,9 @@ are_answers_append c B ks ls vs ws h j = record {
 }
 
 -- and their lines, written one part after the other
-pub written_append : {K V : Type 0} (f : K → List ℕ) (g : V → List ℕ) (ks ls : List K) (vs ws : List (Option V)) (a b d : Option (List ℕ)) → length vs ≡ length ks
-    → Appends a b (answers_text f g ks vs) → Appends b d (answers_text f g ls ws) → Appends a d (answers_text f g (ks ++ ls) (vs ++ ws))
-written_append f g ks ls vs ws a b d e p q = subst (Appends a d) (sym (answers_append f g ks ls vs ws e)) (Appends-trans a b d (answers_text f g ks vs) (answers_text f g ls ws) p q)
+pub written_append : {K V : Type 0} (l : K × Option V → List ℕ) (ks ls : List K) (vs ws : List (Option V)) (a b d : Option (List ℕ)) → length vs ≡ length ks
+    → Appends a b (answers_by l ks vs) → Appends b d (answers_by l ls ws) → Appends a d (answers_by l (ks ++ ls) (vs ++ ws))
+written_append l ks ls vs ws a b d e p q = subst (Appends a d) (sym (answers_append l ks ls vs ws e)) (Appends-trans a b d (answers_by l ks vs) (answers_by l ls ws) p q)
 
 -- whether all of both are found
 pub found_append : {V : Type 0} (vs ws : List (Option V)) (was is all : Bool) → was ≡ list_all is_some vs → is ≡ list_all is_some ws → all ≡ (is && was) → all ≡ list_all is_some (vs ++ ws)

@@ -15,9 +15,9 @@ pub no_answers : {K V : Type 0} (c : Coding K V) (B : List ℕ) → AreAnswers c
 no_answers c B = record { each = refl; on_valid = λ P is. refl; on_any = λ i k v p q. cc }
 
 -- of no batch none is answered
-pub nothing_flushed : {K V : Type 0} (c : Coding K V) (f : K → List ℕ) (g : V → List ℕ) (B : List ℕ) (ks : List K) (old : Option (List ℕ)) (all : Bool) → length ks < BATCH → IsFlushed c f g B ks ks old old all all
-nothing_flushed c f g B ks old all l =
-    record { done = []; left = refl; few = λ _. refl; full = λ m. absurd (omega (arith, l, m)); values = []; answers = no_answers c B; written = Appends-nil old; found = refl }
+pub nothing_flushed : {K V : Type 0} (c : Coding K V) (l : K × Option V → List ℕ) (B : List ℕ) (ks : List K) (old : Option (List ℕ)) (all : Bool) → length ks < BATCH → IsFlushed c l B ks ks old old all all
+nothing_flushed c l B ks old all few =
+    record { done = []; left = refl; few = λ _. refl; full = λ m. absurd (omega (arith, few, m)); values = []; answers = no_answers c B; written = Appends-nil old; found = refl }
 
 -- of one key there is one
 stored_one : {K V : Type 0} (c : Coding K V) (B : List ℕ) (k : K) (o : Option V) → IfSome o (λ v. HasStored c B k v)

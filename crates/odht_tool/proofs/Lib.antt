@@ -4,6 +4,8 @@ pub mod KeyAnswers
 pub mod AnswerLists
 -- the lines that a loop has taken
 pub mod LinesTaken
+-- the lines that a loop has read as keys
+pub mod KeyLines
 -- pairs that are inserted in turn
 pub mod OwnedRuns
 -- what a command does, from the shape of the bytes on

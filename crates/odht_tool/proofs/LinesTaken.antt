@@ -14,7 +14,7 @@ use Rattle.odht_tool.specs.GetParts.{AreKeysAnswered, AreFaultAnswered, IsKeysFa
 use Rattle.odht_tool.specs.Gets.{AreAnswers, IsAnswered, answered_status, found_status}
 use Rattle.odht_tool_core.specs.InputLines.{AreLeft, IsNextLine}
 use Rattle.odht_tool_core.specs.Misreads.{misread_text}
-use Rattle.odht_tool_core.specs.Texts.{answers_text}
+use Rattle.odht_tool_core.specs.Texts.{answers_by}
 use Rattle.odht_tool_core.specs.declared.misread.Wanted.{Wanted}
 use Rattle.odht_tool_core.specs.declared.keys.NextKey.TheVariants.{Key as is_key}
 use Rattle.odht_tool.specs.declared.lookups.TheConstants.{BATCH}
@@ -37,31 +37,31 @@ pub record AreRead {K : Type 0} (R : List ℕ → K → Type 0) (bytes : List �
 
 -- the lines before the one of this number were read as keys, of which `pending` are the last, and the answers to all before
 -- these, which are so many batches, were written; `all` says whether each of those has a value
-pub record AreTaken {K V : Type 0} (c : Coding K V) (f : K → List ℕ) (g : V → List ℕ) (R : List ℕ → K → Type 0) (B : List ℕ) (input now old new : Option (List ℕ)) (number : ℕ) (pending : List K) (all : Bool) : Type 0 where
+pub record AreTaken {K V : Type 0} (c : Coding K V) (l : K × Option V → List ℕ) (R : List ℕ → K → Type 0) (B : List ℕ) (input now old new : Option (List ℕ)) (number : ℕ) (pending : List K) (all : Bool) : Type 0 where
   pub done : List K
   pub batches : ℕ
   pub whole : length done ≡ batches * BATCH
   pub values : List (Option V)
   pub answers : AreAnswers c B done values
-  pub written : Appends old new (answers_text f g done values)
+  pub written : Appends old new (answers_by l done values)
   pub found : all ≡ list_all is_some values
   pub read : IfSome input (λ bytes. AreRead R bytes now number (done ++ pending))
 
 -- what follows of known bytes
-if_some : {X : Type 0} (o : Option X) (P Q : X → Type 0) → ((x : X) → P x → Q x) → IfSome o P → IfSome o Q
+pub if_some : {X : Type 0} (o : Option X) (P Q : X → Type 0) → ((x : X) → P x → Q x) → IfSome o P → IfSome o Q
 if_some None P Q f h = tt
 if_some (Some x) P Q f h = f x h
 
 -- of known bytes that are left the next line is known
-next_of : (old new : Option (List ℕ)) (rest line : List ℕ) → old ≡ Some rest → IsNextLine old new line → (more : List ℕ) × (new ≡ Some more) × (lines rest ≡ line ∷ lines more)
+pub next_of : (old new : Option (List ℕ)) (rest line : List ℕ) → old ≡ Some rest → IsNextLine old new line → (more : List ℕ) × (new ≡ Some more) × (lines rest ≡ line ∷ lines more)
 next_of old new rest line e h = subst (λ o. IsNextLine o new line) e h
 
 -- of known bytes that are left as an empty line alone the lines are known
-only_of : {K : Type 0} (R : List ℕ → K → Type 0) (old : Option (List ℕ)) (rest : List ℕ) → old ≡ Some rest → IsLeftOut R old → lines rest ≡ [] ∷ []
+pub only_of : {K : Type 0} (R : List ℕ → K → Type 0) (old : Option (List ℕ)) (rest : List ℕ) → old ≡ Some rest → IsLeftOut R old → lines rest ≡ [] ∷ []
 only_of R old rest e h = (subst (IsLeftOut R) e h).0
 
 -- and at the end there is none
-end_of : (old : Option (List ℕ)) (rest : List ℕ) → old ≡ Some rest → IsAtEnd old → rest ≡ []
+pub end_of : (old : Option (List ℕ)) (rest : List ℕ) → old ≡ Some rest → IsAtEnd old → rest ≡ []
 end_of old rest e h = subst IsAtEnd e h
 
 -- fewer keys than a batch and one more are a batch at most
@@ -69,9 +69,9 @@ pub batch_at_most : {K : Type 0} (keys more : List K) (key : K) → more ≡ key
 batch_at_most keys more key e few = omega (arith, ap length e ∙ length-append keys (key ∷ []), few)
 
 -- at first no line was
-pub none_taken : {K V : Type 0} (c : Coding K V) (f : K → List ℕ) (g : V → List ℕ) (R : List ℕ → K → Type 0) (B : List ℕ) (input old : Option (List ℕ)) (pending : List K) → pending ≡ []
-    → AreTaken c f g R B input input old old 1 pending true
-none_taken c f g R B input old pending e = record {
+pub none_taken : {K V : Type 0} (c : Coding K V) (l : K × Option V → List ℕ) (R : List ℕ → K → Type 0) (B : List ℕ) (input old : Option (List ℕ)) (pending : List K) → pending ≡ []
+    → AreTaken c l R B input input old old 1 pending true
+none_taken c l R B input old pending e = record {
   done = [];
   batches = 0;
   whole = refl;
@@ -86,10 +86,10 @@ none_taken c f g R B input old pending e = record {
     at now None h = tt
     at now (Some bytes) h = record { words = []; rest = bytes; left = h; place = refl; counted = refl; texts = subst (AllZip R []) (sym e) tt }
 
-module _ {K V : Type 0} (c : Coding K V) (f : K → List ℕ) (g : V → List ℕ) (R : List ℕ → K → Type 0) (B : List ℕ) (input now old new : Option (List ℕ)) where
+module _ {K V : Type 0} (c : Coding K V) (l : K × Option V → List ℕ) (R : List ℕ → K → Type 0) (B : List ℕ) (input now old new : Option (List ℕ)) where
   -- one line more is read as a key
-  pub one_taken : (number : ℕ) (pending : List K) (all : Bool) (then : Option (List ℕ)) (key : K) (more : List K) → AreTaken c f g R B input now old new number pending all
-      → IsNextKey R now then (is_key key) → more ≡ pending ++ (key ∷ []) → AreTaken c f g R B input then old new (number + 1) more all
+  pub one_taken : (number : ℕ) (pending : List K) (all : Bool) (then : Option (List ℕ)) (key : K) (more : List K) → AreTaken c l R B input now old new number pending all
+      → IsNextKey R now then (is_key key) → more ≡ pending ++ (key ∷ []) → AreTaken c l R B input then old new (number + 1) more all
   one_taken number pending all then key more h next e = record {
     done = h.done;
     batches = h.batches;
@@ -114,10 +114,10 @@ module _ {K V : Type 0} (c : Coding K V) (f : K → List ℕ) (g : V → List �
                 (AllZip-one_more R r.words (h.done ++ pending) next.0 key r.texts next.2);
           }
 
-  module _ (number : ℕ) (pending : List K) (all : Bool) (last : Option (List ℕ)) (h : AreTaken c f g R B input now old new number pending all) where
+  module _ (number : ℕ) (pending : List K) (all : Bool) (last : Option (List ℕ)) (h : AreTaken c l R B input now old new number pending all) where
     -- of the last keys those of a batch are answered, if there are so many, and fewer are left
-    pub batch_answered : (after : List K) (every : Bool) → length pending ≤ BATCH → IsFlushed c f g B pending after new last all every
-        → AreTaken c f g R B input now old last number after every × (length after < BATCH)
+    pub batch_answered : (after : List K) (every : Bool) → length pending ≤ BATCH → IsFlushed c l B pending after new last all every
+        → AreTaken c l R B input now old last number after every × (length after < BATCH)
     batch_answered after every most s = elim (eq-or-lt_of_le most) [
       | inl full ↦ (flushed (h.batches + 1) (omega (arith, h.whole, long, full, none full)), omega (arith, none full))
       | inr few ↦ (flushed h.batches (omega (arith, h.whole, few_done few)), omega (arith, long, few, few_done few))
@@ -132,14 +132,14 @@ module _ {K V : Type 0} (c : Coding K V) (f : K → List ℕ) (g : V → List �
         few_done : length pending < BATCH → length s.done ≡ 0
         few_done few = ap length (s.few few)
 
-        flushed : (batches : ℕ) → length h.done + length s.done ≡ batches * BATCH → AreTaken c f g R B input now old last number after every
+        flushed : (batches : ℕ) → length h.done + length s.done ≡ batches * BATCH → AreTaken c l R B input now old last number after every
         flushed batches whole = record {
           done = h.done ++ s.done;
           batches = batches;
           whole = length-append h.done s.done ∙ whole;
           values = h.values ++ s.values;
           answers = are_answers_append c B h.done s.done h.values s.values h.answers s.answers;
-          written = written_append f g h.done s.done h.values s.values old new last h.answers.each h.written s.written;
+          written = written_append l h.done s.done h.values s.values old new last h.answers.each h.written s.written;
           found = found_append h.values s.values all (list_all is_some s.values) every h.found refl s.found;
           read = if_some input _ _ (λ bytes r. record {
             words = r.words;
@@ -152,13 +152,13 @@ module _ {K V : Type 0} (c : Coding K V) (f : K → List ℕ) (g : V → List �
         }
 
     -- all keys are
-    all_answered : (every : Bool) (words : List (List ℕ)) → AllZip R words (h.done ++ pending) → AreKeysAnswered c f g B pending new last every → IsAnswered c f g R B words old last (found_status (every && all))
+    all_answered : (every : Bool) (words : List (List ℕ)) → AllZip R words (h.done ++ pending) → AreKeysAnswered c l B pending new last every → IsAnswered c l R B words old last (found_status (every && all))
     all_answered every words texts s = record {
       keys = h.done ++ pending;
       texts = texts;
       values = h.values ++ s.values;
       answers = are_answers_append c B h.done pending h.values s.values h.answers s.answers;
-      written = written_append f g h.done pending h.values s.values old new last h.answers.each h.written s.written;
+      written = written_append l h.done pending h.values s.values old new last h.answers.each h.written s.written;
       status = ap found_status (found_append h.values s.values all every (every && all) h.found s.found refl);
     }
 
@@ -166,17 +166,17 @@ module _ {K V : Type 0} (c : Coding K V) (f : K → List ℕ) (g : V → List �
     limit : {n : ℕ} → number ≡ n + 1 → number ≡ 2 ^ 64 - 1 → 2 ^ 64 - 2 ≡ n
     limit {n} p q = omega (arith, p, q)
 
-    pub lines_answered : (every : Bool) → ((IsAtEnd now ⊎ IsLeftOut R now) × (number ≤ 2 ^ 64 - 1)) ⊎ (number ≡ 2 ^ 64 - 1) → AreKeysAnswered c f g B pending new last every
-        → IfSome input (λ bytes. AreAllAnswered c f g R B bytes old last (found_status (every && all)))
+    pub lines_answered : (every : Bool) → ((IsAtEnd now ⊎ IsLeftOut R now) × (number ≤ 2 ^ 64 - 1)) ⊎ (number ≡ 2 ^ 64 - 1) → AreKeysAnswered c l B pending new last every
+        → IfSome input (λ bytes. AreAllAnswered c l R B bytes old last (found_status (every && all)))
     lines_answered every end s = if_some input _ _ (λ bytes r. whole bytes r end) h.read
       where
-        these : (bytes : List ℕ) (r : AreRead R bytes now number (h.done ++ pending)) (ws : List (List ℕ)) → lines_read ws ≡ r.words → IsAnswered c f g R B (lines_read ws) old last (found_status (every && all))
-        these bytes r ws e = subst (λ ws. IsAnswered c f g R B ws old last (found_status (every && all))) (sym e) (all_answered every r.words r.texts s)
+        these : (bytes : List ℕ) (r : AreRead R bytes now number (h.done ++ pending)) (ws : List (List ℕ)) → lines_read ws ≡ r.words → IsAnswered c l R B (lines_read ws) old last (found_status (every && all))
+        these bytes r ws e = subst (λ ws. IsAnswered c l R B ws old last (found_status (every && all))) (sym e) (all_answered every r.words r.texts s)
 
         few : (bytes : List ℕ) (r : AreRead R bytes now number (h.done ++ pending)) → number ≤ 2 ^ 64 - 1 → lines_read r.words ≡ r.words
         few bytes r n = take_all (2 ^ 64 - 2) r.words (omega (arith, r.counted, n))
 
-        whole : (bytes : List ℕ) (r : AreRead R bytes now number (h.done ++ pending)) → ((IsAtEnd now ⊎ IsLeftOut R now) × (number ≤ 2 ^ 64 - 1)) ⊎ (number ≡ 2 ^ 64 - 1) → AreAllAnswered c f g R B bytes old last (found_status (every && all))
+        whole : (bytes : List ℕ) (r : AreRead R bytes now number (h.done ++ pending)) → ((IsAtEnd now ⊎ IsLeftOut R now) × (number ≤ 2 ^ 64 - 1)) ⊎ (number ≡ 2 ^ 64 - 1) → AreAllAnswered c l R B bytes old last (found_status (every && all))
         whole bytes r (inl e) = record {
           words = r.words;
           place = elim e.0 [
@@ -192,11 +192,11 @@ module _ {K V : Type 0} (c : Coding K V) (f : K → List ℕ) (g : V → List �
         }
 
     -- where the next line is no key, these are the answers to all before it
-    line_fault : (p : Wanted) (text : List ℕ) → AreFaultAnswered c f g R p B pending number now new last text
-        → IfSome input (λ bytes. IsLineFault c f g R p B (lines bytes) text old last)
+    line_fault : (p : Wanted) (text : List ℕ) → AreFaultAnswered c l R p B pending number now new last text
+        → IfSome input (λ bytes. IsLineFault c l R p B (lines bytes) text old last)
     line_fault p text a = if_some input _ _ fault h.read
       where
-        fault : (bytes : List ℕ) → AreRead R bytes now number (h.done ++ pending) → IsLineFault c f g R p B (lines bytes) text old last
+        fault : (bytes : List ℕ) → AreRead R bytes now number (h.done ++ pending) → IsLineFault c l R p B (lines bytes) text old last
         fault bytes r =
             let n = next_of now a.then r.rest a.line r.left a.next in
             record {
@@ -212,10 +212,10 @@ module _ {K V : Type 0} (c : Coding K V) (f : K → List ℕ) (g : V → List �
             }
 
     -- where no more is said, answers to some first lines were written
-    first_answered : Keeps new last → IfSome input (λ bytes. AreFirstAnswered c f g R B (lines bytes) old last)
+    first_answered : Keeps new last → IfSome input (λ bytes. AreFirstAnswered c l R B (lines bytes) old last)
     first_answered k = if_some input _ _ (λ bytes r. some bytes r (front_of R r.words h.done pending r.texts)) h.read
       where
-        some : (bytes : List ℕ) (r : AreRead R bytes now number (h.done ++ pending)) → IsFront R r.words h.done → AreFirstAnswered c f g R B (lines bytes) old last
+        some : (bytes : List ℕ) (r : AreRead R bytes now number (h.done ++ pending)) → IsFront R r.words h.done → AreFirstAnswered c l R B (lines bytes) old last
         some bytes r w = record {
           before = w.before;
           after = w.after ++ lines r.rest;
@@ -228,19 +228,19 @@ module _ {K V : Type 0} (c : Coding K V) (f : K → List ℕ) (g : V → List �
             texts = w.texts;
             values = h.values;
             answers = h.answers;
-            written = appended_kept old new last (answers_text f g h.done h.values) h.written k;
+            written = appended_kept old new last (answers_by l h.done h.values) h.written k;
             status = refl;
           };
         }
 
     -- so with a failure of the keys that are left
-    pub keys_failed : (p : Wanted) (failure : Failure) → IsKeysFailure new last failure → AreLinesAnswered c f g R p B input old last (Err failure)
+    pub keys_failed : (p : Wanted) (failure : Failure) → IsKeysFailure new last failure → AreLinesAnswered c l R p B input old last (Err failure)
     keys_failed p Memory k = first_answered k
     keys_failed p (Output error) k = tt
     keys_failed p _ k = absurd k
 
     -- and with one of the next line
-    pub line_failed : (p : Wanted) (failure : Failure) → IsLineFailure c f g R p B pending number now new last failure → AreLinesAnswered c f g R p B input old last (Err failure)
+    pub line_failed : (p : Wanted) (failure : Failure) → IsLineFailure c l R p B pending number now new last failure → AreLinesAnswered c l R p B input old last (Err failure)
     line_failed p (Misread message) k = line_fault p (string_bytes message) k
     line_failed p (Input error) k = first_answered k
     line_failed p Memory k = first_answered k

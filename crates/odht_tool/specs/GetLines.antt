@@ -2,29 +2,31 @@
 --     lines_read ws        those of the lines ws of an input that are read: all, unless there are 2^64 - 1 or more
 --     AreLinesOf R bytes ws    ws are the lines of an input with these bytes; a last one that is empty and a text of no key
 --                          may be left out
---     AreFirstAnswered c f g R B ws old new   the answers to some first lines of ws, as many as some batches have and all
---                          of them texts of keys, were written, which took the writer from the bytes old to new; f and g
---                          are the texts of keys and of values
---     IsLineFault c f g R p B ws t old new    one of the lines ws is the first that is a text of no key, where p is wanted,
+--     AreFirstAnswered c l R B ws old new     the answers to some first lines of ws, as many as some batches have and all
+--                          of them texts of keys, were written, which took the writer from the bytes old to new; l is the
+--                          line of a key and its value
+--     IsLineFault c l R p B ws t old new      one of the lines ws is the first that is a text of no key, where p is wanted,
 --                          and no empty last one; the text t tells it with its number, counted from 1, and the answers to
 --                          those before it were written
---     AreAllAnswered c f g R B bytes old new status   the answers to the lines of an input with these bytes were written,
+--     AreAllAnswered c l R B bytes old new status the answers to the lines of an input with these bytes were written,
 --                          but for an empty last one that is a text of no key
---     AreLinesAnswered c f g R p B input old new r   what is returned, r, and written once the table is opened, where the
+--     AreLinesAnswered c l R p B input old new r  what is returned, r, and written once the table is opened, where the
 --                          input has these bytes, which may be known
---     AreLinesGot c f g R p B input old new r the same of opening too
---     lines_of_shape fs B input old new r s   the same of bytes of the shape s in the forms fs of keys and of values
---     lines_of_other B input old new r o      the same of bytes of the shape o, which is no ready one, in hexadecimal digits
---     lines_of_any fs B input old new r s     the same of any shape
---     AreFileLinesGot B h ks input old new r  the same of the bytes of a file, where the hash function h, or none, is named,
---                          and ks is said of keys and values
+--     AreLinesGot c l R p B input old new r   the same of opening too
+--     lines_of_shape fs j B input old new r s the same of bytes of the shape s in the forms fs of keys and of values, with j
+--                          as objects of JSON
+--     lines_of_other j B input old new r o    the same of bytes of the shape o, which is no ready one, in hexadecimal digits
+--     lines_of_any fs j B input old new r s   the same of any shape
+--     AreFileLinesGot B h ks j input old new r    the same of the bytes of a file, where the hash function h, or none, is
+--                          named, and ks is said of keys and values
 -- Nothing is said of answers where the bytes of the input are not known.
-use Rattle.std.specs.Prelude.{◌≡◌, ◌≢◌, ◌⊎◌, ℕ, ◌+◌, ◌-◌, ◌*◌, ◌^◌, List, [], ◌∷◌, ◌++◌, length, take, Option, None, Some, IfSome, Result, Ok, Err, string_bytes, ⊤}
+use Rattle.std.specs.Prelude.{◌≡◌, ◌≢◌, ◌⊎◌, ℕ, ◌+◌, ◌-◌, ◌*◌, ◌^◌, Bool, List, [], ◌∷◌, ◌++◌, length, take, Option, None, Some, IfSome, Result, Ok, Err, string_bytes, ⊤}
 use Rattle.std.specs.Io.KnownBytes.{Keeps}
 use Rattle.std.specs.Str.Lines.{lines}
 use Rattle.odht_header.specs.Coding.{Coding}
 use Rattle.odht_header.specs.Refusals.{view_refusal}
 use Rattle.odht_tool.specs.Gets.{IsAnswered, IsHexOf, IsTextOf, by_shape}
+use Rattle.odht_tool_core.specs.JsonAnswers.{answer_in}
 use Rattle.odht_tool_core.specs.Keys.{IsTextOfNone}
 use Rattle.odht_tool_core.specs.AnyShapes.{other_coding}
 use Rattle.odht_tool_core.specs.Misreads.{misread_text, typed_wanted, hex_wanted}
@@ -52,21 +54,21 @@ lines_read ws = take (2 ^ 64 - 2) ws
 abbrev pub AreLinesOf : {K : Type 0} → (List ℕ → K → Type 0) → List ℕ → List (List ℕ) → Type 0
 AreLinesOf R bytes ws = (lines bytes ≡ ws) ⊎ ((lines bytes ≡ ws ++ ([] ∷ [])) × IsTextOfNone R [])
 
-pub record AreAllAnswered {K V : Type 0} (c : Coding K V) (f : K → List ℕ) (g : V → List ℕ) (R : List ℕ → K → Type 0) (B : List ℕ) (bytes : List ℕ) (old new : Option (List ℕ)) (status : Status) : Type 0 where
+pub record AreAllAnswered {K V : Type 0} (c : Coding K V) (l : K × Option V → List ℕ) (R : List ℕ → K → Type 0) (B : List ℕ) (bytes : List ℕ) (old new : Option (List ℕ)) (status : Status) : Type 0 where
   pub words : List (List ℕ)
   pub place : AreLinesOf R bytes words
-  pub answered : IsAnswered c f g R B (lines_read words) old new status
+  pub answered : IsAnswered c l R B (lines_read words) old new status
 
-pub record AreFirstAnswered {K V : Type 0} (c : Coding K V) (f : K → List ℕ) (g : V → List ℕ) (R : List ℕ → K → Type 0) (B : List ℕ) (ws : List (List ℕ)) (old new : Option (List ℕ)) : Type 0 where
+pub record AreFirstAnswered {K V : Type 0} (c : Coding K V) (l : K × Option V → List ℕ) (R : List ℕ → K → Type 0) (B : List ℕ) (ws : List (List ℕ)) (old new : Option (List ℕ)) : Type 0 where
   pub before : List (List ℕ)
   pub after : List (List ℕ)
   pub place : ws ≡ before ++ after
   pub batches : ℕ
   pub counted : length before ≡ batches * BATCH
   pub status : Status
-  pub answered : IsAnswered c f g R B before old new status
+  pub answered : IsAnswered c l R B before old new status
 
-pub record IsLineFault {K V : Type 0} (c : Coding K V) (f : K → List ℕ) (g : V → List ℕ) (R : List ℕ → K → Type 0) (p : Wanted) (B : List ℕ) (ws : List (List ℕ)) (text : List ℕ) (old new : Option (List ℕ)) : Type 0 where
+pub record IsLineFault {K V : Type 0} (c : Coding K V) (l : K × Option V → List ℕ) (R : List ℕ → K → Type 0) (p : Wanted) (B : List ℕ) (ws : List (List ℕ)) (text : List ℕ) (old new : Option (List ℕ)) : Type 0 where
   pub before : List (List ℕ)
   pub word : List ℕ
   pub after : List (List ℕ)
@@ -75,14 +77,14 @@ pub record IsLineFault {K V : Type 0} (c : Coding K V) (f : K → List ℕ) (g :
   pub more : word ≡ [] → after ≢ []
   pub told : text ≡ misread_text (Some (length before + 1)) Key p word
   pub status : Status
-  pub answered : IsAnswered c f g R B before old new status
+  pub answered : IsAnswered c l R B before old new status
 
-module _ {K V : Type 0} (c : Coding K V) (f : K → List ℕ) (g : V → List ℕ) (R : List ℕ → K → Type 0) (p : Wanted) (B : List ℕ) where
+module _ {K V : Type 0} (c : Coding K V) (l : K × Option V → List ℕ) (R : List ℕ → K → Type 0) (p : Wanted) (B : List ℕ) where
   abbrev pub AreLinesAnswered : Option (List ℕ) → Option (List ℕ) → Option (List ℕ) → Result Status Failure → Type 0
-  AreLinesAnswered input old new (Ok status) = IfSome input (λ bytes. AreAllAnswered c f g R B bytes old new status)
-  AreLinesAnswered input old new (Err (Misread message)) = IfSome input (λ bytes. IsLineFault c f g R p B (lines bytes) (string_bytes message) old new)
-  AreLinesAnswered input old new (Err Memory) = IfSome input (λ bytes. AreFirstAnswered c f g R B (lines bytes) old new)
-  AreLinesAnswered input old new (Err (Input error)) = IfSome input (λ bytes. AreFirstAnswered c f g R B (lines bytes) old new)
+  AreLinesAnswered input old new (Ok status) = IfSome input (λ bytes. AreAllAnswered c l R B bytes old new status)
+  AreLinesAnswered input old new (Err (Misread message)) = IfSome input (λ bytes. IsLineFault c l R p B (lines bytes) (string_bytes message) old new)
+  AreLinesAnswered input old new (Err Memory) = IfSome input (λ bytes. AreFirstAnswered c l R B (lines bytes) old new)
+  AreLinesAnswered input old new (Err (Input error)) = IfSome input (λ bytes. AreFirstAnswered c l R B (lines bytes) old new)
   AreLinesAnswered input old new (Err (Output error)) = ⊤
   AreLinesAnswered input old new (Err _) = ⊥
 
@@ -91,21 +93,21 @@ module _ {K V : Type 0} (c : Coding K V) (f : K → List ℕ) (g : V → List �
   AreLinesGot input old new r = (view_refusal c.format B ≡ None) × AreLinesAnswered input old new r
 
 -- ---- of a file
-abbrev pub lines_of_shape : Form × Form → List ℕ → Option (List ℕ) → Option (List ℕ) → Option (List ℕ) → Result Status Failure → Shape → Type 0
-lines_of_shape fs B input old new r s =
+abbrev pub lines_of_shape : Form × Form → Bool → List ℕ → Option (List ℕ) → Option (List ℕ) → Option (List ℕ) → Result Status Failure → Shape → Type 0
+lines_of_shape fs j B input old new r s =
     let k = key_part s in
-    AreLinesGot (shape_coding s) (typed_text fs.0 k) (typed_text fs.1 (value_part s)) (IsTextOf fs.0 k) (typed_wanted fs.0 k) B input old new r
+    AreLinesGot (shape_coding s) (answer_in j (typed_text fs.0 k) (typed_text fs.1 (value_part s))) (IsTextOf fs.0 k) (typed_wanted fs.0 k) B input old new r
 
-abbrev pub lines_of_other : List ℕ → Option (List ℕ) → Option (List ℕ) → Option (List ℕ) → Result Status Failure → OtherShape → Type 0
-lines_of_other B input old new r o =
-    AreLinesGot (other_coding o) hex_text hex_text (IsHexOf o.key_len) (hex_wanted o.key_len) B input old new r
+abbrev pub lines_of_other : Bool → List ℕ → Option (List ℕ) → Option (List ℕ) → Option (List ℕ) → Result Status Failure → OtherShape → Type 0
+lines_of_other j B input old new r o =
+    AreLinesGot (other_coding o) (answer_in j hex_text hex_text) (IsHexOf o.key_len) (hex_wanted o.key_len) B input old new r
 
-abbrev pub lines_of_any : Form × Form → List ℕ → Option (List ℕ) → Option (List ℕ) → Option (List ℕ) → Result Status Failure → AnyShape → Type 0
-lines_of_any fs B input old new r (Ready s) = lines_of_shape fs B input old new r s
-lines_of_any fs B input old new r (Other o) = lines_of_other B input old new r o
+abbrev pub lines_of_any : Form × Form → Bool → List ℕ → Option (List ℕ) → Option (List ℕ) → Option (List ℕ) → Result Status Failure → AnyShape → Type 0
+lines_of_any fs j B input old new r (Ready s) = lines_of_shape fs j B input old new r s
+lines_of_any fs j B input old new r (Other o) = lines_of_other j B input old new r o
 
-abbrev pub lines_of_forms : List ℕ → Option (List ℕ) → Option (List ℕ) → Option (List ℕ) → Result Status Failure → AnyShape × GivenForms → Type 0
-lines_of_forms B input old new r x = lines_of_any (x.1.key, x.1.value) B input old new r x.0
+abbrev pub lines_of_forms : Bool → List ℕ → Option (List ℕ) → Option (List ℕ) → Option (List ℕ) → Result Status Failure → AnyShape × GivenForms → Type 0
+lines_of_forms j B input old new r x = lines_of_any (x.1.key, x.1.value) j B input old new r x.0
 
-abbrev pub AreFileLinesGot : List ℕ → Option Hash → Kinds → Option (List ℕ) → Option (List ℕ) → Option (List ℕ) → Result Status Failure → Type 0
-AreFileLinesGot B h ks input old new r = by_shape B h ks old new r (lines_of_forms B input old new r)
+abbrev pub AreFileLinesGot : List ℕ → Option Hash → Kinds → Bool → Option (List ℕ) → Option (List ℕ) → Option (List ℕ) → Result Status Failure → Type 0
+AreFileLinesGot B h ks j input old new r = by_shape B h ks old new r (lines_of_forms j B input old new r)

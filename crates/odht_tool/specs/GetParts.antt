@@ -1,17 +1,17 @@
 -- The parts of `get`, of the bytes B of a file.
 --     IsOpenFailure o f    the failure f is that of opening, whose error is o
---     AreKeysAnswered c f g B ks old new all   the answers to the keys ks were written, which took the writer from the
---                          bytes old to new, and `all` says whether each has a value
+--     AreKeysAnswered c l B ks old new all the answers to the keys ks were written, which took the writer from the
+--                          bytes old to new, and `all` says whether each has a value; l is the line of a key and its value
 --     IsKeysFailure old new f  no memory, and nothing was written, or the writer failed
---     IsFlushed c f g B before after old new was all   of the keys `before` those that are not left in `after` were
+--     IsFlushed c l B before after old new was all   of the keys `before` those that are not left in `after` were
 --                          answered: all where they are a batch, and else none; `all` says whether each has a value, and
 --                          `was` holds
 --     IsReadKey R o o' k   k is the key of the next line of the bytes o, and o' are those after it; or there is no line, or
 --                          an empty last one that is a text of no key
---     AreFaultAnswered c f g R p B ks n o old new t   the next line of the bytes o, which is line n, is a text of no key,
+--     AreFaultAnswered c l R p B ks n o old new t   the next line of the bytes o, which is line n, is a text of no key,
 --                          where p is wanted, and no empty last one; the text t tells that, and the answers to the keys ks
 --                          were written
---     IsLineFailure c f g R p B ks n o old new f   f tells this fault of line n, with these answers; or no memory, or the
+--     IsLineFailure c l R p B ks n o old new f   f tells this fault of line n, with these answers; or no memory, or the
 --                          reader failed, and nothing was written; or the writer failed
 use Rattle.std.specs.Prelude.{◌≡◌, ⊤, ℕ, ◌<◌, ◌≤◌, Bool, ◌&&◌, List, [], ◌++◌, length, is_some, Option, Some, None, string_bytes}
 use Rattle.std.specs.Io.KnownBytes.{Appends, Keeps}
@@ -22,7 +22,7 @@ use Rattle.odht_tool.specs.Gets.{AreAnswers}
 use Rattle.odht_tool_core.specs.InputLines.{AreLeft, IsNextLine}
 use Rattle.odht_tool_core.specs.Keys.{IsNextKey, IsTextOfNone}
 use Rattle.odht_tool_core.specs.Misreads.{misread_text}
-use Rattle.odht_tool_core.specs.Texts.{answers_text}
+use Rattle.odht_tool_core.specs.Texts.{answers_by}
 use Rattle.odht_tool.specs.declared.lookups.TheConstants.{BATCH}
 use Rattle.odht_tool_core.specs.declared.failure.Failure.{Failure}
 use Rattle.odht_tool_core.specs.declared.failure.Failure.TheVariants.{Refused, Input, Misread, Output, Memory}
@@ -34,10 +34,10 @@ abbrev pub IsOpenFailure : Option Error → Failure → Type 0
 IsOpenFailure o (Refused error) = o ≡ Some error
 IsOpenFailure o _ = ⊥
 
-pub record AreKeysAnswered {K V : Type 0} (c : Coding K V) (f : K → List ℕ) (g : V → List ℕ) (B : List ℕ) (ks : List K) (old new : Option (List ℕ)) (all : Bool) : Type 0 where
+pub record AreKeysAnswered {K V : Type 0} (c : Coding K V) (l : K × Option V → List ℕ) (B : List ℕ) (ks : List K) (old new : Option (List ℕ)) (all : Bool) : Type 0 where
   pub values : List (Option V)
   pub answers : AreAnswers c B ks values
-  pub written : Appends old new (answers_text f g ks values)
+  pub written : Appends old new (answers_by l ks values)
   pub found : all ≡ list_all is_some values
 
 abbrev pub IsKeysFailure : Option (List ℕ) → Option (List ℕ) → Failure → Type 0
@@ -45,21 +45,21 @@ IsKeysFailure old new Memory = Keeps old new
 IsKeysFailure old new (Output error) = ⊤
 IsKeysFailure old new _ = ⊥
 
-pub record IsFlushed {K V : Type 0} (c : Coding K V) (f : K → List ℕ) (g : V → List ℕ) (B : List ℕ) (before after : List K) (old new : Option (List ℕ)) (was all : Bool) : Type 0 where
+pub record IsFlushed {K V : Type 0} (c : Coding K V) (l : K × Option V → List ℕ) (B : List ℕ) (before after : List K) (old new : Option (List ℕ)) (was all : Bool) : Type 0 where
   pub done : List K
   pub left : before ≡ done ++ after
   pub few : length before < BATCH → done ≡ []
   pub full : BATCH ≤ length before → after ≡ []
   pub values : List (Option V)
   pub answers : AreAnswers c B done values
-  pub written : Appends old new (answers_text f g done values)
+  pub written : Appends old new (answers_by l done values)
   pub found : all ≡ (list_all is_some values && was)
 
 abbrev pub IsReadKey : {K : Type 0} → (List ℕ → K → Type 0) → Option (List ℕ) → Option (List ℕ) → Option K → Type 0
 IsReadKey R old new (Some key) = IsNextKey R old new (is_key key)
 IsReadKey R old new None = IsNextKey R old new End
 
-module _ {K V : Type 0} (c : Coding K V) (f : K → List ℕ) (g : V → List ℕ) (R : List ℕ → K → Type 0) (p : Wanted) (B : List ℕ) where
+module _ {K V : Type 0} (c : Coding K V) (l : K × Option V → List ℕ) (R : List ℕ → K → Type 0) (p : Wanted) (B : List ℕ) where
   -- where the line after those of the keys `ks` is no key
   pub record AreFaultAnswered (ks : List K) (number : ℕ) (bytes old new : Option (List ℕ)) (text : List ℕ) : Type 0 where
     pub then : Option (List ℕ)
@@ -69,7 +69,7 @@ module _ {K V : Type 0} (c : Coding K V) (f : K → List ℕ) (g : V → List �
     pub more : line ≡ [] → AreLeft then
     pub told : text ≡ misread_text (Some number) Key p line
     pub every : Bool
-    pub answered : AreKeysAnswered c f g B ks old new every
+    pub answered : AreKeysAnswered c l B ks old new every
 
   abbrev pub IsLineFailure : List K → ℕ → Option (List ℕ) → Option (List ℕ) → Option (List ℕ) → Failure → Type 0
   IsLineFailure ks number bytes old new (Misread message) = AreFaultAnswered ks number bytes old new (string_bytes message)

@@ -4,14 +4,15 @@
 --                          bytes only values that are stored with the key
 --     found_status all     the status where all keys were found, or not all
 --     answered_status os   the status where these are the values
---     IsAnswered c f g R B ws old new status   the answers to the words ws were written, which took the writer from the
---                          bytes old to new; f and g are the texts of keys and of values
---     AreWordsGot c f g R p B ws old new r what `get` returns, r, and writes for the words ws, where p is wanted of keys
---     words_of_shape fs B ws old new r s   the same of bytes of the shape s in the forms fs of keys and of values
+--     IsAnswered c l R B ws old new status the answers to the words ws were written, which took the writer from the bytes
+--                          old to new; l is the line of a key and its value
+--     AreWordsGot c l R p B ws old new r   what `get` returns, r, and writes for the words ws, where p is wanted of keys
+--     words_of_shape fs j B ws old new r s the same of bytes of the shape s in the forms fs of keys and of values, with j as
+--                          objects of JSON
 --     IsHexOf n w x        the word w is the two hexadecimal digits of each of the n bytes x
---     words_of_other B ws old new r o      the same of bytes of the shape o, which is no ready one, in hexadecimal digits
---     words_of_any fs B ws old new r s     the same of any shape
---     AreFileWordsGot B h ks ws old new r  the same of the bytes of a file, where the hash function h, or none, is named,
+--     words_of_other j B ws old new r o    the same of bytes of the shape o, which is no ready one, in hexadecimal digits
+--     words_of_any fs j B ws old new r s   the same of any shape
+--     AreFileWordsGot B h ks j ws old new r    the same of the bytes of a file, where the hash function h, or none, is named,
 --                          and ks is said of keys and values
 use Rattle.std.specs.Prelude.{◌≡◌, Bool, ℕ, List, length, map, is_some, Option, Some, None, Result, Ok, Err, MatchResult, if◌then◌else◌}
 use Rattle.std.specs.Io.KnownBytes.{Appends, Keeps}
@@ -21,12 +22,13 @@ use Rattle.odht_base.specs.Table.{Table}
 use Rattle.odht_base.specs.Valid.{IsImage}
 use Rattle.odht_header.specs.Coding.{Coding, value_for}
 use Rattle.odht_header.specs.Refusals.{view_refusal}
+use Rattle.odht_tool_core.specs.JsonAnswers.{answer_in}
 use Rattle.odht_tool_core.specs.Keys.{IsReadAs, TellsFault}
 use Rattle.odht_tool_core.specs.AnyShapes.{read_any, other_coding}
 use Rattle.odht_tool_core.specs.ReadyShapes.{Typed, IsTypedWord, StandsFor, typed_text, shape_coding}
 use Rattle.odht_tool_core.specs.ShapeList.{key_part, value_part}
 use Rattle.odht_tool_core.specs.Misreads.{typed_wanted, hex_wanted}
-use Rattle.odht_tool_core.specs.Texts.{IsHexWord, WritesBytes, answers_text, hex_text}
+use Rattle.odht_tool_core.specs.Texts.{IsHexWord, WritesBytes, answers_by, hex_text}
 use Rattle.odht_tool_core.specs.declared.any.AnyShape.{AnyShape}
 use Rattle.odht_tool_core.specs.declared.any.AnyShape.TheVariants.{Ready, Other}
 use Rattle.odht_tool_core.specs.declared.any.OtherShape.{OtherShape}
@@ -57,17 +59,17 @@ abbrev pub answered_status : {V : Type 0} → List (Option V) → Status
 answered_status os = found_status (list_all is_some os)
 
 -- ---- the words of the command line
-pub record IsAnswered {K V : Type 0} (c : Coding K V) (f : K → List ℕ) (g : V → List ℕ) (R : List ℕ → K → Type 0) (B : List ℕ) (ws : List (List ℕ)) (old new : Option (List ℕ)) (returned : Status) : Type 0 where
+pub record IsAnswered {K V : Type 0} (c : Coding K V) (l : K × Option V → List ℕ) (R : List ℕ → K → Type 0) (B : List ℕ) (ws : List (List ℕ)) (old new : Option (List ℕ)) (returned : Status) : Type 0 where
   pub keys : List K
   pub texts : AllZip R ws keys
   pub values : List (Option V)
   pub answers : AreAnswers c B keys values
-  pub written : Appends old new (answers_text f g keys values)
+  pub written : Appends old new (answers_by l keys values)
   pub status : returned ≡ answered_status values
 
-module _ {K V : Type 0} (c : Coding K V) (f : K → List ℕ) (g : V → List ℕ) (R : List ℕ → K → Type 0) (p : Wanted) (B : List ℕ) where
+module _ {K V : Type 0} (c : Coding K V) (l : K × Option V → List ℕ) (R : List ℕ → K → Type 0) (p : Wanted) (B : List ℕ) where
   abbrev pub AreWordsGot : List (List ℕ) → Option (List ℕ) → Option (List ℕ) → Result Status Failure → Type 0
-  AreWordsGot ws old new (Ok status) = (view_refusal c.format B ≡ None) × IsAnswered c f g R B ws old new status
+  AreWordsGot ws old new (Ok status) = (view_refusal c.format B ≡ None) × IsAnswered c l R B ws old new status
   AreWordsGot ws old new (Err (Refused error)) = (view_refusal c.format B ≡ Some error) × Keeps old new
   AreWordsGot ws old new (Err (Misread message)) = (view_refusal c.format B ≡ None) × TellsFault R p ws (Misread message) × Keeps old new
   AreWordsGot ws old new (Err Memory) = (view_refusal c.format B ≡ None) × Keeps old new
@@ -75,27 +77,27 @@ module _ {K V : Type 0} (c : Coding K V) (f : K → List ℕ) (g : V → List �
   AreWordsGot ws old new (Err _) = ⊥
 
 -- ---- of a file
-abbrev pub words_of_shape : Form × Form → List ℕ → List (List ℕ) → Option (List ℕ) → Option (List ℕ) → Result Status Failure → Shape → Type 0
-words_of_shape fs B ws old new r s =
+abbrev pub words_of_shape : Form × Form → Bool → List ℕ → List (List ℕ) → Option (List ℕ) → Option (List ℕ) → Result Status Failure → Shape → Type 0
+words_of_shape fs j B ws old new r s =
     let k = key_part s in
-    AreWordsGot (shape_coding s) (typed_text fs.0 k) (typed_text fs.1 (value_part s)) (IsTextOf fs.0 k) (typed_wanted fs.0 k) B ws old new r
+    AreWordsGot (shape_coding s) (answer_in j (typed_text fs.0 k) (typed_text fs.1 (value_part s))) (IsTextOf fs.0 k) (typed_wanted fs.0 k) B ws old new r
 
 abbrev pub IsHexOf : ℕ → List ℕ → List ℕ → Type 0
 IsHexOf n = IsReadAs (IsHexWord n) WritesBytes
 
-abbrev pub words_of_other : List ℕ → List (List ℕ) → Option (List ℕ) → Option (List ℕ) → Result Status Failure → OtherShape → Type 0
-words_of_other B ws old new r o = AreWordsGot (other_coding o) hex_text hex_text (IsHexOf o.key_len) (hex_wanted o.key_len) B ws old new r
+abbrev pub words_of_other : Bool → List ℕ → List (List ℕ) → Option (List ℕ) → Option (List ℕ) → Result Status Failure → OtherShape → Type 0
+words_of_other j B ws old new r o = AreWordsGot (other_coding o) (answer_in j hex_text hex_text) (IsHexOf o.key_len) (hex_wanted o.key_len) B ws old new r
 
-abbrev pub words_of_any : Form × Form → List ℕ → List (List ℕ) → Option (List ℕ) → Option (List ℕ) → Result Status Failure → AnyShape → Type 0
-words_of_any fs B ws old new r (Ready s) = words_of_shape fs B ws old new r s
-words_of_any fs B ws old new r (Other o) = words_of_other B ws old new r o
+abbrev pub words_of_any : Form × Form → Bool → List ℕ → List (List ℕ) → Option (List ℕ) → Option (List ℕ) → Result Status Failure → AnyShape → Type 0
+words_of_any fs j B ws old new r (Ready s) = words_of_shape fs j B ws old new r s
+words_of_any fs j B ws old new r (Other o) = words_of_other j B ws old new r o
 
 -- with no shape there is its failure
 abbrev pub by_shape : List ℕ → Option Hash → Kinds → Option (List ℕ) → Option (List ℕ) → Result Status Failure → (AnyShape × GivenForms → Type 0) → Type 0
 by_shape B h ks old new r P = MatchResult (read_any B h ks) P (λ failure. (r ≡ Err failure) × Keeps old new)
 
-abbrev pub words_of_forms : List ℕ → List (List ℕ) → Option (List ℕ) → Option (List ℕ) → Result Status Failure → AnyShape × GivenForms → Type 0
-words_of_forms B ws old new r x = words_of_any (x.1.key, x.1.value) B ws old new r x.0
+abbrev pub words_of_forms : Bool → List ℕ → List (List ℕ) → Option (List ℕ) → Option (List ℕ) → Result Status Failure → AnyShape × GivenForms → Type 0
+words_of_forms j B ws old new r x = words_of_any (x.1.key, x.1.value) j B ws old new r x.0
 
-abbrev pub AreFileWordsGot : List ℕ → Option Hash → Kinds → List (List ℕ) → Option (List ℕ) → Option (List ℕ) → Result Status Failure → Type 0
-AreFileWordsGot B h ks ws old new r = by_shape B h ks old new r (words_of_forms B ws old new r)
+abbrev pub AreFileWordsGot : List ℕ → Option Hash → Kinds → Bool → List (List ℕ) → Option (List ℕ) → Option (List ℕ) → Result Status Failure → Type 0
+AreFileWordsGot B h ks j ws old new r = by_shape B h ks old new r (words_of_forms j B ws old new r)

@@ -29,3 +29,5 @@ pub mod DumpJson
 pub mod Diffs
 -- what `delete` makes
 pub mod Deletes
+-- what `delete -` makes of one, by the lines of an input
+pub mod DeleteLines

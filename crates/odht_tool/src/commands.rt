@@ -21,6 +21,7 @@ mod check;
 mod check_json;
 mod count;
 mod delete;
+mod delete_lines;
 mod diff;
 mod dump;
 mod dump_json;
@@ -89,7 +90,7 @@ where
             options.watch = options.watch.with_bar(rt, errors);
             build::build(rt, file, options, input, output, errors)
         }
-        Command::Delete(options) => delete::delete(rt, file, &options, errors),
+        Command::Delete(options) => delete::delete(rt, file, &options, input, errors),
         Command::Rebuild(options) => rebuild::rebuild(rt, file, options, errors),
         Command::Diff(options) => diff::diff(rt, file, options, input, output, errors),
         Command::Put {
@@ -246,12 +247,17 @@ fn run_reading<I: BufRead, O: Write, E: Write>(
             hash,
             kinds,
             keys: Keys::Words(words),
-        } => get::get_file_words(alloc, bytes, *hash, *kinds, words.as_slice(), output),
+            is_json,
+        } => {
+            let words = words.as_slice();
+            get::get_file_words(alloc, bytes, *hash, *kinds, *is_json, words, output)
+        }
         Reading::Get {
             hash,
             kinds,
             keys: Keys::Lines,
-        } => get::get_file_lines(alloc, bytes, *hash, *kinds, input, output),
+            is_json,
+        } => get::get_file_lines(alloc, bytes, *hash, *kinds, *is_json, input, output),
         Reading::Find { bound, is_json } => {
             find_in(alloc, file, bytes, *bound, *is_json, output, errors)
         }

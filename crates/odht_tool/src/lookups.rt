@@ -8,12 +8,14 @@ ghost use Rattle.odht_tool.specs.Gets.{AreAnswers, AreWordsGot};
 ghost use Rattle.odht_tool.specs.GetParts.{AreKeysAnswered, IsKeysFailure};
 ghost use Rattle.odht_tool.specs.GetParts.{IsFlushed, IsReadKey, IsLineFailure};
 ghost use Rattle.odht_tool.specs.GetLines.{AreLinesAnswered};
+ghost use Rattle.odht_tool_core.specs.JsonAnswers.{answer_in};
 ghost use Rattle.odht_tool_core.specs.Keys.{IsReadAs, IsNextKey, IsNoKeyLine, TellsFault};
 ghost use Rattle.odht_tool_core.specs.Misreads.{misread_text};
 
-use odht_tool_core::answers::{are_found, write_answers_as};
+use odht_tool_core::answers::are_found;
 use odht_tool_core::failure::{Failure, LineFault};
 use odht_tool_core::forms::Forms;
+use odht_tool_core::json::answers::{AnswerStyle, write_answers_in};
 use odht_tool_core::keys::{NextKey, next_key_as, parse_keys, push_key};
 use odht_tool_core::misread::Misread;
 use odht_tool_core::status::Status;
@@ -55,19 +57,21 @@ pub trait Lookups {
 pub fn answer_words<T: Lookups, F: Forms, O: Write>(
     alloc: Global,
     table: &T,
-    forms: F,
+    style: AnswerStyle<F>,
     words: &[String],
     output: &mut O,
 ) -> Result<Status, Failure>
     ensures { let c = T.coding table.now
         in view_refusal c.format (T.bytes table.now) ≡ None
-        → AreWordsGot c (T.Key.text (F.pair forms).0) (T.Value.text (F.pair forms).1)
-        (IsReadAs (T.Key.is_word (F.pair forms).0) (T.Key.stands_for (F.pair forms).0))
-        (T.Key.wants (F.pair forms).0) (T.bytes table.now) (map string_bytes words.now)
+        → AreWordsGot c
+        (answer_in style.is_json (T.Key.text (F.pair style.forms).0)
+        (T.Value.text (F.pair style.forms).1))
+        (IsReadAs (T.Key.is_word (F.pair style.forms).0) (T.Key.stands_for (F.pair style.forms).0))
+        (T.Key.wants (F.pair style.forms).0) (T.bytes table.now) (map string_bytes words.now)
         (O.contents output.old) (O.contents output.new) result }
 {
-    let keys = keys_of_words::<T::Key, F>(alloc, words, forms)?;
-    let is_all_found = answer_keys(alloc, table, keys.as_slice(), forms, output)?;
+    let keys = keys_of_words::<T::Key, F>(alloc, words, style.forms)?;
+    let is_all_found = answer_keys(alloc, table, keys.as_slice(), style, output)?;
     Ok(Status::of(is_all_found))
 }
 
@@ -91,14 +95,15 @@ fn keys_of_words<K: Text, F: Forms>(
 pub fn answer_lines<T: Lookups, F: Forms, I: BufRead, O: Write>(
     alloc: Global,
     table: &T,
-    forms: F,
+    style: AnswerStyle<F>,
     input: &mut I,
     output: &mut O,
 ) -> Result<Status, Failure>
-    ensures { AreLinesAnswered (T.coding table.now) (T.Key.text (F.pair forms).0)
-        (T.Value.text (F.pair forms).1)
-        (IsReadAs (T.Key.is_word (F.pair forms).0) (T.Key.stands_for (F.pair forms).0))
-        (T.Key.wants (F.pair forms).0) (T.bytes table.now) (I.remaining input.old)
+    ensures { AreLinesAnswered (T.coding table.now)
+        (answer_in style.is_json (T.Key.text (F.pair style.forms).0)
+        (T.Value.text (F.pair style.forms).1))
+        (IsReadAs (T.Key.is_word (F.pair style.forms).0) (T.Key.stands_for (F.pair style.forms).0))
+        (T.Key.wants (F.pair style.forms).0) (T.bytes table.now) (I.remaining input.old)
         (O.contents output.old) (O.contents output.new) result }
 {
     let mut keys = Vec::new(alloc);
@@ -112,17 +117,17 @@ pub fn answer_lines<T: Lookups, F: Forms, I: BufRead, O: Write>(
             input,
             &mut line,
             keys.as_slice(),
-            forms,
+            style,
             output,
         )?;
         match read {
             Some(key) => {
-                is_all_found = take_key(alloc, table, &mut keys, key, is_all_found, forms, output)?;
+                is_all_found = take_key(alloc, table, &mut keys, key, is_all_found, style, output)?;
             }
             None => break,
         }
     }
-    let is_last_found = answer_keys(alloc, table, keys.as_slice(), forms, output)?;
+    let is_last_found = answer_keys(alloc, table, keys.as_slice(), style, output)?;
     Ok(Status::of(is_last_found && is_all_found))
 }
 
@@ -135,25 +140,26 @@ fn read_key<T: Lookups, F: Forms, I: BufRead, O: Write>(
     input: &mut I,
     line: &mut Vec<u8>,
     keys: &[T::Key],
-    forms: F,
+    style: AnswerStyle<F>,
     output: &mut O,
 ) -> Result<Option<T::Key>, Failure>
     ensures key { IfOk result (IsReadKey
-        (IsReadAs (T.Key.is_word (F.pair forms).0) (T.Key.stands_for (F.pair forms).0))
+        (IsReadAs (T.Key.is_word (F.pair style.forms).0) (T.Key.stands_for (F.pair style.forms).0))
         (I.remaining input.old) (I.remaining input.new)) }
     ensures kept { OnOk result (O.contents output.new ≡ O.contents output.old) }
-    ensures err { IfErr result (IsLineFailure (T.coding table.now) (T.Key.text (F.pair forms).0)
-        (T.Value.text (F.pair forms).1)
-        (IsReadAs (T.Key.is_word (F.pair forms).0) (T.Key.stands_for (F.pair forms).0))
-        (T.Key.wants (F.pair forms).0) (T.bytes table.now) keys.now number
+    ensures err { IfErr result (IsLineFailure (T.coding table.now)
+        (answer_in style.is_json (T.Key.text (F.pair style.forms).0)
+        (T.Value.text (F.pair style.forms).1))
+        (IsReadAs (T.Key.is_word (F.pair style.forms).0) (T.Key.stands_for (F.pair style.forms).0))
+        (T.Key.wants (F.pair style.forms).0) (T.bytes table.now) keys.now number
         (I.remaining input.old) (O.contents output.old) (O.contents output.new)) }
 {
-    match key_of_line(input, line, forms) {
+    match key_of_line(input, line, style.forms) {
         Ok(NextKey::Key(key)) => Ok(Some(key)),
         Ok(NextKey::End) => Ok(None),
         Ok(NextKey::NoKey) => {
-            let message = wrong_line::<T::Key, F>(alloc, number, line.as_slice(), forms)?;
-            answer_keys(alloc, table, keys, forms, output)?;
+            let message = wrong_line::<T::Key, F>(alloc, number, line.as_slice(), style.forms)?;
+            answer_keys(alloc, table, keys, style, output)?;
             Err(Failure::Misread(message))
         }
         Err(error) => Err(Failure::Input(error)),
@@ -203,17 +209,18 @@ fn take_key<T: Lookups, F: Forms, O: Write>(
     keys: &mut Vec<T::Key>,
     key: T::Key,
     is_all_found: bool,
-    forms: F,
+    style: AnswerStyle<F>,
     output: &mut O,
 ) -> Result<bool, Failure>
-    ensures ok { IfOk result (IsFlushed (T.coding table.now) (T.Key.text (F.pair forms).0)
-        (T.Value.text (F.pair forms).1)
+    ensures ok { IfOk result (IsFlushed (T.coding table.now)
+        (answer_in style.is_json (T.Key.text (F.pair style.forms).0)
+        (T.Value.text (F.pair style.forms).1))
         (T.bytes table.now) (keys.old.items ++ key ∷ []) keys.new.items
         (O.contents output.old) (O.contents output.new) is_all_found) }
     ensures err { IfErr result (IsKeysFailure (O.contents output.old) (O.contents output.new)) }
 {
     push_key(keys, key)?;
-    answer_batch(alloc, table, keys, is_all_found, forms, output)
+    answer_batch(alloc, table, keys, is_all_found, style, output)
 }
 
 // Answers the keys where they are a batch, and drops them. Returns whether each was found, and
@@ -223,11 +230,12 @@ fn answer_batch<T: Lookups, F: Forms, O: Write>(
     table: &T,
     keys: &mut Vec<T::Key>,
     is_all_found: bool,
-    forms: F,
+    style: AnswerStyle<F>,
     output: &mut O,
 ) -> Result<bool, Failure>
-    ensures ok { IfOk result (IsFlushed (T.coding table.now) (T.Key.text (F.pair forms).0)
-        (T.Value.text (F.pair forms).1)
+    ensures ok { IfOk result (IsFlushed (T.coding table.now)
+        (answer_in style.is_json (T.Key.text (F.pair style.forms).0)
+        (T.Value.text (F.pair style.forms).1))
         (T.bytes table.now) keys.old.items keys.new.items
         (O.contents output.old) (O.contents output.new) is_all_found) }
     ensures err { IfErr result (IsKeysFailure (O.contents output.old) (O.contents output.new)) }
@@ -235,7 +243,7 @@ fn answer_batch<T: Lookups, F: Forms, O: Write>(
     if keys.len() < BATCH {
         return Ok(is_all_found);
     }
-    let is_found = answer_keys(alloc, table, keys.as_slice(), forms, output)?;
+    let is_found = answer_keys(alloc, table, keys.as_slice(), style, output)?;
     keys.clear();
     Ok(is_found && is_all_found)
 }
@@ -245,16 +253,17 @@ fn answer_keys<T: Lookups, F: Forms, O: Write>(
     alloc: Global,
     table: &T,
     keys: &[T::Key],
-    forms: F,
+    style: AnswerStyle<F>,
     output: &mut O,
 ) -> Result<bool, Failure>
-    ensures ok { IfOk result (AreKeysAnswered (T.coding table.now) (T.Key.text (F.pair forms).0)
-        (T.Value.text (F.pair forms).1)
+    ensures ok { IfOk result (AreKeysAnswered (T.coding table.now)
+        (answer_in style.is_json (T.Key.text (F.pair style.forms).0)
+        (T.Value.text (F.pair style.forms).1))
         (T.bytes table.now) keys.now (O.contents output.old) (O.contents output.new)) }
     ensures err { IfErr result (IsKeysFailure (O.contents output.old) (O.contents output.new)) }
 {
     let values = table.look_up(alloc, keys)?;
     let values = values.as_slice();
-    write_answers_as(keys, values, forms, output).map_err(Failure::Output)?;
+    write_answers_in(keys, values, style, output).map_err(Failure::Output)?;
     Ok(are_found(values))
 }

@@ -48,7 +48,7 @@ abbrev pub options_of : Topic → List Setting
 options_of Info = Help ∷ Whole ∷ Json ∷ At ∷ []
 options_of Check = Help ∷ Whole ∷ Json ∷ Hash ∷ At ∷ []
 options_of Count = Help ∷ Whole ∷ Hash ∷ At ∷ []
-options_of Get = Help ∷ Key ∷ Value ∷ Hash ∷ At ∷ []
+options_of Get = Help ∷ Json ∷ Key ∷ Value ∷ Hash ∷ At ∷ []
 options_of Dump = Help ∷ Slots ∷ Json ∷ Key ∷ Value ∷ Hash ∷ At ∷ []
 options_of Keys = Help ∷ Key ∷ Hash ∷ At ∷ []
 options_of Find = Help ∷ Whole ∷ Json ∷ []

@@ -9,6 +9,7 @@
 --                          it is empty, and else o' are the bytes after it
 --     IsNextKey R o o' n   n is what the next line of the bytes o is, and o' are those after it, but for an empty line that
 --                          is no key; at the end there is none, nor is there where an empty last line is no key
+--     IsKeyLine R o o' line n  where n is a key, this is the line that it is the text of
 use Rattle.std.specs.Prelude.{◌≡◌, ◌⊎◌, ⊤, ℕ, List, [], ◌∷◌, ◌++◌, Option, None, IfSome, string_bytes}
 use Rattle.std.specs.Io.KnownBytes.{IsAtEnd}
 use Rattle.std.specs.List.{AllZip}
@@ -56,3 +57,7 @@ abbrev pub IsNextKey : {K : Type 0} → (List ℕ → K → Type 0) → Option (
 IsNextKey R old new (is_key key) = (line : List ℕ) × IsNextLine old new line × R line key
 IsNextKey R old new NoKey = (line : List ℕ) × IsNoKeyLine R old new line
 IsNextKey R old new End = IsAtEnd old ⊎ IsLeftOut R old
+
+abbrev pub IsKeyLine : {K : Type 0} → (List ℕ → K → Type 0) → Option (List ℕ) → Option (List ℕ) → List ℕ → NextKey K → Type 0
+IsKeyLine R old new line (is_key key) = IsNextLine old new line × R line key
+IsKeyLine R old new line _ = ⊤

@@ -57,6 +57,8 @@ pub mod StoredTexts
 pub mod Misreads
 -- texts of JSON
 pub mod Json
+-- what `get --json` writes
+pub mod JsonAnswers
 -- what `dump --slots --json` writes
 pub mod JsonSlots
 -- what `info --json` writes

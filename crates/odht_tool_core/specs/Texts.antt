@@ -7,7 +7,8 @@
 --     pair_line f g x         a line of a key and its value, with the texts f and g, and a tab between them
 --     pairs_text f g xs       the line of each pair in turn
 --     answer_line f g x       the same of a value that may be absent: then the key alone
---     answers_text f g ks os  the line of each key and its value in turn
+--     answers_by l ks os      the line, by l, of each key and its value in turn
+--     answers_text f g ks os  the same of these lines
 -- A tab is the byte 9, the end of a line the byte 10. A sign is no digit; digits may begin with zeros.
 use Rattle.std.specs.Prelude.{◌≡◌, ℕ, ◌*◌, ◌/◌, ◌%◌, ◌<◌, false, List, [], ◌∷◌, ◌++◌, Option, Some, None, length}
 use Rattle.std.specs.Char.{is_ascii_hexdigit}
@@ -41,7 +42,10 @@ abbrev pub answer_line : {K V : Type 0} → (K → List ℕ) → (V → List ℕ
 answer_line f g (key, Some value) = pair_line f g (key, value)
 answer_line f g (key, None) = f key ++ (10 ∷ [])
 
+abbrev pub answers_by : {K V : Type 0} → (K × Option V → List ℕ) → List K → List (Option V) → List ℕ
+answers_by l [] values = []
+answers_by l (key ∷ keys) [] = []
+answers_by l (key ∷ keys) (value ∷ values) = l (key, value) ++ answers_by l keys values
+
 abbrev pub answers_text : {K V : Type 0} → (K → List ℕ) → (V → List ℕ) → List K → List (Option V) → List ℕ
-answers_text f g [] values = []
-answers_text f g (key ∷ keys) [] = []
-answers_text f g (key ∷ keys) (value ∷ values) = answer_line f g (key, value) ++ answers_text f g keys values
+answers_text f g keys values = answers_by (answer_line f g) keys values

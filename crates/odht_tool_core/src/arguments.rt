@@ -64,8 +64,7 @@ pub struct DiffOptions {
 /// The options of `delete`.
 #[derive(Drop)]
 pub struct DeleteOptions {
-    /// The keys.
-    pub words: Vec<String>,
+    pub keys: Keys,
     pub hash: Option<Hash>,
     pub kinds: Kinds,
     /// The bound of searches, in groups, by which the file is checked; none with `--whole`.
@@ -74,7 +73,7 @@ pub struct DeleteOptions {
     pub has_progress: bool,
 }
 
-/// Where the keys of a lookup are.
+/// Where the keys are that are looked up, or deleted.
 #[derive(Drop)]
 pub enum Keys {
     /// These words.
@@ -153,6 +152,7 @@ pub enum Reading {
         hash: Option<Hash>,
         kinds: Kinds,
         keys: Keys,
+        is_json: bool,
     },
     Dump {
         hash: Option<Hash>,

@@ -4,6 +4,7 @@ ghost use Rattle.std.specs.Io.KnownBytes.{Appends};
 ghost use Rattle.odht_tool_core.specs.Json.{json_byte, json_field, json_string, number_field};
 ghost use Rattle.odht_tool_core.specs.Json.{number_or_null, string_field};
 
+pub mod answers;
 pub mod pairs;
 pub mod sized_slots;
 pub mod slots;

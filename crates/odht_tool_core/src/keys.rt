@@ -2,7 +2,8 @@
 ghost use Rattle.std.specs.Prelude.{◌≡◌, [], ◌∷◌, ◌++◌, Ok, IfOk, IfErr, OnOk, map, string_bytes};
 ghost use Rattle.std.specs.Io.KnownBytes.{Appends};
 ghost use Rattle.std.specs.List.{AllZip};
-ghost use Rattle.odht_tool_core.specs.Keys.{IsReadAs, IsNoKeyLine, TellsWord, TellsFault, IsNextKey};
+ghost use Rattle.odht_tool_core.specs.Keys.{IsReadAs, IsKeyLine, IsNoKeyLine, IsNextKey};
+ghost use Rattle.odht_tool_core.specs.Keys.{TellsWord, TellsFault};
 ghost use Rattle.odht_tool_core.specs.Misreads.{absent_line};
 
 use crate::failure::{Failure, LineFault};
@@ -46,12 +47,41 @@ fn wrong_key<K: Text>(alloc: Global, word: &str, form: Form) -> Failure
     }
 }
 
+/// A word of the command line, or a line, that is read as a key.
+pub trait Word {
+    ghost use Rattle.std.specs.Prelude.{ℕ, List};
+
+    ghost bytes: { Self → List ℕ };
+
+    /// Its bytes.
+    fn bytes(&self) -> &[u8]
+        ensures { result.now ≡ bytes self.now };
+}
+
+impl Word for String {
+    ghost use Rattle.std.specs.Prelude.{string_bytes};
+
+    ghost bytes = { string_bytes };
+
+    fn bytes(&self) -> &[u8] {
+        self.as_str().as_bytes()
+    }
+}
+
+impl Word for Vec<u8> {
+    ghost bytes = { λ word. word.items };
+
+    fn bytes(&self) -> &[u8] {
+        self.as_slice()
+    }
+}
+
 /// Writes a line of this key, which is to be deleted, and is absent.
-pub fn write_absent<E: Write>(file: &str, word: &str, errors: &mut E) -> io::Result<()>
+pub fn write_absent<E: Write>(file: &str, word: &[u8], errors: &mut E) -> io::Result<()>
     ensures { OnOk result (Appends (E.contents errors.old) (E.contents errors.new)
         (absent_line file.now word.now)) }
 {
-    let word = Shown(word.as_bytes());
+    let word = Shown(word);
     writeln!(errors, "odht: {file}: the key {word} is absent")
 }
 
@@ -95,6 +125,8 @@ pub fn next_key_as<K: Text, I: BufRead>(
 ) -> io::Result<NextKey<K>>
     ensures next { IfOk result (IsNextKey (IsReadAs (K.is_word form) (K.stands_for form))
         (I.remaining input.old) (I.remaining input.new)) }
+    ensures line { IfOk result (IsKeyLine (IsReadAs (K.is_word form) (K.stands_for form))
+        (I.remaining input.old) (I.remaining input.new) line.new.items) }
     ensures fault { result ≡ Ok NextKey.NoKey
         → IsNoKeyLine (IsReadAs (K.is_word form) (K.stands_for form))
         (I.remaining input.old) (I.remaining input.new) line.new.items }

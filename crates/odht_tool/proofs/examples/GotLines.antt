@@ -1,7 +1,8 @@
 -- Worked examples: what `get -` writes and returns.
 --     C, f              the coding of the direct shape, and the text of its keys and values
+--     line              the line of a key and its value
 --     R, a_number       which word is a text of which key, and what is wanted of keys
-use Rattle.std.proofs.Common.{◌≡◌, ◌∙◌, inl, inr, Bool, true, ◌+◌, ◌*◌, ◌≤◌, ℕ, zero, suc, refl, sym, ap, subst, arith, lit<, lit≤, map, length, length-append, List, [], ◌∷◌, ◌++◌, Option, Some, None, Ok, Err, slice_get}
+use Rattle.std.proofs.Common.{◌≡◌, ◌∙◌, inl, inr, Bool, true, false, ◌+◌, ◌*◌, ◌≤◌, ℕ, zero, suc, refl, sym, ap, subst, arith, lit<, lit≤, map, length, length-append, List, [], ◌∷◌, ◌++◌, Option, Some, None, Ok, Err, slice_get}
 use Rattle.std.specs.Prelude.{codes, string_bytes}
 use Rattle.std.specs.Fmt.{digits}
 use Rattle.std.specs.Io.KnownBytes.{Appends}
@@ -26,7 +27,8 @@ use Rattle.odht_tool.specs.Gets.{AreAnswers, IsAnswered, IsTextOf, answered_stat
 use Rattle.odht_tool_core.specs.Misreads.{misread_text, typed_wanted}
 use Rattle.odht_tool_core.specs.ReadyShapes.{shape_coding, typed_text}
 use Rattle.odht_tool_core.specs.declared.misread.Wanted.{Wanted}
-use Rattle.odht_tool_core.specs.Texts.{answers_text}
+use Rattle.odht_tool_core.specs.JsonAnswers.{answer_in}
+use Rattle.odht_tool_core.specs.Texts.{answers_by}
 use Rattle.odht_tool_core.specs.declared.forms.Form.TheVariants.{Own}
 use Rattle.odht_tool_core.specs.declared.failure.Failure.TheVariants.{Refused, ShortKeys, Input, Misread, Output, Memory}
 use Rattle.odht_tool_core.specs.declared.failure.LineFault.TheVariants.{Key}
@@ -46,6 +48,9 @@ C = shape_coding DirectU32ToU32
 
 abbrev f : ℕ → List ℕ
 f = typed_text Own U32
+
+abbrev line : ℕ × Option ℕ → List ℕ
+line = answer_in false f f
 
 abbrev R : List ℕ → ℕ → Type 0
 R = IsTextOf Own U32
@@ -123,7 +128,7 @@ no_empty_key k r = omega (arith, r.0.0.0)
 pub read : lines_read (lines (codes "5\r\n6")) ≡ codes "5" ∷ codes "6" ∷ []
 read = refl
 
-both_answered : IsAnswered C f f R one_bytes (codes "5" ∷ codes "6" ∷ []) (Some (codes "a")) (Some (codes "a5\t7\n6\n")) NotDone
+both_answered : IsAnswered C line R one_bytes (codes "5" ∷ codes "6" ∷ []) (Some (codes "a")) (Some (codes "a5\t7\n6\n")) NotDone
 unfolding digits
 both_answered = record {
   keys = 5 ∷ 6 ∷ [];
@@ -134,7 +139,7 @@ both_answered = record {
   status = refl;
 }
 
-pub both : lines_of_shape (Own, Own) one_bytes (Some (codes "5\n6\n")) (Some (codes "a")) (Some (codes "a5\t7\n6\n")) (Ok NotDone) DirectU32ToU32
+pub both : lines_of_shape (Own, Own) false one_bytes (Some (codes "5\n6\n")) (Some (codes "a")) (Some (codes "a5\t7\n6\n")) (Ok NotDone) DirectU32ToU32
 both = (no_refusal, record { words = codes "5" ∷ codes "6" ∷ []; place = inl refl; answered = both_answered })
 
 -- of these lines there are no other answers
@@ -152,13 +157,13 @@ of_both (k ∷ []) h = absurd h.1
 of_both (k ∷ l ∷ []) h = ap (λ n. n ∷ l ∷ []) (sym h.0.1) ∙ ap (λ n. 5 ∷ n ∷ []) (sym h.1.0.1)
 of_both (k ∷ l ∷ m ∷ ks) h = absurd h.1.1
 
-only_both : (old new : Option (List ℕ)) (status : Status) → IsAnswered C f f R one_bytes (codes "5" ∷ codes "6" ∷ []) old new status → (status ≡ NotDone) × Appends old new (codes "5\t7\n6\n")
+only_both : (old new : Option (List ℕ)) (status : Status) → IsAnswered C line R one_bytes (codes "5" ∷ codes "6" ∷ []) old new status → (status ≡ NotDone) × Appends old new (codes "5\t7\n6\n")
 unfolding digits opened
 only_both old new status h =
     let keys = of_both h.keys h.texts in
     let values : h.values ≡ Some 7 ∷ None ∷ [] = of_keys h.keys h.values h.answers ∙ ap (map (value_for C one_item)) keys in (
       h.status ∙ ap answered_status values,
-      subst (Appends old new) (ap (λ ks. answers_text f f ks h.values) keys ∙ ap (answers_text f f (5 ∷ 6 ∷ [])) values) h.written,
+      subst (Appends old new) (ap (λ ks. answers_by line ks h.values) keys ∙ ap (answers_by line (5 ∷ 6 ∷ [])) values) h.written,
     )
 
 -- of these lines none is empty
@@ -168,25 +173,25 @@ none_empty (a ∷ []) e = cc
 none_empty (a ∷ b ∷ []) e = cc
 none_empty (a ∷ b ∷ d ∷ rest) e = cc
 
-all_both : (old new : Option (List ℕ)) (status : Status) → AreAllAnswered C f f R one_bytes (codes "5\n6\n") old new status → (status ≡ NotDone) × Appends old new (codes "5\t7\n6\n")
+all_both : (old new : Option (List ℕ)) (status : Status) → AreAllAnswered C line R one_bytes (codes "5\n6\n") old new status → (status ≡ NotDone) × Appends old new (codes "5\t7\n6\n")
 all_both old new status h = only_both old new status (go h.words h.place h.answered)
   where
-    go : (ws : List (List ℕ)) → AreLinesOf R (codes "5\n6\n") ws → IsAnswered C f f R one_bytes (lines_read ws) old new status → IsAnswered C f f R one_bytes (codes "5" ∷ codes "6" ∷ []) old new status
-    go ws (inl e) a = subst (λ ws. IsAnswered C f f R one_bytes (lines_read ws) old new status) (sym e) a
+    go : (ws : List (List ℕ)) → AreLinesOf R (codes "5\n6\n") ws → IsAnswered C line R one_bytes (lines_read ws) old new status → IsAnswered C line R one_bytes (codes "5" ∷ codes "6" ∷ []) old new status
+    go ws (inl e) a = subst (λ ws. IsAnswered C line R one_bytes (lines_read ws) old new status) (sym e) a
     go ws (inr e) a = absurd (none_empty ws e.0)
 
 -- the other status; an answer left out; one written twice
-pub other_status : (new : Option (List ℕ)) → lines_of_shape (Own, Own) one_bytes (Some (codes "5\n6\n")) (Some []) new (Ok Done) DirectU32ToU32 → ⊥
+pub other_status : (new : Option (List ℕ)) → lines_of_shape (Own, Own) false one_bytes (Some (codes "5\n6\n")) (Some []) new (Ok Done) DirectU32ToU32 → ⊥
 other_status new h = let other = (all_both (Some []) new Done h.1).0 in cc
 
-pub left_out : lines_of_shape (Own, Own) one_bytes (Some (codes "5\n6\n")) (Some (codes "a")) (Some (codes "a5\t7\n")) (Ok NotDone) DirectU32ToU32 → ⊥
+pub left_out : lines_of_shape (Own, Own) false one_bytes (Some (codes "5\n6\n")) (Some (codes "a")) (Some (codes "a5\t7\n")) (Ok NotDone) DirectU32ToU32 → ⊥
 left_out h = unequal_lists (codes "a5\t7\n") (codes "a5\t7\n6\n") refl (all_both (Some (codes "a")) (Some (codes "a5\t7\n")) NotDone h.1).1
 
-pub twice : lines_of_shape (Own, Own) one_bytes (Some (codes "5\n6\n")) (Some []) (Some (codes "5\t7\n5\t7\n6\n")) (Ok NotDone) DirectU32ToU32 → ⊥
+pub twice : lines_of_shape (Own, Own) false one_bytes (Some (codes "5\n6\n")) (Some []) (Some (codes "5\t7\n5\t7\n6\n")) (Ok NotDone) DirectU32ToU32 → ⊥
 twice h = unequal_lists (codes "5\t7\n5\t7\n6\n") (codes "5\t7\n6\n") refl (all_both (Some []) (Some (codes "5\t7\n5\t7\n6\n")) NotDone h.1).1
 
 -- a status where a line is no key
-pub done_at_fault : (old new : Option (List ℕ)) (status : Status) → lines_of_shape (Own, Own) one_bytes (Some (codes "x\n")) old new (Ok status) DirectU32ToU32 → ⊥
+pub done_at_fault : (old new : Option (List ℕ)) (status : Status) → lines_of_shape (Own, Own) false one_bytes (Some (codes "x\n")) old new (Ok status) DirectU32ToU32 → ⊥
 done_at_fault old new status h = whole h.1.words h.1.place h.1.answered
   where
     none : (ws : List (List ℕ)) → codes "x" ∷ [] ≡ ws ++ ([] ∷ []) → ⊥
@@ -198,12 +203,12 @@ done_at_fault old new status h = whole h.1.words h.1.place h.1.answered
     go [] t = t
     go (k ∷ ks) t = no_key k t.0
 
-    whole : (ws : List (List ℕ)) → AreLinesOf R (codes "x\n") ws → IsAnswered C f f R one_bytes (lines_read ws) old new status → ⊥
+    whole : (ws : List (List ℕ)) → AreLinesOf R (codes "x\n") ws → IsAnswered C line R one_bytes (lines_read ws) old new status → ⊥
     whole ws (inl e) a = go a.keys (subst (λ ws. AllZip R (lines_read ws) a.keys) (sym e) a.texts)
     whole ws (inr e) a = none ws e.0
 
 -- an empty last line is left out, and no other one
-pub empty_last : lines_of_shape (Own, Own) one_bytes (Some (codes "5\n\n")) (Some (codes "a")) (Some (codes "a5\t7\n")) (Ok Done) DirectU32ToU32
+pub empty_last : lines_of_shape (Own, Own) false one_bytes (Some (codes "5\n\n")) (Some (codes "a")) (Some (codes "a5\t7\n")) (Ok Done) DirectU32ToU32
 unfolding digits
 empty_last = (
   no_refusal,
@@ -219,7 +224,7 @@ empty_first (inl e) = cc
 empty_first (inr e) = cc
 
 -- and it is no fault
-pub empty_last_told : (old new : Option (List ℕ)) (text : List ℕ) → IsLineFault C f f R a_number one_bytes ([] ∷ []) text old new → ⊥
+pub empty_last_told : (old new : Option (List ℕ)) (text : List ℕ) → IsLineFault C line R a_number one_bytes ([] ∷ []) text old new → ⊥
 empty_last_told old new text h = go h.before h.after h.place h.more
   where
     go : (before after : List (List ℕ)) → [] ∷ [] ≡ before ++ (h.word ∷ after) → (h.word ≡ [] → after ≡ [] → ⊥) → ⊥
@@ -229,7 +234,7 @@ empty_last_told old new text h = go h.before h.after h.place h.more
     go (a ∷ b ∷ before) after place more = cc
 
 -- nothing is said where the bytes of the input are not known
-pub unknown : lines_of_shape (Own, Own) one_bytes None (Some []) (Some (codes "b")) (Ok Done) DirectU32ToU32
+pub unknown : lines_of_shape (Own, Own) false one_bytes None (Some []) (Some (codes "b")) (Ok Done) DirectU32ToU32
 unknown = (no_refusal, tt)
 
 -- ---- a line that is no key
@@ -237,7 +242,7 @@ unknown = (no_refusal, tt)
 abbrev second_text : List ℕ
 second_text = codes "standard input, line 2: the key \"x\" is not a number below 2^32"
 
-pub second : (message : _) → string_bytes message ≡ second_text → lines_of_shape (Own, Own) one_bytes (Some (codes "5\nx\n6")) (Some (codes "a")) (Some (codes "a5\t7\n")) (Err (Misread message)) DirectU32ToU32
+pub second : (message : _) → string_bytes message ≡ second_text → lines_of_shape (Own, Own) false one_bytes (Some (codes "5\nx\n6")) (Some (codes "a")) (Some (codes "a5\t7\n")) (Err (Misread message)) DirectU32ToU32
 unfolding digits
 second message told = (
   no_refusal,
@@ -254,12 +259,12 @@ second message told = (
   },
 )
 
-only_second : (old new : Option (List ℕ)) (text : List ℕ) → IsLineFault C f f R a_number one_bytes (codes "5" ∷ codes "x" ∷ codes "6" ∷ []) text old new → (text ≡ second_text) × Appends old new (codes "5\t7\n")
+only_second : (old new : Option (List ℕ)) (text : List ℕ) → IsLineFault C line R a_number one_bytes (codes "5" ∷ codes "x" ∷ codes "6" ∷ []) text old new → (text ≡ second_text) × Appends old new (codes "5\t7\n")
 unfolding digits opened
 only_second old new text h = go h.before h.place h.told h.answered
   where
     go : (before : List (List ℕ)) → codes "5" ∷ codes "x" ∷ codes "6" ∷ [] ≡ before ++ (h.word ∷ h.after) → text ≡ misread_text (Some (length before + 1)) Key a_number h.word
-        → IsAnswered C f f R one_bytes before old new h.status → (text ≡ second_text) × Appends old new (codes "5\t7\n")
+        → IsAnswered C line R one_bytes before old new h.status → (text ≡ second_text) × Appends old new (codes "5\t7\n")
     go [] place told answered =
         let word : codes "5" ≡ h.word = cc in
         absurd (h.fault 5 (subst (λ w. R w 5) word five))
@@ -269,7 +274,7 @@ only_second old new text h = go h.before h.place h.told h.answered
         let keys = of_five answered.keys (subst (λ w. AllZip R (w ∷ []) answered.keys) (sym word) answered.texts) in
         let values : answered.values ≡ Some 7 ∷ [] = of_keys answered.keys answered.values answered.answers ∙ ap (map (value_for C one_item)) keys in (
           told ∙ ap (misread_text (Some 2) Key a_number) wrong,
-          subst (Appends old new) (ap (λ ks. answers_text f f ks answered.values) keys ∙ ap (answers_text f f (5 ∷ [])) values) answered.written,
+          subst (Appends old new) (ap (λ ks. answers_by line ks answered.values) keys ∙ ap (answers_by line (5 ∷ [])) values) answered.written,
         )
     go (a ∷ b ∷ rest) place told answered =
         let word : codes "x" ≡ b = cc in
@@ -281,28 +286,28 @@ only_second old new text h = go h.before h.place h.told h.answered
         second_key (k ∷ l ∷ ks) t = no_key l t.1.0
 
 -- counted from 0; the answer before it not written; another fault; another text
-told_else : (message : _) (new : Option (List ℕ)) (text : List ℕ) → string_bytes message ≡ text → lines_of_shape (Own, Own) one_bytes (Some (codes "5\nx\n6")) (Some []) new (Err (Misread message)) DirectU32ToU32
+told_else : (message : _) (new : Option (List ℕ)) (text : List ℕ) → string_bytes message ≡ text → lines_of_shape (Own, Own) false one_bytes (Some (codes "5\nx\n6")) (Some []) new (Err (Misread message)) DirectU32ToU32
     → text ≡ second_text
 told_else message new text e h = sym e ∙ (only_second (Some []) new (string_bytes message) h.1).0
 
 pub from_zero : (message : _) (new : Option (List ℕ)) → string_bytes message ≡ codes "standard input, line 1: the key \"x\" is not a number below 2^32"
-    → lines_of_shape (Own, Own) one_bytes (Some (codes "5\nx\n6")) (Some []) new (Err (Misread message)) DirectU32ToU32 → ⊥
+    → lines_of_shape (Own, Own) false one_bytes (Some (codes "5\nx\n6")) (Some []) new (Err (Misread message)) DirectU32ToU32 → ⊥
 from_zero message new e h = unequal_lists (codes "standard input, line 1: the key \"x\" is not a number below 2^32") second_text refl (told_else message new _ e h)
 
-pub unwritten : (message : _) → lines_of_shape (Own, Own) one_bytes (Some (codes "5\nx\n6")) (Some []) (Some []) (Err (Misread message)) DirectU32ToU32 → ⊥
+pub unwritten : (message : _) → lines_of_shape (Own, Own) false one_bytes (Some (codes "5\nx\n6")) (Some []) (Some []) (Err (Misread message)) DirectU32ToU32 → ⊥
 unwritten message h = unequal_lists [] (codes "5\t7\n") refl (only_second (Some []) (Some []) (string_bytes message) h.1).1
 
 pub no_tab : (message : _) (new : Option (List ℕ)) → string_bytes message ≡ codes "standard input, line 2: \"x\" has no tab between key and value"
-    → lines_of_shape (Own, Own) one_bytes (Some (codes "5\nx\n6")) (Some []) new (Err (Misread message)) DirectU32ToU32 → ⊥
+    → lines_of_shape (Own, Own) false one_bytes (Some (codes "5\nx\n6")) (Some []) new (Err (Misread message)) DirectU32ToU32 → ⊥
 no_tab message new e h = unequal_lists (codes "standard input, line 2: \"x\" has no tab between key and value") second_text refl (told_else message new _ e h)
 
 pub other_text : (message : _) (new : Option (List ℕ)) → string_bytes message ≡ codes "standard input, line 2: the key \"6\" is not a number below 2^32"
-    → lines_of_shape (Own, Own) one_bytes (Some (codes "5\nx\n6")) (Some []) new (Err (Misread message)) DirectU32ToU32 → ⊥
+    → lines_of_shape (Own, Own) false one_bytes (Some (codes "5\nx\n6")) (Some []) new (Err (Misread message)) DirectU32ToU32 → ⊥
 other_text message new e h = unequal_lists (codes "standard input, line 2: the key \"6\" is not a number below 2^32") second_text refl (told_else message new _ e h)
 
 -- ---- other failures
 -- without memory, or where the input cannot be read, what is written are the answers to whole batches: here to none
-pub no_memory : lines_of_shape (Own, Own) one_bytes (Some (codes "5\n")) (Some (codes "a")) (Some (codes "a")) (Err Memory) DirectU32ToU32
+pub no_memory : lines_of_shape (Own, Own) false one_bytes (Some (codes "5\n")) (Some (codes "a")) (Some (codes "a")) (Err Memory) DirectU32ToU32
 no_memory = (
   no_refusal,
   record {
@@ -316,52 +321,52 @@ no_memory = (
   },
 )
 
-none_first : (old new : Option (List ℕ)) → AreFirstAnswered C f f R one_bytes (codes "5" ∷ []) old new → Appends old new []
+none_first : (old new : Option (List ℕ)) → AreFirstAnswered C line R one_bytes (codes "5" ∷ []) old new → Appends old new []
 unfolding opened
 none_first old new h = go h.before (ap length h.place ∙ length-append h.before h.after) h.counted h.answered
   where
-    go : (before : List (List ℕ)) → 1 ≡ length before + length h.after → length before ≡ h.batches * 1024 → IsAnswered C f f R one_bytes before old new h.status → Appends old new []
+    go : (before : List (List ℕ)) → 1 ≡ length before + length h.after → length before ≡ h.batches * 1024 → IsAnswered C line R one_bytes before old new h.status → Appends old new []
     go [] place counted answered = none answered.keys answered.texts answered.written
       where
-        none : (ks : List ℕ) → AllZip R [] ks → Appends old new (answers_text f f ks answered.values) → Appends old new []
+        none : (ks : List ℕ) → AllZip R [] ks → Appends old new (answers_by line ks answered.values) → Appends old new []
         none [] t w = w
         none (k ∷ ks) t w = absurd t
     go (a ∷ rest) place counted answered = absurd (omega (arith, place, counted))
 
-pub half_a_batch : lines_of_shape (Own, Own) one_bytes (Some (codes "5\n")) (Some (codes "a")) (Some (codes "a5\t7\n")) (Err Memory) DirectU32ToU32 → ⊥
+pub half_a_batch : lines_of_shape (Own, Own) false one_bytes (Some (codes "5\n")) (Some (codes "a")) (Some (codes "a5\t7\n")) (Err Memory) DirectU32ToU32 → ⊥
 half_a_batch h = unequal_lists (codes "a5\t7\n") (codes "a") refl (none_first (Some (codes "a")) (Some (codes "a5\t7\n")) h.1)
 
-pub half_read : (error : _) → lines_of_shape (Own, Own) one_bytes (Some (codes "5\n")) (Some (codes "a")) (Some (codes "a5\t7\n")) (Err (Input error)) DirectU32ToU32 → ⊥
+pub half_read : (error : _) → lines_of_shape (Own, Own) false one_bytes (Some (codes "5\n")) (Some (codes "a")) (Some (codes "a5\t7\n")) (Err (Input error)) DirectU32ToU32 → ⊥
 half_read error h = unequal_lists (codes "a5\t7\n") (codes "a") refl (none_first (Some (codes "a")) (Some (codes "a5\t7\n")) h.1)
 
 -- the writer fails only once the bytes are opened
-pub unopened : (input old new : Option (List ℕ)) (error : _) → lines_of_shape (Own, Own) (79 ∷ 68 ∷ []) input old new (Err (Output error)) DirectU32ToU32 → ⊥
+pub unopened : (input old new : Option (List ℕ)) (error : _) → lines_of_shape (Own, Own) false (79 ∷ 68 ∷ []) input old new (Err (Output error)) DirectU32ToU32 → ⊥
 unfolding opened
 unopened input old new error h = let opens = h.0 in cc
 
 -- of bytes that do not open the error is returned, and nothing is written
-pub refused : (input : Option (List ℕ)) → lines_of_shape (Own, Own) (79 ∷ 68 ∷ []) input (Some (codes "a")) (Some (codes "a")) (Err (Refused (TooShort 2))) DirectU32ToU32
+pub refused : (input : Option (List ℕ)) → lines_of_shape (Own, Own) false (79 ∷ 68 ∷ []) input (Some (codes "a")) (Some (codes "a")) (Err (Refused (TooShort 2))) DirectU32ToU32
 unfolding opened
 refused input = (refl, refl)
 
-pub refused_late : (input : Option (List ℕ)) → lines_of_shape (Own, Own) (79 ∷ 68 ∷ []) input (Some (codes "a")) (Some (codes "ab")) (Err (Refused (TooShort 2))) DirectU32ToU32 → ⊥
+pub refused_late : (input : Option (List ℕ)) → lines_of_shape (Own, Own) false (79 ∷ 68 ∷ []) input (Some (codes "a")) (Some (codes "ab")) (Err (Refused (TooShort 2))) DirectU32ToU32 → ⊥
 refused_late input h = unequal_lists (codes "ab") (codes "a") refl h.1
 
-pub not_refused : (input old new : Option (List ℕ)) → lines_of_shape (Own, Own) one_bytes input old new (Err (Refused (TooShort 2))) DirectU32ToU32 → ⊥
+pub not_refused : (input old new : Option (List ℕ)) → lines_of_shape (Own, Own) false one_bytes input old new (Err (Refused (TooShort 2))) DirectU32ToU32 → ⊥
 not_refused input old new h = let no = no_refusal in cc
 
 -- of bytes with no shape nothing is read
-pub no_shape : (input : Option (List ℕ)) → AreFileLinesGot (overwritten_at one_bytes 5 (3 ∷ [])) (Some Unhash) unsaid input (Some (codes "a")) (Some (codes "a")) (Err (ShortKeys 3))
+pub no_shape : (input : Option (List ℕ)) → AreFileLinesGot (overwritten_at one_bytes 5 (3 ∷ [])) (Some Unhash) unsaid false input (Some (codes "a")) (Some (codes "a")) (Err (ShortKeys 3))
 unfolding opened
 no_shape input = (refl, refl)
 
-pub shape_missed : (input old new : Option (List ℕ)) → AreFileLinesGot one_bytes (Some Unhash) unsaid input old new (Err (ShortKeys 4)) → ⊥
+pub shape_missed : (input old new : Option (List ℕ)) → AreFileLinesGot one_bytes (Some Unhash) unsaid false input old new (Err (ShortKeys 4)) → ⊥
 unfolding opened
 shape_missed input old new h = h.1
 
 -- ---- the next line
 -- it is the second and no key, and the answer before it is written; counted from 0
-pub faulty : (message : _) → string_bytes message ≡ second_text → IsLineFailure C f f R a_number one_bytes (5 ∷ []) 2 (Some (codes "x\n6")) (Some (codes "a")) (Some (codes "a5\t7\n")) (Misread message)
+pub faulty : (message : _) → string_bytes message ≡ second_text → IsLineFailure C line R a_number one_bytes (5 ∷ []) 2 (Some (codes "x\n6")) (Some (codes "a")) (Some (codes "a5\t7\n")) (Misread message)
 unfolding digits
 faulty message told = record {
   then = Some (codes "6");
@@ -376,11 +381,11 @@ faulty message told = record {
 
 -- ---- a batch
 -- one key is none, so it is not answered yet; and a batch is answered
-pub few : IsFlushed C f f one_bytes (5 ∷ []) (5 ∷ []) (Some (codes "a")) (Some (codes "a")) true true
-few = nothing_flushed C f f one_bytes (5 ∷ []) (Some (codes "a")) true (lit< tt)
+pub few : IsFlushed C line one_bytes (5 ∷ []) (5 ∷ []) (Some (codes "a")) (Some (codes "a")) true true
+few = nothing_flushed C line one_bytes (5 ∷ []) (Some (codes "a")) true (lit< tt)
 
-pub early : (old new : Option (List ℕ)) (was all : Bool) → IsFlushed C f f one_bytes (5 ∷ []) [] old new was all → ⊥
+pub early : (old new : Option (List ℕ)) (was all : Bool) → IsFlushed C line one_bytes (5 ∷ []) [] old new was all → ⊥
 early old new was all h = let none = h.few (lit< tt) in let left = h.left in absurd (omega (arith, ap length left ∙ length-append h.done [], ap length none))
 
-pub late : (keys : List ℕ) (old new : Option (List ℕ)) (was all : Bool) → 1024 ≤ length keys → IsFlushed C f f one_bytes keys keys old new was all → ⊥
+pub late : (keys : List ℕ) (old new : Option (List ℕ)) (was all : Bool) → 1024 ≤ length keys → IsFlushed C line one_bytes keys keys old new was all → ⊥
 late keys old new was all many h = omega (arith, many, ap length (h.full many))

@@ -1,5 +1,5 @@
 -- Worked examples: what `get` writes and returns.
-use Rattle.std.proofs.Common.{◌≡◌, ℕ, arith, refl, [], ◌∷◌, Some, None, Err}
+use Rattle.std.proofs.Common.{◌≡◌, ℕ, arith, false, refl, [], ◌∷◌, Some, None, Err}
 use Rattle.std.specs.Char.{is_ascii_hexdigit}
 use Rattle.std.specs.Prelude.{codes}
 use Rattle.std.proofs.lemmas.List.Sums.{AllPass-from_list_all}
@@ -31,10 +31,10 @@ unfolding opened
 no_refusal = refl
 
 -- so without memory nothing is written, and no error of opening is returned
-pub no_memory : words_of_shape (Own, Own) one_bytes (codes "5" ∷ []) (Some (codes "a")) (Some (codes "a")) (Err Memory) DirectU32ToU32
+pub no_memory : words_of_shape (Own, Own) false one_bytes (codes "5" ∷ []) (Some (codes "a")) (Some (codes "a")) (Err Memory) DirectU32ToU32
 no_memory = (no_refusal, refl)
 
-pub written_without_memory : words_of_shape (Own, Own) one_bytes (codes "5" ∷ []) (Some (codes "a")) (Some (codes "ab")) (Err Memory) DirectU32ToU32 → ⊥
+pub written_without_memory : words_of_shape (Own, Own) false one_bytes (codes "5" ∷ []) (Some (codes "a")) (Some (codes "ab")) (Err Memory) DirectU32ToU32 → ⊥
 written_without_memory h = unequal_lists (codes "ab") (codes "a") refl h.1
 
 -- ---- of other sizes
@@ -54,15 +54,15 @@ unfolding opened
 other_opens = refl
 
 -- so without memory nothing is written, for words as for lines
-pub other_without_memory : words_of_other other_bytes (codes "5" ∷ []) (Some (codes "a")) (Some (codes "a")) (Err Memory) (other 6 2 Unhash)
-    × words_of_any (Own, Own) other_bytes (codes "5" ∷ []) (Some (codes "a")) (Some (codes "a")) (Err Memory) (Other (other 6 2 Unhash))
-    × lines_of_other other_bytes None (Some (codes "a")) (Some (codes "a")) (Err Memory) (other 6 2 Unhash)
-    × lines_of_any (Own, Own) other_bytes None (Some (codes "a")) (Some (codes "a")) (Err Memory) (Other (other 6 2 Unhash))
+pub other_without_memory : words_of_other false other_bytes (codes "5" ∷ []) (Some (codes "a")) (Some (codes "a")) (Err Memory) (other 6 2 Unhash)
+    × words_of_any (Own, Own) false other_bytes (codes "5" ∷ []) (Some (codes "a")) (Some (codes "a")) (Err Memory) (Other (other 6 2 Unhash))
+    × lines_of_other false other_bytes None (Some (codes "a")) (Some (codes "a")) (Err Memory) (other 6 2 Unhash)
+    × lines_of_any (Own, Own) false other_bytes None (Some (codes "a")) (Some (codes "a")) (Err Memory) (Other (other 6 2 Unhash))
 other_without_memory = ((other_opens, refl), (other_opens, refl), (other_opens, tt), (other_opens, tt))
 
 -- and of a ready shape it is what is said of this
-pub ready_without_memory : words_of_any (Own, Own) one_bytes (codes "5" ∷ []) (Some (codes "a")) (Some (codes "a")) (Err Memory) (Ready DirectU32ToU32)
+pub ready_without_memory : words_of_any (Own, Own) false one_bytes (codes "5" ∷ []) (Some (codes "a")) (Some (codes "a")) (Err Memory) (Ready DirectU32ToU32)
 ready_without_memory = no_memory
 
-pub other_written_without_memory : words_of_other other_bytes (codes "5" ∷ []) (Some (codes "a")) (Some (codes "ab")) (Err Memory) (other 6 2 Unhash) → ⊥
+pub other_written_without_memory : words_of_other false other_bytes (codes "5" ∷ []) (Some (codes "a")) (Some (codes "ab")) (Err Memory) (other 6 2 Unhash) → ⊥
 other_written_without_memory h = unequal_lists (codes "ab") (codes "a") refl h.1

@@ -10,6 +10,7 @@ ghost use Rattle.odht_tool_core.specs.Keys.{IsReadAs, TellsFault};
 ghost use Rattle.odht_tool_core.specs.declared.failure.Failure.TheVariants.{Memory};
 
 use crate::commands::check::check_any;
+use crate::commands::delete_lines::deleted_by_lines;
 use crate::shapes::for_shape;
 use crate::sized::deletes::delete_lengths;
 use odht::bytes::ByteArray;
@@ -17,27 +18,28 @@ use odht::config::{Coded, Config};
 use odht::dynamic::{Layout, ShortBytes};
 use odht::{FxHashFn, UnHashFn};
 use odht_tool_core::any::{AnyShape, OtherShape, read_any};
-use odht_tool_core::arguments::DeleteOptions;
+use odht_tool_core::arguments::{DeleteOptions, Keys};
 use odht_tool_core::failure::Failure;
 use odht_tool_core::files::{read_file, replace_file};
 use odht_tool_core::forms::Form;
-use odht_tool_core::keys::{parse_keys, push_key};
+use odht_tool_core::keys::{Word, parse_keys, push_key};
 use odht_tool_core::progress::{Progress, Watch};
 use odht_tool_core::shapes::{Hash, Shape};
 use odht_tool_core::status::Status;
 use odht_tool_core::targets::Target;
 use odht_tool_core::text::Text;
 use std::alloc::Global;
-use std::io::Write;
+use std::io::{BufRead, Write};
 use std::os::fd::AsFd;
 use std::rt::{Clock, Files};
 
-/// Makes a new table of the pairs of the table in the file whose keys are not named, and stores it in the place of the
+/// Makes a new table of the pairs of the table in the file whose keys are not named, by words or by the lines of `input`, and stores it in the place of the
 /// older one, which stays where something fails. Not all is done where a key is absent.
-pub fn delete<R: Files + AllocGlobal + Clock, E: Write>(
+pub fn delete<R: Files + AllocGlobal + Clock, I: BufRead, E: Write>(
     rt: &R,
     file: &str,
     options: &DeleteOptions,
+    input: &mut I,
     errors: &mut E,
 ) -> Result<Status, Failure>
 where
@@ -45,7 +47,10 @@ where
 {
     let target = Target::find(rt, file, options.breaks_links)?;
     let bytes = read_file(rt, target.path())?;
-    let (bytes, status) = deleted(rt, file, bytes, options, errors)?;
+    let (bytes, status) = match &options.keys {
+        Keys::Words(words) => deleted(rt, file, bytes, words.as_slice(), options, errors)?,
+        Keys::Lines => deleted_by_lines(rt, file, bytes, options, input, errors)?,
+    };
     replace_file(rt, &target, bytes.as_slice())?;
     Ok(status)
 }
@@ -56,16 +61,16 @@ fn deleted<R: AllocGlobal + Clock, E: Write>(
     rt: &R,
     file: &str,
     bytes: Vec<u8>,
+    words: &[String],
     options: &DeleteOptions,
     errors: &mut E,
 ) -> Result<(Vec<u8>, Status), Failure>
     ensures ok { let o = options.now in IfOk result (λ x. IsDeletedOf bytes.items o.hash o.kinds
-        o.bound (map string_bytes o.words.items) x.0.items x.1) }
+        o.bound (map string_bytes words.now) x.0.items x.1) }
     ensures err { let o = options.now in IfErr result (IsDeleteFailure bytes.items o.hash o.kinds
-        o.bound (map string_bytes o.words.items)) }
+        o.bound (map string_bytes words.now)) }
 {
     let bytes = bytes.as_slice();
-    let words = options.words.as_slice();
     let found = read_any(bytes, options.hash, options.kinds)?;
     let (shape, forms) = found;
     match check_any(shape, bytes, options.bound) {
@@ -87,13 +92,13 @@ fn deleted<R: AllocGlobal + Clock, E: Write>(
     }
 }
 
-// The same of valid bytes of a shape, and of the keys of the words.
-fn deleted_for<R: AllocGlobal + Clock, E: Write>(
+// The same of valid bytes of a shape, and of the keys of these words or lines.
+pub fn deleted_for<W: Word, R: AllocGlobal + Clock, E: Write>(
     rt: &R,
     file: &str,
     shape: AnyShape,
     bytes: &[u8],
-    words: &[String],
+    words: &[W],
     keys: &[ShortBytes],
     progress: Progress,
     errors: &mut E,
@@ -110,10 +115,10 @@ fn deleted_for<R: AllocGlobal + Clock, E: Write>(
         value_len: shape.value().size(),
     };
     match shape.hash() {
-        Hash::Fx => delete_lengths::<FxHashFn, R, E>(
+        Hash::Fx => delete_lengths::<FxHashFn, W, R, E>(
             rt, file, layout, bytes, words, keys, progress, errors,
         ),
-        Hash::Unhash => delete_lengths::<UnHashFn, R, E>(
+        Hash::Unhash => delete_lengths::<UnHashFn, W, R, E>(
             rt, file, layout, bytes, words, keys, progress, errors,
         ),
     }
@@ -177,8 +182,8 @@ where
     encoded_keys::<C>(alloc, keys.as_slice())
 }
 
-// The bytes of the keys.
-fn encoded_keys<C: Config>(alloc: Global, keys: &[C::Key]) -> Result<Vec<ShortBytes>, Failure>
+/// The bytes of the keys.
+pub fn encoded_keys<C: Config>(alloc: Global, keys: &[C::Key]) -> Result<Vec<ShortBytes>, Failure>
     ensures ok { IfOk result
         (λ all. all.items ≡ map ⟦<C as Coded>⟧.coding.key_bytes keys.now) }
     ensures memory { OnErr result (result ≡ Err Memory) }

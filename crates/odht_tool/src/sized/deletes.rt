@@ -1,6 +1,6 @@
 //! `odht delete` of tables of any lengths of keys and values.
 ghost use Rattle.std.specs.Prelude.{◌≡◌, ◌≤◌, ◌++◌, ◌∷◌, [], List, ℕ, IfOk, Err, OnErr, OnOk};
-ghost use Rattle.std.specs.Prelude.{All, length, map, string_bytes};
+ghost use Rattle.std.specs.Prelude.{All, length, map};
 ghost use Rattle.std.specs.Io.KnownBytes.{Appends};
 ghost use Rattle.odht_base.specs.Format.{format_of};
 ghost use Rattle.odht_base.specs.Insert.{insert_owned};
@@ -24,21 +24,21 @@ use odht::load::Percent;
 use odht::memory_layout::{Header, init_sized};
 use odht::raw_table::SizedIter;
 use odht_tool_core::failure::Failure;
-use odht_tool_core::keys::write_absent;
+use odht_tool_core::keys::{Word, write_absent};
 use odht_tool_core::progress::Progress;
 use odht_tool_core::status::Status;
 use std::alloc::Global;
 use std::io::{self, Write};
 use std::rt::Clock;
 
-/// The bytes of the table without the keys of the words, and whether each had a value; a line on `errors` tells of each
+/// The bytes of the table without the keys of the words or lines, and whether each had a value; a line on `errors` tells of each
 /// that had none.
-pub fn delete_lengths<H: HashFn, R: AllocGlobal + Clock, E: Write>(
+pub fn delete_lengths<H: HashFn, W: Word, R: AllocGlobal + Clock, E: Write>(
     rt: &R,
     file: &str,
     layout: Layout,
     bytes: &[u8],
-    words: &[String],
+    words: &[W],
     keys: &[ShortBytes],
     progress: Progress,
     errors: &mut E,
@@ -205,22 +205,22 @@ fn are_there<H: HashFn>(table: &DynTable<H, Borrowed<'_>>, keys: &[ShortBytes]) 
     true
 }
 
-// Writes a line for each word whose key has no value.
-fn write_absent_keys<H: HashFn, E: Write>(
+// Writes a line for each word or line whose key has no value.
+fn write_absent_keys<H: HashFn, W: Word, E: Write>(
     file: &str,
     table: &DynTable<H, Borrowed<'_>>,
-    words: &[String],
+    words: &[W],
     keys: &[ShortBytes],
     errors: &mut E,
 ) -> io::Result<()>
     requires { length words.now ≡ length keys.now }
     ensures { OfTable (dyn_format table.now H.hash) table.now.store.0.now (λ P. OnOk result
         (Appends (E.contents errors.old) (E.contents errors.new)
-        (absent_lines file.now P (map string_bytes words.now) keys.now))) }
+        (absent_lines file.now P (map W.bytes words.now) keys.now))) }
 {
     for at in 0..words.len() {
         if !table.contains_key(keys[at].as_slice()) {
-            write_absent(file, words[at].as_str(), errors)?;
+            write_absent(file, words[at].bytes(), errors)?;
         }
     }
     Ok(())

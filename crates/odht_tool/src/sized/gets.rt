@@ -5,6 +5,7 @@ ghost use Rattle.odht_raw.specs.Sized.{bytes_coding};
 ghost use Rattle.odht_tool.specs.Gets.{AreWordsGot, IsHexOf, words_of_other};
 ghost use Rattle.odht_tool.specs.GetLines.{AreLinesGot, lines_of_other};
 ghost use Rattle.odht_tool_core.specs.InfoNumbers.{least_key_len};
+ghost use Rattle.odht_tool_core.specs.JsonAnswers.{answer_in};
 ghost use Rattle.odht_tool_core.specs.Misreads.{hex_wanted};
 ghost use Rattle.odht_tool_core.specs.Texts.{hex_text};
 
@@ -16,6 +17,7 @@ use odht::{FxHashFn, UnHashFn};
 use odht_tool_core::any::OtherShape;
 use odht_tool_core::failure::Failure;
 use odht_tool_core::forms::HexForms;
+use odht_tool_core::json::answers::AnswerStyle;
 use odht_tool_core::shapes::Hash;
 use odht_tool_core::status::Status;
 use std::alloc::Global;
@@ -25,18 +27,21 @@ use std::io::{BufRead, Write};
 pub fn get_words_other<O: Write>(
     alloc: Global,
     shape: OtherShape,
+    is_json: bool,
     bytes: &[u8],
     words: &[String],
     output: &mut O,
 ) -> Result<Status, Failure>
     requires { least_key_len shape.hash ≤ shape.key_len }
-    ensures { words_of_other bytes.now (map string_bytes words.now)
+    ensures { words_of_other is_json bytes.now (map string_bytes words.now)
         (O.contents output.old) (O.contents output.new) result shape }
 {
     let layout = layout_of(shape);
     match shape.hash {
-        Hash::Fx => get_words_sized::<FxHashFn, O>(alloc, layout, bytes, words, output),
-        Hash::Unhash => get_words_sized::<UnHashFn, O>(alloc, layout, bytes, words, output),
+        Hash::Fx => get_words_sized::<FxHashFn, O>(alloc, layout, is_json, bytes, words, output),
+        Hash::Unhash => get_words_sized::<UnHashFn, O>(
+            alloc, layout, is_json, bytes, words, output,
+        ),
     }
 }
 
@@ -44,53 +49,62 @@ pub fn get_words_other<O: Write>(
 pub fn get_lines_other<I: BufRead, O: Write>(
     alloc: Global,
     shape: OtherShape,
+    is_json: bool,
     bytes: &[u8],
     input: &mut I,
     output: &mut O,
 ) -> Result<Status, Failure>
     requires { least_key_len shape.hash ≤ shape.key_len }
-    ensures { lines_of_other bytes.now (I.remaining input.old)
+    ensures { lines_of_other is_json bytes.now (I.remaining input.old)
         (O.contents output.old) (O.contents output.new) result shape }
 {
     let layout = layout_of(shape);
     match shape.hash {
-        Hash::Fx => get_lines_sized::<FxHashFn, I, O>(alloc, layout, bytes, input, output),
-        Hash::Unhash => get_lines_sized::<UnHashFn, I, O>(alloc, layout, bytes, input, output),
+        Hash::Fx => get_lines_sized::<FxHashFn, I, O>(alloc, layout, is_json, bytes, input, output),
+        Hash::Unhash => get_lines_sized::<UnHashFn, I, O>(
+            alloc, layout, is_json, bytes, input, output,
+        ),
     }
 }
 
 fn get_words_sized<H: HashFn, O: Write>(
     alloc: Global,
     layout: Layout,
+    is_json: bool,
     bytes: &[u8],
     words: &[String],
     output: &mut O,
 ) -> Result<Status, Failure>
     requires { H.MIN_LEN ≤ layout.key_len }
     ensures { let c = bytes_coding (format_of layout.key_len layout.value_len H.hash)
-        in AreWordsGot c hex_text hex_text (IsHexOf layout.key_len) (hex_wanted layout.key_len)
+        in AreWordsGot c (answer_in is_json hex_text hex_text) (IsHexOf layout.key_len)
+        (hex_wanted layout.key_len)
         bytes.now (map string_bytes words.now)
         (O.contents output.old) (O.contents output.new) result }
 {
     let table = open_lengths::<H>(layout, bytes)?;
-    answer_words(alloc, &table, forms_of(layout), words, output)
+    let forms = forms_of(layout);
+    answer_words(alloc, &table, AnswerStyle { forms, is_json }, words, output)
 }
 
 fn get_lines_sized<H: HashFn, I: BufRead, O: Write>(
     alloc: Global,
     layout: Layout,
+    is_json: bool,
     bytes: &[u8],
     input: &mut I,
     output: &mut O,
 ) -> Result<Status, Failure>
     requires { H.MIN_LEN ≤ layout.key_len }
     ensures { let c = bytes_coding (format_of layout.key_len layout.value_len H.hash)
-        in AreLinesGot c hex_text hex_text (IsHexOf layout.key_len) (hex_wanted layout.key_len)
+        in AreLinesGot c (answer_in is_json hex_text hex_text) (IsHexOf layout.key_len)
+        (hex_wanted layout.key_len)
         bytes.now (I.remaining input.old)
         (O.contents output.old) (O.contents output.new) result }
 {
     let table = open_lengths::<H>(layout, bytes)?;
-    answer_lines(alloc, &table, forms_of(layout), input, output)
+    let forms = forms_of(layout);
+    answer_lines(alloc, &table, AnswerStyle { forms, is_json }, input, output)
 }
 
 /// The forms of keys and values of these lengths.

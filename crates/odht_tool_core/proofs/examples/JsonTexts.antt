@@ -9,6 +9,7 @@ use Rattle.odht_tool_core.specs.FindJson.{table_object}
 use Rattle.odht_tool_core.specs.InfoJson.{count_fields, counts_array, hash_or_null, info_as, length_fields, longest_hit}
 use Rattle.odht_tool_core.specs.InfoNumbers.{tallies, largest, IsHistogram}
 use Rattle.odht_tool_core.specs.Json.{is_simple, json_object, json_string, number_field, number_or_null, pair_object, string_field, text_field, truth}
+use Rattle.odht_tool_core.specs.JsonAnswers.{absent_object, answer_in}
 use Rattle.odht_tool_core.specs.JsonSlots.{slot_object}
 use Rattle.odht_tool_core.specs.Texts.{hex_text}
 use Rattle.odht_tool_core.specs.declared.histogram.Histogram.{Histogram}
@@ -39,6 +40,14 @@ pub pairs : (pair_object hex_text hex_text (65 ∷ [], 66 ∷ []) ≡ codes "{\"
     × (slot_object hex_text hex_text 3 97 1 (65 ∷ [], 66 ∷ []) ≡ codes "{\"slot\":3,\"control\":97,\"groups\":1,\"key\":\"41\",\"value\":\"42\"}\n")
 unfolding chars is_utf8 encode_utf8 pair_object slot_object digits
 pairs = (refl, refl)
+
+-- the answer to a key, and of a key that is absent; a value of no bytes is there
+pub answers : (answer_in true hex_text hex_text (65 ∷ [], Some (66 ∷ [])) ≡ codes "{\"key\":\"41\",\"value\":\"42\"}\n")
+    × (answer_in true hex_text hex_text (65 ∷ [], None) ≡ codes "{\"key\":\"41\",\"value\":null}\n")
+    × (answer_in true hex_text hex_text (65 ∷ [], Some []) ≡ codes "{\"key\":\"41\",\"value\":\"\"}\n")
+    × (answer_in false hex_text hex_text (65 ∷ [], None) ≡ codes "41\n")
+unfolding chars is_utf8 encode_utf8 pair_object absent_object
+answers = (refl, refl, refl, refl)
 
 -- two keys by one group, none by two, one by three; and without a hash function
 pub counts : (counts_array (tallies (1 ∷ 3 ∷ 1 ∷ [])) 3 ≡ codes "[2,0,1]") × (counts_array (tallies []) 0 ≡ codes "[]") × (longest_hit None 0 ≡ None) × (longest_hit (Some Fx) 3 ≡ Some 3) × (hash_or_null (Some Fx) ≡ codes "\"fx\"") × (hash_or_null None ≡ codes "null")

@@ -210,7 +210,7 @@ impl Draft {
             return Err(CommandMisuse::Missing("KEY"));
         }
         Ok(Command::Delete(DeleteOptions {
-            words: self.words,
+            keys: Keys::of_words(self.words),
             hash: self.hash,
             kinds: self.kinds,
             bound: bound_of(self.is_whole),
@@ -291,6 +291,7 @@ impl Draft {
                 hash: self.hash,
                 kinds: self.kinds,
                 keys,
+                is_json: self.is_json,
             },
         })
     }

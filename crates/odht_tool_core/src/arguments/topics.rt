@@ -112,6 +112,7 @@ impl Topic {
             Topic::Count => &[Setting::Help, Setting::Whole, Setting::Hash, Setting::At],
             Topic::Get => &[
                 Setting::Help,
+                Setting::Json,
                 Setting::Key,
                 Setting::Value,
                 Setting::Hash,

@@ -41,8 +41,8 @@ pub(crate) fn write_pair_fields<K: Text, V: Text, F: Forms, O: Write>(
     output.write_all(b"}\n")
 }
 
-// Writes a field that is the text of a key or a value.
-fn write_text_field<T: Text, O: Write>(
+/// Writes a field that is the text of a key or a value.
+pub(crate) fn write_text_field<T: Text, O: Write>(
     name: &str,
     value: &T,
     form: Form,

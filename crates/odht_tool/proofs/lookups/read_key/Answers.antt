@@ -7,7 +7,7 @@ use Rattle.odht_tool.proofs.lookups.read_key.Goals as goal
 -- the line that was read is no key, and the message tells it
 pub returns-in_ok-answer_keys-in-Ok-NoKey-clause-err : goal.returns-in_ok-answer_keys-in-Ok-NoKey-clause-err
 returns-in_ok-answer_keys-in-Ok-NoKey-clause-err g c =
-    let f = (g.F.Forms.pair c.args.forms).0 in
+    let f = (g.F.Forms.pair c.args.style.forms).0 in
     let R = IsReadAs (g.T.Key.Text.is_word f) (g.T.Key.Text.stands_for f) in
     let line : IsNoKeyLine R (g.I.Read.remaining c.args.input.now) (g.I.Read.remaining c.key_of_line.new.input) c.key_of_line.new.line.items = search rules in
     record {

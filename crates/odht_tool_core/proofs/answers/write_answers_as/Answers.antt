@@ -13,7 +13,7 @@ loop-at-preserved g c =
     let values = c.args.values.now in
     let next : at + 1 ≡ suc at = omega arith in
     let inside : at < length values = omega (arith, c.loop-at-test.true, c.requires) in
-    let line = answers_take f h keys values at c.index-keys-at.result c.index-values-at.result c.loop-at-test.true inside c.index-keys-at.is c.index-values-at.is in
+    let line = answers_take (answer_line f h) keys values at c.index-keys-at.result c.index-values-at.result c.loop-at-test.true inside c.index-keys-at.is c.index-values-at.is in
     let written = appends_more (g.O.Write.contents c.args.output.now) (g.O.Write.contents c.loop-at.output) (g.O.Write.contents c.write_answer.new.output)
     (answers_text f h (take at keys) (take at values)) (answer_line f h (c.index-keys-at.result, c.index-values-at.result)) c.loop-at.invariant c.in_ok-write_answer.ensures in
     let all = subst (Appends (g.O.Write.contents c.args.output.now) (g.O.Write.contents c.write_answer.new.output)) (sym line) written in

@@ -53,8 +53,7 @@ pub struct DiffOptions {
 
 /// The options of `delete`.
 pub struct DeleteOptions {
-    /// The keys.
-    pub words: Vec<String>,
+    pub keys: Keys,
     pub hash: Option<Hash>,
     pub kinds: Kinds,
     /// The bound of searches, in groups, by which the file is checked; none with `--whole`.
@@ -63,7 +62,7 @@ pub struct DeleteOptions {
     pub has_progress: bool,
 }
 
-/// Where the keys of a lookup are.
+/// Where the keys are that are looked up, or deleted.
 pub enum Keys {
     /// These words.
     Words(Vec<String>),
@@ -125,7 +124,7 @@ pub enum Reading {
     Info { bound: Option<usize>, is_json: bool },
     Check { hash: Option<Hash>, bound: Option<usize>, is_json: bool },
     Count { hash: Option<Hash>, bound: Option<usize> },
-    Get { hash: Option<Hash>, kinds: Kinds, keys: Keys },
+    Get { hash: Option<Hash>, kinds: Kinds, keys: Keys, is_json: bool },
     Dump { hash: Option<Hash>, kinds: Kinds, is_slots: bool, is_json: bool },
     Keys { hash: Option<Hash>, kinds: Kinds },
     Find { bound: Option<usize>, is_json: bool },

@@ -63,7 +63,7 @@ fn summary_of(topic: Topic) -> &'static str {
         Topic::Put => "odht put FILE        adds the lines of standard input to a table file\n",
         Topic::Delete => {
             "odht delete FILE KEY..
-                     takes keys out of a table file\n"
+                     takes keys out; with - instead of keys, those of standard input\n"
         }
         Topic::Rebuild =>
             "odht rebuild FILE    makes a table file anew, of another load factor or hash function\n",
@@ -154,8 +154,8 @@ odht count FILE.. [--whole] [--hash fx|unhash] [--at OFFSET]
 ";
 
 const GET: &str = "\
-odht get FILE KEY.. [--key SHAPE] [--value SHAPE] [--hash fx|unhash]
-                    [--at OFFSET]
+odht get FILE KEY.. [--json] [--key SHAPE] [--value SHAPE]
+                    [--hash fx|unhash] [--at OFFSET]
     Writes a line for each key, in their order: KEY, a tab and VALUE; or KEY alone
     where it is absent, and then ends with status 1. With the one word - the keys
     are the lines of standard input, but for an empty last one that is no key. The
@@ -163,6 +163,8 @@ odht get FILE KEY.. [--key SHAPE] [--value SHAPE] [--hash fx|unhash]
     Keys and values have the texts of the ready shape, unless --key and --value name
     others, as in `odht build`; where no ready shape has these sizes they are
     hexadecimal digits.
+    --json         an object of JSON for each key: key and value, strings as those
+                   of `odht dump`; value is null where the key is absent
 ";
 
 const DUMP: &str = "\
@@ -267,14 +269,15 @@ odht delete FILE KEY.. [--key SHAPE] [--whole] [--hash fx|unhash]
     FILE, inserts the pairs of all other keys in slot order, and stores it in the
     place of the older one, which stays where something fails; `odht rebuild` makes
     it smaller. A line on standard error tells of each key that is absent, and the
-    status is then 1; the others are taken out all the same. Where a word is no key
-    nothing is written. The file is checked before, as by `odht check`; --whole is
-    as there. The hash function is the one that all control bytes fit, unless --hash
-    names it; --key names another text than that of the ready shape, as in `odht
-    build`; where no ready shape has these sizes keys are hexadecimal digits. Owner,
-    group, permissions and symbolic links of the file are kept; one with hard links
-    is not replaced without --break-links, with which its other names keep the old
-    file.
+    status is then 1; the others are taken out all the same. With the one word - the
+    keys are the lines of standard input, but for an empty last one that is no key.
+    Where a word or a line is no key nothing is written. The file is checked before,
+    as by `odht check`; --whole is as there. The hash function is the one that all
+    control bytes fit, unless --hash names it; --key names another text than that of
+    the ready shape, as in `odht build`; where no ready shape has these sizes keys
+    are hexadecimal digits. Owner, group, permissions and symbolic links of the file
+    are kept; one with hard links is not replaced without --break-links, with which
+    its other names keep the old file.
 ";
 
 const REBUILD: &str = "\

@@ -3,6 +3,7 @@
 
 use crate::host::prelude::*;
 
+pub mod answers;
 pub mod pairs;
 pub mod sized_slots;
 pub mod slots;

@@ -36,9 +36,27 @@ fn wrong_key<K: Text>(alloc: Global, word: &str, form: Form) -> Failure {
     }
 }
 
+/// A word of the command line, or a line, that is read as a key.
+pub trait Word {
+    /// Its bytes.
+    fn bytes(&self) -> &[u8];
+}
+
+impl Word for String {
+    fn bytes(&self) -> &[u8] {
+        self.as_str().as_bytes()
+    }
+}
+
+impl Word for Vec<u8> {
+    fn bytes(&self) -> &[u8] {
+        self.as_slice()
+    }
+}
+
 /// Writes a line of this key, which is to be deleted, and is absent.
-pub fn write_absent<E: Write>(file: &str, word: &str, errors: &mut E) -> io::Result<()> {
-    let word = Shown(word.as_bytes());
+pub fn write_absent<E: Write>(file: &str, word: &[u8], errors: &mut E) -> io::Result<()> {
+    let word = Shown(word);
     writeln!(errors, "odht: {file}: the key {word} is absent")
 }
 

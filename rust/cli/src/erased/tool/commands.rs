@@ -22,6 +22,7 @@ mod check;
 mod check_json;
 mod count;
 mod delete;
+mod delete_lines;
 mod diff;
 mod dump;
 mod dump_json;
@@ -83,7 +84,7 @@ where
             read_files(rt, file, others, at, &reading, input, output, errors)
         }
         Command::Build(options) => build::build(rt, file, options, input, output, errors),
-        Command::Delete(options) => delete::delete(rt, file, &options, errors),
+        Command::Delete(options) => delete::delete(rt, file, &options, input, errors),
         Command::Rebuild(options) => rebuild::rebuild(rt, file, options, errors),
         Command::Diff(options) => diff::diff(rt, file, options, input, output, errors),
         Command::Put { hash, kinds, bound, breaks_links, has_progress } => {
@@ -209,11 +210,12 @@ fn run_reading<I: BufRead, O: Write, E: Write>(
             let name = if is_one { None } else { Some(file) };
             count_one(alloc, name, bytes, *hash, *bound, output)
         }
-        Reading::Get { hash, kinds, keys: Keys::Words(words) } => {
-            get::get_file_words(alloc, bytes, *hash, *kinds, words.as_slice(), output)
+        Reading::Get { hash, kinds, keys: Keys::Words(words), is_json } => {
+            let words = words.as_slice();
+            get::get_file_words(alloc, bytes, *hash, *kinds, *is_json, words, output)
         }
-        Reading::Get { hash, kinds, keys: Keys::Lines } => {
-            get::get_file_lines(alloc, bytes, *hash, *kinds, input, output)
+        Reading::Get { hash, kinds, keys: Keys::Lines, is_json } => {
+            get::get_file_lines(alloc, bytes, *hash, *kinds, *is_json, input, output)
         }
         Reading::Find { bound, is_json } => {
             find_in(alloc, file, bytes, *bound, *is_json, output, errors)

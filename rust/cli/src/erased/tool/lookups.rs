@@ -2,9 +2,10 @@
 //! Keys that are looked up in a table, and what is written of them: the words of a command line, or lines, a batch at a
 //! time.
 
-use crate::erased::core::answers::{are_found, write_answers_as};
+use crate::erased::core::answers::are_found;
 use crate::erased::core::failure::{Failure, LineFault};
 use crate::erased::core::forms::Forms;
+use crate::erased::core::json::answers::{write_answers_in, AnswerStyle};
 use crate::erased::core::keys::{next_key_as, parse_keys, push_key, NextKey};
 use crate::erased::core::misread::Misread;
 use crate::erased::core::status::Status;
@@ -38,12 +39,12 @@ pub trait Lookups {
 pub fn answer_words<T: Lookups, F: Forms, O: Write>(
     alloc: Global,
     table: &T,
-    forms: F,
+    style: AnswerStyle<F>,
     words: &[String],
     output: &mut O,
 ) -> Result<Status, Failure> {
-    let keys = keys_of_words::<T::Key, F>(alloc, words, forms)?;
-    let is_all_found = answer_keys(alloc, table, keys.as_slice(), forms, output)?;
+    let keys = keys_of_words::<T::Key, F>(alloc, words, style.forms)?;
+    let is_all_found = answer_keys(alloc, table, keys.as_slice(), style, output)?;
     Ok(Status::of(is_all_found))
 }
 
@@ -60,7 +61,7 @@ fn keys_of_words<K: Text, F: Forms>(
 pub fn answer_lines<T: Lookups, F: Forms, I: BufRead, O: Write>(
     alloc: Global,
     table: &T,
-    forms: F,
+    style: AnswerStyle<F>,
     input: &mut I,
     output: &mut O,
 ) -> Result<Status, Failure> {
@@ -69,15 +70,15 @@ pub fn answer_lines<T: Lookups, F: Forms, I: BufRead, O: Write>(
     let mut is_all_found = true;
     for number in 1..u64::MAX {
         let read =
-            read_key(alloc, table, number, input, &mut line, keys.as_slice(), forms, output)?;
+            read_key(alloc, table, number, input, &mut line, keys.as_slice(), style, output)?;
         match read {
             Some(key) => {
-                is_all_found = take_key(alloc, table, &mut keys, key, is_all_found, forms, output)?;
+                is_all_found = take_key(alloc, table, &mut keys, key, is_all_found, style, output)?;
             }
             None => break,
         }
     }
-    let is_last_found = answer_keys(alloc, table, keys.as_slice(), forms, output)?;
+    let is_last_found = answer_keys(alloc, table, keys.as_slice(), style, output)?;
     Ok(Status::of(is_last_found && is_all_found))
 }
 
@@ -90,15 +91,15 @@ fn read_key<T: Lookups, F: Forms, I: BufRead, O: Write>(
     input: &mut I,
     line: &mut Vec<u8>,
     keys: &[T::Key],
-    forms: F,
+    style: AnswerStyle<F>,
     output: &mut O,
 ) -> Result<Option<T::Key>, Failure> {
-    match key_of_line(input, line, forms) {
+    match key_of_line(input, line, style.forms) {
         Ok(NextKey::Key(key)) => Ok(Some(key)),
         Ok(NextKey::End) => Ok(None),
         Ok(NextKey::NoKey) => {
-            let message = wrong_line::<T::Key, F>(alloc, number, line.as_slice(), forms)?;
-            answer_keys(alloc, table, keys, forms, output)?;
+            let message = wrong_line::<T::Key, F>(alloc, number, line.as_slice(), style.forms)?;
+            answer_keys(alloc, table, keys, style, output)?;
             Err(Failure::Misread(message))
         }
         Err(error) => Err(Failure::Input(error)),
@@ -138,11 +139,11 @@ fn take_key<T: Lookups, F: Forms, O: Write>(
     keys: &mut Vec<T::Key>,
     key: T::Key,
     is_all_found: bool,
-    forms: F,
+    style: AnswerStyle<F>,
     output: &mut O,
 ) -> Result<bool, Failure> {
     push_key(keys, key)?;
-    answer_batch(alloc, table, keys, is_all_found, forms, output)
+    answer_batch(alloc, table, keys, is_all_found, style, output)
 }
 
 // Answers the keys where they are a batch, and drops them. Returns whether each was found, and
@@ -152,13 +153,13 @@ fn answer_batch<T: Lookups, F: Forms, O: Write>(
     table: &T,
     keys: &mut Vec<T::Key>,
     is_all_found: bool,
-    forms: F,
+    style: AnswerStyle<F>,
     output: &mut O,
 ) -> Result<bool, Failure> {
     if keys.len() < BATCH {
         return Ok(is_all_found);
     }
-    let is_found = answer_keys(alloc, table, keys.as_slice(), forms, output)?;
+    let is_found = answer_keys(alloc, table, keys.as_slice(), style, output)?;
     keys.clear();
     Ok(is_found && is_all_found)
 }
@@ -168,11 +169,11 @@ fn answer_keys<T: Lookups, F: Forms, O: Write>(
     alloc: Global,
     table: &T,
     keys: &[T::Key],
-    forms: F,
+    style: AnswerStyle<F>,
     output: &mut O,
 ) -> Result<bool, Failure> {
     let values = table.look_up(alloc, keys)?;
     let values = values.as_slice();
-    write_answers_as(keys, values, forms, output).map_err(Failure::Output)?;
+    write_answers_in(keys, values, style, output).map_err(Failure::Output)?;
     Ok(are_found(values))
 }

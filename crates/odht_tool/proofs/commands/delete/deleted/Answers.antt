@@ -13,7 +13,7 @@ use Rattle.odht_tool.proofs.commands.delete.deleted.Goals as goal
 pub deleted_for-requires-clause-each : goal.deleted_for-requires-clause-each
 deleted_for-requires-clause-each g c =
     let s = c.in_ok-found.found.0 in
-    let ws = c.as_slice-words.result.now in
+    let ws = c.args.words.now in
     let many = as_many c.in_ok-found.found.1.key (map string_bytes ws) s c.in_ok-keys-in-Ok.keys.items c.in_ok-keys-in-Ok.ensures in
     sym (length-map ws string_bytes) ∙ many ∙ ap length (sym c.as_slice.ensures.value)
 
@@ -25,15 +25,13 @@ returns-in-Ok-clause-ok g c =
     let forms = c.in_ok-found.found.1 in
     let keys = c.as_slice.result.now in
     let bytes = c.as_slice-bytes.ensures.value in
-    let words = c.as_slice-words.ensures.value in
     let found : read_any B o.hash o.kinds ≡ Ok (s, forms) = ap (λ b. read_any b o.hash o.kinds) (sym bytes) ∙ sym c.read_any.ensures.forms ∙ c.in_ok-found.was in
     let checked : check_refusal_by (any_format s) o.bound B ≡ None =
     ap (check_refusal_by (any_format s) o.bound) (sym bytes) ∙ Ok-checked _ (sym c.in-Ok.is ∙ c.check_any.ensures.first) in
     let valid : IsValidBytes (any_format s) c.as_slice-bytes.result.now = subst (λ r. OnOk r (IsValidBytes (any_format s) c.as_slice-bytes.result.now)) c.in-Ok.is c.check_any.ensures.valid in
     let image : IsImage (any_format s) valid.0 B = subst (IsImage (any_format s) valid.0) bytes valid.1 in
-    let texts : are_keys forms.key (map string_bytes o.words.items) s keys =
-    subst (are_keys forms.key (map string_bytes o.words.items) s) (sym c.as_slice.ensures.value)
-    (subst (λ ws. are_keys forms.key (map string_bytes ws) s c.in_ok-keys-in-Ok.keys.items) words c.in_ok-keys-in-Ok.ensures) in
+    let ws = map string_bytes c.args.words.now in
+    let texts : are_keys forms.key ws s keys = subst (are_keys forms.key ws s) (sym c.as_slice.ensures.value) c.in_ok-keys-in-Ok.ensures in
     on_value c.deleted_for.result _ _
     (λ x left. record {
       shape = s;

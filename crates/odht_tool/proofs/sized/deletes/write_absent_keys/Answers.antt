@@ -1,6 +1,5 @@
 use Rattle.std.proofs.Common.{rules, ◌≡◌, ◌∙◌, ◌++◌, ◌+◌, ◌<◌, suc, [], List, ℕ, Some, true, false, cond, sym, ap, subst, arith, length, map, take}
 use Rattle.std.specs.Io.KnownBytes.{Appends}
-use Rattle.std.specs.Prelude.{string_bytes}
 use Rattle.odht_base.specs.Map.{map_of}
 use Rattle.odht_tool.specs.Deletes.{absent_lines, has_value}
 use Rattle.odht_tool_core.specs.Misreads.{absent_line}
@@ -23,25 +22,25 @@ loop-at-preserved g c P is =
     let inside : at < length keys = omega (arith, c.loop-at-test.true, c.requires) in
     let key : c.as_slice.result.now ≡ k = c.as_slice.ensures in
     let known : has_value P k ≡ c.contains_key.result = ap (has_value P) (sym key) ∙ is_there (map_of P c.as_slice.result.now) c.contains_key.result (c.contains_key.ensures.on_valid P is) in
-    let lines = absent_lines file P (map string_bytes (take at words)) (take at keys) in
-    let all : absent_lines file P (map string_bytes (take (suc at) words)) (take (suc at) keys) ≡ absent_lines file P (map string_bytes (take (at + 1) words)) (take (at + 1) keys) =
-    ap (λ n. absent_lines file P (map string_bytes (take n words)) (take n keys)) (sym next) in
+    let lines = absent_lines file P (map g.W.Word.bytes (take at words)) (take at keys) in
+    let all : absent_lines file P (map g.W.Word.bytes (take (suc at) words)) (take (suc at) keys) ≡ absent_lines file P (map g.W.Word.bytes (take (at + 1) words)) (take (at + 1) keys) =
+    ap (λ n. absent_lines file P (map g.W.Word.bytes (take n words)) (take n keys)) (sym next) in
     elim c.if-not-contains_key.branch [
       | then-not-contains_key+in_ok-write_absent w ↦ (
           let word = w.index-words-at.result in
-          let line = absent_line file (string_bytes word) in
+          let line = absent_line file (g.W.Word.bytes word) in
           let no : c.contains_key.result ≡ false = search rules in
           let one : Appends mid (g.E.Write.contents w.write_absent.new.errors) line =
-          subst (λ t. Appends mid (g.E.Write.contents w.write_absent.new.errors) (absent_line file t)) w.as_str.ensures.value w.in_ok-write_absent.ensures in
+          subst (λ t. Appends mid (g.E.Write.contents w.write_absent.new.errors) (absent_line file t)) w.bytes.ensures w.in_ok-write_absent.ensures in
           let more = appends_more old mid (g.E.Write.contents w.write_absent.new.errors) lines line (c.loop-at.invariant P is) one in
-          let taken : lines ++ line ≡ absent_lines file P (map string_bytes (take (at + 1) words)) (take (at + 1) keys) =
-          ap (λ b. lines ++ cond b [] line) (sym (known ∙ no)) ∙ sym (lines_take string_bytes file P words keys at word k c.loop-at-test.true inside w.index-words-at.is c.index-keys-at.is) ∙ all in
-          subst (λ e. Appends old (g.E.Write.contents e) (absent_lines file P (map string_bytes (take (at + 1) words)) (take (at + 1) keys))) (sym w.errors-is)
+          let taken : lines ++ line ≡ absent_lines file P (map g.W.Word.bytes (take (at + 1) words)) (take (at + 1) keys) =
+          ap (λ b. lines ++ cond b [] line) (sym (known ∙ no)) ∙ sym (lines_take g.W.Word.bytes file P words keys at word k c.loop-at-test.true inside w.index-words-at.is c.index-keys-at.is) ∙ all in
+          subst (λ e. Appends old (g.E.Write.contents e) (absent_lines file P (map g.W.Word.bytes (take (at + 1) words)) (take (at + 1) keys))) (sym w.errors-is)
           (subst (Appends old (g.E.Write.contents w.write_absent.new.errors)) taken more))
       | else-not-contains_key w ↦ (
           let yes : c.contains_key.result ≡ true = search rules in
-          let taken : lines ≡ absent_lines file P (map string_bytes (take (at + 1) words)) (take (at + 1) keys) =
-          sym (lines_same string_bytes file P words keys at k c.loop-at-test.true inside c.index-keys-at.is (known ∙ yes)) ∙ all in
-          subst (λ e. Appends old (g.E.Write.contents e) (absent_lines file P (map string_bytes (take (at + 1) words)) (take (at + 1) keys))) (sym w.errors-is)
+          let taken : lines ≡ absent_lines file P (map g.W.Word.bytes (take (at + 1) words)) (take (at + 1) keys) =
+          sym (lines_same g.W.Word.bytes file P words keys at k c.loop-at-test.true inside c.index-keys-at.is (known ∙ yes)) ∙ all in
+          subst (λ e. Appends old (g.E.Write.contents e) (absent_lines file P (map g.W.Word.bytes (take (at + 1) words)) (take (at + 1) keys))) (sym w.errors-is)
           (subst (Appends old mid) taken (c.loop-at.invariant P is)))
     ]

@@ -193,7 +193,7 @@ impl Draft {
             return Err(CommandMisuse::Missing("KEY"));
         }
         Ok(Command::Delete(DeleteOptions {
-            words: self.words,
+            keys: Keys::of_words(self.words),
             hash: self.hash,
             kinds: self.kinds,
             bound: bound_of(self.is_whole),
@@ -257,7 +257,12 @@ impl Draft {
         Ok(Command::Read {
             others: crate::host::lists::empty(self.alloc),
             at: self.at,
-            reading: Reading::Get { hash: self.hash, kinds: self.kinds, keys },
+            reading: Reading::Get {
+                hash: self.hash,
+                kinds: self.kinds,
+                keys,
+                is_json: self.is_json,
+            },
         })
     }
 

@@ -86,9 +86,14 @@ impl Topic {
                 &[Setting::Help, Setting::Whole, Setting::Json, Setting::Hash, Setting::At]
             }
             Topic::Count => &[Setting::Help, Setting::Whole, Setting::Hash, Setting::At],
-            Topic::Get => {
-                &[Setting::Help, Setting::Key, Setting::Value, Setting::Hash, Setting::At]
-            }
+            Topic::Get => &[
+                Setting::Help,
+                Setting::Json,
+                Setting::Key,
+                Setting::Value,
+                Setting::Hash,
+                Setting::At,
+            ],
             Topic::Dump => &[
                 Setting::Help,
                 Setting::Slots,

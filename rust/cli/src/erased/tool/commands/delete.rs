@@ -2,17 +2,18 @@
 //! `odht delete`: a table file without some of its keys.
 
 use crate::erased::core::any::{read_any, AnyShape, OtherShape};
-use crate::erased::core::arguments::DeleteOptions;
+use crate::erased::core::arguments::{DeleteOptions, Keys};
 use crate::erased::core::failure::Failure;
 use crate::erased::core::files::{read_file, replace_file};
 use crate::erased::core::forms::Form;
-use crate::erased::core::keys::{parse_keys, push_key};
+use crate::erased::core::keys::{parse_keys, push_key, Word};
 use crate::erased::core::progress::Progress;
 use crate::erased::core::shapes::{Hash, Shape};
 use crate::erased::core::status::Status;
 use crate::erased::core::targets::Target;
 use crate::erased::core::text::Text;
 use crate::erased::tool::commands::check::check_any;
+use crate::erased::tool::commands::delete_lines::deleted_by_lines;
 use crate::erased::tool::shapes::for_shape;
 use crate::erased::tool::sized::deletes::delete_lengths;
 use crate::host::prelude::*;
@@ -22,15 +23,16 @@ use crate::proved::tables::config::Config;
 use crate::proved::tables::dynamic::{Layout, ShortBytes};
 use crate::proved::tables::{FxHashFn, UnHashFn};
 use crate::shim::Global;
-use std::io::Write;
+use std::io::{BufRead, Write};
 use std::os::fd::AsFd;
 
-/// Makes a new table of the pairs of the table in the file whose keys are not named, and stores it in the place of the
+/// Makes a new table of the pairs of the table in the file whose keys are not named, by words or by the lines of `input`, and stores it in the place of the
 /// older one, which stays where something fails. Not all is done where a key is absent.
-pub fn delete<R: Files + AllocGlobal + Clock, E: Write>(
+pub fn delete<R: Files + AllocGlobal + Clock, I: BufRead, E: Write>(
     rt: &R,
     file: &str,
     options: &DeleteOptions,
+    input: &mut I,
     errors: &mut E,
 ) -> Result<Status, Failure>
 where
@@ -38,7 +40,10 @@ where
 {
     let target = Target::find(rt, file, options.breaks_links)?;
     let bytes = read_file(rt, target.path())?;
-    let (bytes, status) = deleted(rt, file, bytes, options, errors)?;
+    let (bytes, status) = match &options.keys {
+        Keys::Words(words) => deleted(rt, file, bytes, words.as_slice(), options, errors)?,
+        Keys::Lines => deleted_by_lines(rt, file, bytes, options, input, errors)?,
+    };
     replace_file(rt, &target, bytes.as_slice())?;
     Ok(status)
 }
@@ -49,11 +54,11 @@ fn deleted<R: AllocGlobal + Clock, E: Write>(
     rt: &R,
     file: &str,
     bytes: Vec<u8>,
+    words: &[String],
     options: &DeleteOptions,
     errors: &mut E,
 ) -> Result<(Vec<u8>, Status), Failure> {
     let bytes = bytes.as_slice();
-    let words = options.words.as_slice();
     let found = read_any(bytes, options.hash, options.kinds)?;
     let (shape, forms) = found;
     match check_any(shape, bytes, options.bound) {
@@ -66,25 +71,25 @@ fn deleted<R: AllocGlobal + Clock, E: Write>(
     }
 }
 
-// The same of valid bytes of a shape, and of the keys of the words.
-fn deleted_for<R: AllocGlobal + Clock, E: Write>(
+// The same of valid bytes of a shape, and of the keys of these words or lines.
+pub fn deleted_for<W: Word, R: AllocGlobal + Clock, E: Write>(
     rt: &R,
     file: &str,
     shape: AnyShape,
     bytes: &[u8],
-    words: &[String],
+    words: &[W],
     keys: &[ShortBytes],
     progress: Progress,
     errors: &mut E,
 ) -> Result<(Vec<u8>, Status), Failure> {
     let layout = Layout { key_len: shape.key().size(), value_len: shape.value().size() };
     match shape.hash() {
-        Hash::Fx => {
-            delete_lengths::<FxHashFn, R, E>(rt, file, layout, bytes, words, keys, progress, errors)
-        }
-        Hash::Unhash => {
-            delete_lengths::<UnHashFn, R, E>(rt, file, layout, bytes, words, keys, progress, errors)
-        }
+        Hash::Fx => delete_lengths::<FxHashFn, W, R, E>(
+            rt, file, layout, bytes, words, keys, progress, errors,
+        ),
+        Hash::Unhash => delete_lengths::<UnHashFn, W, R, E>(
+            rt, file, layout, bytes, words, keys, progress, errors,
+        ),
     }
 }
 
@@ -131,8 +136,8 @@ where
     encoded_keys::<C>(alloc, keys.as_slice())
 }
 
-// The bytes of the keys.
-fn encoded_keys<C: Config>(alloc: Global, keys: &[C::Key]) -> Result<Vec<ShortBytes>, Failure> {
+/// The bytes of the keys.
+pub fn encoded_keys<C: Config>(alloc: Global, keys: &[C::Key]) -> Result<Vec<ShortBytes>, Failure> {
     let mut all = crate::host::lists::empty(alloc);
     for key in keys {
         let key = C::encode_key(key);

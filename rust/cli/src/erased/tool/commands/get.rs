@@ -4,6 +4,7 @@
 use crate::erased::core::any::{read_any, AnyShape};
 use crate::erased::core::failure::Failure;
 use crate::erased::core::forms::{Forms, GivenForms, Kinds, OwnForms};
+use crate::erased::core::json::answers::AnswerStyle;
 use crate::erased::core::shapes::{Hash, Shape};
 use crate::erased::core::status::Status;
 use crate::erased::core::text::Text;
@@ -18,20 +19,23 @@ use crate::shim::Global;
 use std::io::{BufRead, Write};
 
 /// `odht get` of the bytes of a file, for the words of the command line: writes a line for each
-/// key, with a tab and its value, or the key alone.
+/// key, with a tab and its value, or the key alone; or an object of JSON of both.
 pub fn get_file_words<O: Write>(
     alloc: Global,
     bytes: &[u8],
     hash: Option<Hash>,
     kinds: Kinds,
+    is_json: bool,
     words: &[String],
     output: &mut O,
 ) -> Result<Status, Failure> {
     let found = read_any(bytes, hash, kinds)?;
     let (shape, forms) = found;
     match shape {
-        AnyShape::Ready(shape) => get_words_ready(alloc, shape, forms, bytes, words, output),
-        AnyShape::Other(shape) => get_words_other(alloc, shape, bytes, words, output),
+        AnyShape::Ready(shape) => {
+            get_words_ready(alloc, shape, forms, is_json, bytes, words, output)
+        }
+        AnyShape::Other(shape) => get_words_other(alloc, shape, is_json, bytes, words, output),
     }
 }
 
@@ -40,26 +44,29 @@ fn get_words_ready<O: Write>(
     alloc: Global,
     shape: Shape,
     forms: GivenForms,
+    is_json: bool,
     bytes: &[u8],
     words: &[String],
     output: &mut O,
 ) -> Result<Status, Failure> {
     if forms.are_own() {
-        get_words_of(alloc, shape, OwnForms, bytes, words, output)
+        let own = AnswerStyle { forms: OwnForms, is_json };
+        get_words_of(alloc, shape, own, bytes, words, output)
     } else {
-        get_words_of(alloc, shape, forms, bytes, words, output)
+        let style = AnswerStyle { forms, is_json };
+        get_words_of(alloc, shape, style, bytes, words, output)
     }
 }
 
 fn get_words_of<F: Forms, O: Write>(
     alloc: Global,
     shape: Shape,
-    forms: F,
+    style: AnswerStyle<F>,
     bytes: &[u8],
     words: &[String],
     output: &mut O,
 ) -> Result<Status, Failure> {
-    for_shape!(shape, get_words[F, O](alloc, bytes, forms, words, output))
+    for_shape!(shape, get_words[F, O](alloc, bytes, style, words, output))
 }
 
 /// `odht get` of the bytes of a file, for the lines of an input.
@@ -68,14 +75,17 @@ pub fn get_file_lines<I: BufRead, O: Write>(
     bytes: &[u8],
     hash: Option<Hash>,
     kinds: Kinds,
+    is_json: bool,
     input: &mut I,
     output: &mut O,
 ) -> Result<Status, Failure> {
     let found = read_any(bytes, hash, kinds)?;
     let (shape, forms) = found;
     match shape {
-        AnyShape::Ready(shape) => get_lines_ready(alloc, shape, forms, bytes, input, output),
-        AnyShape::Other(shape) => get_lines_other(alloc, shape, bytes, input, output),
+        AnyShape::Ready(shape) => {
+            get_lines_ready(alloc, shape, forms, is_json, bytes, input, output)
+        }
+        AnyShape::Other(shape) => get_lines_other(alloc, shape, is_json, bytes, input, output),
     }
 }
 
@@ -84,33 +94,36 @@ fn get_lines_ready<I: BufRead, O: Write>(
     alloc: Global,
     shape: Shape,
     forms: GivenForms,
+    is_json: bool,
     bytes: &[u8],
     input: &mut I,
     output: &mut O,
 ) -> Result<Status, Failure> {
     if forms.are_own() {
-        get_lines_of(alloc, shape, OwnForms, bytes, input, output)
+        let own = AnswerStyle { forms: OwnForms, is_json };
+        get_lines_of(alloc, shape, own, bytes, input, output)
     } else {
-        get_lines_of(alloc, shape, forms, bytes, input, output)
+        let style = AnswerStyle { forms, is_json };
+        get_lines_of(alloc, shape, style, bytes, input, output)
     }
 }
 
 fn get_lines_of<F: Forms, I: BufRead, O: Write>(
     alloc: Global,
     shape: Shape,
-    forms: F,
+    style: AnswerStyle<F>,
     bytes: &[u8],
     input: &mut I,
     output: &mut O,
 ) -> Result<Status, Failure> {
-    for_shape!(shape, get_lines[F, I, O](alloc, bytes, forms, input, output))
+    for_shape!(shape, get_lines[F, I, O](alloc, bytes, style, input, output))
 }
 
 // Looks up the keys of the words.
 fn get_words<C: Config, F: Forms, O: Write>(
     alloc: Global,
     bytes: &[u8],
-    forms: F,
+    style: AnswerStyle<F>,
     words: &[String],
     output: &mut O,
 ) -> Result<Status, Failure>
@@ -119,14 +132,14 @@ where
     C::Value: Text,
 {
     let table = open::<C>(bytes)?;
-    answer_words(alloc, &table, forms, words, output)
+    answer_words(alloc, &table, style, words, output)
 }
 
 // Looks up the keys of the lines, a batch at a time.
 fn get_lines<C: Config, F: Forms, I: BufRead, O: Write>(
     alloc: Global,
     bytes: &[u8],
-    forms: F,
+    style: AnswerStyle<F>,
     input: &mut I,
     output: &mut O,
 ) -> Result<Status, Failure>
@@ -135,7 +148,7 @@ where
     C::Value: Text,
 {
     let table = open::<C>(bytes)?;
-    answer_lines(alloc, &table, forms, input, output)
+    answer_lines(alloc, &table, style, input, output)
 }
 
 fn open<C: Config>(bytes: &[u8]) -> Result<HashTable<C, Borrowed<'_>>, Failure> {

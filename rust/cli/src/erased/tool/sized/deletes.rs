@@ -2,7 +2,7 @@
 //! `odht delete` of tables of any lengths of keys and values.
 
 use crate::erased::core::failure::Failure;
-use crate::erased::core::keys::write_absent;
+use crate::erased::core::keys::{write_absent, Word};
 use crate::erased::core::progress::Progress;
 use crate::erased::core::status::Status;
 use crate::erased::tool::commands::rebuild::counted_pair;
@@ -18,14 +18,14 @@ use crate::proved::tables::raw_table::SizedIter;
 use crate::shim::Global;
 use std::io::{self, Write};
 
-/// The bytes of the table without the keys of the words, and whether each had a value; a line on `errors` tells of each
+/// The bytes of the table without the keys of the words or lines, and whether each had a value; a line on `errors` tells of each
 /// that had none.
-pub fn delete_lengths<H: HashFn, R: AllocGlobal + Clock, E: Write>(
+pub fn delete_lengths<H: HashFn, W: Word, R: AllocGlobal + Clock, E: Write>(
     rt: &R,
     file: &str,
     layout: Layout,
     bytes: &[u8],
-    words: &[String],
+    words: &[W],
     keys: &[ShortBytes],
     progress: Progress,
     errors: &mut E,
@@ -132,17 +132,17 @@ fn are_there<H: HashFn>(table: &DynTable<H, Borrowed<'_>>, keys: &[ShortBytes]) 
     true
 }
 
-// Writes a line for each word whose key has no value.
-fn write_absent_keys<H: HashFn, E: Write>(
+// Writes a line for each word or line whose key has no value.
+fn write_absent_keys<H: HashFn, W: Word, E: Write>(
     file: &str,
     table: &DynTable<H, Borrowed<'_>>,
-    words: &[String],
+    words: &[W],
     keys: &[ShortBytes],
     errors: &mut E,
 ) -> io::Result<()> {
     for at in 0..words.len() {
         if !table.contains_key(keys[at].as_slice()) {
-            write_absent(file, words[at].as_str(), errors)?;
+            write_absent(file, words[at].bytes(), errors)?;
         }
     }
     Ok(())

@@ -4,6 +4,7 @@
 use crate::erased::core::any::OtherShape;
 use crate::erased::core::failure::Failure;
 use crate::erased::core::forms::HexForms;
+use crate::erased::core::json::answers::AnswerStyle;
 use crate::erased::core::shapes::Hash;
 use crate::erased::core::status::Status;
 use crate::erased::tool::lookups::{answer_lines, answer_words};
@@ -19,14 +20,17 @@ use std::io::{BufRead, Write};
 pub fn get_words_other<O: Write>(
     alloc: Global,
     shape: OtherShape,
+    is_json: bool,
     bytes: &[u8],
     words: &[String],
     output: &mut O,
 ) -> Result<Status, Failure> {
     let layout = layout_of(shape);
     match shape.hash {
-        Hash::Fx => get_words_sized::<FxHashFn, O>(alloc, layout, bytes, words, output),
-        Hash::Unhash => get_words_sized::<UnHashFn, O>(alloc, layout, bytes, words, output),
+        Hash::Fx => get_words_sized::<FxHashFn, O>(alloc, layout, is_json, bytes, words, output),
+        Hash::Unhash => {
+            get_words_sized::<UnHashFn, O>(alloc, layout, is_json, bytes, words, output)
+        }
     }
 }
 
@@ -34,37 +38,44 @@ pub fn get_words_other<O: Write>(
 pub fn get_lines_other<I: BufRead, O: Write>(
     alloc: Global,
     shape: OtherShape,
+    is_json: bool,
     bytes: &[u8],
     input: &mut I,
     output: &mut O,
 ) -> Result<Status, Failure> {
     let layout = layout_of(shape);
     match shape.hash {
-        Hash::Fx => get_lines_sized::<FxHashFn, I, O>(alloc, layout, bytes, input, output),
-        Hash::Unhash => get_lines_sized::<UnHashFn, I, O>(alloc, layout, bytes, input, output),
+        Hash::Fx => get_lines_sized::<FxHashFn, I, O>(alloc, layout, is_json, bytes, input, output),
+        Hash::Unhash => {
+            get_lines_sized::<UnHashFn, I, O>(alloc, layout, is_json, bytes, input, output)
+        }
     }
 }
 
 fn get_words_sized<H: HashFn, O: Write>(
     alloc: Global,
     layout: Layout,
+    is_json: bool,
     bytes: &[u8],
     words: &[String],
     output: &mut O,
 ) -> Result<Status, Failure> {
     let table = open_lengths::<H>(layout, bytes)?;
-    answer_words(alloc, &table, forms_of(layout), words, output)
+    let forms = forms_of(layout);
+    answer_words(alloc, &table, AnswerStyle { forms, is_json }, words, output)
 }
 
 fn get_lines_sized<H: HashFn, I: BufRead, O: Write>(
     alloc: Global,
     layout: Layout,
+    is_json: bool,
     bytes: &[u8],
     input: &mut I,
     output: &mut O,
 ) -> Result<Status, Failure> {
     let table = open_lengths::<H>(layout, bytes)?;
-    answer_lines(alloc, &table, forms_of(layout), input, output)
+    let forms = forms_of(layout);
+    answer_lines(alloc, &table, AnswerStyle { forms, is_json }, input, output)
 }
 
 /// The forms of keys and values of these lengths.

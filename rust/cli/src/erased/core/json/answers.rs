@@ -1,0 +1,65 @@
+// Made by `make rust` of crates/odht_tool_core/src/json/answers.rt.
+//! Keys that were looked up, and their values, as lines of text or as objects of JSON.
+
+use crate::erased::core::answers::write_answers_as;
+use crate::erased::core::forms::{Form, Forms};
+use crate::erased::core::json::pairs::{write_pair_object, write_text_field};
+use crate::erased::core::text::Text;
+use crate::host::prelude::*;
+use std::io::{self, Write};
+
+/// How keys and their values are written.
+#[derive(Clone, Copy)]
+pub struct AnswerStyle<F: Forms> {
+    /// The forms of their texts.
+    pub forms: F,
+    /// Whether each key and its value are an object of JSON.
+    pub is_json: bool,
+}
+
+/// Writes a line for each key: with its value, or the key alone where it has none; or an object of both, in which such a
+/// value is null.
+pub fn write_answers_in<K: Text, V: Text, F: Forms, O: Write>(
+    keys: &[K],
+    values: &[Option<V>],
+    style: AnswerStyle<F>,
+    output: &mut O,
+) -> io::Result<()> {
+    if style.is_json {
+        write_objects(keys, values, style.forms, output)
+    } else {
+        write_answers_as(keys, values, style.forms, output)
+    }
+}
+
+// Writes the object of each key and its value on a line.
+fn write_objects<K: Text, V: Text, F: Forms, O: Write>(
+    keys: &[K],
+    values: &[Option<V>],
+    forms: F,
+    output: &mut O,
+) -> io::Result<()> {
+    for at in 0..keys.len() {
+        write_object(&keys[at], &values[at], forms, output)?;
+    }
+    Ok(())
+}
+
+fn write_object<K: Text, V: Text, F: Forms, O: Write>(
+    key: &K,
+    value: &Option<V>,
+    forms: F,
+    output: &mut O,
+) -> io::Result<()> {
+    match value {
+        Some(value) => write_pair_object(key, value, forms, output),
+        None => write_absent(key, forms.key(), output),
+    }
+}
+
+// Writes the object of a key that is absent.
+fn write_absent<K: Text, O: Write>(key: &K, form: Form, output: &mut O) -> io::Result<()> {
+    output.write_all(b"{")?;
+    write_text_field("key", key, form, output)?;
+    output.write_all(b",\"value\":null}\n")
+}
