@@ -173,7 +173,7 @@ def main(*words):
             return 1
         runs = [["tests/cases.py", program, "made=erased", "tests/tool"]]
         runs += [["tests/sizes.py", program], ["tests/objects.py", program]]
-        runs.append(["tests/lines.py", program])
+        runs += [["tests/lines.py", program], ["tests/progress.py", program]]
         if os.environ.get("ODHT_TOOL"):
             runs.append(["tests/beside.py", os.environ["ODHT_TOOL"], program])
         failed = 0

@@ -29,6 +29,14 @@ fn read_bytes<R: Files + AllocGlobal>(rt: &R, path: &str) -> io::Result<Vec<u8>>
     Ok(bytes)
 }
 
+/// How many bytes standard input has, where it is a file.
+pub fn input_len<R: Files>(rt: &R) -> Option<u64> {
+    match fs::metadata(rt, "/dev/stdin") {
+        Ok(found) if found.is_file() => Some(found.len()),
+        _ => None,
+    }
+}
+
 /// All bytes of an input.
 // By lines, as other commands read it: another way to read would keep the compiler from inlining theirs.
 pub fn read_input<I: BufRead>(alloc: Global, input: &mut I) -> Result<Vec<u8>, Failure> {

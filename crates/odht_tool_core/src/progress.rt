@@ -3,7 +3,7 @@ ghost use Rattle.std.specs.Prelude.{◌≡◌, None, OnOk, replicate};
 ghost use Rattle.std.specs.Io.KnownBytes.{Appends};
 ghost use Rattle.odht_tool_core.specs.Progress.{copied_line, drawn_bar, filled, progress_bar, taken_line};
 
-use std::fs;
+use crate::files::input_len;
 use std::io::{self, IsTerminal, Write};
 use std::rt::{Clock, Files};
 use std::time::{Duration, Instant};
@@ -49,14 +49,6 @@ impl Watch {
             is_asked: self.is_asked,
             drawn: if is_drawn { input_len(rt) } else { None },
         }
-    }
-}
-
-// How many bytes standard input has, where it is a file.
-fn input_len<R: Files>(rt: &R) -> Option<u64> {
-    match fs::metadata(rt, "/dev/stdin") {
-        Ok(found) if found.is_file() => Some(found.len()),
-        _ => None,
     }
 }
 

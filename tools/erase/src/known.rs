@@ -31,7 +31,7 @@ pub const SAME_OF_PROGRAMS: [&str; 13] = [
 
 /// Paths of std that the host has, for programs: `std` becomes `crate::host`. Where one name of a list is among them,
 /// the host has the others too.
-pub const HOST_PATHS: [&str; 13] = [
+pub const HOST_PATHS: [&str; 14] = [
     "std::env",
     "std::fs::self",
     "std::fs::Metadata",
@@ -40,6 +40,7 @@ pub const HOST_PATHS: [&str; 13] = [
     "std::fs::Permissions",
     "std::io::BufReader",
     "std::io::BufWriter",
+    "std::io::IsTerminal",
     "std::os::unix::fs::OpenOptionsExt",
     "std::rt::Clock",
     "std::rt::Files",
@@ -74,10 +75,11 @@ pub const SAME_METHODS: &str = "all as_mut_slice as_slice checked_add checked_mu
 
 /// The same, which programs alone call. Those of the system, its files and its clock are the host's.
 pub const METHODS_OF_PROGRAMS: &str =
-    "alloc and as_ref as_str consume copied create_new dev duration_since fill_buf flush gid ino into_iter \
-    into_string is_ascii_alphabetic is_ascii_hexdigit is_err is_symlink kind map map_err metadata mode nlink ok \
-    ok_or or pop read_link read_to_end remove rsplit_once set_permissions simd_gt simd_lt skip split_once \
-    starts_with stderr stdin stdout strip_prefix swap_bytes sync_all uid unwrap write_char write_str";
+    "alloc and as_ref as_secs as_str consume copied create_new dev duration_since fill_buf flush gid ino \
+    into_iter into_string is_ascii_alphabetic is_ascii_hexdigit is_err is_file is_symlink is_terminal \
+    kind map map_err metadata mode nlink ok ok_or or pop read_link read_to_end remove rsplit_once \
+    set_permissions simd_gt simd_lt skip split_once starts_with stderr stdin stdout strip_prefix \
+    swap_bytes sync_all uid unwrap write_char write_str";
 
 /// Methods that allocate in Rust: in Rattle each takes an allocator, or returns that memory was refused. They are an
 /// error also where a function of this name is declared.

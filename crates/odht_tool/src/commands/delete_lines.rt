@@ -22,7 +22,7 @@ use odht_tool_core::failure::{Failure, LineFault};
 use odht_tool_core::forms::Form;
 use odht_tool_core::keys::{NextKey, next_key_as, push_key};
 use odht_tool_core::misread::Misread;
-use odht_tool_core::progress::Progress;
+use odht_tool_core::progress::{Progress, Watch};
 use odht_tool_core::shapes::Shape;
 use odht_tool_core::status::Status;
 use odht_tool_core::text::Text;
@@ -60,7 +60,7 @@ pub fn deleted_by_lines<R: AllocGlobal + Clock, I: BufRead, E: Write>(
             let read = keys_of_lines(rt.alloc(), shape, forms.key, input)?;
             let lines = read.lines.as_slice();
             let keys = read.keys.as_slice();
-            let progress = Progress::new(rt, options.has_progress);
+            let progress = Progress::new(rt, Watch::of(options.has_progress));
             deleted_for(rt, file, shape, bytes, lines, keys, progress, errors)
         }
         Err(error) => Err(Failure::Refused(error)),

@@ -25,6 +25,7 @@ mod info_json;
 pub mod inside;
 pub mod json;
 pub mod keys;
+pub mod line_messages;
 pub mod lines;
 pub mod misread;
 mod near;

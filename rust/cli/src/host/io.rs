@@ -273,3 +273,15 @@ mod tests {
         assert_eq!(output.inner.1, [&b"ab"[..], b"cdef"]);
     }
 }
+
+/// Whether a stream goes to a terminal. The trait of Rust's std cannot be had for a stream of ours.
+pub trait IsTerminal {
+    /// Whether it does.
+    fn is_terminal(&self) -> bool;
+}
+
+impl IsTerminal for Stream {
+    fn is_terminal(&self) -> bool {
+        std::io::IsTerminal::is_terminal(&*self.0)
+    }
+}

@@ -3,17 +3,21 @@
 
 use crate::erased::core::any::AnyShape;
 use crate::erased::core::forms::{GivenForms, Kinds};
+use crate::erased::core::progress::Watch;
 use crate::erased::core::shapes::Hash;
 use crate::erased::core::status::Status;
 use crate::host::prelude::*;
 use crate::proved::base::load::Percent;
 use crate::shim::Global;
 
+mod delimiters;
 mod draft;
+mod duplicates;
 mod misuse;
 pub(crate) mod topics;
 
 use draft::Draft;
+pub use duplicates::Duplicates;
 pub use misuse::{CommandMisuse, Misuse};
 pub use topics::{Setting, Topic};
 
@@ -22,11 +26,18 @@ pub use topics::{Setting, Topic};
 pub struct BuildOptions {
     pub shape: AnyShape,
     pub forms: GivenForms,
+    /// Which line of a key counts.
+    pub duplicates: Duplicates,
+    /// The byte between key and value.
+    pub delimiter: u8,
+    /// Whether lines are only checked, and no file is made.
+    pub is_check: bool,
     /// For how many items room is made at first.
     pub capacity: usize,
     pub percent: Percent,
     pub breaks_links: bool,
-    pub has_progress: bool,
+    /// Whether lines of progress are requested.
+    pub watch: Watch,
 }
 
 /// The options of `rebuild`.
@@ -101,7 +112,7 @@ pub enum Command {
         kinds: Kinds,
         bound: Option<usize>,
         breaks_links: bool,
-        has_progress: bool,
+        watch: Watch,
     },
     Delete(DeleteOptions),
     Rebuild(RebuildOptions),

@@ -36,6 +36,9 @@ pub trait Forms: Copy {
 
     /// That of values.
     fn value(self) -> Form;
+
+    /// The byte that stands between key and value on a line.
+    fn delimiter(self) -> u8;
 }
 
 /// The forms of a shape's own. What is generic in forms is compiled for these once more, and asks nothing when it runs.
@@ -51,6 +54,11 @@ impl Forms for OwnForms {
     #[inline(always)]
     fn value(self) -> Form {
         Form::Own
+    }
+
+    #[inline(always)]
+    fn delimiter(self) -> u8 {
+        b'\t'
     }
 }
 
@@ -71,6 +79,32 @@ impl Forms for GivenForms {
     fn value(self) -> Form {
         self.value
     }
+
+    #[inline(always)]
+    fn delimiter(self) -> u8 {
+        b'\t'
+    }
+}
+
+/// Any forms, with this byte between key and value.
+#[derive(Clone, Copy)]
+pub struct LineForms {
+    pub forms: GivenForms,
+    pub delimiter: u8,
+}
+
+impl Forms for LineForms {
+    fn key(self) -> Form {
+        self.forms.key
+    }
+
+    fn value(self) -> Form {
+        self.forms.value
+    }
+
+    fn delimiter(self) -> u8 {
+        self.delimiter
+    }
 }
 
 /// The forms of bytes in hexadecimal digits, of these lengths.
@@ -89,6 +123,11 @@ impl Forms for HexForms {
 
     fn value(self) -> Form {
         Form::Hex(self.value_len)
+    }
+
+    #[inline(always)]
+    fn delimiter(self) -> u8 {
+        b'\t'
     }
 }
 

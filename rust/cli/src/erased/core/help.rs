@@ -42,7 +42,7 @@ fn summary_of(topic: Topic) -> &'static str {
     match topic {
         // begin summaries: made of commands.txt by tools/commands; `make manual` makes it anew
         Topic::Info =>
-            "odht info FILE       tells what a table file holds, of any key and value sizes\n",
+            "odht info FILE..     tells what each table file holds, of any key and value sizes\n",
         Topic::Check => "odht check FILE..    tells whether each file is a valid table\n",
         Topic::Count => "odht count FILE..    tells how many items each table has\n",
         Topic::Get =>
@@ -114,15 +114,15 @@ understood.
 
 // begin texts: made of commands.txt by tools/commands; `make manual` makes it anew
 const INFO: &str = "\
-odht info FILE [--whole] [--json] [--at OFFSET]
+odht info FILE.. [--whole] [--json] [--at OFFSET]
     Prints sizes, item and slot count, load factors, the hash function that the
     control bytes agree with, how many items are found by reading one group of
-    control bytes, two, and so on, and how many groups the longest search reads
-    for a key that is there (hit) and for one that is not (miss). Above 128 groups
-    it does not count further, so that no file takes long; with --whole it does.
-    The file may have any key and value sizes. Only its header and its length are
-    checked. With --at the table begins at that byte of the file; bytes after its
-    end are not read.
+    control bytes, two, and so on, and how many groups the longest search reads for
+    a key that is there (hit) and for one that is not (miss). Above 128 groups it
+    does not count further, so that no file takes long; with --whole it does. Where
+    there are more files, the name of each comes first. The file may have any key
+    and value sizes. Only its header and its length are checked. With --at the table
+    begins at that byte of the file; bytes after its end are not read.
     --json         an object of JSON: file, key_bytes, value_bytes, header_bytes,
                    all_bytes, items, slots, maximum, load_percent,
                    maximum_load_percent, hash (fx, unhash or null), bound (of
@@ -229,18 +229,24 @@ odht diff FILE OTHER [--whole] [--key SHAPE] [--value SHAPE]
 ";
 
 const BUILD: &str = "\
-odht build FILE --key SHAPE --value SHAPE [--hash fx|unhash]
+odht build FILE --key SHAPE --value SHAPE [--duplicates WORD]
+                [--delimiter C] [--check-only] [--hash fx|unhash]
                 [--percent P] [--capacity N] [--progress] [--break-links]
     Makes a table of the lines of standard input, KEY, a tab and VALUE, and stores
     it as FILE, in the place of an older one, which stays where something fails;
-    with - as FILE it goes to standard output. The last line of a key wins; an
-    empty last line that is no pair is left out. Owner, group, permissions and
-    symbolic links of an older file are kept; one with hard links is not replaced
-    without --break-links. With hexN or none for both, keys and values may have
+    with - as FILE it goes to standard output. The last line of a key wins, unless
+    --duplicates says otherwise; an empty last line that is no pair is left out.
+    Owner, group, permissions and symbolic links of an older file are kept; one with
+    hard links is not replaced without --break-links. With hexN or none for both, keys and values may have
     other sizes than the ready shapes; the hash function is fx then, or --hash.
     SHAPE          u32, u64, none (no bytes), or hexN: N bytes as 2 N digits;
                    i32 and i64 with a sign; u32be and u64be, the highest byte first;
                    text:N, a text of at most N bytes, with zeros behind it
+    --duplicates   which line of a key counts: last, first, or error: a second one
+                   is a failure; else last
+    --delimiter    stands between key and value, else a tab: a printable character
+                   of ASCII that is no quote. The first one on a line ends the key
+    --check-only   reads all lines, and makes no file: FILE is not looked at
     --percent      the load factor, 1 to 100, else 87
     --capacity     the number of items for which room is made at first, else 12
     --progress     a line on standard error each second

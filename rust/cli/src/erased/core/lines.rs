@@ -2,7 +2,8 @@
 //! The lines of standard input.
 
 use crate::erased::core::failure::{Failure, LineFault};
-use crate::erased::core::forms::{Forms, OwnForms};
+use crate::erased::core::forms::{Form, Forms, OwnForms};
+use crate::erased::core::misread::Wanted;
 use crate::erased::core::places::{cut_at, place_of};
 use crate::erased::core::text::Text;
 use crate::host::prelude::*;
@@ -145,19 +146,25 @@ pub(crate) fn is_left_out<I: BufRead>(input: &mut I, line: &mut Vec<u8>) -> io::
     Ok(!is_next)
 }
 
-// The key and the value of a line: on either side of its first tab, or, where a value is nothing, of a line without a
-// tab.
+// The key and the value of a line: on either side of the first byte that stands between them, or, where a value is
+// nothing, of a line without that byte.
 fn parse_pair<K: Text, V: Text, F: Forms>(line: &[u8], forms: F) -> Result<(K, V), LineFault> {
-    let (key, value) = match cut_at(line, b'\t') {
-        Some(parts) => parts,
-        None => {
-            if !V::wanted(forms.value()).is_nothing() {
-                return Err(LineFault::NoTab);
-            }
-            (line, b"".as_slice())
-        }
+    let (key, value) = parts_of::<V>(line, forms.delimiter(), forms.value())?;
+    let Some(key) = K::parse(key, forms.key()) else {
+        return Err(LineFault::Key);
     };
-    let key = K::parse(key, forms.key()).ok_or(LineFault::Key)?;
-    let value = V::parse(value, forms.value()).ok_or(LineFault::Value)?;
+    let Some(value) = V::parse(value, forms.value()) else {
+        return Err(LineFault::Value);
+    };
     Ok((key, value))
+}
+
+// What is on either side of the first delimiter of a line.
+#[inline(always)]
+fn parts_of<V: Text>(line: &[u8], delimiter: u8, form: Form) -> Result<(&[u8], &[u8]), LineFault> {
+    match cut_at(line, delimiter) {
+        Some(parts) => Ok(parts),
+        None if V::wanted(form).is_nothing() => Ok((line, b"".as_slice())),
+        None => Err(LineFault::NoTab),
+    }
 }

@@ -71,18 +71,19 @@ pub struct Misread<'a> {
 }
 
 impl<'a> Misread<'a> {
-    /// The same of a line, by what is wrong with it and what its key and its value should be.
-    pub fn of_line(
+    /// The same of a line, by what is wrong with it, what its key and its value should be, and the byte between them.
+    pub(crate) fn of_line(
         number: u64,
         fault: LineFault,
         wanted: (Wanted, Wanted),
         line: &'a [u8],
+        delimiter: u8,
     ) -> Misread<'a> {
         let (of_key, of_value) = wanted;
         let (wanted, text) = match fault {
             LineFault::NoTab => (of_key, line),
-            LineFault::Key => (of_key, front_of(line)),
-            LineFault::Value => (of_value, back_of(line)),
+            LineFault::Key => (of_key, front_of(line, delimiter)),
+            LineFault::Value => (of_value, back_of(line, delimiter)),
         };
         Misread { line: Some(number), fault, wanted, text }
     }
@@ -93,14 +94,14 @@ impl<'a> Misread<'a> {
     }
 }
 
-// What comes before the first tab of a line.
-fn front_of(line: &[u8]) -> &[u8] {
-    &line[..place_of(line, b'\t')]
+/// What comes before the first delimiter of a line.
+pub(crate) fn front_of(line: &[u8], delimiter: u8) -> &[u8] {
+    &line[..place_of(line, delimiter)]
 }
 
 // What comes after it.
-fn back_of(line: &[u8]) -> &[u8] {
-    let at = place_of(line, b'\t');
+fn back_of(line: &[u8], delimiter: u8) -> &[u8] {
+    let at = place_of(line, delimiter);
     if at < line.len() {
         &line[at + 1..]
     } else {
@@ -115,8 +116,8 @@ impl<'a> fmt::Display for Misread<'a> {
     }
 }
 
-// Writes the number of the line, where there is one.
-fn write_place(line: Option<u64>, f: &mut fmt::Formatter<'_>) -> fmt::Result {
+/// Writes the number of the line, where there is one.
+pub(crate) fn write_place(line: Option<u64>, f: &mut fmt::Formatter<'_>) -> fmt::Result {
     match line {
         Some(number) => write!(f, "standard input, line {number}: "),
         None => Ok(()),

@@ -11,13 +11,14 @@ use crate::erased::core::inside::{first_inside, write_inside};
 use crate::erased::core::shapes::Hash;
 use crate::erased::core::status::{of_output, Status};
 use crate::erased::core::targets::Target;
+use crate::host::io::{BufRead, ErrorKind, IsTerminal, Write};
 use crate::host::prelude::*;
 use crate::host::rt::{Clock, Files};
 use crate::shim::Global;
-use std::io::{BufRead, ErrorKind, Write};
 use std::os::fd::AsFd;
 
 mod build;
+mod build_lines;
 mod check;
 mod check_json;
 mod count;
@@ -36,7 +37,7 @@ pub mod rebuild;
 /// Does what the words ask for. Each failure is reported by a line on `errors`; where that cannot
 /// be written either, the status alone reports it. Where nobody reads `output` any more, nothing is
 /// reported.
-pub fn run<R: Files + AllocGlobal + Clock, I: BufRead, O: Write, E: Write>(
+pub fn run<R: Files + AllocGlobal + Clock, I: BufRead, O: Write, E: Write + IsTerminal>(
     rt: &R,
     words: Vec<String>,
     input: &mut I,
@@ -67,7 +68,7 @@ where
     }
 }
 
-fn run_command<R: Files + AllocGlobal + Clock, I: BufRead, O: Write, E: Write>(
+fn run_command<R: Files + AllocGlobal + Clock, I: BufRead, O: Write, E: Write + IsTerminal>(
     rt: &R,
     file: &str,
     command: Command,
@@ -83,14 +84,27 @@ where
             let others = others.as_slice();
             read_files(rt, file, others, at, &reading, input, output, errors)
         }
-        Command::Build(options) => build::build(rt, file, options, input, output, errors),
+        Command::Build(mut options) => {
+            options.watch = options.watch.with_bar(rt, errors);
+            build::build(rt, file, options, input, output, errors)
+        }
         Command::Delete(options) => delete::delete(rt, file, &options, input, errors),
         Command::Rebuild(options) => rebuild::rebuild(rt, file, options, errors),
         Command::Diff(options) => diff::diff(rt, file, options, input, output, errors),
-        Command::Put { hash, kinds, bound, breaks_links, has_progress } => {
+        Command::Put { hash, kinds, bound, breaks_links, watch } => {
             let target = Target::find(rt, file, breaks_links)?;
             let bytes = read_file(rt, target.path())?;
-            build::put(rt, target, bytes, hash, kinds, bound, has_progress, input, errors)
+            build::put(
+                rt,
+                target,
+                bytes,
+                hash,
+                kinds,
+                bound,
+                watch.with_bar(rt, errors),
+                input,
+                errors,
+            )
         }
     }
 }

@@ -4,9 +4,9 @@
 use crate::erased::core::failure::Failure;
 use crate::erased::core::files::replace_file;
 use crate::erased::core::forms::Forms;
+use crate::erased::core::line_messages::line_message;
 use crate::erased::core::lines::read_pair_as;
-use crate::erased::core::misread::Misread;
-use crate::erased::core::progress::Progress;
+use crate::erased::core::progress::{Progress, Taken, Watch};
 use crate::erased::core::status::{of_output, Status};
 use crate::erased::core::targets::Target;
 use crate::erased::core::text::Text;
@@ -16,6 +16,7 @@ use crate::shim::Global;
 use std::io::{BufRead, Write};
 use std::os::fd::AsFd;
 
+pub mod lines;
 mod tables;
 
 /// How many pairs are inserted at once.
@@ -31,6 +32,13 @@ pub trait Inserts {
 
     /// Inserts the pairs in turn. `Memory` where there is none for a larger table.
     fn insert_pairs(&mut self, pairs: &[(Self::Key, Self::Value)]) -> Result<(), Failure>;
+
+    /// Inserts the pair where its key has no value, and returns whether that is so. `Memory` where there is none for a
+    /// larger table.
+    fn insert_new(&mut self, key: &Self::Key, value: &Self::Value) -> Result<bool, Failure>;
+
+    /// How many pairs the table has.
+    fn pair_count(&self) -> usize;
 
     /// All bytes.
     fn all_bytes(&self) -> &[u8];
@@ -48,12 +56,12 @@ pub fn insert_into_stream<
     rt: &R,
     mut table: T,
     forms: F,
-    has_progress: bool,
+    watch: Watch,
     input: &mut I,
     output: &mut O,
     errors: &mut E,
 ) -> Result<Status, Failure> {
-    let progress = Progress::new(rt, has_progress);
+    let progress = Progress::new(rt, watch);
     fill(rt, &mut table, progress, forms, input, errors)?;
     of_output(output.write_all(table.all_bytes()))
 }
@@ -70,14 +78,14 @@ pub fn insert_into_file<
     target: Target,
     mut table: T,
     forms: F,
-    has_progress: bool,
+    watch: Watch,
     input: &mut I,
     errors: &mut E,
 ) -> Result<Status, Failure>
 where
     R::File: AsFd,
 {
-    let progress = Progress::new(rt, has_progress);
+    let progress = Progress::new(rt, watch);
     fill(rt, &mut table, progress, forms, input, errors)?;
     replace_file(rt, &target, table.all_bytes())?;
     Ok(Status::Done)
@@ -95,6 +103,7 @@ fn fill<T: Inserts, F: Forms, R: AllocGlobal + Clock, I: BufRead, E: Write>(
     let alloc: Global = rt.alloc();
     let mut pairs = crate::host::lists::empty(alloc);
     let mut line = crate::host::lists::empty(alloc);
+    let mut bytes: u64 = 0;
     for number in 1..u64::MAX {
         let pair = match read_pair_as::<T::Key, T::Value, F, I>(input, &mut line, number, forms) {
             Ok(Some(pair)) => pair,
@@ -105,13 +114,34 @@ fn fill<T: Inserts, F: Forms, R: AllocGlobal + Clock, I: BufRead, E: Write>(
             }
         };
         pairs.try_push(pair).or(Err(Failure::Memory))?;
+        bytes = with_line(bytes, line.as_slice());
         if pairs.len() >= BATCH {
             insert_batch(table, &mut pairs)?;
-            // A progress line that cannot be written is no failure.
-            let _ = progress.report(rt, number, errors);
+            report(rt, &mut progress, number, table.pair_count(), bytes, errors);
         }
     }
     insert_batch(table, &mut pairs)
+}
+
+// Reports how far the run is: how many lines were read, of so many bytes, and how many pairs there are by now.
+fn report<R: Clock, E: Write>(
+    rt: &R,
+    progress: &mut Progress,
+    lines: u64,
+    pairs: usize,
+    bytes: u64,
+    errors: &mut E,
+) {
+    let pairs = pairs as u64;
+    let taken = Taken { lines, pairs, bytes };
+    // A progress line that cannot be written is no failure.
+    let _ = progress.report(rt, taken, errors);
+}
+
+// So many bytes, and those of this line with its end.
+#[inline(always)]
+fn with_line(bytes: u64, line: &[u8]) -> u64 {
+    bytes.saturating_add(line.len() as u64).saturating_add(1)
 }
 
 // The failure with what is said of this line, where the line cannot be parsed.
@@ -126,7 +156,7 @@ fn told<K: Text, V: Text, F: Forms>(
     match failure {
         Failure::Line { number, fault } => {
             let wanted = (K::wanted(forms.key()), V::wanted(forms.value()));
-            match Misread::of_line(number, fault, wanted, line).message(alloc) {
+            match line_message(alloc, number, fault, wanted, line, forms.delimiter()) {
                 Ok(message) => Failure::Misread(message),
                 Err(_) => Failure::Memory,
             }

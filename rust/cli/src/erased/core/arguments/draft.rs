@@ -1,13 +1,15 @@
 // Made by `make rust` of crates/odht_tool_core/src/arguments/draft.rt.
 //! A command of which some words are parsed.
+use super::delimiters::delimiter_named;
 use super::topics::{Setting, Topic};
 use super::{
-    is_stream, BuildOptions, Command, CommandMisuse, DeleteOptions, DiffOptions, Keys, Misuse,
-    Reading, RebuildOptions, Request,
+    is_stream, BuildOptions, Command, CommandMisuse, DeleteOptions, DiffOptions, Duplicates, Keys,
+    Misuse, Reading, RebuildOptions, Request,
 };
 use crate::erased::core::any::AnyShape;
 use crate::erased::core::digits::parse_number;
 use crate::erased::core::forms::{GivenForms, Kind, Kinds};
+use crate::erased::core::progress::Watch;
 use crate::erased::core::shapes::Hash;
 use crate::host::prelude::*;
 use crate::proved::base::load::Percent;
@@ -27,12 +29,15 @@ pub(super) struct Draft {
     at: Option<usize>,
     hash: Option<Hash>,
     kinds: Kinds,
+    duplicates: Duplicates,
+    delimiter: u8,
     percent: Percent,
     capacity: usize,
     is_help: bool,
     is_slots: bool,
     is_json: bool,
     is_whole: bool,
+    is_check: bool,
     breaks_links: bool,
     has_progress: bool,
 }
@@ -48,12 +53,15 @@ impl Draft {
             at: None,
             hash: None,
             kinds: Kinds { key: None, value: None },
+            duplicates: Duplicates::Last,
+            delimiter: b'\t',
             percent: Percent::new(87).unwrap(),
             capacity: 12,
             is_help: false,
             is_slots: false,
             is_json: false,
             is_whole: false,
+            is_check: false,
             breaks_links: false,
             has_progress: false,
         }
@@ -103,6 +111,7 @@ impl Draft {
             Setting::Slots => self.is_slots = true,
             Setting::Json => self.is_json = true,
             Setting::Whole => self.is_whole = true,
+            Setting::CheckOnly => self.is_check = true,
             Setting::Progress => self.has_progress = true,
             Setting::BreakLinks => self.breaks_links = true,
             _ => {}
@@ -127,6 +136,8 @@ impl Draft {
             Setting::Hash => self.hash = Some(Hash::named(value)?),
             Setting::Key => self.kinds.key = Some(Kind::named(value)?),
             Setting::Value => self.kinds.value = Some(Kind::named(value)?),
+            Setting::Duplicates => self.duplicates = Duplicates::named(value)?,
+            Setting::Delimiter => self.delimiter = delimiter_named(value)?,
             Setting::Percent => self.percent = parse_percent(value)?,
             Setting::Capacity => self.capacity = parse_number(value.as_bytes())? as usize,
             _ => return None,
@@ -175,7 +186,7 @@ impl Draft {
                 kinds: self.kinds,
                 bound: bound_of(self.is_whole),
                 breaks_links: self.breaks_links,
-                has_progress: self.has_progress,
+                watch: Watch::of(self.has_progress),
             }),
             Topic::Get => self.get(is_stream),
             Topic::Diff => self.diff(is_stream),
@@ -299,10 +310,13 @@ impl Draft {
         Ok(Command::Build(BuildOptions {
             shape,
             forms: GivenForms { key: key.form, value: value.form },
+            duplicates: self.duplicates,
+            delimiter: self.delimiter,
+            is_check: self.is_check,
             capacity: self.capacity,
             percent: self.percent,
             breaks_links: self.breaks_links,
-            has_progress: self.has_progress,
+            watch: Watch::of(self.has_progress),
         }))
     }
 }

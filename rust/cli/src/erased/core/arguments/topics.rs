@@ -73,7 +73,12 @@ impl Topic {
     /// Whether words may come after the file: more files, or keys.
     pub(crate) fn takes_words(self) -> bool {
         match self {
-            Topic::Check | Topic::Count | Topic::Get | Topic::Diff | Topic::Delete => true,
+            Topic::Info
+            | Topic::Check
+            | Topic::Count
+            | Topic::Get
+            | Topic::Diff
+            | Topic::Delete => true,
             _ => false,
         }
     }
@@ -120,6 +125,9 @@ impl Topic {
                 Setting::Help,
                 Setting::Key,
                 Setting::Value,
+                Setting::Duplicates,
+                Setting::Delimiter,
+                Setting::CheckOnly,
                 Setting::Hash,
                 Setting::Percent,
                 Setting::Capacity,
@@ -170,10 +178,13 @@ pub enum Setting {
     Whole,
     Progress,
     BreakLinks,
+    CheckOnly,
     At,
     Hash,
     Key,
     Value,
+    Duplicates,
+    Delimiter,
     Percent,
     Capacity,
 }
@@ -202,10 +213,13 @@ impl Setting {
             Setting::Whole => "--whole",
             Setting::Progress => "--progress",
             Setting::BreakLinks => "--break-links",
+            Setting::CheckOnly => "--check-only",
             Setting::At => "--at",
             Setting::Hash => "--hash",
             Setting::Key => "--key",
             Setting::Value => "--value",
+            Setting::Duplicates => "--duplicates",
+            Setting::Delimiter => "--delimiter",
             Setting::Percent => "--percent",
             Setting::Capacity => "--capacity",
         }
@@ -219,11 +233,14 @@ impl Setting {
             | Setting::Json
             | Setting::Whole
             | Setting::Progress
-            | Setting::BreakLinks => None,
+            | Setting::BreakLinks
+            | Setting::CheckOnly => None,
             Setting::At | Setting::Capacity => Some("a number below 2^64"),
             Setting::Hash => Some("fx or unhash"),
             Setting::Key => Some("u32, u64, i32, i64, u32be, u64be, hexN or text:N"),
             Setting::Value => Some("u32, u64, i32, i64, u32be, u64be, none, hexN or text:N"),
+            Setting::Duplicates => Some("last, first or error"),
+            Setting::Delimiter => Some("a character of ASCII that is no quote"),
             Setting::Percent => Some("a number from 1 to 100"),
         }
     }

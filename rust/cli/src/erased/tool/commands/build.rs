@@ -2,13 +2,15 @@
 //! `odht build` and `odht put`: tables from the lines of standard input.
 
 use crate::erased::core::any::{read_any, AnyShape};
-use crate::erased::core::arguments::{is_stream, BuildOptions};
+use crate::erased::core::arguments::{is_stream, BuildOptions, Duplicates};
 use crate::erased::core::failure::Failure;
 use crate::erased::core::forms::{Forms, GivenForms, Kinds, OwnForms};
+use crate::erased::core::progress::Watch;
 use crate::erased::core::shapes::{Hash, Shape};
 use crate::erased::core::status::Status;
 use crate::erased::core::targets::Target;
 use crate::erased::core::text::Text;
+use crate::erased::tool::commands::build_lines::build_lines;
 use crate::erased::tool::commands::check::check_bytes;
 use crate::erased::tool::inserts::{insert_into_file, insert_into_stream};
 use crate::erased::tool::shapes::for_shape;
@@ -34,6 +36,9 @@ pub fn build<R: Files + AllocGlobal + Clock, I: BufRead, O: Write, E: Write>(
 where
     R::File: AsFd,
 {
+    if !takes_plain_lines(options) {
+        return build_lines(rt, file, options, input, output, errors);
+    }
     let forms = options.forms;
     match options.shape {
         AnyShape::Ready(shape) if forms.are_own() => {
@@ -41,6 +46,15 @@ where
         }
         AnyShape::Ready(shape) => build_in(rt, file, shape, forms, options, input, output, errors),
         AnyShape::Other(shape) => build_other(rt, file, shape, options, input, output, errors),
+    }
+}
+
+// Whether nothing is said of the lines: the last one of a key counts, key and value are on either side of a tab, and the
+// table is stored.
+fn takes_plain_lines(options: BuildOptions) -> bool {
+    match options.duplicates {
+        Duplicates::Last => options.delimiter == b'\t' && !options.is_check,
+        _ => false,
     }
 }
 
@@ -80,8 +94,8 @@ where
     C::Value: Text,
 {
     let table = make_table::<C>(rt.alloc(), options.capacity, options.percent)?;
-    let has_progress = options.has_progress;
-    insert_into_stream(rt, table, forms, has_progress, input, output, errors)
+    let watch = options.watch;
+    insert_into_stream(rt, table, forms, watch, input, output, errors)
 }
 
 fn build_file<C: Config, F: Forms, R: Files + AllocGlobal + Clock, I: BufRead, E: Write>(
@@ -98,10 +112,11 @@ where
     R::File: AsFd,
 {
     let table = make_table::<C>(rt.alloc(), options.capacity, options.percent)?;
-    insert_into_file(rt, target, table, forms, options.has_progress, input, errors)
+    insert_into_file(rt, target, table, forms, options.watch, input, errors)
 }
 
-fn make_table<C: Config>(
+/// An empty table for so many items.
+pub(super) fn make_table<C: Config>(
     alloc: Global,
     capacity: usize,
     percent: Percent,
@@ -118,7 +133,7 @@ pub fn put<R: Files + AllocGlobal + Clock, I: BufRead, E: Write>(
     hash: Option<Hash>,
     kinds: Kinds,
     bound: Option<usize>,
-    has_progress: bool,
+    watch: Watch,
     input: &mut I,
     errors: &mut E,
 ) -> Result<Status, Failure>
@@ -128,11 +143,9 @@ where
     let (shape, forms) = read_any(bytes.as_slice(), hash, kinds)?;
     match shape {
         AnyShape::Ready(shape) => {
-            put_ready(rt, target, shape, forms, bytes, bound, has_progress, input, errors)
+            put_ready(rt, target, shape, forms, bytes, bound, watch, input, errors)
         }
-        AnyShape::Other(shape) => {
-            put_other(rt, target, shape, bytes, bound, has_progress, input, errors)
-        }
+        AnyShape::Other(shape) => put_other(rt, target, shape, bytes, bound, watch, input, errors),
     }
 }
 
@@ -144,7 +157,7 @@ fn put_ready<R: Files + AllocGlobal + Clock, I: BufRead, E: Write>(
     forms: GivenForms,
     bytes: Vec<u8>,
     bound: Option<usize>,
-    has_progress: bool,
+    watch: Watch,
     input: &mut I,
     errors: &mut E,
 ) -> Result<Status, Failure>
@@ -152,9 +165,9 @@ where
     R::File: AsFd,
 {
     if forms.are_own() {
-        put_in(rt, target, shape, OwnForms, bytes, bound, has_progress, input, errors)
+        put_in(rt, target, shape, OwnForms, bytes, bound, watch, input, errors)
     } else {
-        put_in(rt, target, shape, forms, bytes, bound, has_progress, input, errors)
+        put_in(rt, target, shape, forms, bytes, bound, watch, input, errors)
     }
 }
 
@@ -166,7 +179,7 @@ fn put_in<F: Forms, R: Files + AllocGlobal + Clock, I: BufRead, E: Write>(
     forms: F,
     bytes: Vec<u8>,
     bound: Option<usize>,
-    has_progress: bool,
+    watch: Watch,
     input: &mut I,
     errors: &mut E,
 ) -> Result<Status, Failure>
@@ -175,7 +188,7 @@ where
 {
     for_shape!(
         shape,
-        put_file[F, R, I, E](rt, target, forms, bytes, bound, has_progress, input, errors)
+        put_file[F, R, I, E](rt, target, forms, bytes, bound, watch, input, errors)
     )
 }
 
@@ -186,7 +199,7 @@ fn put_file<C: Config, F: Forms, R: Files + AllocGlobal + Clock, I: BufRead, E: 
     forms: F,
     bytes: Vec<u8>,
     bound: Option<usize>,
-    has_progress: bool,
+    watch: Watch,
     input: &mut I,
     errors: &mut E,
 ) -> Result<Status, Failure>
@@ -196,7 +209,7 @@ where
     R::File: AsFd,
 {
     let table = copy_table::<C>(rt.alloc(), bytes, bound)?;
-    insert_into_file(rt, target, table, forms, has_progress, input, errors)
+    insert_into_file(rt, target, table, forms, watch, input, errors)
 }
 
 fn copy_table<C: Config>(

@@ -7,7 +7,7 @@ use crate::erased::core::failure::Failure;
 use crate::erased::core::files::{read_file, replace_file};
 use crate::erased::core::forms::Form;
 use crate::erased::core::keys::{parse_keys, push_key, Word};
-use crate::erased::core::progress::Progress;
+use crate::erased::core::progress::{Progress, Watch};
 use crate::erased::core::shapes::{Hash, Shape};
 use crate::erased::core::status::Status;
 use crate::erased::core::targets::Target;
@@ -64,7 +64,7 @@ fn deleted<R: AllocGlobal + Clock, E: Write>(
     match check_any(shape, bytes, options.bound) {
         Ok(()) => {
             let keys = keys_of_words(rt.alloc(), shape, forms.key, words)?;
-            let progress = Progress::new(rt, options.has_progress);
+            let progress = Progress::new(rt, Watch::of(options.has_progress));
             deleted_for(rt, file, shape, bytes, words, keys.as_slice(), progress, errors)
         }
         Err(error) => Err(Failure::Refused(error)),

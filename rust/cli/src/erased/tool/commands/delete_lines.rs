@@ -7,7 +7,7 @@ use crate::erased::core::failure::{Failure, LineFault};
 use crate::erased::core::forms::Form;
 use crate::erased::core::keys::{next_key_as, push_key, NextKey};
 use crate::erased::core::misread::Misread;
-use crate::erased::core::progress::Progress;
+use crate::erased::core::progress::{Progress, Watch};
 use crate::erased::core::shapes::Shape;
 use crate::erased::core::status::Status;
 use crate::erased::core::text::Text;
@@ -45,7 +45,7 @@ pub fn deleted_by_lines<R: AllocGlobal + Clock, I: BufRead, E: Write>(
             let read = keys_of_lines(rt.alloc(), shape, forms.key, input)?;
             let lines = read.lines.as_slice();
             let keys = read.keys.as_slice();
-            let progress = Progress::new(rt, options.has_progress);
+            let progress = Progress::new(rt, Watch::of(options.has_progress));
             deleted_for(rt, file, shape, bytes, lines, keys, progress, errors)
         }
         Err(error) => Err(Failure::Refused(error)),

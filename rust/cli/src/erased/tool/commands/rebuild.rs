@@ -6,7 +6,7 @@ use crate::erased::core::arguments::RebuildOptions;
 use crate::erased::core::failure::Failure;
 use crate::erased::core::files::{read_file, replace_file};
 use crate::erased::core::found::found_any;
-use crate::erased::core::progress::Progress;
+use crate::erased::core::progress::{Progress, Watch};
 use crate::erased::core::shapes::Hash;
 use crate::erased::core::status::Status;
 use crate::erased::core::targets::Target;
@@ -57,7 +57,7 @@ fn rebuilt<R: AllocGlobal + Clock, E: Write>(
     let hash = new_hash(bytes, shape, options.hash)?;
     match check_any(shape, bytes, options.bound) {
         Ok(()) => {
-            let progress = Progress::new(rt, options.has_progress);
+            let progress = Progress::new(rt, Watch::of(options.has_progress));
             rebuilt_for(rt, shape, hash, bytes, options.percent, progress, errors)
         }
         Err(error) => Err(Failure::Refused(error)),

@@ -23,6 +23,14 @@ where
         insert_all(self, pairs)
     }
 
+    fn insert_new(&mut self, key: &C::Key, value: &C::Value) -> Result<bool, Failure> {
+        insert_absent(self, key, value)
+    }
+
+    fn pair_count(&self) -> usize {
+        self.len()
+    }
+
     fn all_bytes(&self) -> &[u8] {
         self.raw_bytes()
     }
@@ -39,6 +47,21 @@ fn insert_all<C: Config>(
     }
 }
 
+// Inserts the pair where its key has no value, and returns whether that is so.
+fn insert_absent<C: Config>(
+    table: &mut HashTableOwned<C>,
+    key: &C::Key,
+    value: &C::Value,
+) -> Result<bool, Failure> {
+    if table.contains_key(key) {
+        return Ok(false);
+    }
+    match table.insert(key, value) {
+        Ok(_) => Ok(true),
+        Err(_) => Err(Failure::Memory),
+    }
+}
+
 impl<H: HashFn> Inserts for DynTableOwned<H> {
     type Key = ShortBytes;
 
@@ -46,6 +69,14 @@ impl<H: HashFn> Inserts for DynTableOwned<H> {
 
     fn insert_pairs(&mut self, pairs: &[(ShortBytes, ShortBytes)]) -> Result<(), Failure> {
         insert_each(self, pairs)
+    }
+
+    fn insert_new(&mut self, key: &ShortBytes, value: &ShortBytes) -> Result<bool, Failure> {
+        insert_absent_bytes(self, key.as_slice(), value.as_slice())
+    }
+
+    fn pair_count(&self) -> usize {
+        self.len()
     }
 
     fn all_bytes(&self) -> &[u8] {
@@ -65,4 +96,20 @@ fn insert_each<H: HashFn>(
         }
     }
     Ok(())
+}
+
+// The same of a table of lengths that are known at run time alone, which those of the key and the value are.
+fn insert_absent_bytes<H: HashFn>(
+    table: &mut DynTableOwned<H>,
+    key: &[u8],
+    value: &[u8],
+) -> Result<bool, Failure> {
+    let is_known = table.contains_key(key);
+    if is_known {
+        return Ok(false);
+    }
+    match table.insert(key, value) {
+        Ok(_) => Ok(true),
+        Err(_) => Err(Failure::Memory),
+    }
 }

@@ -4,6 +4,7 @@
 use crate::erased::core::any::OtherShape;
 use crate::erased::core::arguments::{is_stream, BuildOptions};
 use crate::erased::core::failure::Failure;
+use crate::erased::core::progress::Watch;
 use crate::erased::core::shapes::Hash;
 use crate::erased::core::status::Status;
 use crate::erased::core::targets::Target;
@@ -56,14 +57,14 @@ fn build_lengths<H: HashFn, R: Files + AllocGlobal + Clock, I: BufRead, O: Write
 where
     R::File: AsFd,
 {
-    let (forms, has_progress) = (forms_of(layout), options.has_progress);
+    let (forms, watch) = (forms_of(layout), options.watch);
     if is_stream(file) {
         let table = make_lengths::<H>(rt.alloc(), layout, options.capacity, options.percent)?;
-        insert_into_stream(rt, table, forms, has_progress, input, output, errors)
+        insert_into_stream(rt, table, forms, watch, input, output, errors)
     } else {
         let target = Target::find(rt, file, options.breaks_links)?;
         let table = make_lengths::<H>(rt.alloc(), layout, options.capacity, options.percent)?;
-        insert_into_file(rt, target, table, forms, has_progress, input, errors)
+        insert_into_file(rt, target, table, forms, watch, input, errors)
     }
 }
 
@@ -92,7 +93,7 @@ pub fn put_other<R: Files + AllocGlobal + Clock, I: BufRead, E: Write>(
     shape: OtherShape,
     bytes: Vec<u8>,
     bound: Option<usize>,
-    has_progress: bool,
+    watch: Watch,
     input: &mut I,
     errors: &mut E,
 ) -> Result<Status, Failure>
@@ -101,26 +102,12 @@ where
 {
     let layout = layout_of(shape);
     match shape.hash {
-        Hash::Fx => put_lengths::<FxHashFn, R, I, E>(
-            rt,
-            target,
-            layout,
-            bytes,
-            bound,
-            has_progress,
-            input,
-            errors,
-        ),
-        Hash::Unhash => put_lengths::<UnHashFn, R, I, E>(
-            rt,
-            target,
-            layout,
-            bytes,
-            bound,
-            has_progress,
-            input,
-            errors,
-        ),
+        Hash::Fx => {
+            put_lengths::<FxHashFn, R, I, E>(rt, target, layout, bytes, bound, watch, input, errors)
+        }
+        Hash::Unhash => {
+            put_lengths::<UnHashFn, R, I, E>(rt, target, layout, bytes, bound, watch, input, errors)
+        }
     }
 }
 
@@ -131,7 +118,7 @@ fn put_lengths<H: HashFn, R: Files + AllocGlobal + Clock, I: BufRead, E: Write>(
     layout: Layout,
     bytes: Vec<u8>,
     bound: Option<usize>,
-    has_progress: bool,
+    watch: Watch,
     input: &mut I,
     errors: &mut E,
 ) -> Result<Status, Failure>
@@ -140,7 +127,7 @@ where
 {
     let table = copy_lengths::<H>(rt.alloc(), layout, bytes, bound)?;
     let forms = forms_of(layout);
-    insert_into_file(rt, target, table, forms, has_progress, input, errors)
+    insert_into_file(rt, target, table, forms, watch, input, errors)
 }
 
 fn copy_lengths<H: HashFn>(
