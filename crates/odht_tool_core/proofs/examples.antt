@@ -27,3 +27,5 @@ pub mod Texts
 pub mod JsonTexts
 -- the texts of stored bytes
 pub mod StoredTexts
+-- lines of a key and a value, and the words that say how they are read
+pub mod Pairs

@@ -79,7 +79,7 @@ direct_format = record {
   hash_small = λ b is. un-lt b (subst (λ n. 4 ≤ n) (sym is.len) (lit≤ tt)) is.each;
 }
 
-same_table : (P : Table) → IsImage direct_config P one_bytes → one_item ≡ P
+pub same_table : (P : Table) → IsImage direct_config P one_bytes → one_item ≡ P
 same_table P image = image-injective direct_config one_item P direct_format one_image.valid image.valid (sym one_image.bytes ∙ image.bytes)
 
 -- 7 for 5, and none for 6

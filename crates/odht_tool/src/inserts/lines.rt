@@ -1,8 +1,10 @@
 //! The lines of `odht build`, as its options say: which line of a key counts, what stands between key and value, and
 //! whether a table is stored at all.
-ghost use Rattle.std.specs.Prelude.{IfErr, OnOk};
+ghost use Rattle.std.specs.Prelude.{IfErr, IfOk, IfSome, OnOk};
 ghost use Rattle.odht_tool.specs.Faults.{TellsRepeated};
 ghost use Rattle.odht_tool.specs.Inserted.{IsLineRefused, IsLineTaken};
+ghost use Rattle.odht_tool_core.specs.Keys.{IsReadAs};
+ghost use Rattle.odht_tool_core.specs.PairLines.{IsNextPair};
 
 use crate::inserts::{BATCH, Inserts, fill, report, told, with_line};
 use odht_tool_core::arguments::{BuildOptions, Duplicates, is_stream};
@@ -156,7 +158,13 @@ fn next_pair<K: Text, V: Text, F: Forms, I: BufRead>(
     line: &mut Vec<u8>,
     number: u64,
     forms: F,
-) -> Result<Option<(K, V)>, Failure> {
+) -> Result<Option<(K, V)>, Failure>
+    ensures { IfOk result (λ read. IfSome read (IsNextPair (F.delimiter forms)
+        (V.wants (F.pair forms).1)
+        (IsReadAs (K.is_word (F.pair forms).0) (K.stands_for (F.pair forms).0))
+        (IsReadAs (V.is_word (F.pair forms).1) (V.stands_for (F.pair forms).1))
+        (I.remaining input.old) (I.remaining input.new) line.new.items)) }
+{
     match read_pair_as::<K, V, F, I>(input, line, number, forms) {
         Ok(read) => Ok(read),
         Err(failure) => Err(told::<K, V, F>(alloc, failure, line.as_slice(), forms)),
