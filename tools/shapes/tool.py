@@ -10,13 +10,8 @@ MADE = "made of shapes.txt by tools/shapes; `make exports` makes it anew"
 
 # the functions that go from a shape to its configuration, each with the function that it calls for that
 DISPATCHERS = {
-    "dump/dump_pairs_of": "dump_pairs",
-    "dump/dump_slots_of": "dump_slots_as",
-    "dump_json/dump_ready": "dump_objects",
-    "keys/keys_of": "list_keys",
     "get/get_words_of": "get_words",
     "get/get_lines_of": "get_lines",
-    "order/order_of": "order_pairs",
     "delete/keys_of_ready": "keys_of",
     "delete_lines/keys_of_ready": "keys_of",
 }

@@ -17,15 +17,14 @@ use Rattle.odht_base.specs.Valid.{IsImage, IsPartsOf}
 use Rattle.odht_base.proofs.lemmas.Keys.{cell_at-within}
 use Rattle.odht_raw.proofs.lemmas.PartCells.{key_is, value_is}
 use Rattle.odht.specs.Tables.{OfTable}
-use Rattle.odht_header.specs.Coding.{Coding}
-use Rattle.odht_header.specs.Refusals.{check_refusal_by}
-use Rattle.odht_raw.specs.Walks.{decoded, decoded_all}
 use Rattle.odht_tool.specs.Orders.{IsOrderText, IsOrdered, stored_at}
 use Rattle.odht_tool_core.specs.Endings.{IsWritten}
+use Rattle.odht_tool_core.specs.StoredTexts.{bare_pairs, key_text, lines_of, value_text}
 use Rattle.odht_tool_core.specs.Texts.{pair_line, pairs_text}
 use Rattle.odht_tool_core.specs.declared.failure.Failure.{Failure}
 use Rattle.odht_tool_core.specs.declared.failure.Failure.TheVariants.{Output}
 use Rattle.odht_tool_core.specs.declared.status.Status.{Status}
+use Rattle.odht_tool_core.specs.declared.typed.Texts.{Texts}
 
 -- formats of the same lengths and the same hash function are the same
 pub same_format : (k l v w : ℕ) (h : List ℕ → ℕ) → k ≡ l → v ≡ w → format_of k v h ≡ format_of l w h
@@ -77,21 +76,27 @@ module _ (F : Format) (f : IsFormat F) (P : Table) (B : List ℕ) (image : IsIma
       same : (i : ℕ) (p : Pair) → cell_at P.cells i ≡ Some p → stored_at F B i ≡ p
       same i p g = λ j. record { key = key_is F f P (entries_of F B) (controls_of F B) parts i p g j; value = value_is F f P (entries_of F B) (controls_of F B) parts i p g j }
 
-module _ {K V : Type 0} (c : Coding K V) (f : K → List ℕ) (g : V → List ℕ) where
+-- the key and the value of a pair
+abbrev pub bare : Pair → List ℕ × List ℕ
+bare p = (p.key, p.value)
+
+module _ (F : Format) (t : Texts) where
   -- the line of one slot more
-  pub slot_more : (B order : List ℕ) (i d : ℕ) → i < length order → pairs_text f g (decoded_all c (map (stored_at c.format B) (take (i + 1) order))) ≡ pairs_text f g (decoded_all c (map (stored_at c.format B) (take i order))) ++ pair_line f g (decoded c (stored_at c.format B (get_or order i d)))
+  pub slot_more : (B order : List ℕ) (i d : ℕ) → i < length order → lines_of t (map (stored_at F B) (take (i + 1) order)) ≡ lines_of t (map (stored_at F B) (take i order)) ++ pair_line (key_text t) (value_text t) (bare (stored_at F B (get_or order i d)))
   slot_more B order i d l =
-      let s = stored_at c.format B in
+      let f = key_text t in
+      let g = value_text t in
+      let s = stored_at F B in
       let x = get_or order i d in
-      ap (λ xs. pairs_text f g (decoded_all c (map s xs))) (take_more order i d l)
-      ∙ ap (λ ps. pairs_text f g (decoded_all c ps)) (map-append s (take i order) (x ∷ []))
-      ∙ ap (pairs_text f g) (map-append (decoded c) (map s (take i order)) (s x ∷ []))
-      ∙ flat_map-append (pair_line f g) (decoded_all c (map s (take i order))) (decoded c (s x) ∷ [])
-      ∙ ap (λ l. pairs_text f g (decoded_all c (map s (take i order))) ++ l) (append-nil (pair_line f g (decoded c (s x))))
+      ap (λ xs. lines_of t (map s xs)) (take_more order i d l)
+      ∙ ap (lines_of t) (map-append s (take i order) (x ∷ []))
+      ∙ ap (pairs_text f g) (map-append bare (map s (take i order)) (s x ∷ []))
+      ∙ flat_map-append (pair_line f g) (bare_pairs (map s (take i order))) (bare (s x) ∷ [])
+      ∙ ap (λ l. lines_of t (map s (take i order)) ++ l) (append-nil (pair_line f g (bare (s x))))
 
   -- how the command ends where an order was written
-  pub order_told : {E : Type 0} (o : Option ℕ) (B T : List ℕ) (old new : Option (List ℕ)) (w : Result (Unit {0}) E) (r : Result Status Failure) → check_refusal_by c.format o B ≡ None → OnOk w (Appends old new T) → OfTable c.format B (λ P. IsOrderText c f g P T) → IsWritten w r → IsOrdered c f g o B old new r
-  order_told o B T old new (Ok u) r passed written text h = subst (IsOrdered c f g o B old new) (sym h) (passed, λ P is. (T, text P is, written))
-  order_told o B T old new (Err e) (Ok status) passed written text h = absurd h
-  order_told o B T old new (Err e) (Err (Output error)) passed written text h = (passed, λ P is. (T, text P is))
-  order_told o B T old new (Err e) (Err failure) passed written text h = absurd h
+  pub order_told : {E : Type 0} (B T : List ℕ) (old new : Option (List ℕ)) (w : Result (Unit {0}) E) (r : Result Status Failure) → OnOk w (Appends old new T) → OfTable F B (λ P. IsOrderText F t P T) → IsWritten w r → IsOrdered F t B old new r
+  order_told B T old new (Ok u) r written text h = subst (IsOrdered F t B old new) (sym h) (λ P is. (T, text P is, written))
+  order_told B T old new (Err e) (Ok status) written text h = absurd h
+  order_told B T old new (Err e) (Err (Output error)) written text h = λ P is. (T, text P is)
+  order_told B T old new (Err e) (Err failure) written text h = absurd h

@@ -1,15 +1,23 @@
 -- What a command does, from the shape of the bytes on.
-use Rattle.std.proofs.Common.{◌≡◌, ℕ, List, Option, Ok, Err, ap, refl, subst, sym}
+use Rattle.std.proofs.Common.{◌≡◌, ◌∙◌, ℕ, List, Option, Ok, Err, ap, refl, subst, sym}
 use Rattle.std.specs.Prelude.{Result, MatchResult, IsErrAnd}
 use Rattle.std.specs.Io.KnownBytes.{Keeps}
 use Rattle.std.proofs.KnownBytes.{Keeps-refl}
+use Rattle.odht_base.specs.Format.{Format, format_of}
 use Rattle.odht_tool.specs.Outcomes.{by_shape}
+use Rattle.odht_tool.proofs.NewTables.{format_is}
+use Rattle.odht_tool_core.specs.AnyShapes.{any_format, any_hash, any_key, any_value}
 use Rattle.odht_tool_core.specs.Endings.{Outcome, IsDone, IsOutputFailure}
+use Rattle.odht_tool_core.specs.ReadyShapes.{hash_of, typed_len}
+use Rattle.odht_tool_core.specs.StoredTexts.{texts_of}
+use Rattle.odht_tool_core.specs.declared.any.AnyShape.{AnyShape}
 use Rattle.odht_tool_core.specs.declared.failure.Failure.{Failure}
 use Rattle.odht_tool_core.specs.declared.forms.Form.{Form}
 use Rattle.odht_tool_core.specs.declared.forms.Form.TheVariants.{Own}
 use Rattle.odht_tool_core.specs.declared.forms.GivenForms.{GivenForms}
+use Rattle.odht_tool_core.specs.declared.shapes.Hash.{Hash}
 use Rattle.odht_tool_core.specs.declared.status.Status.{Status}
+use Rattle.odht_tool_core.specs.declared.typed.Texts.{Texts}
 
 -- errors of one kind of result are those of another
 same_failure : {X : Type 0} (e s : Failure) → ◌≡◌ {A = Result X Failure} (Err e) (Err s) → e ≡ s
@@ -41,3 +49,13 @@ own_pair forms k v =
 pub failed_output : (A : Status → Type 0) (r : Result Status Failure) → IsErrAnd r IsOutputFailure → MatchResult r A IsOutputFailure
 failed_output A (Ok status) f = absurd f
 failed_output A (Err failure) f = f
+
+-- the lengths of the texts of a shape, with its hash function, are its format
+pub table_of : (s : AnyShape) (fs : GivenForms) (t : Texts) (h : Hash) → t ≡ texts_of s fs → any_hash s ≡ h
+    → ◌≡◌ {A = Format × Texts} (format_of (typed_len t.key) (typed_len t.value) (hash_of h), t) (any_format s, texts_of s fs)
+table_of s fs t h texts hash =
+    let same = sym hash in
+    let lengths : ◌≡◌ {A = Format × Texts} (format_of (typed_len t.key) (typed_len t.value) (hash_of h), t)
+    (format_of (typed_len (any_key s)) (typed_len (any_value s)) (hash_of (any_hash s)), texts_of s fs) =
+    λ i. (format_of (typed_len (texts i).key) (typed_len (texts i).value) (hash_of (same i)), texts i) in
+    lengths ∙ ap (λ (F : Format). (F, texts_of s fs)) (format_is s)

@@ -13,8 +13,6 @@ pub mod FindLines
 pub mod Inserted
 -- lines of which no pair is read
 pub mod Faults
--- tables of lengths that are numbers
-pub mod Sizes
 -- what `keys` and `count` do
 pub mod Listings
 -- what `order` does
@@ -23,8 +21,6 @@ pub mod Orders
 pub mod Rebuilds
 -- what `check` and `find` write with --json
 pub mod JsonTexts
--- what `dump` writes with --json
-pub mod DumpJson
 -- what `diff` does
 pub mod Diffs
 -- what `delete` makes

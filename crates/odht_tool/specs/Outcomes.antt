@@ -9,44 +9,29 @@
 --                              there is one
 --     copy_failure F o B       the first error of the check, by the bound o, of the bytes B of the format F; where there is
 --                              none, out of memory
---     pairs_outcome c f g B    of `dump` for bytes of the coding c: the pairs that the slots hold, in slot order, where f
---                              and g are the texts of keys and of values
---     dump_of_shape fs B is_slots s    of `dump`, with `--slots` or without, for bytes of the shape s in the forms fs of keys
---                              and of values
---     dump_of_other B is_slots s   the same of a shape that is no ready one, in hexadecimal digits
---     dump_of_any fs B is_slots s  the same of any shape
---     dump_outcome B h ks is_slots the same for the bytes of a file, where the hash function h, or none, is named, and ks is
---                              said of keys and values
+--     dump_outcome B h ks is_slots is_json     of `dump`, with `--slots` and with `--json` or without, for the bytes of a file,
+--                              where the hash function h, or none, is named, and ks is said of keys and values
 use Rattle.std.specs.Prelude.{ℕ, Bool, List, ◌++◌, codes, Option, Some, None, Result, Ok, Err, is_ok, is_none, if◌then◌else◌}
 use Rattle.std.specs.Option.{option_and_then, option_map_or}
 use Rattle.std.specs.Result.{result_ok}
-use Rattle.odht_base.specs.Decoded.{decoded_pairs}
 use Rattle.odht_base.specs.Format.{Format}
-use Rattle.odht_header.specs.Coding.{Coding}
-use Rattle.odht_header.specs.Refusals.{checked, view_refusal, check_refusal_by}
+use Rattle.odht_header.specs.Refusals.{checked, check_refusal_by}
 use Rattle.odht_header.specs.declared.error.Error.{Error}
 use Rattle.odht_header.specs.declared.error.Error.TheVariants.{SearchTooLong}
-use Rattle.odht_raw.specs.Walks.{decoded_all}
-use Rattle.odht_tool_core.specs.Endings.{Outcome, opened_outcome}
+use Rattle.odht_tool_core.specs.DumpTexts.{dumped}
+use Rattle.odht_tool_core.specs.Endings.{Outcome}
 use Rattle.odht_tool_core.specs.Endings.Outcome.{writes, fails}
-use Rattle.odht_tool_core.specs.AnyShapes.{any_format, any_hash, named_any, read_any, other_coding}
+use Rattle.odht_tool_core.specs.AnyShapes.{any_format, any_hash, named_any, read_any}
 use Rattle.odht_tool_core.specs.FoundShapes.{hinted_hash}
 use Rattle.odht_tool_core.specs.InfoTexts.{hash_name}
-use Rattle.odht_tool_core.specs.ReadyShapes.{shape_coding, typed_text}
-use Rattle.odht_tool_core.specs.ShapeList.{key_part, value_part}
-use Rattle.odht_tool_core.specs.Slots.{slots_outcome}
 use Rattle.odht_tool_core.specs.Refusals.{checked_text}
-use Rattle.odht_tool_core.specs.Texts.{hex_text, pairs_text}
+use Rattle.odht_tool_core.specs.StoredTexts.{texts_of}
 use Rattle.odht_tool_core.specs.declared.any.AnyShape.{AnyShape}
-use Rattle.odht_tool_core.specs.declared.any.AnyShape.TheVariants.{Ready, Other}
-use Rattle.odht_tool_core.specs.declared.any.OtherShape.{OtherShape}
 use Rattle.odht_tool_core.specs.declared.failure.Failure.{Failure}
 use Rattle.odht_tool_core.specs.declared.failure.Failure.TheVariants.{Refused, Memory}
-use Rattle.odht_tool_core.specs.declared.forms.Form.{Form}
 use Rattle.odht_tool_core.specs.declared.forms.GivenForms.{GivenForms}
 use Rattle.odht_tool_core.specs.declared.forms.Kinds.{Kinds}
 use Rattle.odht_tool_core.specs.declared.shapes.Hash.{Hash}
-use Rattle.odht_tool_core.specs.declared.shapes.ready.Shape.{Shape}
 use Rattle.odht_tool_core.specs.declared.status.Status.TheVariants.{Done, NotDone}
 
 abbrev pub by_shape : {X : Type 0} → Result X Failure → (X → Outcome) → Outcome
@@ -84,27 +69,8 @@ abbrev pub copy_failure : Format → Option ℕ → List ℕ → Failure
 copy_failure F o B = option_map_or Refused (check_refusal_by F o B) Memory
 
 -- ---- dump
-abbrev pub pairs_outcome : {K V : Type 0} → Coding K V → (K → List ℕ) → (V → List ℕ) → List ℕ → Outcome
-pairs_outcome c f g B =
-    opened_outcome (view_refusal c.format B) (pairs_text f g (decoded_all c (decoded_pairs c.format B)))
+abbrev pub dump_of_forms : List ℕ → Bool → Bool → AnyShape × GivenForms → Outcome
+dump_of_forms B is_slots is_json x = dumped is_slots is_json (any_format x.0) (texts_of x.0 x.1) B
 
-abbrev pub dump_of_shape : Form × Form → List ℕ → Bool → Shape → Outcome
-dump_of_shape fs B is_slots s =
-    let f = typed_text fs.0 (key_part s) in
-    let g = typed_text fs.1 (value_part s) in
-    if is_slots then slots_outcome (shape_coding s) f g B else pairs_outcome (shape_coding s) f g B
-
-abbrev pub dump_of_other : List ℕ → Bool → OtherShape → Outcome
-dump_of_other B is_slots s =
-    let c = other_coding s in
-    if is_slots then slots_outcome c hex_text hex_text B else pairs_outcome c hex_text hex_text B
-
-abbrev pub dump_of_any : Form × Form → List ℕ → Bool → AnyShape → Outcome
-dump_of_any fs B is_slots (Ready s) = dump_of_shape fs B is_slots s
-dump_of_any fs B is_slots (Other s) = dump_of_other B is_slots s
-
-abbrev pub dump_of_forms : List ℕ → Bool → AnyShape × GivenForms → Outcome
-dump_of_forms B is_slots x = dump_of_any (x.1.key, x.1.value) B is_slots x.0
-
-abbrev pub dump_outcome : List ℕ → Option Hash → Kinds → Bool → Outcome
-dump_outcome B h ks is_slots = by_shape (read_any B h ks) (dump_of_forms B is_slots)
+abbrev pub dump_outcome : List ℕ → Option Hash → Kinds → Bool → Bool → Outcome
+dump_outcome B h ks is_slots is_json = by_shape (read_any B h ks) (dump_of_forms B is_slots is_json)

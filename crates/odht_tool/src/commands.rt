@@ -24,7 +24,6 @@ mod delete;
 mod delete_lines;
 mod diff;
 mod dump;
-mod dump_json;
 mod find;
 mod find_json;
 mod get;
@@ -266,13 +265,7 @@ fn run_reading<I: BufRead, O: Write, E: Write>(
             kinds,
             is_slots,
             is_json,
-        } => {
-            if *is_json {
-                dump_json::dump_file(bytes, *hash, *kinds, *is_slots, output)
-            } else {
-                dump::dump_file(bytes, *hash, *kinds, *is_slots, output)
-            }
-        }
+        } => dump::dump_file(bytes, *hash, *kinds, *is_slots, *is_json, output),
         Reading::Keys { hash, kinds } => keys::keys_file(bytes, *hash, *kinds, output),
         Reading::Order { hash, kinds, bound } => {
             order_in(alloc, file, bytes, *hash, *kinds, *bound, output, errors)

@@ -1,12 +1,12 @@
-//! Tables of other sizes than the ready shapes have: keys and values are bytes, of lengths that the header states.
+//! Tables of lengths that are numbers: keys and values are bytes, of lengths that the header states.
 ghost use Rattle.std.specs.Prelude.{◌≡◌, ◌≤◌, IfErr, IfOk, None, OnOk};
 ghost use Rattle.odht_base.specs.Format.{format_of};
 ghost use Rattle.odht_base.specs.Valid.{IsValidBytes};
 ghost use Rattle.odht_header.specs.Refusals.{checked, check_refusal_by, view_refusal};
 ghost use Rattle.odht_tool.specs.GetParts.{IsOpenFailure};
-ghost use Rattle.odht_tool.specs.Listings.{counted};
 ghost use Rattle.odht_tool_core.specs.AnyShapes.{other_format};
 ghost use Rattle.odht_tool_core.specs.InfoNumbers.{least_key_len};
+ghost use Rattle.odht_tool_core.specs.ReadyShapes.{typed_len};
 
 use odht::bytes::Borrowed;
 use odht::dynamic::{DynTable, Layout};
@@ -16,16 +16,13 @@ use odht::memory_layout::{check_opening, check_sized, check_sized_within};
 use odht::{FxHashFn, UnHashFn};
 use odht_tool_core::any::OtherShape;
 use odht_tool_core::failure::Failure;
-use odht_tool_core::shapes::Hash;
+use odht_tool_core::shapes::{Hash, Part};
 
 pub mod build_lines;
 pub mod builds;
 pub mod deletes;
 pub mod diffs;
 pub mod gets;
-pub mod listings;
-pub mod objects;
-pub mod orders;
 
 /// The lengths of a shape.
 pub fn layout_of(shape: OtherShape) -> Layout
@@ -35,6 +32,17 @@ pub fn layout_of(shape: OtherShape) -> Layout
     Layout {
         key_len: shape.key_len,
         value_len: shape.value_len,
+    }
+}
+
+/// The lengths of keys and values of these types.
+pub fn lengths_of(key: Part, value: Part) -> Layout
+    ensures key { result.key_len ≡ typed_len key }
+    ensures value { result.value_len ≡ typed_len value }
+{
+    Layout {
+        key_len: key.size(),
+        value_len: value.size(),
     }
 }
 
@@ -71,18 +79,6 @@ pub fn check_lengths<H: HashFn>(
     }
 }
 
-/// How many items a table of this shape has, or the first rule that it breaks.
-pub fn count_other(shape: OtherShape, bytes: &[u8], bound: Option<usize>) -> Result<usize, Failure>
-    requires { least_key_len shape.hash ≤ shape.key_len }
-    ensures { result ≡ counted (other_format shape) bound bytes.now }
-{
-    let layout = layout_of(shape);
-    match shape.hash {
-        Hash::Fx => count_lengths::<FxHashFn>(layout, bytes, bound),
-        Hash::Unhash => count_lengths::<UnHashFn>(layout, bytes, bound),
-    }
-}
-
 /// Opens the bytes as a table of these lengths.
 pub fn open_lengths<H: HashFn>(
     layout: Layout,
@@ -99,22 +95,4 @@ pub fn open_lengths<H: HashFn>(
 {
     check_opening::<H>(bytes, layout).map_err(Failure::Refused)?;
     Ok(DynTable::open_unchecked(layout, Borrowed::new(bytes)))
-}
-
-fn count_lengths<H: HashFn>(
-    layout: Layout,
-    bytes: &[u8],
-    bound: Option<usize>,
-) -> Result<usize, Failure>
-    requires { H.MIN_LEN ≤ layout.key_len }
-    ensures { let F = format_of layout.key_len layout.value_len H.hash
-        in result ≡ counted F bound bytes.now }
-{
-    match check_lengths::<H>(layout, bytes, bound) {
-        Ok(()) => {
-            let store = Borrowed::new(bytes);
-            Ok(DynTable::<H, Borrowed<'_>>::open_unchecked(layout, store).len())
-        }
-        Err(error) => Err(Failure::Refused(error)),
-    }
 }

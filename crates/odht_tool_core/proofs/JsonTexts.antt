@@ -2,15 +2,18 @@
 use Rattle.std.proofs.Common.{inl, inr, ◌≡◌, ◌∙◌, ℕ, zero, suc, ◌+◌, ◌-◌, ◌/◌, ◌%◌, ◌<◌, Bool, true, false, not, ◌&&◌, ◌==◌, nat_lt, List, [], ◌∷◌, ◌++◌, get_or, ltb-true, lt-ltb, le-ltb, ne_eqb, ap, refl, arith, flat_map, codes, IsAscii, IsUtf8, if◌then◌else◌}
 use Rattle.std.specs.Fmt.{decimal, digits, digits_onto, digit_glyph}
 use Rattle.std.specs.List.{AllPass}
-use Rattle.std.specs.Int.{Width, swap_bytes}
+use Rattle.std.specs.Int.{Width, swap_bytes, from_le_bytes, w32, w64}
 use Rattle.std.specs.Str.{is_utf8}
 use Rattle.std.proofs.lemmas.Bool.{cases_lt}
 use Rattle.std.proofs.lemmas.Str.{IsUtf8-from_ascii, IsUtf8-from_is_utf8, is_utf8-from_IsUtf8}
 use Rattle.odht_tool_core.specs.Forms.{bytes_text, count_of, number_text}
 use Rattle.odht_tool_core.specs.Json.{is_simple, json_byte, json_field, string_field, text_field}
+use Rattle.odht_tool_core.specs.StoredTexts.{stored_text}
 use Rattle.odht_tool_core.specs.Texts.{hex_text}
 use Rattle.odht_tool_core.specs.declared.forms.Form.{Form}
 use Rattle.odht_tool_core.specs.declared.forms.Form.TheVariants.{Own, Signed, BigEndian, Plain, Hex}
+use Rattle.odht_tool_core.specs.declared.shapes.Part.{Part}
+use Rattle.odht_tool_core.specs.declared.shapes.Part.TheVariants.{Nothing, U32, U64, Bytes}
 
 -- of two tests that pass each does
 both : (a b : Bool) → (a && b) ≡ true → (a ≡ true) × (b ≡ true)
@@ -132,3 +135,10 @@ bytes_simple Signed bs other h = h
 bytes_simple BigEndian bs other h = h
 bytes_simple Plain bs other h = absurd (other refl)
 bytes_simple (Hex k) bs other h = h
+
+-- so is each text of a key or a value that is no bytes
+pub typed_simple : (f : Form) (p : Part) (b : List ℕ) → ((n : ℕ) → p ≡ Bytes n → ⊥) → AllPass is_simple (stored_text f p b)
+typed_simple f Nothing b other = λ k d l. absurd (omega (arith, l))
+typed_simple f U32 b other = number_simple w32 f (from_le_bytes w32 b)
+typed_simple f U64 b other = number_simple w64 f (from_le_bytes w64 b)
+typed_simple f (Bytes n) b other = absurd (other n refl)

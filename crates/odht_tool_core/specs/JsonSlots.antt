@@ -1,18 +1,12 @@
--- What `dump --slots --json` writes of bytes B of the coding c, where f and g are the texts of keys and of values.
+-- The slots of a table as objects of JSON, by the coding c, where f and g are the texts of keys and of values.
 --     number_fields_text i t n     the begin of the object of a slot: its number, its control byte, and a number of groups
 --     slot_object f g i t n x      the line of the object of these and of the pair x
 --     slot_object_at c f g T i     that of slot i of the parts T, where a search for its key reads n groups; nothing for a
 --                                  slot that counts as free
---     slot_objects c f g T n       those of the first n slots
---     slot_objects_outcome c f g B those of all, or the failure of opening
-use Rattle.std.specs.Prelude.{ℕ, List, [], ◌∷◌, ◌++◌, flat_map, slice_index, codes, if◌then◌else◌}
-use Rattle.std.specs.List.{range_with_len}
-use Rattle.odht_base.specs.Decoded.{header_slots, slot_key, slot_value, counts_as_free}
+use Rattle.std.specs.Prelude.{ℕ, List, [], ◌∷◌, ◌++◌, slice_index, codes, if◌then◌else◌}
+use Rattle.odht_base.specs.Decoded.{slot_key, slot_value, counts_as_free}
 use Rattle.odht_header.specs.Coding.{Coding}
-use Rattle.odht_header.specs.Refusals.{view_refusal}
-use Rattle.odht_raw.specs.Dumps.{parts_of}
 use Rattle.odht_raw.specs.Parts.{TableParts}
-use Rattle.odht_tool_core.specs.Endings.{Outcome, opened_outcome}
 use Rattle.odht_tool_core.specs.GroupNumbers.{groups_to}
 use Rattle.odht_tool_core.specs.Json.{json_field, json_object, number_field, pair_fields}
 
@@ -34,9 +28,3 @@ slot_object_at c f g T i =
     let groups = groups_to (F.hash key) T.entries.slots i in
     if counts_as_free control then []
     else slot_object f g i control groups (c.key_of key, c.value_of value)
-
-abbrev pub slot_objects : {K V : Type 0} → Coding K V → (K → List ℕ) → (V → List ℕ) → TableParts → ℕ → List ℕ
-slot_objects c f g T n = flat_map (slot_object_at c f g T) (range_with_len 0 n)
-
-abbrev pub slot_objects_outcome : {K V : Type 0} → Coding K V → (K → List ℕ) → (V → List ℕ) → List ℕ → Outcome
-slot_objects_outcome c f g B = opened_outcome (view_refusal c.format B) (slot_objects c f g (parts_of c.format B) (header_slots B))

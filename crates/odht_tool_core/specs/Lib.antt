@@ -59,8 +59,10 @@ pub mod Misreads
 pub mod Json
 -- what `get --json` writes
 pub mod JsonAnswers
--- what `dump --slots --json` writes
+-- the slots of a table as objects of JSON
 pub mod JsonSlots
+-- what `dump` writes of stored bytes
+pub mod DumpTexts
 -- what `info --json` writes
 pub mod InfoJson
 -- what `find --json` writes of a table

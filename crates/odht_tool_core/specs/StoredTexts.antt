@@ -3,9 +3,13 @@
 --     key_text t b         that of a key, by the texts t
 --     value_text t b       that of a value
 --     texts_of s fs        the texts of the shape s in the forms fs
-use Rattle.std.specs.Prelude.{ℕ, List}
+--     bare_pairs ps        the keys and values of the pairs ps
+--     lines_of t ps        the line of each of them, by the texts t
+use Rattle.std.specs.Prelude.{ℕ, List, map}
+use Rattle.odht_base.specs.Table.{Pair}
 use Rattle.odht_tool_core.specs.AnyShapes.{any_key, any_value}
 use Rattle.odht_tool_core.specs.ReadyShapes.{typed_of, typed_text}
+use Rattle.odht_tool_core.specs.Texts.{pairs_text}
 use Rattle.odht_tool_core.specs.declared.any.AnyShape.{AnyShape}
 use Rattle.odht_tool_core.specs.declared.forms.Form.{Form}
 use Rattle.odht_tool_core.specs.declared.forms.GivenForms.{GivenForms}
@@ -23,3 +27,9 @@ value_text t = stored_text t.forms.value t.value
 
 abbrev pub texts_of : AnyShape → GivenForms → Texts
 texts_of s fs = record { key = any_key s; value = any_value s; forms = fs }
+
+abbrev pub bare_pairs : List Pair → List (List ℕ × List ℕ)
+bare_pairs ps = map (λ p. (p.key, p.value)) ps
+
+abbrev pub lines_of : Texts → List Pair → List ℕ
+lines_of t ps = pairs_text (key_text t) (value_text t) (bare_pairs ps)

@@ -6,7 +6,6 @@ ghost use Rattle.odht_tool_core.specs.Json.{number_or_null, string_field};
 
 pub mod answers;
 pub mod pairs;
-pub mod sized_slots;
 pub mod slots;
 
 use crate::text::write_bytes;

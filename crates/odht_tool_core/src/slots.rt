@@ -8,10 +8,10 @@ ghost use Rattle.odht_raw.specs.Parts.{TableParts};
 ghost use Rattle.odht_tool_core.specs.Endings.{IsDone};
 ghost use Rattle.odht_tool_core.specs.Slots.{numbers_text, slot_line, slots_text, slots_outcome};
 
-use crate::answers::write_pair_as;
+use crate::answers::write_pair;
 use crate::digits::write_number;
 use crate::failure::Failure;
-use crate::forms::{Form, Forms, OwnForms};
+use crate::forms::Form;
 use crate::groups::groups_to;
 use crate::status::{Status, of_output};
 use crate::text::Text;
@@ -24,7 +24,6 @@ use std::io::{self, Write};
 
 /// `odht dump --slots` of bytes of a configuration: writes a line for each occupied slot, in slot order, in the texts that
 /// the types of key and value have.
-#[inline]
 pub fn dump_slots<C: Config, O: Write>(bytes: &[u8], output: &mut O) -> Result<Status, Failure>
 where
     C::Key: Text,
@@ -33,32 +32,15 @@ where
         (C.Value.text Form.Own) bytes.now)
         (O.contents output.old) (O.contents output.new) result }
 {
-    dump_slots_as::<C, OwnForms, O>(bytes, OwnForms, output)
-}
-
-/// `dump_slots` in texts of these forms.
-pub fn dump_slots_as<C: Config, F: Forms, O: Write>(
-    bytes: &[u8],
-    forms: F,
-    output: &mut O,
-) -> Result<Status, Failure>
-where
-    C::Key: Text,
-    C::Value: Text,
-    ensures { IsDone (slots_outcome ⟦<C as Coded>⟧.coding (C.Key.text (F.pair forms).0)
-        (C.Value.text (F.pair forms).1) bytes.now)
-        (O.contents output.old) (O.contents output.new) result }
-{
     let allocation = Allocation::<C, Borrowed<'_>>::from_raw_bytes(Borrowed::new(bytes)).map_err(
         Failure::Refused,
     )?;
-    of_output(write_slots(&allocation, forms, output))
+    of_output(write_slots(&allocation, output))
 }
 
 // Writes a line for each occupied slot.
-fn write_slots<C: Config, F: Forms, O: Write>(
+fn write_slots<C: Config, O: Write>(
     allocation: &Allocation<C, Borrowed<'_>>,
-    forms: F,
     output: &mut O,
 ) -> io::Result<()>
 where
@@ -67,23 +49,22 @@ where
     ensures { let c = ⟦<C as Coded>⟧.coding
         in let B = allocation.now.0.now
         in OnOk result (Appends (O.contents output.old) (O.contents output.new)
-        (slots_text c (C.Key.text (F.pair forms).0)
-        (C.Value.text (F.pair forms).1) (parts_of c.format B) (header_slots B))) }
+        (slots_text c (C.Key.text Form.Own)
+        (C.Value.text Form.Own) (parts_of c.format B) (header_slots B))) }
 {
     let (control, entries) = allocation.data_slices();
     for slot in 0..entries.len() {
-        write_slot::<C, F, O>(control, &entries, slot, forms, output)?;
+        write_slot::<C, O>(control, &entries, slot, output)?;
     }
     Ok(())
 }
 
 // Writes the line of a slot, where it is occupied: its number, its control byte, how many groups a search reads, and
 // its pair.
-fn write_slot<C: Config, F: Forms, O: Write>(
+fn write_slot<C: Config, O: Write>(
     control: &[u8],
     entries: &Entries<'_, C::EncodedKey, C::EncodedValue>,
     slot: usize,
-    forms: F,
     output: &mut O,
 ) -> io::Result<()>
 where
@@ -94,8 +75,8 @@ where
     requires control { length control.now ≡ entries.now.slots + 16 }
     ensures { let parts : TableParts = record { control = control.now; entries = entries.now }
         in OnOk result (Appends (O.contents output.old) (O.contents output.new)
-        (slot_line ⟦<C as Coded>⟧.coding (C.Key.text (F.pair forms).0)
-        (C.Value.text (F.pair forms).1) parts slot)) }
+        (slot_line ⟦<C as Coded>⟧.coding (C.Key.text Form.Own)
+        (C.Value.text Form.Own) parts slot)) }
 {
     let tag = control[slot];
     if is_empty_or_deleted(tag) {
@@ -105,7 +86,7 @@ where
     let groups = groups_to(C::H::hash(entry.key.as_slice()), slot, entries.len(), None);
     write_numbers(slot, tag, groups, output)?;
     let (key, value) = (C::decode_key(&entry.key), C::decode_value(&entry.value));
-    write_pair_as(&key, &value, forms, output)
+    write_pair(&key, &value, output)
 }
 
 /// Writes the number of a slot, its control byte and a number of groups, each with a tab after it.

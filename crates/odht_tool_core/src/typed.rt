@@ -1,14 +1,19 @@
 //! The texts of keys and values, of their stored bytes and their types.
-ghost use Rattle.std.specs.Prelude.{◌≡◌, length, OnOk};
+ghost use Rattle.std.specs.Prelude.{◌≡◌, length, IfSome, IsNone, OnOk};
 ghost use Rattle.std.specs.Io.KnownBytes.{Appends};
+ghost use Rattle.std.specs.List.{AllPass};
 ghost use Rattle.odht_tool_core.specs.Forms.{bytes_text};
+ghost use Rattle.odht_tool_core.specs.Json.{is_simple};
 ghost use Rattle.odht_tool_core.specs.ReadyShapes.{typed_len};
 ghost use Rattle.odht_tool_core.specs.StoredTexts.{key_text, stored_text, texts_of, value_text};
 ghost use Rattle.odht_tool_core.specs.Texts.{pair_line};
 
+pub mod stored;
+
 use crate::any::AnyShape;
 use crate::forms::{Form, GivenForms};
-use crate::plain::write_plain;
+use crate::hexadecimal::no_plain_bytes;
+use crate::plain::{plain_of, write_plain};
 use crate::shapes::Part;
 use crate::text::{Text, write_bytes};
 use odht_base::bytes::ByteArray;
@@ -56,6 +61,7 @@ impl Texts {
     }
 
     /// Writes a line of the key and the value that are stored as these bytes.
+    #[inline(always)]
     pub fn write_pair<W: Write>(self, key: &[u8], value: &[u8], output: &mut W) -> io::Result<()>
         requires key { length key.now ≡ typed_len self.key }
         requires value { length value.now ≡ typed_len self.value }
@@ -69,8 +75,14 @@ impl Texts {
     }
 }
 
-// Writes the text, in this form, of the key or the value of this type that is stored as these bytes.
-fn write_stored<W: Write>(part: Part, form: Form, bytes: &[u8], output: &mut W) -> io::Result<()>
+/// Writes the text, in this form, of the key or the value of this type that is stored as these bytes.
+#[inline(always)]
+pub(crate) fn write_stored<W: Write>(
+    part: Part,
+    form: Form,
+    bytes: &[u8],
+    output: &mut W,
+) -> io::Result<()>
     requires { length bytes.now ≡ typed_len part }
     ensures { OnOk result (Appends (W.contents output.old) (W.contents output.new)
         (stored_text form part bytes.now)) }
@@ -90,5 +102,26 @@ fn write_stored_bytes<W: Write>(form: Form, bytes: &[u8], output: &mut W) -> io:
     match form {
         Form::Plain => write_plain(bytes, output),
         _ => write_bytes(bytes, output),
+    }
+}
+
+/// The text, where it may have any bytes. None where each is a character that stands for itself in strings of JSON.
+pub(crate) fn plain_bytes(part: Part, form: Form, bytes: &[u8]) -> Option<&[u8]>
+    ensures some { IfSome result (λ t. t.now ≡ stored_text form part bytes.now) }
+    ensures none { IsNone result → AllPass is_simple (stored_text form part bytes.now) }
+{
+    match part {
+        Part::Bytes(_) => plain_bytes_in(form, bytes),
+        _ => None,
+    }
+}
+
+fn plain_bytes_in(form: Form, bytes: &[u8]) -> Option<&[u8]>
+    ensures some { IfSome result (λ t. t.now ≡ bytes_text form bytes.now) }
+    ensures none { IsNone result → AllPass is_simple (bytes_text form bytes.now) }
+{
+    match form {
+        Form::Plain => Some(plain_of(bytes)),
+        _ => no_plain_bytes(bytes),
     }
 }

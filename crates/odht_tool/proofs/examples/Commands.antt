@@ -66,25 +66,25 @@ unfolding opened first_longer
 words = (refl, refl, refl, refl)
 
 -- ---- dump
-pub pairs : dump_outcome one_bytes (Some Unhash) unsaid false ≡ writes (codes "5\t7\n") Done
+pub pairs : dump_outcome one_bytes (Some Unhash) unsaid false false ≡ writes (codes "5\t7\n") Done
 unfolding opened digits
 pairs = refl
 
-pub slots : dump_outcome one_bytes (Some Unhash) unsaid true ≡ writes (codes "5\t0\t1\t5\t7\n") Done
+pub slots : dump_outcome one_bytes (Some Unhash) unsaid true false ≡ writes (codes "5\t0\t1\t5\t7\n") Done
 unfolding opened digits groups_to
 slots = refl
 
 -- of other sizes in hexadecimal digits, where their types are said to be so many bytes, or nothing is said of them
-pub hexadecimal : (dump_outcome other_bytes None unsaid false ≡ writes (codes "050000000700\t0000\n") Done)
-    × (dump_outcome other_bytes None (said (kind (Bytes 6) Own) (kind (Bytes 2) Own)) true ≡ writes (codes "5\t0\t1\t050000000700\t0000\n") Done)
-    × (dump_outcome other_bytes None (said (kind (Bytes 6) Own) (kind U32 Own)) true ≡ fails (OtherValue (Bytes 2)))
+pub hexadecimal : (dump_outcome other_bytes None unsaid false false ≡ writes (codes "050000000700\t0000\n") Done)
+    × (dump_outcome other_bytes None (said (kind (Bytes 6) Own) (kind (Bytes 2) Own)) true false ≡ writes (codes "5\t0\t1\t050000000700\t0000\n") Done)
+    × (dump_outcome other_bytes None (said (kind (Bytes 6) Own) (kind U32 Own)) true false ≡ fails (OtherValue (Bytes 2)))
     × (keys_outcome other_bytes None unsaid ≡ writes (codes "050000000700\n") Done)
 unfolding opened digits groups_to
 hexadecimal = (refl, refl, refl, refl)
 
 -- with other texts: 5 is 5 * 2^24 with its highest byte first; of another type there is none
-pub formed : (dump_outcome one_bytes (Some Unhash) (said (kind U32 BigEndian) (kind U32 Signed)) false ≡ writes (codes "83886080\t7\n") Done)
-    × (dump_outcome one_bytes (Some Unhash) (said (kind U64 BigEndian) (kind U32 Signed)) false ≡ fails (OtherKey U32))
+pub formed : (dump_outcome one_bytes (Some Unhash) (said (kind U32 BigEndian) (kind U32 Signed)) false false ≡ writes (codes "83886080\t7\n") Done)
+    × (dump_outcome one_bytes (Some Unhash) (said (kind U64 BigEndian) (kind U32 Signed)) false false ≡ fails (OtherKey U32))
 unfolding opened digits
 formed = (refl, refl)
 
@@ -95,7 +95,7 @@ unfolding opened digits
 keys = (refl, refl)
 
 -- the hash function is found, where none is named; with another control byte none fits
-pub found : (dump_outcome one_bytes None unsaid false ≡ writes (codes "5\t7\n") Done) × (dump_outcome (overwritten_at one_bytes 165 (1 ∷ [])) None unsaid false ≡ fails (NoHash 4 4))
+pub found : (dump_outcome one_bytes None unsaid false false ≡ writes (codes "5\t7\n") Done) × (dump_outcome (overwritten_at one_bytes 165 (1 ∷ [])) None unsaid false false ≡ fails (NoHash 4 4))
 unfolding opened digits
 found = (refl, refl)
 
@@ -107,8 +107,8 @@ hinted = (refl, refl, refl)
 pub hint_line : hint_text (codes "a.odht") Unhash ≡ codes "odht: a.odht: all control bytes fit unhash: try --hash unhash, or `odht info`\n"
 hint_line = refl
 
-pub refused : (dump_outcome (79 ∷ 68 ∷ []) None unsaid false ≡ fails (Refused (TooShort 2)))
-    × (dump_outcome (79 ∷ 68 ∷ []) None unsaid true ≡ fails (Refused (TooShort 2)))
+pub refused : (dump_outcome (79 ∷ 68 ∷ []) None unsaid false false ≡ fails (Refused (TooShort 2)))
+    × (dump_outcome (79 ∷ 68 ∷ []) None unsaid true false ≡ fails (Refused (TooShort 2)))
 unfolding opened
 refused = (refl, refl)
 

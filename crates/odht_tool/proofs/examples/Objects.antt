@@ -13,8 +13,8 @@ use Rattle.odht_tool_core.specs.FindJson.{table_object}
 use Rattle.odht_tool_core.specs.GroupNumbers.{groups_to}
 use Rattle.odht_tool_core.specs.Json.{pair_object}
 use Rattle.odht_tool_core.specs.JsonSlots.{slot_object}
-use Rattle.odht_tool.specs.DumpJson.{objects_outcome}
 use Rattle.odht_tool.specs.JsonTexts.{check_json_outcome, tables_object}
+use Rattle.odht_tool.specs.Outcomes.{dump_outcome}
 use Rattle.odht_tool_core.specs.declared.failure.Failure.TheVariants.{Refused, NoHash, ShortKeys}
 use Rattle.odht_tool_core.specs.declared.shapes.Hash.TheVariants.{Unhash}
 use Rattle.odht_tool_core.specs.declared.status.Status.TheVariants.{Done, NotDone}
@@ -37,16 +37,16 @@ quoted = refl
 
 -- ---- dump
 -- pairs, and slots; of other sizes in hexadecimal digits
-pub pairs : (objects_outcome one_bytes (Some Unhash) unsaid false ≡ writes (codes "{\"key\":\"5\",\"value\":\"7\"}\n") Done)
-    × (objects_outcome one_bytes (Some Unhash) unsaid true ≡ writes (codes "{\"slot\":5,\"control\":0,\"groups\":1,\"key\":\"5\",\"value\":\"7\"}\n") Done)
-    × (objects_outcome other_bytes None unsaid false ≡ writes (codes "{\"key\":\"050000000700\",\"value\":\"0000\"}\n") Done)
-    × (objects_outcome other_bytes None unsaid true ≡ writes (codes "{\"slot\":5,\"control\":0,\"groups\":1,\"key\":\"050000000700\",\"value\":\"0000\"}\n") Done)
+pub pairs : (dump_outcome one_bytes (Some Unhash) unsaid false true ≡ writes (codes "{\"key\":\"5\",\"value\":\"7\"}\n") Done)
+    × (dump_outcome one_bytes (Some Unhash) unsaid true true ≡ writes (codes "{\"slot\":5,\"control\":0,\"groups\":1,\"key\":\"5\",\"value\":\"7\"}\n") Done)
+    × (dump_outcome other_bytes None unsaid false true ≡ writes (codes "{\"key\":\"050000000700\",\"value\":\"0000\"}\n") Done)
+    × (dump_outcome other_bytes None unsaid true true ≡ writes (codes "{\"slot\":5,\"control\":0,\"groups\":1,\"key\":\"050000000700\",\"value\":\"0000\"}\n") Done)
 unfolding opened digits groups_to chars is_utf8 encode_utf8 pair_object slot_object
 pairs = (refl, refl, refl, refl)
 
 -- two bytes, and no hash function that fits
-pub refused : (objects_outcome (79 ∷ 68 ∷ []) None unsaid false ≡ fails (Refused (TooShort 2)))
-    × (objects_outcome (overwritten_at one_bytes 165 (1 ∷ [])) None unsaid false ≡ fails (NoHash 4 4))
+pub refused : (dump_outcome (79 ∷ 68 ∷ []) None unsaid false true ≡ fails (Refused (TooShort 2)))
+    × (dump_outcome (overwritten_at one_bytes 165 (1 ∷ [])) None unsaid false true ≡ fails (NoHash 4 4))
 unfolding opened
 refused = (refl, refl)
 

@@ -1,23 +1,16 @@
 //! `odht count`: how many items a table file has.
 ghost use Rattle.std.specs.Prelude.{◌≡◌, OnOk};
 ghost use Rattle.std.specs.Io.KnownBytes.{Appends};
-ghost use Rattle.odht_base.specs.Decoded.{header_count};
-ghost use Rattle.odht_base.specs.Valid.{IsValidBytes};
 ghost use Rattle.odht_tool.specs.Listings.{counted, count_line, count_outcome};
 ghost use Rattle.odht_tool_core.specs.AnyShapes.{HasLongKeys, any_format};
 ghost use Rattle.odht_tool_core.specs.Endings.{IsDone};
-ghost use Rattle.odht_tool_core.specs.ReadyShapes.{shape_format};
 
-use crate::commands::check::check_bytes;
-use crate::shapes::for_shape;
-use crate::sized::count_other;
-use odht::HashTable;
-use odht::bytes::Borrowed;
-use odht::config::{Coded, Config};
+use crate::commands::check::check_any;
+use odht_header::header::Header;
 use odht_tool_core::any::AnyShape;
 use odht_tool_core::failure::Failure;
 use odht_tool_core::found::found_any;
-use odht_tool_core::shapes::{Hash, Shape};
+use odht_tool_core::shapes::Hash;
 use odht_tool_core::status::{Status, of_output};
 use std::io::{self, Write};
 
@@ -43,33 +36,10 @@ fn count_any(shape: AnyShape, bytes: &[u8], bound: Option<usize>) -> Result<usiz
     requires { HasLongKeys shape }
     ensures { result ≡ counted (any_format shape) bound bytes.now }
 {
-    match shape {
-        AnyShape::Ready(shape) => count_of(shape, bytes, bound),
-        AnyShape::Other(other) => count_other(other, bytes, bound),
-    }
-}
-
-// The same of a ready shape.
-fn count_of(shape: Shape, bytes: &[u8], bound: Option<usize>) -> Result<usize, Failure>
-    ensures { result ≡ counted (shape_format shape) bound bytes.now }
-{
-    for_shape!(shape, count_items[](bytes, bound))
-}
-
-fn count_items<C: Config>(bytes: &[u8], bound: Option<usize>) -> Result<usize, Failure>
-    ensures { result ≡ counted ⟦<C as Coded>⟧.coding.format bound bytes.now }
-{
-    match check_bytes::<C>(bytes, bound) {
-        Ok(()) => Ok(stated_count::<C>(bytes)),
+    match check_any(shape, bytes, bound) {
+        Ok(()) => Ok(Header::of(bytes).item_count()),
         Err(error) => Err(Failure::Refused(error)),
     }
-}
-
-fn stated_count<C: Config>(bytes: &[u8]) -> usize
-    requires { IsValidBytes ⟦<C as Coded>⟧.coding.format bytes.now }
-    ensures { result ≡ header_count bytes.now }
-{
-    HashTable::<C, Borrowed<'_>>::from_raw_bytes_unchecked(Borrowed::new(bytes)).len()
 }
 
 fn write_count<O: Write>(label: &str, count: usize, output: &mut O) -> io::Result<()>

@@ -1,29 +1,27 @@
 //! `odht order`: the pairs of a table file, in an order of inserts that makes it.
-ghost use Rattle.std.specs.Prelude.{◌<◌, All, OnOk, map};
+ghost use Rattle.std.specs.Prelude.{◌≡◌, ◌≤◌, ◌<◌, All, IfOk, IfSome, None, Ok, OnOk, map};
 ghost use Rattle.std.specs.Io.KnownBytes.{Appends};
+ghost use Rattle.odht.specs.Tables.{OfTable};
 ghost use Rattle.odht_base.specs.Decoded.{header_slots};
+ghost use Rattle.odht_base.specs.Format.{format_of};
+ghost use Rattle.odht_base.specs.Made.{IsInsertOrder, IsMade};
 ghost use Rattle.odht_base.specs.Valid.{IsValidBytes};
-ghost use Rattle.odht_raw.specs.Walks.{decoded_all};
-ghost use Rattle.odht_tool.specs.Orders.{IsFileOrdered, IsOrdered, order_of_shape, stored_at};
-ghost use Rattle.odht_tool.specs.Orders.{unmade_text};
-ghost use Rattle.odht_tool_core.specs.Texts.{pair_line, pairs_text};
+ghost use Rattle.odht_tool.specs.Orders.{IsFileOrdered, IsOrdered, stored_at, unmade_text};
+ghost use Rattle.odht_tool_core.specs.ReadyShapes.{typed_len};
+ghost use Rattle.odht_tool_core.specs.StoredTexts.{lines_of};
 
-use crate::commands::check::check_bytes;
-use crate::shapes::for_shape;
-use crate::sized::orders::{find_order, order_other};
+use crate::commands::diff::read_whole;
+use crate::sized::lengths_of;
 use odht::bytes::Borrowed;
-use odht::config::{Coded, Config};
-use odht::dynamic::Layout;
-use odht::memory_layout::Allocation;
-use odht::raw_table::Entry;
-use odht_tool_core::answers::write_pair_as;
-use odht_tool_core::any::{AnyShape, read_any};
+use odht::dynamic::{DynTable, Layout};
+use odht::hash::HashFn;
+use odht::{FxHashFn, UnHashFn};
 use odht_tool_core::failure::Failure;
-use odht_tool_core::forms::{Forms, GivenForms, Kinds, OwnForms};
-use odht_tool_core::shapes::{Hash, Shape};
+use odht_tool_core::forms::Kinds;
+use odht_tool_core::shapes::Hash;
 use odht_tool_core::status::{Status, of_output};
-use odht_tool_core::text::Text;
-use std::alloc::Global;
+use odht_tool_core::typed::Texts;
+use std::alloc::{AllocError, Global};
 use std::io::{self, Write};
 
 /// `odht order` of the bytes of a file: writes a line for each pair, in an order of inserts that makes the table; or
@@ -40,111 +38,86 @@ pub fn order_file<O: Write>(
     ensures { IsFileOrdered bytes.now hash kinds bound
         (O.contents output.old) (O.contents output.new) result }
 {
-    let found = read_any(bytes, hash, kinds)?;
+    let found = read_whole(bytes, hash, kinds, bound)?;
     let (shape, forms) = found;
-    match shape {
-        AnyShape::Ready(shape) => order_ready(alloc, shape, forms, bytes, bound, output),
-        AnyShape::Other(shape) => order_other(alloc, shape, bytes, bound, output),
+    let texts = Texts::of(shape, forms);
+    match shape.hash() {
+        Hash::Fx => order_pairs::<FxHashFn, O>(alloc, texts, bytes, output),
+        Hash::Unhash => order_pairs::<UnHashFn, O>(alloc, texts, bytes, output),
     }
 }
 
-// The same of a ready shape, in these forms.
-fn order_ready<O: Write>(
+// The same of a valid table of a hash function.
+fn order_pairs<H: HashFn, O: Write>(
     alloc: Global,
-    shape: Shape,
-    forms: GivenForms,
+    texts: Texts,
     bytes: &[u8],
-    bound: Option<usize>,
     output: &mut O,
 ) -> Result<Status, Failure>
-    ensures { order_of_shape (forms.key, forms.value) bytes.now bound
-        (O.contents output.old) (O.contents output.new) result shape }
+    requires hashes { H.MIN_LEN ≤ typed_len texts.key }
+    requires valid { IsValidBytes
+        (format_of (typed_len texts.key) (typed_len texts.value) H.hash) bytes.now }
+    ensures { let F = format_of (typed_len texts.key) (typed_len texts.value) H.hash
+        in IsOrdered F texts bytes.now (O.contents output.old) (O.contents output.new) result }
 {
-    if forms.are_own() {
-        order_of(alloc, shape, OwnForms, bytes, bound, output)
-    } else {
-        order_of(alloc, shape, forms, bytes, bound, output)
-    }
-}
-
-fn order_of<F: Forms, O: Write>(
-    alloc: Global,
-    shape: Shape,
-    forms: F,
-    bytes: &[u8],
-    bound: Option<usize>,
-    output: &mut O,
-) -> Result<Status, Failure>
-    ensures { order_of_shape (F.pair forms) bytes.now bound
-        (O.contents output.old) (O.contents output.new) result shape }
-{
-    for_shape!(shape, order_pairs[F, O](alloc, bytes, bound, forms, output))
-}
-
-fn order_pairs<C: Config, F: Forms, O: Write>(
-    alloc: Global,
-    bytes: &[u8],
-    bound: Option<usize>,
-    forms: F,
-    output: &mut O,
-) -> Result<Status, Failure>
-where
-    C::Key: Text,
-    C::Value: Text,
-    ensures { IsOrdered ⟦<C as Coded>⟧.coding (C.Key.text (F.pair forms).0)
-        (C.Value.text (F.pair forms).1) bound bytes.now
-        (O.contents output.old) (O.contents output.new) result }
-{
-    check_bytes::<C>(bytes, bound).map_err(Failure::Refused)?;
-    match find_order::<C::H>(alloc, Layout::of::<C>(), bytes)? {
+    let layout = lengths_of(texts.key, texts.value);
+    match find_order::<H>(alloc, layout, bytes)? {
         Some(order) => {
             let order = order.as_slice();
-            of_output(write_order::<C, F, O>(bytes, order, forms, output))
+            of_output(write_order::<H, O>(texts, layout, bytes, order, output))
         }
         None => Ok(Status::NotDone),
     }
 }
 
-// Writes the pairs of these slots, each on a line.
-fn write_order<C: Config, F: Forms, O: Write>(
+// The slots of a valid table of these lengths in an insert order. None where no inserts make it.
+fn find_order<H: HashFn>(
+    alloc: Global,
+    layout: Layout,
     bytes: &[u8],
-    order: &[usize],
-    forms: F,
-    output: &mut O,
-) -> io::Result<()>
-where
-    C::Key: Text,
-    C::Value: Text,
-    requires valid { IsValidBytes ⟦<C as Coded>⟧.coding.format bytes.now }
-    requires slots { All (λ i. i < header_slots bytes.now) order.now }
-    ensures { let c = ⟦<C as Coded>⟧.coding
-        in let pairs = decoded_all c (map (stored_at c.format bytes.now) order.now)
-        in OnOk result (Appends (O.contents output.old) (O.contents output.new)
-        (pairs_text (C.Key.text (F.pair forms).0) (C.Value.text (F.pair forms).1) pairs)) }
+) -> Result<Option<Vec<usize>>, AllocError>
+    requires hashes { H.MIN_LEN ≤ layout.key_len }
+    requires valid { IsValidBytes (format_of layout.key_len layout.value_len H.hash) bytes.now }
+    ensures order { let F = format_of layout.key_len layout.value_len H.hash
+        in IfOk result (λ found. IfSome found
+        (λ order. OfTable F bytes.now (λ P. IsInsertOrder F P order.items))) }
+    ensures none { let F = format_of layout.key_len layout.value_len H.hash
+        in result ≡ Ok None → OfTable F bytes.now (λ P. IsMade F P → ⊥) }
 {
-    let table = Allocation::<C, Borrowed<'_>>::from_raw_bytes_unchecked(Borrowed::new(bytes));
-    let (_, entries) = table.data_slices();
-    for slot in order {
-        write_entry::<C, F, O>(&entries.get(*slot), forms, output)?;
+    let table = DynTable::<H, Borrowed<'_>>::open_unchecked(layout, Borrowed::new(bytes));
+    let (count, scratch_len) = (table.len(), table.insert_order_scratch());
+    let mut order = vec![in alloc; 0; count]?;
+    let mut scratch = vec![in alloc; 0; scratch_len]?;
+    if table.insert_order_with(order.as_mut_slice(), scratch.as_mut_slice()) {
+        Ok(Some(order))
+    } else {
+        Ok(None)
     }
-    Ok(())
 }
 
-fn write_entry<C: Config, F: Forms, O: Write>(
-    entry: &Entry<C::EncodedKey, C::EncodedValue>,
-    forms: F,
+// Writes the pairs of these slots, each on a line.
+fn write_order<H: HashFn, O: Write>(
+    texts: Texts,
+    layout: Layout,
+    bytes: &[u8],
+    order: &[usize],
     output: &mut O,
 ) -> io::Result<()>
-where
-    C::Key: Text,
-    C::Value: Text,
-    ensures { let key = C.decode_key entry.now.key
-        in let value = C.decode_value entry.now.value
+    requires key { layout.key_len ≡ typed_len texts.key }
+    requires value { layout.value_len ≡ typed_len texts.value }
+    requires hashes { H.MIN_LEN ≤ layout.key_len }
+    requires valid { IsValidBytes (format_of layout.key_len layout.value_len H.hash) bytes.now }
+    requires slots { All (λ i. i < header_slots bytes.now) order.now }
+    ensures { let F = format_of layout.key_len layout.value_len H.hash
         in OnOk result (Appends (O.contents output.old) (O.contents output.new)
-        (pair_line (C.Key.text (F.pair forms).0) (C.Value.text (F.pair forms).1) (key, value))) }
+        (lines_of texts (map (stored_at F bytes.now) order.now))) }
 {
-    let (key, value) = (C::decode_key(&entry.key), C::decode_value(&entry.value));
-    write_pair_as(&key, &value, forms, output)
+    let table = DynTable::<H, Borrowed<'_>>::open_unchecked(layout, Borrowed::new(bytes));
+    let slots = table.as_sized();
+    for slot in order {
+        texts.write_pair(slots.key(*slot), slots.value(*slot), output)?;
+    }
+    Ok(())
 }
 
 /// Writes a line that says that no inserts make the table of the file.

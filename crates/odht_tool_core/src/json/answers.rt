@@ -1,12 +1,13 @@
 //! Keys that were looked up, and their values, as lines of text or as objects of JSON.
 ghost use Rattle.std.specs.Prelude.{◌≡◌, length, OnOk};
 ghost use Rattle.std.specs.Io.KnownBytes.{Appends};
+ghost use Rattle.odht_tool_core.specs.Json.{json_field, pair_fields_text, pair_object, text_field};
 ghost use Rattle.odht_tool_core.specs.JsonAnswers.{absent_object, answer_in, answer_object};
 ghost use Rattle.odht_tool_core.specs.Texts.{answers_by};
 
 use crate::answers::write_answers_as;
 use crate::forms::{Form, Forms};
-use crate::json::pairs::{write_pair_object, write_text_field};
+use crate::json::pairs::write_any_field;
 use crate::text::Text;
 use std::io::{self, Write};
 
@@ -68,9 +69,40 @@ fn write_object<K: Text, V: Text, F: Forms, O: Write>(
         (answer_object f g (key.now, value.now))) }
 {
     match value {
-        Some(value) => write_pair_object(key, value, forms, output),
+        Some(value) => write_found(key, value, forms, output),
         None => write_absent(key, forms.key(), output),
     }
+}
+
+// Writes the object of a key and its value.
+fn write_found<K: Text, V: Text, F: Forms, O: Write>(
+    key: &K,
+    value: &V,
+    forms: F,
+    output: &mut O,
+) -> io::Result<()>
+    ensures { OnOk result (Appends (O.contents output.old) (O.contents output.new)
+        (pair_object (K.text (F.pair forms).0) (V.text (F.pair forms).1) (key.now, value.now))) }
+{
+    output.write_all(b"{")?;
+    write_fields(key, value, forms, output)
+}
+
+// Writes the fields of a key and its value, the end of their object, and of its line.
+fn write_fields<K: Text, V: Text, F: Forms, O: Write>(
+    key: &K,
+    value: &V,
+    forms: F,
+    output: &mut O,
+) -> io::Result<()>
+    ensures { OnOk result (Appends (O.contents output.old) (O.contents output.new)
+        (pair_fields_text (K.text (F.pair forms).0) (V.text (F.pair forms).1)
+        (key.now, value.now))) }
+{
+    write_text_field("key", key, forms.key(), output)?;
+    output.write_all(b",")?;
+    write_text_field("value", value, forms.value(), output)?;
+    output.write_all(b"}\n")
 }
 
 // Writes the object of a key that is absent.
@@ -81,4 +113,22 @@ fn write_absent<K: Text, O: Write>(key: &K, form: Form, output: &mut O) -> io::R
     output.write_all(b"{")?;
     write_text_field("key", key, form, output)?;
     output.write_all(b",\"value\":null}\n")
+}
+
+// Writes a field that is the text of a key or a value.
+fn write_text_field<T: Text, O: Write>(
+    name: &str,
+    value: &T,
+    form: Form,
+    output: &mut O,
+) -> io::Result<()>
+    ensures { OnOk result (Appends (O.contents output.old) (O.contents output.new)
+        (json_field (text_field name.now (T.text form value.now)))) }
+{
+    if let Some(text) = value.plain_bytes(form) {
+        return write_any_field(name, text, output);
+    }
+    write!(output, "\"{name}\":\"")?;
+    value.write(form, output)?;
+    output.write_all(b"\"")
 }

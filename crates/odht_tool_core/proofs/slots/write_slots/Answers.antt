@@ -4,6 +4,7 @@ use Rattle.std.proofs.KnownBytes.{Appends-trans}
 use Rattle.odht_header.specs.Coding.{coding_of}
 use Rattle.odht_raw.specs.Parts.{TableParts}
 use Rattle.odht_tool_core.specs.Slots.{slot_line, slots_text}
+use Rattle.odht_tool_core.specs.declared.forms.Form.TheVariants.{Own}
 use Rattle.odht_tool_core.proofs.Counting.{written_more}
 use Rattle.odht_tool_core.proofs.slots.write_slots.Goals as goal
 
@@ -13,8 +14,8 @@ loop-slot-preserved g c =
     g.C.EncodedValue.ByteArray.LEN g.C.EncodedValue.ByteArray.bytes g.C.EncodedValue.ByteArray.of_bytes
     g.C.H.HashFn.hash g.C.Config.encode_key g.C.Config.encode_value g.C.Config.decode_key g.C.Config.decode_value in
     let T : TableParts = record { control = c.data_slices-entries.result.0.now; entries = c.data_slices-entries.result.1 } in
-    let f = g.C.Key.Text.text (g.F.Forms.pair c.args.forms).0 in
-    let h = g.C.Value.Text.text (g.F.Forms.pair c.args.forms).1 in
+    let f = g.C.Key.Text.text Own in
+    let h = g.C.Value.Text.text Own in
     let line = slot_line coding f h T in
     let n = c.loop-slot.slot in
     let old = g.O.Write.contents c.args.output.now in

@@ -5,7 +5,6 @@ use crate::host::prelude::*;
 
 pub mod answers;
 pub mod pairs;
-pub mod sized_slots;
 pub mod slots;
 
 use crate::erased::core::text::write_bytes;

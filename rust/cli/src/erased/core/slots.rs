@@ -1,10 +1,10 @@
 // Made by `make rust` of crates/odht_tool_core/src/slots.rt.
 //! The occupied slots of a table, a line for each.
 
-use crate::erased::core::answers::write_pair_as;
+use crate::erased::core::answers::write_pair;
 use crate::erased::core::digits::write_number;
 use crate::erased::core::failure::Failure;
-use crate::erased::core::forms::{Form, Forms, OwnForms};
+use crate::erased::core::forms::Form;
 use crate::erased::core::groups::groups_to;
 use crate::erased::core::status::{of_output, Status};
 use crate::erased::core::text::Text;
@@ -18,34 +18,19 @@ use std::io::{self, Write};
 
 /// `odht dump --slots` of bytes of a configuration: writes a line for each occupied slot, in slot order, in the texts that
 /// the types of key and value have.
-#[inline]
 pub fn dump_slots<C: Config, O: Write>(bytes: &[u8], output: &mut O) -> Result<Status, Failure>
-where
-    C::Key: Text,
-    C::Value: Text,
-{
-    dump_slots_as::<C, OwnForms, O>(bytes, OwnForms, output)
-}
-
-/// `dump_slots` in texts of these forms.
-pub fn dump_slots_as<C: Config, F: Forms, O: Write>(
-    bytes: &[u8],
-    forms: F,
-    output: &mut O,
-) -> Result<Status, Failure>
 where
     C::Key: Text,
     C::Value: Text,
 {
     let allocation = Allocation::<C, Borrowed<'_>>::from_raw_bytes(Borrowed::new(bytes))
         .map_err(Failure::Refused)?;
-    of_output(write_slots(&allocation, forms, output))
+    of_output(write_slots(&allocation, output))
 }
 
 // Writes a line for each occupied slot.
-fn write_slots<C: Config, F: Forms, O: Write>(
+fn write_slots<C: Config, O: Write>(
     allocation: &Allocation<C, Borrowed<'_>>,
-    forms: F,
     output: &mut O,
 ) -> io::Result<()>
 where
@@ -54,18 +39,17 @@ where
 {
     let (control, entries) = allocation.data_slices();
     for slot in 0..entries.len() {
-        write_slot::<C, F, O>(control, &entries, slot, forms, output)?;
+        write_slot::<C, O>(control, &entries, slot, output)?;
     }
     Ok(())
 }
 
 // Writes the line of a slot, where it is occupied: its number, its control byte, how many groups a search reads, and
 // its pair.
-fn write_slot<C: Config, F: Forms, O: Write>(
+fn write_slot<C: Config, O: Write>(
     control: &[u8],
     entries: &Entries<'_, C::EncodedKey, C::EncodedValue>,
     slot: usize,
-    forms: F,
     output: &mut O,
 ) -> io::Result<()>
 where
@@ -80,7 +64,7 @@ where
     let groups = groups_to(C::H::hash(entry.key.as_slice()), slot, entries.len(), None);
     write_numbers(slot, tag, groups, output)?;
     let (key, value) = (C::decode_key(&entry.key), C::decode_value(&entry.value));
-    write_pair_as(&key, &value, forms, output)
+    write_pair(&key, &value, output)
 }
 
 /// Writes the number of a slot, its control byte and a number of groups, each with a tab after it.

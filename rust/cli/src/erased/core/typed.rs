@@ -1,12 +1,16 @@
 // Made by `make rust` of crates/odht_tool_core/src/typed.rt.
 //! The texts of keys and values, of their stored bytes and their types.
 
+use crate::host::prelude::*;
+
+pub mod stored;
+
 use crate::erased::core::any::AnyShape;
 use crate::erased::core::forms::{Form, GivenForms};
-use crate::erased::core::plain::write_plain;
+use crate::erased::core::hexadecimal::no_plain_bytes;
+use crate::erased::core::plain::{plain_of, write_plain};
 use crate::erased::core::shapes::Part;
 use crate::erased::core::text::{write_bytes, Text};
-use crate::host::prelude::*;
 use crate::proved::base::bytes::ByteArray;
 use std::io::{self, Write};
 
@@ -38,6 +42,7 @@ impl Texts {
     }
 
     /// Writes a line of the key and the value that are stored as these bytes.
+    #[inline(always)]
     pub fn write_pair<W: Write>(self, key: &[u8], value: &[u8], output: &mut W) -> io::Result<()> {
         self.write_key(key, output)?;
         output.write_all(b"\t")?;
@@ -46,8 +51,14 @@ impl Texts {
     }
 }
 
-// Writes the text, in this form, of the key or the value of this type that is stored as these bytes.
-fn write_stored<W: Write>(part: Part, form: Form, bytes: &[u8], output: &mut W) -> io::Result<()> {
+/// Writes the text, in this form, of the key or the value of this type that is stored as these bytes.
+#[inline(always)]
+pub(crate) fn write_stored<W: Write>(
+    part: Part,
+    form: Form,
+    bytes: &[u8],
+    output: &mut W,
+) -> io::Result<()> {
     match part {
         Part::Nothing => output.write_all(b""),
         Part::U32 => u32::from_le_bytes(<[u8; 4]>::from_slice(bytes)).write(form, output),
@@ -60,5 +71,20 @@ fn write_stored_bytes<W: Write>(form: Form, bytes: &[u8], output: &mut W) -> io:
     match form {
         Form::Plain => write_plain(bytes, output),
         _ => write_bytes(bytes, output),
+    }
+}
+
+/// The text, where it may have any bytes. None where each is a character that stands for itself in strings of JSON.
+pub(crate) fn plain_bytes(part: Part, form: Form, bytes: &[u8]) -> Option<&[u8]> {
+    match part {
+        Part::Bytes(_) => plain_bytes_in(form, bytes),
+        _ => None,
+    }
+}
+
+fn plain_bytes_in(form: Form, bytes: &[u8]) -> Option<&[u8]> {
+    match form {
+        Form::Plain => Some(plain_of(bytes)),
+        _ => no_plain_bytes(bytes),
     }
 }

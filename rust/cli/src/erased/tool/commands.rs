@@ -26,7 +26,6 @@ mod delete;
 mod delete_lines;
 mod diff;
 mod dump;
-mod dump_json;
 mod find;
 mod find_json;
 mod get;
@@ -235,11 +234,7 @@ fn run_reading<I: BufRead, O: Write, E: Write>(
             find_in(alloc, file, bytes, *bound, *is_json, output, errors)
         }
         Reading::Dump { hash, kinds, is_slots, is_json } => {
-            if *is_json {
-                dump_json::dump_file(bytes, *hash, *kinds, *is_slots, output)
-            } else {
-                dump::dump_file(bytes, *hash, *kinds, *is_slots, output)
-            }
+            dump::dump_file(bytes, *hash, *kinds, *is_slots, *is_json, output)
         }
         Reading::Keys { hash, kinds } => keys::keys_file(bytes, *hash, *kinds, output),
         Reading::Order { hash, kinds, bound } => {

@@ -1,9 +1,9 @@
 // Made by `make rust` of crates/odht_tool/src/sized.rt.
-//! Tables of other sizes than the ready shapes have: keys and values are bytes, of lengths that the header states.
+//! Tables of lengths that are numbers: keys and values are bytes, of lengths that the header states.
 
 use crate::erased::core::any::OtherShape;
 use crate::erased::core::failure::Failure;
-use crate::erased::core::shapes::Hash;
+use crate::erased::core::shapes::{Hash, Part};
 use crate::host::prelude::*;
 use crate::proved::tables::bytes::Borrowed;
 use crate::proved::tables::dynamic::{DynTable, Layout};
@@ -17,13 +17,15 @@ pub mod builds;
 pub mod deletes;
 pub mod diffs;
 pub mod gets;
-pub mod listings;
-pub mod objects;
-pub mod orders;
 
 /// The lengths of a shape.
 pub fn layout_of(shape: OtherShape) -> Layout {
     Layout { key_len: shape.key_len, value_len: shape.value_len }
+}
+
+/// The lengths of keys and values of these types.
+pub fn lengths_of(key: Part, value: Part) -> Layout {
+    Layout { key_len: key.size(), value_len: value.size() }
 }
 
 /// The first rule that the bytes break, as a table of this shape, the bound of searches among them where there is one.
@@ -49,19 +51,6 @@ pub fn check_lengths<H: HashFn>(
     }
 }
 
-/// How many items a table of this shape has, or the first rule that it breaks.
-pub fn count_other(
-    shape: OtherShape,
-    bytes: &[u8],
-    bound: Option<usize>,
-) -> Result<usize, Failure> {
-    let layout = layout_of(shape);
-    match shape.hash {
-        Hash::Fx => count_lengths::<FxHashFn>(layout, bytes, bound),
-        Hash::Unhash => count_lengths::<UnHashFn>(layout, bytes, bound),
-    }
-}
-
 /// Opens the bytes as a table of these lengths.
 pub fn open_lengths<H: HashFn>(
     layout: Layout,
@@ -69,18 +58,4 @@ pub fn open_lengths<H: HashFn>(
 ) -> Result<DynTable<H, Borrowed<'_>>, Failure> {
     check_opening::<H>(bytes, layout).map_err(Failure::Refused)?;
     Ok(DynTable::open_unchecked(layout, Borrowed::new(bytes)))
-}
-
-fn count_lengths<H: HashFn>(
-    layout: Layout,
-    bytes: &[u8],
-    bound: Option<usize>,
-) -> Result<usize, Failure> {
-    match check_lengths::<H>(layout, bytes, bound) {
-        Ok(()) => {
-            let store = Borrowed::new(bytes);
-            Ok(DynTable::<H, Borrowed<'_>>::open_unchecked(layout, store).len())
-        }
-        Err(error) => Err(Failure::Refused(error)),
-    }
 }

@@ -1,8 +1,12 @@
 use Rattle.std.proofs.Common.{rules, ◌≡◌, ◌∙◌, Err, sym, subst}
 use Rattle.std.specs.Io.KnownBytes.{Keeps}
-use Rattle.odht_tool.specs.Orders.{order_of_any, order_of_forms}
-use Rattle.odht_tool_core.specs.AnyShapes.{read_any}
-use Rattle.odht_tool.proofs.Shaped.{without_shape_said, with_shape_said}
+use Rattle.odht_base.specs.Format.{Format}
+use Rattle.odht_base.specs.Valid.{IsValidBytes}
+use Rattle.odht_tool.specs.Diffs.{whole_any}
+use Rattle.odht_tool.specs.Orders.{IsOrdered, order_of_forms}
+use Rattle.odht_tool_core.specs.declared.shapes.Hash.TheVariants.{Fx, Unhash}
+use Rattle.odht_tool_core.specs.declared.typed.Texts.{Texts}
+use Rattle.odht_tool.proofs.Shaped.{table_of, without_shape_said, with_shape_said}
 use Rattle.odht_tool.proofs.commands.order.order_file.Goals as goal
 
 pub returns-in_err-found : goal.returns-in_err-found
@@ -11,26 +15,40 @@ returns-in_err-found g c =
     let x = c.in_err-found.field-0.0 in
     let old = g.O.Write.contents c.args.output.now in
     let failed : c.from_residual.result ≡ Err x = search rules in
-    rw failed (without_shape_said (read_any B c.args.hash c.args.kinds) x old (order_of_forms B c.args.bound old old (Err x)) (sym c.in_err-found.was ∙ c.read_any.ensures.forms))
+    rw failed (without_shape_said (whole_any B c.args.hash c.args.kinds c.args.bound) x old (order_of_forms B old old (Err x)) (sym c.in_err-found.was ∙ c.read_whole.ensures.whole))
 
-pub returns-in-Ready : goal.returns-in-Ready
-returns-in-Ready g c =
+pub returns-in-Fx : goal.returns-in-Fx
+returns-in-Fx g c =
     let B = c.args.bytes.now in
     let old = g.O.Write.contents c.args.output.now in
-    let new = g.O.Write.contents c.order_ready.new.output in
-    let r = c.order_ready.result in
+    let new = g.O.Write.contents c.order_pairs.new.output in
+    let r = c.order_pairs.result in
     let found = c.in_ok-found.found in
-    with_shape_said (read_any B c.args.hash c.args.kinds) found (order_of_forms B c.args.bound old new r) (λ x. (r ≡ Err x) × Keeps old new)
-    (sym c.in_ok-found.was ∙ c.read_any.ensures.forms)
-    (subst (order_of_any (found.1.key, found.1.value) B c.args.bound old new r) (sym c.in-Ready.is) c.order_ready.ensures)
+    let table = table_of found.0 found.1 c.of-texts.result Fx c.of-texts.ensures (sym c.hash.ensures ∙ c.in-Fx.is) in
+    with_shape_said (whole_any B c.args.hash c.args.kinds c.args.bound) found (order_of_forms B old new r) (λ x. (r ≡ Err x) × Keeps old new)
+    (sym c.in_ok-found.was ∙ c.read_whole.ensures.whole)
+    (subst (λ (x : Format × Texts). IsOrdered x.0 x.1 B old new r) table c.order_pairs.ensures)
 
-pub returns-in-Other : goal.returns-in-Other
-returns-in-Other g c =
+pub order_pairs-requires-clause-valid : goal.order_pairs-requires-clause-valid
+order_pairs-requires-clause-valid g c =
+    let found = c.in_ok-found.found in
+    let table = table_of found.0 found.1 c.of-texts.result Fx c.of-texts.ensures (sym c.hash.ensures ∙ c.in-Fx.is) in
+    subst (λ (x : Format × Texts). IsValidBytes x.0 c.args.bytes.now) (sym table) c.in_ok-found.ensures.valid
+
+pub returns-in-Unhash : goal.returns-in-Unhash
+returns-in-Unhash g c =
     let B = c.args.bytes.now in
     let old = g.O.Write.contents c.args.output.now in
-    let new = g.O.Write.contents c.order_other.new.output in
-    let r = c.order_other.result in
+    let new = g.O.Write.contents c.order_pairs-in-Unhash.new.output in
+    let r = c.order_pairs-in-Unhash.result in
     let found = c.in_ok-found.found in
-    with_shape_said (read_any B c.args.hash c.args.kinds) found (order_of_forms B c.args.bound old new r) (λ x. (r ≡ Err x) × Keeps old new)
-    (sym c.in_ok-found.was ∙ c.read_any.ensures.forms)
-    (subst (order_of_any (found.1.key, found.1.value) B c.args.bound old new r) (sym c.in-Other.is) c.order_other.ensures)
+    let table = table_of found.0 found.1 c.of-texts.result Unhash c.of-texts.ensures (sym c.hash.ensures ∙ c.in-Unhash.is) in
+    with_shape_said (whole_any B c.args.hash c.args.kinds c.args.bound) found (order_of_forms B old new r) (λ x. (r ≡ Err x) × Keeps old new)
+    (sym c.in_ok-found.was ∙ c.read_whole.ensures.whole)
+    (subst (λ (x : Format × Texts). IsOrdered x.0 x.1 B old new r) table c.order_pairs-in-Unhash.ensures)
+
+pub order_pairs-requires-in-Unhash-clause-valid : goal.order_pairs-requires-in-Unhash-clause-valid
+order_pairs-requires-in-Unhash-clause-valid g c =
+    let found = c.in_ok-found.found in
+    let table = table_of found.0 found.1 c.of-texts.result Unhash c.of-texts.ensures (sym c.hash.ensures ∙ c.in-Unhash.is) in
+    subst (λ (x : Format × Texts). IsValidBytes x.0 c.args.bytes.now) (sym table) c.in_ok-found.ensures.valid

@@ -2,6 +2,7 @@ use Rattle.std.proofs.Common.{[], ◌∷◌, subst}
 use Rattle.std.specs.Io.KnownBytes.{Appends}
 use Rattle.std.specs.Prelude.{OnOk, codes}
 use Rattle.odht_tool_core.specs.Json.{pair_fields_text, pair_object, text_field}
+use Rattle.odht_tool_core.specs.StoredTexts.{key_text, value_text}
 use Rattle.odht_tool_core.proofs.InfoLines.{then_appends}
 use Rattle.odht_tool_core.proofs.JsonFields.{pair_parts}
 use Rattle.odht_tool_core.proofs.json.pairs.write_pair_object.Goals as goal
@@ -14,8 +15,8 @@ returns g c =
     let old = o c.args.output.now in
     let new = o c.write_pair_fields.new.output in
     let r = c.write_pair_fields.result in
-    let f = g.K.Text.text (g.F.Forms.pair c.args.forms).0 in
-    let h = g.V.Text.text (g.F.Forms.pair c.args.forms).1 in
+    let f = key_text c.args.texts in
+    let h = value_text c.args.texts in
     let parts = pair_parts (text_field (codes "key") (f c.args.key.now)) (text_field (codes "value") (h c.args.value.now)) in
     let written = then_appends r old (o c.write_all.new.self) new (123 ∷ []) (pair_fields_text f h (c.args.key.now, c.args.value.now)) c.in_ok-write_all.ensures.bytes c.write_pair_fields.ensures in
     subst (λ t. OnOk r (Appends old new t)) parts written

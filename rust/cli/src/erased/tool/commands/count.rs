@@ -4,15 +4,11 @@
 use crate::erased::core::any::AnyShape;
 use crate::erased::core::failure::Failure;
 use crate::erased::core::found::found_any;
-use crate::erased::core::shapes::{Hash, Shape};
+use crate::erased::core::shapes::Hash;
 use crate::erased::core::status::{of_output, Status};
-use crate::erased::tool::commands::check::check_bytes;
-use crate::erased::tool::shapes::for_shape;
-use crate::erased::tool::sized::count_other;
+use crate::erased::tool::commands::check::check_any;
 use crate::host::prelude::*;
-use crate::proved::tables::bytes::Borrowed;
-use crate::proved::tables::config::Config;
-use crate::proved::tables::HashTable;
+use crate::proved::header::header::Header;
 use std::io::{self, Write};
 
 /// `odht count` of the bytes of a file: writes the label, and how many items the table has; or fails with the first
@@ -31,26 +27,10 @@ pub fn count_file<O: Write>(
 
 // How many items a table of this shape has, or the first rule that it breaks.
 fn count_any(shape: AnyShape, bytes: &[u8], bound: Option<usize>) -> Result<usize, Failure> {
-    match shape {
-        AnyShape::Ready(shape) => count_of(shape, bytes, bound),
-        AnyShape::Other(other) => count_other(other, bytes, bound),
-    }
-}
-
-// The same of a ready shape.
-fn count_of(shape: Shape, bytes: &[u8], bound: Option<usize>) -> Result<usize, Failure> {
-    for_shape!(shape, count_items[](bytes, bound))
-}
-
-fn count_items<C: Config>(bytes: &[u8], bound: Option<usize>) -> Result<usize, Failure> {
-    match check_bytes::<C>(bytes, bound) {
-        Ok(()) => Ok(stated_count::<C>(bytes)),
+    match check_any(shape, bytes, bound) {
+        Ok(()) => Ok(Header::of(bytes).item_count()),
         Err(error) => Err(Failure::Refused(error)),
     }
-}
-
-fn stated_count<C: Config>(bytes: &[u8]) -> usize {
-    HashTable::<C, Borrowed<'_>>::from_raw_bytes_unchecked(Borrowed::new(bytes)).len()
 }
 
 fn write_count<O: Write>(label: &str, count: usize, output: &mut O) -> io::Result<()> {

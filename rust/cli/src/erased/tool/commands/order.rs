@@ -1,23 +1,19 @@
 // Made by `make rust` of crates/odht_tool/src/commands/order.rt.
 //! `odht order`: the pairs of a table file, in an order of inserts that makes it.
 
-use crate::erased::core::answers::write_pair_as;
-use crate::erased::core::any::{read_any, AnyShape};
 use crate::erased::core::failure::Failure;
-use crate::erased::core::forms::{Forms, GivenForms, Kinds, OwnForms};
-use crate::erased::core::shapes::{Hash, Shape};
+use crate::erased::core::forms::Kinds;
+use crate::erased::core::shapes::Hash;
 use crate::erased::core::status::{of_output, Status};
-use crate::erased::core::text::Text;
-use crate::erased::tool::commands::check::check_bytes;
-use crate::erased::tool::shapes::for_shape;
-use crate::erased::tool::sized::orders::{find_order, order_other};
+use crate::erased::core::typed::Texts;
+use crate::erased::tool::commands::diff::read_whole;
+use crate::erased::tool::sized::lengths_of;
 use crate::host::prelude::*;
 use crate::proved::tables::bytes::Borrowed;
-use crate::proved::tables::config::Config;
-use crate::proved::tables::dynamic::Layout;
-use crate::proved::tables::memory_layout::Allocation;
-use crate::proved::tables::raw_table::Entry;
-use crate::shim::Global;
+use crate::proved::tables::dynamic::{DynTable, Layout};
+use crate::proved::tables::hash::HashFn;
+use crate::proved::tables::{FxHashFn, UnHashFn};
+use crate::shim::{AllocError, Global};
 use std::io::{self, Write};
 
 /// `odht order` of the bytes of a file: writes a line for each pair, in an order of inserts that makes the table; or
@@ -31,92 +27,63 @@ pub fn order_file<O: Write>(
     bound: Option<usize>,
     output: &mut O,
 ) -> Result<Status, Failure> {
-    let found = read_any(bytes, hash, kinds)?;
+    let found = read_whole(bytes, hash, kinds, bound)?;
     let (shape, forms) = found;
-    match shape {
-        AnyShape::Ready(shape) => order_ready(alloc, shape, forms, bytes, bound, output),
-        AnyShape::Other(shape) => order_other(alloc, shape, bytes, bound, output),
+    let texts = Texts::of(shape, forms);
+    match shape.hash() {
+        Hash::Fx => order_pairs::<FxHashFn, O>(alloc, texts, bytes, output),
+        Hash::Unhash => order_pairs::<UnHashFn, O>(alloc, texts, bytes, output),
     }
 }
 
-// The same of a ready shape, in these forms.
-fn order_ready<O: Write>(
+// The same of a valid table of a hash function.
+fn order_pairs<H: HashFn, O: Write>(
     alloc: Global,
-    shape: Shape,
-    forms: GivenForms,
+    texts: Texts,
     bytes: &[u8],
-    bound: Option<usize>,
     output: &mut O,
 ) -> Result<Status, Failure> {
-    if forms.are_own() {
-        order_of(alloc, shape, OwnForms, bytes, bound, output)
-    } else {
-        order_of(alloc, shape, forms, bytes, bound, output)
-    }
-}
-
-fn order_of<F: Forms, O: Write>(
-    alloc: Global,
-    shape: Shape,
-    forms: F,
-    bytes: &[u8],
-    bound: Option<usize>,
-    output: &mut O,
-) -> Result<Status, Failure> {
-    for_shape!(shape, order_pairs[F, O](alloc, bytes, bound, forms, output))
-}
-
-fn order_pairs<C: Config, F: Forms, O: Write>(
-    alloc: Global,
-    bytes: &[u8],
-    bound: Option<usize>,
-    forms: F,
-    output: &mut O,
-) -> Result<Status, Failure>
-where
-    C::Key: Text,
-    C::Value: Text,
-{
-    check_bytes::<C>(bytes, bound).map_err(Failure::Refused)?;
-    match find_order::<C::H>(alloc, Layout::of::<C>(), bytes)? {
+    let layout = lengths_of(texts.key, texts.value);
+    match find_order::<H>(alloc, layout, bytes)? {
         Some(order) => {
             let order = order.as_slice();
-            of_output(write_order::<C, F, O>(bytes, order, forms, output))
+            of_output(write_order::<H, O>(texts, layout, bytes, order, output))
         }
         None => Ok(Status::NotDone),
     }
 }
 
-// Writes the pairs of these slots, each on a line.
-fn write_order<C: Config, F: Forms, O: Write>(
+// The slots of a valid table of these lengths in an insert order. None where no inserts make it.
+fn find_order<H: HashFn>(
+    alloc: Global,
+    layout: Layout,
     bytes: &[u8],
-    order: &[usize],
-    forms: F,
-    output: &mut O,
-) -> io::Result<()>
-where
-    C::Key: Text,
-    C::Value: Text,
-{
-    let table = Allocation::<C, Borrowed<'_>>::from_raw_bytes_unchecked(Borrowed::new(bytes));
-    let (_, entries) = table.data_slices();
-    for slot in order {
-        write_entry::<C, F, O>(&entries.get(*slot), forms, output)?;
+) -> Result<Option<Vec<usize>>, AllocError> {
+    let table = DynTable::<H, Borrowed<'_>>::open_unchecked(layout, Borrowed::new(bytes));
+    let (count, scratch_len) = (table.len(), table.insert_order_scratch());
+    let mut order = crate::host::lists::filled(alloc, 0, count)?;
+    let mut scratch = crate::host::lists::filled(alloc, 0, scratch_len)?;
+    if table.insert_order_with(order.as_mut_slice(), scratch.as_mut_slice()) {
+        Ok(Some(order))
+    } else {
+        Ok(None)
     }
-    Ok(())
 }
 
-fn write_entry<C: Config, F: Forms, O: Write>(
-    entry: &Entry<C::EncodedKey, C::EncodedValue>,
-    forms: F,
+// Writes the pairs of these slots, each on a line.
+fn write_order<H: HashFn, O: Write>(
+    texts: Texts,
+    layout: Layout,
+    bytes: &[u8],
+    order: &[usize],
     output: &mut O,
-) -> io::Result<()>
-where
-    C::Key: Text,
-    C::Value: Text,
-{
-    let (key, value) = (C::decode_key(&entry.key), C::decode_value(&entry.value));
-    write_pair_as(&key, &value, forms, output)
+) -> io::Result<()> {
+    let table = DynTable::<H, Borrowed<'_>>::open_unchecked(layout, Borrowed::new(bytes));
+    let slots = table.as_sized();
+    for slot in order {
+        texts.write_pair(slots.key(*slot), slots.value(*slot), output)?;
+    }
+    Ok(())
 }
 
 /// Writes a line that says that no inserts make the table of the file.
