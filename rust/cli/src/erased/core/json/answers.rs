@@ -3,7 +3,7 @@
 
 use crate::erased::core::answers::write_answers_as;
 use crate::erased::core::forms::{Form, Forms};
-use crate::erased::core::json::pairs::{write_pair_object, write_text_field};
+use crate::erased::core::json::pairs::write_any_field;
 use crate::erased::core::text::Text;
 use crate::host::prelude::*;
 use std::io::{self, Write};
@@ -52,9 +52,33 @@ fn write_object<K: Text, V: Text, F: Forms, O: Write>(
     output: &mut O,
 ) -> io::Result<()> {
     match value {
-        Some(value) => write_pair_object(key, value, forms, output),
+        Some(value) => write_found(key, value, forms, output),
         None => write_absent(key, forms.key(), output),
     }
+}
+
+// Writes the object of a key and its value.
+fn write_found<K: Text, V: Text, F: Forms, O: Write>(
+    key: &K,
+    value: &V,
+    forms: F,
+    output: &mut O,
+) -> io::Result<()> {
+    output.write_all(b"{")?;
+    write_fields(key, value, forms, output)
+}
+
+// Writes the fields of a key and its value, the end of their object, and of its line.
+fn write_fields<K: Text, V: Text, F: Forms, O: Write>(
+    key: &K,
+    value: &V,
+    forms: F,
+    output: &mut O,
+) -> io::Result<()> {
+    write_text_field("key", key, forms.key(), output)?;
+    output.write_all(b",")?;
+    write_text_field("value", value, forms.value(), output)?;
+    output.write_all(b"}\n")
 }
 
 // Writes the object of a key that is absent.
@@ -62,4 +86,19 @@ fn write_absent<K: Text, O: Write>(key: &K, form: Form, output: &mut O) -> io::R
     output.write_all(b"{")?;
     write_text_field("key", key, form, output)?;
     output.write_all(b",\"value\":null}\n")
+}
+
+// Writes a field that is the text of a key or a value.
+fn write_text_field<T: Text, O: Write>(
+    name: &str,
+    value: &T,
+    form: Form,
+    output: &mut O,
+) -> io::Result<()> {
+    if let Some(text) = value.plain_bytes(form) {
+        return write_any_field(name, text, output);
+    }
+    write!(output, "\"{name}\":\"")?;
+    value.write(form, output)?;
+    output.write_all(b"\"")
 }

@@ -1,54 +1,57 @@
 // Made by `make rust` of crates/odht_tool_core/src/json/pairs.rt.
 //! Pairs as objects of JSON, each on a line.
 
-use crate::erased::core::forms::{Form, Forms};
+use crate::erased::core::forms::Form;
 use crate::erased::core::json::write_string;
-use crate::erased::core::text::{write_bytes, Text};
+use crate::erased::core::shapes::Part;
+use crate::erased::core::text::write_bytes;
+use crate::erased::core::typed::{plain_bytes, write_stored, Texts};
 use crate::host::prelude::*;
 use std::io::{self, Write};
 use std::str::from_utf8;
 
-/// Writes the object of a pair in texts of these forms, on a line.
-pub fn write_pair_object<K: Text, V: Text, F: Forms, O: Write>(
-    key: &K,
-    value: &V,
-    forms: F,
+/// Writes the object of the pair that is stored as these bytes, on a line.
+pub fn write_pair_object<O: Write>(
+    texts: Texts,
+    key: &[u8],
+    value: &[u8],
     output: &mut O,
 ) -> io::Result<()> {
     output.write_all(b"{")?;
-    write_pair_fields(key, value, forms, output)
+    write_pair_fields(texts, key, value, output)
 }
 
-/// Writes the fields of a pair, the end of their object, and of its line.
-pub(crate) fn write_pair_fields<K: Text, V: Text, F: Forms, O: Write>(
-    key: &K,
-    value: &V,
-    forms: F,
+/// Writes the fields of the pair that is stored as these bytes, the end of their object, and of its line.
+pub(crate) fn write_pair_fields<O: Write>(
+    texts: Texts,
+    key: &[u8],
+    value: &[u8],
     output: &mut O,
 ) -> io::Result<()> {
-    write_text_field("key", key, forms.key(), output)?;
+    write_stored_field("key", texts.key, texts.forms.key, key, output)?;
     output.write_all(b",")?;
-    write_text_field("value", value, forms.value(), output)?;
+    write_stored_field("value", texts.value, texts.forms.value, value, output)?;
     output.write_all(b"}\n")
 }
 
-/// Writes a field that is the text of a key or a value.
-pub(crate) fn write_text_field<T: Text, O: Write>(
+// Writes a field that is the text of a key or a value of this type, which is stored as these bytes.
+fn write_stored_field<O: Write>(
     name: &str,
-    value: &T,
+    part: Part,
     form: Form,
+    bytes: &[u8],
     output: &mut O,
 ) -> io::Result<()> {
-    if let Some(text) = value.plain_bytes(form) {
+    if let Some(text) = plain_bytes(part, form, bytes) {
         return write_any_field(name, text, output);
     }
     write!(output, "\"{name}\":\"")?;
-    value.write(form, output)?;
+    write_stored(part, form, bytes, output)?;
     output.write_all(b"\"")
 }
 
-// Writes a field that is a text of any bytes.
-fn write_any_field<O: Write>(name: &str, text: &[u8], output: &mut O) -> io::Result<()> {
+/// Writes a field that is a text of any bytes.
+pub(crate) fn write_any_field<O: Write>(name: &str, text: &[u8], output: &mut O) -> io::Result<()> {
     match from_utf8(text) {
         Ok(_) => {
             write!(output, "\"{name}\":")?;
@@ -60,29 +63,4 @@ fn write_any_field<O: Write>(name: &str, text: &[u8], output: &mut O) -> io::Res
             output.write_all(b"\"")
         }
     }
-}
-
-/// Writes the object of a pair in hexadecimal digits, on a line.
-pub fn write_hex_object<O: Write>(key: &[u8], value: &[u8], output: &mut O) -> io::Result<()> {
-    output.write_all(b"{")?;
-    write_hex_fields(key, value, output)
-}
-
-/// Writes the fields of a pair in hexadecimal digits, the end of their object, and of its line.
-pub(crate) fn write_hex_fields<O: Write>(
-    key: &[u8],
-    value: &[u8],
-    output: &mut O,
-) -> io::Result<()> {
-    write_hex_field("key", key, output)?;
-    output.write_all(b",")?;
-    write_hex_field("value", value, output)?;
-    output.write_all(b"}\n")
-}
-
-// Writes a field of hexadecimal digits.
-fn write_hex_field<O: Write>(name: &str, bytes: &[u8], output: &mut O) -> io::Result<()> {
-    write!(output, "\"{name}\":\"")?;
-    write_bytes(bytes, output)?;
-    output.write_all(b"\"")
 }
