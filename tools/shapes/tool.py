@@ -10,13 +10,14 @@ MADE = "made of shapes.txt by tools/shapes; `make exports` makes it anew"
 
 # the functions that go from a shape to its configuration, each with the function that it calls for that
 DISPATCHERS = {
-    "get/get_words_of": "get_words",
-    "get/get_lines_of": "get_lines",
-    "delete/keys_of_ready": "keys_of",
-    "delete_lines/keys_of_ready": "keys_of",
+    "commands/get/get_words_of": "get_words",
+    "commands/get/get_lines_of": "get_lines",
+    "commands/delete/keys_of_ready": "keys_of",
+    "commands/delete_lines/keys_of_ready": "keys_of",
+    "positions/shaped/words_of": "words_typed",
 }
 # those of them without type parameters
-PLAIN = {"delete/keys_of_ready"}
+PLAIN = {"commands/delete/keys_of_ready", "commands/delete_lines/keys_of_ready"}
 
 
 def number_part(type_name):
@@ -167,7 +168,7 @@ pub(crate) use for_shape;
 def answers(shapes, dispatcher, called):
     """What the prover asks for of a function that goes from a shape to its configuration: an answer for each."""
     text = f"-- An answer for each shape: {MADE}.\n"
-    text += f"use Rattle.odht_tool.proofs.commands.{dispatcher.replace('/', '.')}.Goals as goal\n"
+    text += f"use Rattle.odht_tool.proofs.{dispatcher.replace('/', '.')}.Goals as goal\n"
     given = "c" if dispatcher in PLAIN else "g c"
     for at, shape in enumerate(shapes):
         goal = f"returns-in-{shape.configuration}"
@@ -186,5 +187,5 @@ def files(shapes):
         f"{TOOL}/src/shapes.rt": macro(shapes),
     }
     for dispatcher, called in DISPATCHERS.items():
-        texts[f"{TOOL}/proofs/commands/{dispatcher}/Answers.antt"] = answers(shapes, dispatcher, called)
+        texts[f"{TOOL}/proofs/{dispatcher}/Answers.antt"] = answers(shapes, dispatcher, called)
     return texts

@@ -11,11 +11,13 @@
 --     IsFileOpened ml t    it has a slot count, keys that are long enough for a hash that needs ml bytes, lengths of at
 --                          most 255, and its end before offset 2 ^ 64
 --     IsFileOf kl vl s a n t   it has these lengths, and is the n bytes from offset a on of the source s
+--     IsFileAt s a n t     it has some lengths, and is the n bytes from offset a on of the source s
 --     IsOver h t B         B has all of its bytes, header and length fit, and the header states these counts
+--     IsStatedOver h t B   the same, and its lengths are those that the header states
 --     IsFileResult Q o P r the result r is a value of which P holds, where o is None, or the error o; or it is the error
 --                          of a read, of which Q holds
 --     key_refusal t k      the error of a lookup of the key k: that of a key of another length
-use Rattle.std.specs.Prelude.{◌≡◌, ℕ, ◌+◌, ◌*◌, ◌<◌, ◌≤◌, ◌^◌, ◌==◌, not, List, length, Option, Some, None, Result, Ok, Err}
+use Rattle.std.specs.Prelude.{◌≡◌, ℕ, ◌+◌, ◌*◌, ◌<◌, ◌≤◌, ◌^◌, ◌==◌, not, List, length, slice_index, Option, Some, None, Result, Ok, Err}
 use Rattle.std.specs.Bool.{then_some}
 use Rattle.odht_base.specs.Bytes.{bytes_at}
 use Rattle.odht_base.specs.Decoded.{header_slots, header_count, slot_value}
@@ -82,11 +84,19 @@ pub record IsFileOf {S : Type 0} (kl vl : ℕ) (s : S) (a n : ℕ) (t : FileStor
   pub value : t.value_len ≡ vl
   pub long : file_len t ≡ n
 
+abbrev pub IsFileAt : {S : Type 0} → S → ℕ → ℕ → FileStore S → Type 0
+IsFileAt s a n t = IsFileOf t.key_len t.value_len s a n t
+
 pub record IsOver {S : Type 0} (h : List ℕ → ℕ) (t : FileStore S) (B : List ℕ) : Type 0 where
   pub held : t.at + file_len t ≤ length B
   pub accepted : IsAccepted (file_format t h) (file_bytes t B)
   pub slots : header_slots (file_bytes t B) ≡ t.slots
   pub items : header_count (file_bytes t B) ≡ t.items
+
+pub record IsStatedOver {S : Type 0} (h : List ℕ → ℕ) (t : FileStore S) (B : List ℕ) : Type 0 where
+  pub over : IsOver h t B
+  pub key : t.key_len ≡ slice_index (file_bytes t B) 5
+  pub value : t.value_len ≡ slice_index (file_bytes t B) 6
 
 abbrev pub IsFileResult : {T : Type 0} → (ReadError → Type 0) → Option DynError → (T → Type 0) → Result T FileError → Type 0
 IsFileResult Q o P (Ok t) = (o ≡ None) × P t

@@ -28,5 +28,7 @@ pub mod Diffed
 pub mod Deletions
 -- keys that a table has values for, and keys that are absent
 pub mod AbsentKeys
+-- tables that are read by position
+pub mod FileReads
 -- worked examples of the definitions
 pub mod examples

@@ -7,6 +7,8 @@ pub mod Gets
 pub mod GetParts
 -- of the lines of an input
 pub mod GetLines
+-- the same of a file that is read by position
+pub mod Positions
 -- what a command writes and returns: `find`
 pub mod FindLines
 -- pairs that are inserted into a table that grows

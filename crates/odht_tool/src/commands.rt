@@ -1,4 +1,5 @@
 //! Runs the commands, each from its parsed words to the status of the program.
+use crate::positions;
 use odht_tool_core::arguments::{Command, Keys, Reading, Request, is_stream, parse};
 use odht_tool_core::failure::Failure;
 use odht_tool_core::files::{read_file, read_input};
@@ -13,6 +14,7 @@ use odht_tool_core::targets::Target;
 use std::alloc::Global;
 use std::io::{BufRead, ErrorKind, IsTerminal, Write};
 use std::os::fd::AsFd;
+use std::os::unix::fs::FileExt;
 use std::rt::{Clock, Files};
 
 mod build;
@@ -42,7 +44,7 @@ pub fn run<R: Files + AllocGlobal + Clock, I: BufRead, O: Write, E: Write + IsTe
     errors: &mut E,
 ) -> Status
 where
-    R::File: AsFd,
+    R::File: AsFd + FileExt,
 {
     let alloc: Global = rt.alloc();
     match parse(alloc, words) {
@@ -74,7 +76,7 @@ fn run_command<R: Files + AllocGlobal + Clock, I: BufRead, O: Write, E: Write + 
     errors: &mut E,
 ) -> Result<Status, Failure>
 where
-    R::File: AsFd,
+    R::File: AsFd + FileExt,
 {
     match command {
         Command::Read {
@@ -127,7 +129,10 @@ fn read_files<R: Files + AllocGlobal, I: BufRead, O: Write, E: Write>(
     input: &mut I,
     output: &mut O,
     errors: &mut E,
-) -> Result<Status, Failure> {
+) -> Result<Status, Failure>
+where
+    R::File: FileExt,
+{
     let is_one = others.is_empty();
     let done = read_one(rt, file, is_one, at, reading, input, output, errors);
     if is_one {
@@ -163,7 +168,13 @@ fn read_one<R: Files + AllocGlobal, I: BufRead, O: Write, E: Write>(
     input: &mut I,
     output: &mut O,
     errors: &mut E,
-) -> Result<Status, Failure> {
+) -> Result<Status, Failure>
+where
+    R::File: FileExt,
+{
+    if let Some(status) = read_by_position(rt, file, at, reading, output)? {
+        return Ok(status);
+    }
     let bytes = read_bytes(rt, file, input)?;
     let (table, offset) = match at {
         Some(offset) => (table_at(bytes.as_slice(), offset)?, offset),
@@ -183,6 +194,31 @@ fn read_one<R: Files + AllocGlobal, I: BufRead, O: Write, E: Write>(
         done
     } else {
         with_hint(rt.alloc(), file, table, offset, done, errors)
+    }
+}
+
+// Looks the keys of words up without reading all of the file. None where that does not do.
+fn read_by_position<R: Files + AllocGlobal, O: Write>(
+    rt: &R,
+    file: &str,
+    at: Option<usize>,
+    reading: &Reading,
+    output: &mut O,
+) -> Result<Option<Status>, Failure>
+where
+    R::File: FileExt,
+{
+    match reading {
+        Reading::Get {
+            hash,
+            kinds,
+            is_json,
+            keys: Keys::Words(words),
+        } => {
+            let words = words.as_slice();
+            positions::get_words(rt, file, at, *hash, *kinds, *is_json, words, output)
+        }
+        _ => Ok(None),
     }
 }
 

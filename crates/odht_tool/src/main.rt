@@ -6,6 +6,7 @@
 mod commands;
 mod inserts;
 mod lookups;
+mod positions;
 mod shapes;
 mod sized;
 

@@ -13,7 +13,7 @@ pub const SAME_PATHS: [&str; 5] = [
 pub const SHIM_PATHS: [&str; 2] = ["std::alloc::AllocError", "std::alloc::Global"];
 
 /// Paths of std that are the same, and that programs alone use.
-pub const SAME_OF_PROGRAMS: [&str; 13] = [
+pub const SAME_OF_PROGRAMS: [&str; 14] = [
     "std::io",
     "std::io::self",
     "std::io::BufRead",
@@ -21,6 +21,7 @@ pub const SAME_OF_PROGRAMS: [&str; 13] = [
     "std::io::Read",
     "std::io::Write",
     "std::os::fd::AsFd",
+    "std::os::unix::fs::FileExt",
     "std::os::unix::fs::MetadataExt",
     "std::os::unix::fs::PermissionsExt",
     "std::os::unix::fs::fchown",
@@ -75,11 +76,11 @@ pub const SAME_METHODS: &str = "all as_mut_slice as_slice checked_add checked_mu
 
 /// The same, which programs alone call. Those of the system, its files and its clock are the host's.
 pub const METHODS_OF_PROGRAMS: &str =
-    "alloc and as_ref as_secs as_str consume copied create_new dev duration_since fill_buf flush gid ino \
-    into_iter into_string is_ascii_alphabetic is_ascii_hexdigit is_err is_file is_symlink is_terminal \
-    kind map map_err metadata mode nlink ok ok_or or pop read_link read_to_end remove rsplit_once \
-    set_permissions simd_gt simd_lt skip split_once starts_with stderr stdin stdout strip_prefix \
-    swap_bytes sync_all uid unwrap write_char write_str";
+    "alloc and as_ref as_secs as_str checked_sub consume copied create_new dev duration_since fill_buf flush gid ino \
+    into_iter into_string is_ascii_alphabetic is_ascii_hexdigit is_err is_file is_symlink is_terminal kind map \
+    map_err metadata mode nlink ok ok_or or pop read_at read_link read_to_end remove rsplit_once set_permissions \
+    simd_gt simd_lt skip split_once starts_with stderr stdin stdout strip_prefix swap_bytes sync_all uid unwrap \
+    write_char write_str";
 
 /// Methods that allocate in Rust: in Rattle each takes an allocator, or returns that memory was refused. They are an
 /// error also where a function of this name is declared.

@@ -38,7 +38,8 @@ use Rattle.odht_raw.proofs.lemmas.Inserts.{found_value}
 use Rattle.odht_raw.proofs.lemmas.Lookups.{answer-Found, answer-Free, answer-Neither}
 use Rattle.odht_raw.proofs.lemmas.Openings.{opening_refusal-header, view_refusal-opening, view_refusal-slots}
 use Rattle.odht_raw.proofs.lemmas.Prefixes.{header_slots-take, field_refusal-take}
-use Rattle.odht.specs.Files.{IsFileResult, read_parts, read_slot_value, table_place}
+use Rattle.odht.specs.Dynamic.{dyn_refusal, stated_format, stated_refusal}
+use Rattle.odht.specs.Files.{FileStore, IsFileResult, IsStatedOver, read_parts, read_slot_value, table_place}
 use Rattle.odht.specs.Gets.{IsCountedGet}
 use Rattle.odht.specs.declared.dynamic.DynError.TheVariants.{Rejected}
 use Rattle.odht.specs.declared.dynamic.file.FileError.{FileError}
@@ -142,6 +143,13 @@ module _ {T U : Type 0} (Q : ReadError → Type 0) (F : Format) (B : List ℕ) (
       → IsFileResult Q (option_map Rejected o) P (Err e) → IsFileResult Q (option_map Rejected (view_refusal F B)) P' (Err e)
   refused_by_slots (Read e) o same a h = h
   refused_by_slots (Table e) o same a h = ap (option_map Rejected) (view_refusal-slots F B a ∙ sym same) ∙ h
+
+-- where the header states the lengths, that of the header comes first too
+pub refused_as_stated : {T S : Type 0} (Q : ReadError → Type 0) (ml : ℕ) (hash : List ℕ → ℕ) (B : List ℕ) (P : T → Type 0) (source : S) (W : List ℕ) (e : FileError)
+    → IsFileResult Q (option_map Rejected (opening_refusal (stated_format hash B) B)) P (Err e)
+    → IsFileResult Q (stated_refusal ml hash B) (λ (t : FileStore S). IsStatedOver hash t W) (Err e)
+refused_as_stated Q ml hash B P source W (Read e) h = h
+refused_as_stated Q ml hash B P source W (Table e) h = ap (λ o. option_or o (dyn_refusal ml (stated_format hash B) B)) h
 
 -- an error of the header is one, and none where it is accepted
 pub none_rejected : (o : Option Error) → option_map Rejected o ≡ None → o ≡ None

@@ -3,8 +3,8 @@
 ghost use Rattle.std.specs.Prelude.{◌≡◌, ◌≢◌, ◌+◌, ◌<◌, ◌≤◌, ◌^◌, ◌/◌, ℕ, List, length, Err, IfOk};
 ghost use Rattle.odht_base.specs.Bytes.{bytes_at};
 ghost use Rattle.odht_base.specs.Format.{format_of};
-ghost use Rattle.odht.specs.Dynamic.{dyn_refusal};
-ghost use Rattle.odht.specs.Files.{IsFileOf, IsOver, IsFileResult};
+ghost use Rattle.odht.specs.Dynamic.{dyn_refusal, stated_refusal};
+ghost use Rattle.odht.specs.Files.{IsFileOf, IsFileAt, IsOver, IsStatedOver, IsFileResult};
 ghost use Rattle.odht.specs.Files.{file_format, file_coding, file_bytes, key_refusal};
 ghost use Rattle.odht.specs.Gets.{IsGet, IsCountedGet, IsKnown};
 ghost use Rattle.odht.specs.Walks.{IsItemCount};
@@ -122,6 +122,39 @@ impl<H: HashFn, S: ReadAt + Drop> FileTable<H, S> {
             items,
             hash: PhantomData,
         })
+    }
+
+    /// [`FileTable::open_at_as_stated`] of all bytes of a source, of which there are `len`.
+    pub fn open_as_stated(source: S, len: usize) -> Result<Self, FileError>
+        ensures table { IfOk result (IsFileAt source 0 len) }
+        ensures given { (B : List ℕ) → S.gives source B → len ≤ length B
+            → IsFileResult (S.fails source) (stated_refusal H.MIN_LEN H.hash (bytes_at B 0 len))
+            (λ t. IsStatedOver H.hash t B) result }
+    {
+        FileTable::open_at_as_stated(source, 0, len)
+    }
+
+    /// [`FileTable::open_at`] with the lengths that the header states; [`FileTable::layout`] tells them. The header is
+    /// read first by itself, so that it is one read more.
+    ///
+    /// The first error: `Read` with `EarlyEnd` where the end reaches 2^64; then that of a read, or `Table` with what
+    /// [`DynTable::open_as_stated`](super::DynTable::open_as_stated) returns of the bytes: of the header and the length,
+    /// then `KeyTooShort`, then of the first ten slots. On an error the source is dropped.
+    pub fn open_at_as_stated(source: S, offset: u64, len: usize) -> Result<Self, FileError>
+        ensures table { IfOk result (IsFileAt source offset len) }
+        ensures far { 2 ^ 64 ≤ offset + len → result ≡ Err (FileError.Read ReadError.EarlyEnd) }
+        ensures given { (B : List ℕ) → S.gives source B → offset + len ≤ length B
+            → offset + len < 2 ^ 64 → IsFileResult (S.fails source)
+            (stated_refusal H.MIN_LEN H.hash (bytes_at B offset len))
+            (λ t. IsStatedOver H.hash t B) result }
+    {
+        if offset.checked_add(len as u64).is_none() {
+            return Err(FileError::Read(ReadError::EarlyEnd));
+        }
+        match reads::stated_lengths(&source, offset, len) {
+            Ok(layout) => FileTable::open_at(layout, source, offset, len),
+            Err(error) => Err(error),
+        }
     }
 
     /// The lengths of keys and values.

@@ -1,6 +1,6 @@
 //! What is read of a table by position: its header, its first slots, and the value of a key.
 ghost use Rattle.std.specs.Prelude.{◌≡◌, ◌+◌, ◌*◌, ◌<◌, ◌≤◌, ◌^◌, ◌/◌, ⊤, ℕ, List, length, IfOk};
-ghost use Rattle.std.specs.Prelude.{option_map, MatchResult};
+ghost use Rattle.std.specs.Prelude.{option_map, slice_index, MatchResult};
 ghost use Rattle.odht_base.specs.Bytes.{bytes_at};
 ghost use Rattle.odht_base.specs.Decoded.{header_slots, header_count};
 ghost use Rattle.odht_base.specs.Format.{format_of};
@@ -10,6 +10,7 @@ ghost use Rattle.odht_header.specs.Refusals.{opening_refusal, view_refusal, hash
 ghost use Rattle.odht_raw.specs.Finds.{IsCountedFind};
 ghost use Rattle.odht_raw.specs.Parts.{entry_format};
 ghost use Rattle.odht_raw.specs.Reads.{IsHeldBy, IsPlaceFitting, read_entries, read_controls};
+ghost use Rattle.odht.specs.Dynamic.{stated_format};
 ghost use Rattle.odht.specs.Files.{IsFileResult, read_parts, read_slot_value, table_place};
 
 use super::FileError;
@@ -101,6 +102,37 @@ fn header_counts<S: ReadAt>(
     let header = Header::of(&bytes);
     match header.check_layout(layout, len) {
         Ok(()) => Ok((header.slot_count(), header.item_count())),
+        Err(rejected) => Err(FileError::Table(DynError::Rejected(rejected))),
+    }
+}
+
+/// The lengths that the header of a table of `len` bytes states. The header is read and checked.
+pub(super) fn stated_lengths<S: ReadAt>(
+    source: &S,
+    at: u64,
+    len: usize,
+) -> Result<Layout, FileError>
+    requires fits { at + len < 2 ^ 64 }
+    ensures given { (hash : List ℕ → ℕ) (B : List ℕ) → S.gives source.now B → at + len ≤ length B
+        → (let T = bytes_at B at len in IsFileResult (S.fails source.now)
+        (option_map DynError.Rejected (opening_refusal (stated_format hash T) T))
+        (λ l. (l.key_len ≡ slice_index T 5) × (l.value_len ≡ slice_index T 6)) result) }
+{
+    if len < HEADER_SIZE {
+        return Err(FileError::Table(DynError::Rejected(Error::TooShort { found: len })));
+    }
+    let mut front = [0; HEADER_SIZE];
+    match read_exact_at(source, at, &mut front) {
+        Ok(()) => {}
+        Err(error) => return Err(FileError::Read(error)),
+    }
+    let header = Header::of(&front);
+    let layout = Layout {
+        key_len: header.key_size(),
+        value_len: header.value_size(),
+    };
+    match header.check_layout(layout, len) {
+        Ok(()) => Ok(layout),
         Err(rejected) => Err(FileError::Table(DynError::Rejected(rejected))),
     }
 }
