@@ -8,6 +8,7 @@ use crate::host::prelude::*;
 mod commands;
 mod inserts;
 mod lookups;
+mod positions;
 mod shapes;
 mod sized;
 

@@ -11,11 +11,13 @@ use crate::erased::core::inside::{first_inside, write_inside};
 use crate::erased::core::shapes::Hash;
 use crate::erased::core::status::{of_output, Status};
 use crate::erased::core::targets::Target;
+use crate::erased::tool::positions;
 use crate::host::io::{BufRead, ErrorKind, IsTerminal, Write};
 use crate::host::prelude::*;
 use crate::host::rt::{Clock, Files};
 use crate::shim::Global;
 use std::os::fd::AsFd;
+use std::os::unix::fs::FileExt;
 
 mod build;
 mod build_lines;
@@ -44,7 +46,7 @@ pub fn run<R: Files + AllocGlobal + Clock, I: BufRead, O: Write, E: Write + IsTe
     errors: &mut E,
 ) -> Status
 where
-    R::File: AsFd,
+    R::File: AsFd + FileExt,
 {
     let alloc: Global = rt.alloc();
     match parse(alloc, words) {
@@ -76,7 +78,7 @@ fn run_command<R: Files + AllocGlobal + Clock, I: BufRead, O: Write, E: Write + 
     errors: &mut E,
 ) -> Result<Status, Failure>
 where
-    R::File: AsFd,
+    R::File: AsFd + FileExt,
 {
     match command {
         Command::Read { others, at, reading } => {
@@ -119,7 +121,10 @@ fn read_files<R: Files + AllocGlobal, I: BufRead, O: Write, E: Write>(
     input: &mut I,
     output: &mut O,
     errors: &mut E,
-) -> Result<Status, Failure> {
+) -> Result<Status, Failure>
+where
+    R::File: FileExt,
+{
     let is_one = others.is_empty();
     let done = read_one(rt, file, is_one, at, reading, input, output, errors);
     if is_one {
@@ -155,7 +160,13 @@ fn read_one<R: Files + AllocGlobal, I: BufRead, O: Write, E: Write>(
     input: &mut I,
     output: &mut O,
     errors: &mut E,
-) -> Result<Status, Failure> {
+) -> Result<Status, Failure>
+where
+    R::File: FileExt,
+{
+    if let Some(status) = read_by_position(rt, file, at, reading, output)? {
+        return Ok(status);
+    }
     let bytes = read_bytes(rt, file, input)?;
     let (table, offset) = match at {
         Some(offset) => (table_at(bytes.as_slice(), offset)?, offset),
@@ -166,6 +177,26 @@ fn read_one<R: Files + AllocGlobal, I: BufRead, O: Write, E: Write>(
         done
     } else {
         with_hint(rt.alloc(), file, table, offset, done, errors)
+    }
+}
+
+// Looks the keys of words up without reading all of the file. None where that does not do.
+fn read_by_position<R: Files + AllocGlobal, O: Write>(
+    rt: &R,
+    file: &str,
+    at: Option<usize>,
+    reading: &Reading,
+    output: &mut O,
+) -> Result<Option<Status>, Failure>
+where
+    R::File: FileExt,
+{
+    match reading {
+        Reading::Get { hash, kinds, is_json, keys: Keys::Words(words) } => {
+            let words = words.as_slice();
+            positions::get_words(rt, file, at, *hash, *kinds, *is_json, words, output)
+        }
+        _ => Ok(None),
     }
 }
 

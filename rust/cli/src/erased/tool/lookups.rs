@@ -48,8 +48,8 @@ pub fn answer_words<T: Lookups, F: Forms, O: Write>(
     Ok(Status::of(is_all_found))
 }
 
-// The keys of the words in the form of keys.
-fn keys_of_words<K: Text, F: Forms>(
+/// The keys of the words in the form of keys.
+pub fn keys_of_words<K: Text, F: Forms>(
     alloc: Global,
     words: &[String],
     forms: F,

@@ -66,6 +66,27 @@ impl<H: HashFn, S: ReadAt> FileTable<H, S> {
         Ok(FileTable { source, at: offset, layout, slots, items, hash: PhantomData })
     }
 
+    /// [`FileTable::open_at_as_stated`] of all bytes of a source, of which there are `len`.
+    pub fn open_as_stated(source: S, len: usize) -> Result<Self, FileError> {
+        FileTable::open_at_as_stated(source, 0, len)
+    }
+
+    /// [`FileTable::open_at`] with the lengths that the header states; [`FileTable::layout`] tells them. The header is
+    /// read first by itself, so that it is one read more.
+    ///
+    /// The first error: `Read` with `EarlyEnd` where the end reaches 2^64; then that of a read, or `Table` with what
+    /// [`DynTable::open_as_stated`](super::DynTable::open_as_stated) returns of the bytes: of the header and the length,
+    /// then `KeyTooShort`, then of the first ten slots. On an error the source is dropped.
+    pub fn open_at_as_stated(source: S, offset: u64, len: usize) -> Result<Self, FileError> {
+        if offset.checked_add(len as u64).is_none() {
+            return Err(FileError::Read(ReadError::EarlyEnd));
+        }
+        match reads::stated_lengths(&source, offset, len) {
+            Ok(layout) => FileTable::open_at(layout, source, offset, len),
+            Err(error) => Err(error),
+        }
+    }
+
     /// The lengths of keys and values.
     #[inline]
     pub fn layout(&self) -> Layout {

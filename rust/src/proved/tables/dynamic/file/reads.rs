@@ -71,6 +71,28 @@ fn header_counts<S: ReadAt>(
     }
 }
 
+/// The lengths that the header of a table of `len` bytes states. The header is read and checked.
+pub(super) fn stated_lengths<S: ReadAt>(
+    source: &S,
+    at: u64,
+    len: usize,
+) -> Result<Layout, FileError> {
+    if len < HEADER_SIZE {
+        return Err(FileError::Table(DynError::Rejected(Error::TooShort { found: len })));
+    }
+    let mut front = [0; HEADER_SIZE];
+    match read_exact_at(source, at, &mut front) {
+        Ok(()) => {}
+        Err(error) => return Err(FileError::Read(error)),
+    }
+    let header = Header::of(&front);
+    let layout = Layout { key_len: header.key_size(), value_len: header.value_size() };
+    match header.check_layout(layout, len) {
+        Ok(()) => Ok(layout),
+        Err(rejected) => Err(FileError::Table(DynError::Rejected(rejected))),
+    }
+}
+
 // Reads the first sixteen slots, and checks the first ten as opening does.
 fn check_first<H: HashFn, S: ReadAt>(source: &S, place: &ReadPlace) -> Result<(), FileError> {
     let mut control = [0; 32];
