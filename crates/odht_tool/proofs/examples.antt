@@ -17,3 +17,5 @@ pub mod Objects
 pub mod Diffs
 -- what `delete` makes
 pub mod Deletes
+-- what `get --json` writes of the lines of an input, and which keys they are for `delete -`
+pub mod KeyLines

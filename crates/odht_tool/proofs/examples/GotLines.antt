@@ -83,7 +83,7 @@ pub same_table : (P : Table) → IsImage direct_config P one_bytes → one_item 
 same_table P image = image-injective direct_config one_item P direct_format one_image.valid image.valid (sym one_image.bytes ∙ image.bytes)
 
 -- 7 for 5, and none for 6
-five_answered : AreAnswers C one_bytes (5 ∷ []) (Some 7 ∷ [])
+pub five_answered : AreAnswers C one_bytes (5 ∷ []) (Some 7 ∷ [])
 unfolding opened
 five_answered = record {
   each = refl;
@@ -99,7 +99,7 @@ five_answered = record {
         subst (λ x. HasStored C one_bytes x v) key (subst (λ y. HasStored C one_bytes 5 y) value here)
     stored (suc i) k v p q = cc
 
-six_answered : AreAnswers C one_bytes (6 ∷ []) (None ∷ [])
+pub six_answered : AreAnswers C one_bytes (6 ∷ []) (None ∷ [])
 unfolding opened
 six_answered = record {
   each = refl;
@@ -112,16 +112,16 @@ six_answered = record {
     stored (suc i) k v p q = cc
 
 -- digits are a text of their number, and other words are no key
-five : R (codes "5") 5
+pub five : R (codes "5") 5
 five = (((lit< tt, (lit< tt, tt)), lit< tt), refl)
 
-six : R (codes "6") 6
+pub six : R (codes "6") 6
 six = (((lit< tt, (lit< tt, tt)), lit< tt), refl)
 
-no_key : (k : ℕ) → R (codes "x") k → ⊥
+pub no_key : (k : ℕ) → R (codes "x") k → ⊥
 no_key k r = omega (arith, r.0.0.1.0)
 
-no_empty_key : (k : ℕ) → R [] k → ⊥
+pub no_empty_key : (k : ℕ) → R [] k → ⊥
 no_empty_key k r = omega (arith, r.0.0.0)
 
 -- ---- each line a key
@@ -239,7 +239,7 @@ unknown = (no_refusal, tt)
 
 -- ---- a line that is no key
 -- the second
-abbrev second_text : List ℕ
+abbrev pub second_text : List ℕ
 second_text = codes "standard input, line 2: the key \"x\" is not a number below 2^32"
 
 pub second : (message : _) → string_bytes message ≡ second_text → lines_of_shape (Own, Own) false one_bytes (Some (codes "5\nx\n6")) (Some (codes "a")) (Some (codes "a5\t7\n")) (Err (Misread message)) DirectU32ToU32
