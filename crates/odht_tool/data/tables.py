@@ -260,6 +260,18 @@ def wrong_tag():
     return image
 
 
+def late_tag():
+    """A table of which the last occupied slot, behind the first sixteen, has another tag."""
+    table = Table(4, 4, fx, 87, 20)
+    for key in range(20):
+        table.put(le(key, 4), le(key * 3, 4))
+    image = bytearray(table.image())
+    slot = max(at for at, cell in enumerate(table.cells) if cell is not None)
+    assert len(table.cells) == 32 and slot >= 16 and table.cells[slot][0] != le(5, 4)
+    image[32 + 32 * 8 + slot] ^= 1
+    return image
+
+
 def fits_word(table):
     """The hash functions that give all control bytes of a table."""
     named = {"fx": fx, "unhash": unhash} if table.key_size >= 4 else {"fx": fx}
@@ -445,6 +457,8 @@ if __name__ == "__main__":
         case.write_cases()
     with open(os.path.join(HERE, "wrong_tag.odht"), "wb") as file:
         file.write(wrong_tag())
+    with open(os.path.join(HERE, "late_tag.odht"), "wb") as file:
+        file.write(late_tag())
     write_hex_case()
     write_find_cases()
     write_bound_cases()

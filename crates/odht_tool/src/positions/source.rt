@@ -1,4 +1,6 @@
 //! A file, as a source of bytes.
+ghost use Rattle.std.specs.Prelude.{⊤};
+
 use odht::read_at::{ReadAt, ReadError};
 use std::io::ErrorKind;
 use std::os::unix::fs::FileExt;
