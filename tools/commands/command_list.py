@@ -88,8 +88,8 @@ class Command:
 
     @property
     def is_making(self):
-        """Whether it makes its file: then the shape has to be given."""
-        return "--key SHAPE" in self.written
+        """Whether it makes its file: then the shape has to be given, or other files that have it."""
+        return "--key SHAPE" in self.written or "INPUT.." in self.words
 
     def has(self, option):
         return any(it.name == option for it in self.options)

@@ -31,9 +31,14 @@ def line(indent, text):
 
 
 def arm(patterns, value):
-    """The arm of a match for several variants, on a line for each where they are too long for one."""
-    text = line(12, f"{' | '.join(patterns)} => {value},")
-    return text if fits(text) else text.replace(" | ", f"\n{' ' * 12}| ")
+    """The arm of a match for several variants: where they are too long for one line its value stands below them, or each
+    of them on a line."""
+    names = " | ".join(patterns)
+    text = line(12, f"{names} => {value},")
+    if fits(text):
+        return text
+    front = line(12, f"{names} =>")
+    return front + line(16, f"{value},") if fits(front) else text.replace(" | ", f"\n{' ' * 12}| ")
 
 
 def fits(text):

@@ -441,6 +441,65 @@ def write_deleted_cases():
     write_test("tool/tables/deleted.cases", text)
 
 
+def merged(tables, duplicates, percent):
+    """The new table for as many items as all have, and the number and the key of the first file with a key of one before."""
+    first, seen = tables[0], set()
+    new = Table(first.key_size, first.value_size, first.hash, percent, sum(it.count() for it in tables))
+    slots = len(new.cells)
+    for number, table in enumerate(tables):
+        pairs = list(filter(None, table.cells))
+        if duplicates == "error":
+            for key, _ in pairs:
+                if key in seen:
+                    return None, (number, key)
+        for key, value in pairs:
+            if duplicates != "first" or key not in seen:
+                new.put(key, value)
+            seen.add(key)
+    assert len(new.cells) == slots
+    return new, None
+
+
+def write_merged_cases():
+    """What `merge` has to make of tables, with each word of --duplicates: of one, of two, of ten, and of one twice."""
+    made = {case.name: case for case in cases()}
+    text = HEAD
+    for names, words, percent in [
+            ("u64_u32", "", 87), ("u64_u32 one_pair no_pairs", "", 87), ("one_pair u64_u32", "--percent 20", 20),
+            ("u64_u32 i64_i32 u64_u32", "", 87), ("u32_u32 direct", "", 87), ("direct u32_u32", "--percent=100", 100),
+            ("u32_u32 direct i32_u32be", "--whole", 87), ("bytes16_set", "--percent 1", 1), ("u32_u32", "", 87),
+            ("bytes16_u32 bytes16_u32", "--progress", 87), ("bytes20_u64", "", 87), ("u64_u64 u64be_i64", "", 87),
+            ("bytes32_u64 bytes32_u64", "--percent 50", 50), ("bytes32_set", "", 87), ("text16_text16", "", 87),
+            ("odd_sizes odd_sizes", "", 87), ("no_bytes no_bytes", "", 87), ("empty_key", "", 87), ("long_key", "", 87),
+            ("words_12_5 words_12_5", "--percent 30", 30), ("long_direct", "", 87), ("short_direct", "", 87),
+            ("empty no_pairs", "", 87), ("empty " * 9 + "u64_u32", "", 87), ("no_pairs " * 5 + "one_pair " * 5, "", 87)]:
+        names = names.split()
+        tables = [made[it].table for it in names]
+        for duplicates in ["last", "first", "error"]:
+            new, twice = merged(tables, duplicates, percent)
+            file = "_".join(["merged", str(len(names)), *list(dict.fromkeys(names))[:2], str(percent)])
+            if new and duplicates == "last":
+                last = new.image()
+            if new and new.image() != last:
+                file += "_first"
+            if new:
+                with open(os.path.join(HERE, f"{file}.odht"), "wb") as out:
+                    out.write(new.image())
+            text += f"== merge of {' '.join(names)} by {duplicates}\n"
+            text += "".join(f"before {it}.odht: < crates/odht_tool/data/{it}.odht\n" for it in dict.fromkeys(names))
+            chosen = "" if duplicates == "last" else f" --duplicates {duplicates}"
+            kinds = made[names[0]].kinds
+            inputs = " ".join(f"{it}.odht" for it in names)
+            text += f"args: merge out.odht {inputs}{chosen}{kinds}{words and ' '}{words}\n"
+            if new:
+                text += f"after out.odht: < crates/odht_tool/data/{file}.odht\n\n"
+            else:
+                at, key = twice
+                key = shown(made[names[0]].key_text(key))
+                text += f"stderr: odht: {names[at]}.odht: the key {key} is in a file before it too\nstatus: 1\n\n"
+    write_test("tool/tables/merged.cases", text)
+
+
 def write_hex_case():
     """The bytes of the table of the largest key and the largest value, on one line of digits."""
     table = Table(8, 4, fx, 95, 3)
@@ -465,3 +524,4 @@ if __name__ == "__main__":
     write_unmade_cases()
     write_rebuilt_cases()
     write_deleted_cases()
+    write_merged_cases()

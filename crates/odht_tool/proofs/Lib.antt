@@ -30,5 +30,7 @@ pub mod Deletions
 pub mod AbsentKeys
 -- tables that are read by position
 pub mod FileReads
+-- the tables that `merge` makes
+pub mod Merging
 -- worked examples of the definitions
 pub mod examples

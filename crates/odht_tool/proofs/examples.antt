@@ -19,3 +19,5 @@ pub mod Diffs
 pub mod Deletes
 -- what `get --json` writes of the lines of an input, and which keys they are for `delete -`
 pub mod KeyLines
+-- which pairs `merge` inserts
+pub mod Merges

@@ -29,3 +29,5 @@ pub mod Diffs
 pub mod Deletes
 -- what `delete -` makes of one, by the lines of an input
 pub mod DeleteLines
+-- what `merge` makes
+pub mod Merges

@@ -30,6 +30,7 @@ mod find;
 mod find_json;
 mod get;
 mod keys;
+mod merge;
 mod order;
 pub mod rebuild;
 
@@ -94,6 +95,7 @@ where
         Command::Delete(options) => delete::delete(rt, file, &options, input, errors),
         Command::Rebuild(options) => rebuild::rebuild(rt, file, options, errors),
         Command::Diff(options) => diff::diff(rt, file, options, input, output, errors),
+        Command::Merge(options) => merge::merge(rt, file, options, input, output, errors),
         Command::Put {
             hash,
             kinds,

@@ -7,7 +7,7 @@ use Rattle.std.specs.Prelude.{ℕ, List, [], ◌∷◌, codes}
 use Rattle.odht_tool_core.specs.declared.arguments.topics.Setting.{Setting}
 use Rattle.odht_tool_core.specs.declared.arguments.topics.Setting.TheVariants.{Help, Slots, Json, Whole, Progress, BreakLinks, CheckOnly, At, Hash, Key, Value, Duplicates, Delimiter, Percent, Capacity}
 use Rattle.odht_tool_core.specs.declared.arguments.topics.Topic.{Topic}
-use Rattle.odht_tool_core.specs.declared.arguments.topics.Topic.TheVariants.{Info, Check, Count, Get, Dump, Keys, Find, Order, Diff, Build, Put, Delete, Rebuild}
+use Rattle.odht_tool_core.specs.declared.arguments.topics.Topic.TheVariants.{Info, Check, Count, Get, Dump, Keys, Find, Order, Diff, Build, Put, Delete, Rebuild, Merge}
 
 abbrev pub command_name : Topic → List ℕ
 command_name Info = codes "info"
@@ -23,9 +23,10 @@ command_name Build = codes "build"
 command_name Put = codes "put"
 command_name Delete = codes "delete"
 command_name Rebuild = codes "rebuild"
+command_name Merge = codes "merge"
 
 abbrev pub commands : List Topic
-commands = Info ∷ Check ∷ Count ∷ Get ∷ Dump ∷ Keys ∷ Find ∷ Order ∷ Diff ∷ Build ∷ Put ∷ Delete ∷ Rebuild ∷ []
+commands = Info ∷ Check ∷ Count ∷ Get ∷ Dump ∷ Keys ∷ Find ∷ Order ∷ Diff ∷ Build ∷ Put ∷ Delete ∷ Rebuild ∷ Merge ∷ []
 
 abbrev pub option_name : Setting → List ℕ
 option_name Help = codes "--help"
@@ -58,3 +59,4 @@ options_of Build = Help ∷ Key ∷ Value ∷ Duplicates ∷ Delimiter ∷ Check
 options_of Put = Help ∷ Key ∷ Value ∷ Whole ∷ Hash ∷ Progress ∷ BreakLinks ∷ []
 options_of Delete = Help ∷ Key ∷ Whole ∷ Hash ∷ Progress ∷ BreakLinks ∷ []
 options_of Rebuild = Help ∷ Percent ∷ Whole ∷ Hash ∷ Progress ∷ BreakLinks ∷ []
+options_of Merge = Help ∷ Duplicates ∷ Key ∷ Value ∷ Whole ∷ Hash ∷ Percent ∷ Progress ∷ BreakLinks ∷ []

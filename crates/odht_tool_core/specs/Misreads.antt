@@ -9,6 +9,7 @@
 --     misread_text n f w t what is said of the text t, in line n of standard input where there is one, by its fault f, where
 --                          w is wanted
 --     absent_line file t   the line that tells of the text t, of a key that is not in the file
+--     repeated_line file t the line that tells of the text t, of a key that is in the file and in one before it
 --     part_of d f line     the part of a line in which the fault f is: what comes before its first byte d, what comes after
 --                          it, or all
 --     wanted_by f w v      what is wanted there, where w is wanted of keys and v of values
@@ -82,6 +83,9 @@ misread_text number fault w text = place_text number ++ fault_text fault w text
 
 abbrev pub absent_line : List ℕ → List ℕ → List ℕ
 absent_line file text = codes "odht: " ++ (file ++ (codes ": the key " ++ (shown_text text ++ codes " is absent\n")))
+
+abbrev pub repeated_line : List ℕ → List ℕ → List ℕ
+repeated_line file text = codes "odht: " ++ (file ++ (codes ": the key " ++ (shown_text text ++ codes " is in a file before it too\n")))
 
 -- ---- of a line
 abbrev pub part_of : ℕ → LineFault → List ℕ → List ℕ

@@ -4,7 +4,7 @@ ghost use Rattle.std.specs.Io.KnownBytes.{Appends};
 ghost use Rattle.std.specs.List.{AllZip};
 ghost use Rattle.odht_tool_core.specs.Keys.{IsReadAs, IsKeyLine, IsNoKeyLine, IsNextKey};
 ghost use Rattle.odht_tool_core.specs.Keys.{TellsWord, TellsFault};
-ghost use Rattle.odht_tool_core.specs.Misreads.{absent_line};
+ghost use Rattle.odht_tool_core.specs.Misreads.{absent_line, repeated_line};
 
 use crate::failure::{Failure, LineFault};
 use crate::forms::Form;
@@ -83,6 +83,18 @@ pub fn write_absent<E: Write>(file: &str, word: &[u8], errors: &mut E) -> io::Re
 {
     let word = Shown(word);
     writeln!(errors, "odht: {file}: the key {word} is absent")
+}
+
+/// Writes a line of the key of this text, which a file has and one before it too.
+pub fn write_repeated<E: Write>(file: &str, text: &[u8], errors: &mut E) -> io::Result<()>
+    ensures { OnOk result (Appends (E.contents errors.old) (E.contents errors.new)
+        (repeated_line file.now text.now)) }
+{
+    let text = Shown(text);
+    writeln!(
+        errors,
+        "odht: {file}: the key {text} is in a file before it too"
+    )
 }
 
 /// Adds a key.

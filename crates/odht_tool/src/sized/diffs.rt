@@ -59,8 +59,8 @@ pub fn diff_lengths<H1: HashFn, H2: HashFn, O: Write>(
     }
 }
 
-// The table of valid bytes.
-fn open_valid<H: HashFn>(texts: Texts, bytes: &[u8]) -> DynTable<H, Borrowed<'_>>
+/// The table of valid bytes.
+pub fn open_valid<H: HashFn>(texts: Texts, bytes: &[u8]) -> DynTable<H, Borrowed<'_>>
     requires hashes { H.MIN_LEN ≤ typed_len texts.key }
     requires valid { IsValidBytes
         (format_of (typed_len texts.key) (typed_len texts.value) H.hash) bytes.now }

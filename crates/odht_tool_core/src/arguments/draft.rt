@@ -2,8 +2,8 @@
 use super::delimiters::delimiter_named;
 use super::topics::{Setting, Topic};
 use super::{
-    BuildOptions, Command, CommandMisuse, DeleteOptions, DiffOptions, Duplicates, Keys, Misuse,
-    Reading, RebuildOptions, Request, is_stream,
+    BuildOptions, Command, CommandMisuse, DeleteOptions, DiffOptions, Duplicates, Keys,
+    MergeOptions, Misuse, Reading, RebuildOptions, Request, is_stream,
 };
 use crate::any::AnyShape;
 use crate::digits::parse_number;
@@ -192,6 +192,7 @@ impl Draft {
             }),
             Topic::Get => self.get(is_stream),
             Topic::Diff => self.diff(is_stream),
+            Topic::Merge => self.merge(),
             _ if self.has_second_stream(is_stream) => Err(CommandMisuse::TwiceInput),
             _ => {
                 let reading = self.reading();
@@ -313,6 +314,27 @@ impl Draft {
             hash: self.hash,
             kinds: self.kinds,
             bound: bound_of(self.is_whole),
+        }))
+    }
+
+    // `merge`, of which the words are the files whose pairs it takes. One of them may be standard input.
+    fn merge(mut self) -> Result<Command, CommandMisuse> {
+        if self.words.is_empty() {
+            return Err(CommandMisuse::Missing("INPUT"));
+        }
+        if self.has_second_stream(false) {
+            return Err(CommandMisuse::TwiceInput);
+        }
+        Ok(Command::Merge(MergeOptions {
+            first: self.words.remove(0),
+            others: self.words,
+            duplicates: self.duplicates,
+            hash: self.hash,
+            kinds: self.kinds,
+            percent: self.percent,
+            bound: bound_of(self.is_whole),
+            breaks_links: self.breaks_links,
+            has_progress: self.has_progress,
         }))
     }
 

@@ -60,6 +60,12 @@ pub fn write_absent<E: Write>(file: &str, word: &[u8], errors: &mut E) -> io::Re
     writeln!(errors, "odht: {file}: the key {word} is absent")
 }
 
+/// Writes a line of the key of this text, which a file has and one before it too.
+pub fn write_repeated<E: Write>(file: &str, text: &[u8], errors: &mut E) -> io::Result<()> {
+    let text = Shown(text);
+    writeln!(errors, "odht: {file}: the key {text} is in a file before it too")
+}
+
 /// Adds a key.
 pub fn push_key<K: Text>(keys: &mut Vec<K>, key: K) -> Result<(), Failure> {
     keys.try_push(key).map_err(|_| Failure::Memory)

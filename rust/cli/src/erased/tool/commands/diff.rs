@@ -65,13 +65,13 @@ pub fn read_whole(
     }
 }
 
-// Whether keys and values of two shapes have the same lengths.
-fn have_same_sizes(first: AnyShape, second: AnyShape) -> bool {
+/// Whether keys and values of two shapes have the same lengths.
+pub fn have_same_sizes(first: AnyShape, second: AnyShape) -> bool {
     first.key().size() == second.key().size() && first.value().size() == second.value().size()
 }
 
-// The lengths of the keys and values of a shape.
-fn sizes_of(shape: AnyShape) -> (u8, u8) {
+/// The lengths of the keys and values of a shape.
+pub fn sizes_of(shape: AnyShape) -> (u8, u8) {
     (shape.key().size(), shape.value().size())
 }
 

@@ -35,8 +35,8 @@ pub fn diff_lengths<H1: HashFn, H2: HashFn, O: Write>(
     }
 }
 
-// The table of valid bytes.
-fn open_valid<H: HashFn>(texts: Texts, bytes: &[u8]) -> DynTable<H, Borrowed<'_>> {
+/// The table of valid bytes.
+pub fn open_valid<H: HashFn>(texts: Texts, bytes: &[u8]) -> DynTable<H, Borrowed<'_>> {
     let layout = Layout { key_len: texts.key.size(), value_len: texts.value.size() };
     DynTable::open_unchecked(layout, Borrowed::new(bytes))
 }
