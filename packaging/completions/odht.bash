@@ -6,11 +6,11 @@ _odht() {
         before=${COMP_WORDS[COMP_CWORD-2]}
     fi
     if [ "$COMP_CWORD" = 1 ]; then
-        COMPREPLY=($(compgen -W 'info check count get dump keys find order diff build put delete rebuild help --help --version' -- "$word"))
+        COMPREPLY=($(compgen -W 'info check count get dump keys find order diff build put delete rebuild merge help --help --version' -- "$word"))
         return
     fi
     case $before in
-        help) COMPREPLY=($(compgen -W 'info check count get dump keys find order diff build put delete rebuild' -- "$word")); return;;
+        help) COMPREPLY=($(compgen -W 'info check count get dump keys find order diff build put delete rebuild merge' -- "$word")); return;;
         --at) COMPREPLY=(); return;;
         --hash) COMPREPLY=($(compgen -W 'fx unhash' -- "$word")); return;;
         --key) COMPREPLY=(); return;;
@@ -34,6 +34,7 @@ _odht() {
         put:-*) COMPREPLY=($(compgen -W '--help --key --value --whole --hash --progress --break-links' -- "$word"));;
         delete:-*) COMPREPLY=($(compgen -W '--help --key --whole --hash --progress --break-links' -- "$word"));;
         rebuild:-*) COMPREPLY=($(compgen -W '--help --percent --whole --hash --progress --break-links' -- "$word"));;
+        merge:-*) COMPREPLY=($(compgen -W '--help --duplicates --key --value --whole --hash --percent --progress --break-links' -- "$word"));;
         *) mapfile -t COMPREPLY < <(compgen -f -- "$word");;
     esac
 }

@@ -12,8 +12,9 @@ complete -c odht -n __fish_use_subcommand -f -a build -d 'makes a table file of 
 complete -c odht -n __fish_use_subcommand -f -a put -d 'adds the lines of standard input to a table file'
 complete -c odht -n __fish_use_subcommand -f -a delete -d 'takes keys out; with - instead of keys, those of standard input'
 complete -c odht -n __fish_use_subcommand -f -a rebuild -d 'makes a table file anew, of another load factor or hash function'
+complete -c odht -n __fish_use_subcommand -f -a merge -d 'makes a table file of the pairs of others'
 complete -c odht -n __fish_use_subcommand -f -a help -d 'is the help of a command'
-complete -c odht -n '__fish_seen_subcommand_from help' -f -a 'info check count get dump keys find order diff build put delete rebuild'
+complete -c odht -n '__fish_seen_subcommand_from help' -f -a 'info check count get dump keys find order diff build put delete rebuild merge'
 complete -c odht -n '__fish_seen_subcommand_from info' -l help
 complete -c odht -n '__fish_seen_subcommand_from info' -l whole
 complete -c odht -n '__fish_seen_subcommand_from info' -l json
@@ -88,3 +89,12 @@ complete -c odht -n '__fish_seen_subcommand_from rebuild' -l whole
 complete -c odht -n '__fish_seen_subcommand_from rebuild' -l hash -x -a 'fx unhash' -d 'fx or unhash'
 complete -c odht -n '__fish_seen_subcommand_from rebuild' -l progress
 complete -c odht -n '__fish_seen_subcommand_from rebuild' -l break-links
+complete -c odht -n '__fish_seen_subcommand_from merge' -l help
+complete -c odht -n '__fish_seen_subcommand_from merge' -l duplicates -x -d 'last, first or error'
+complete -c odht -n '__fish_seen_subcommand_from merge' -l key -x -d 'u32, u64, i32, i64, u32be, u64be, hexN or text N'
+complete -c odht -n '__fish_seen_subcommand_from merge' -l value -x -d 'u32, u64, i32, i64, u32be, u64be, none, hexN or text N'
+complete -c odht -n '__fish_seen_subcommand_from merge' -l whole
+complete -c odht -n '__fish_seen_subcommand_from merge' -l hash -x -a 'fx unhash' -d 'fx or unhash'
+complete -c odht -n '__fish_seen_subcommand_from merge' -l percent -x -d 'a number from 1 to 100'
+complete -c odht -n '__fish_seen_subcommand_from merge' -l progress
+complete -c odht -n '__fish_seen_subcommand_from merge' -l break-links

@@ -65,6 +65,10 @@ fn summary_of(topic: Topic) -> &'static str {
         }
         Topic::Rebuild =>
             "odht rebuild FILE    makes a table file anew, of another load factor or hash function\n",
+        Topic::Merge => {
+            "odht merge FILE INPUT..
+                     makes a table file of the pairs of others\n"
+        }
         // end summaries
     }
 }
@@ -94,6 +98,7 @@ fn text_of(topic: Topic) -> &'static str {
         Topic::Put => PUT,
         Topic::Delete => DELETE,
         Topic::Rebuild => REBUILD,
+        Topic::Merge => MERGE,
         // end names
     }
 }
@@ -296,6 +301,27 @@ odht rebuild FILE [--percent P] [--whole] [--hash fx|unhash] [--progress]
     file are kept; one with hard links is not replaced without --break-links.
     --percent      the load factor of the new table, 1 to 100, else 87
     --hash         the hash function of the new table, else that of the file
+    --progress     a line on standard error each second
+    --break-links  replaces this name of a file; its other names keep the old one
+";
+
+const MERGE: &str = "\
+odht merge FILE INPUT.. [--duplicates WORD] [--key SHAPE] [--value SHAPE]
+                        [--whole] [--hash fx|unhash] [--percent P]
+                        [--progress] [--break-links]
+    Makes a new table for as many items as all INPUT have, inserts their pairs, file
+    after file and each in slot order, and stores it as FILE, in the place of an
+    older one, which stays where something fails; with - as FILE it goes to standard
+    output. FILE may be an INPUT too. All have the key and value sizes of the first,
+    whose hash function the new table has. Each is checked before, as by `odht
+    check`; --whole is as there. The hash function is the one that all control bytes
+    fit, unless --hash names that of all files. Owner, group, permissions and symbolic
+    links of FILE are kept; one with hard links is not replaced without --break-links.
+    --duplicates   which file's pair of a key counts: last, first, or error: a key
+                   that an earlier file has is a failure; else last
+    --key, --value texts other than those of the ready shape, as in `odht build`, for
+                   the key that this failure names
+    --percent      the load factor of the new table, 1 to 100, else 87
     --progress     a line on standard error each second
     --break-links  replaces this name of a file; its other names keep the old one
 ";

@@ -22,10 +22,11 @@ pub enum Topic {
     Put,
     Delete,
     Rebuild,
+    Merge,
 }
 
 /// All commands, in the order of the help text.
-pub(crate) const TOPICS: [Topic; 13] = [
+pub(crate) const TOPICS: [Topic; 14] = [
     Topic::Info,
     Topic::Check,
     Topic::Count,
@@ -39,6 +40,7 @@ pub(crate) const TOPICS: [Topic; 13] = [
     Topic::Put,
     Topic::Delete,
     Topic::Rebuild,
+    Topic::Merge,
 ];
 
 impl Topic {
@@ -80,6 +82,7 @@ impl Topic {
             Topic::Put => "put",
             Topic::Delete => "delete",
             Topic::Rebuild => "rebuild",
+            Topic::Merge => "merge",
         }
     }
 
@@ -91,7 +94,8 @@ impl Topic {
             | Topic::Count
             | Topic::Get
             | Topic::Diff
-            | Topic::Delete => true,
+            | Topic::Delete
+            | Topic::Merge => true,
             _ => false,
         }
     }
@@ -179,6 +183,17 @@ impl Topic {
                 Setting::Percent,
                 Setting::Whole,
                 Setting::Hash,
+                Setting::Progress,
+                Setting::BreakLinks,
+            ],
+            Topic::Merge => &[
+                Setting::Help,
+                Setting::Duplicates,
+                Setting::Key,
+                Setting::Value,
+                Setting::Whole,
+                Setting::Hash,
+                Setting::Percent,
                 Setting::Progress,
                 Setting::BreakLinks,
             ],

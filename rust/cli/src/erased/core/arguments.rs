@@ -73,6 +73,24 @@ pub struct DeleteOptions {
     pub has_progress: bool,
 }
 
+/// The options of `merge`, and the files whose pairs it takes.
+pub struct MergeOptions {
+    pub first: String,
+    /// Those after the first.
+    pub others: Vec<String>,
+    /// Which file's pair of a key counts.
+    pub duplicates: Duplicates,
+    /// The hash function of all files, where it is named.
+    pub hash: Option<Hash>,
+    /// What is said of the keys and values of the first file.
+    pub kinds: Kinds,
+    pub percent: Percent,
+    /// The bound of searches, in groups, by which the files are checked; none with `--whole`.
+    pub bound: Option<usize>,
+    pub breaks_links: bool,
+    pub has_progress: bool,
+}
+
 /// Where the keys are that are looked up, or deleted.
 pub enum Keys {
     /// These words.
@@ -117,6 +135,7 @@ pub enum Command {
     Delete(DeleteOptions),
     Rebuild(RebuildOptions),
     Diff(DiffOptions),
+    Merge(MergeOptions),
 }
 
 impl Command {

@@ -32,6 +32,7 @@ mod find;
 mod find_json;
 mod get;
 mod keys;
+mod merge;
 mod order;
 pub mod rebuild;
 
@@ -92,6 +93,7 @@ where
         Command::Delete(options) => delete::delete(rt, file, &options, input, errors),
         Command::Rebuild(options) => rebuild::rebuild(rt, file, options, errors),
         Command::Diff(options) => diff::diff(rt, file, options, input, output, errors),
+        Command::Merge(options) => merge::merge(rt, file, options, input, output, errors),
         Command::Put { hash, kinds, bound, breaks_links, watch } => {
             let target = Target::find(rt, file, breaks_links)?;
             let bytes = read_file(rt, target.path())?;

@@ -17,6 +17,7 @@ pub mod builds;
 pub mod deletes;
 pub mod diffs;
 pub mod gets;
+pub mod merges;
 
 /// The lengths of a shape.
 pub fn layout_of(shape: OtherShape) -> Layout {

@@ -4,7 +4,7 @@ use super::delimiters::delimiter_named;
 use super::topics::{Setting, Topic};
 use super::{
     is_stream, BuildOptions, Command, CommandMisuse, DeleteOptions, DiffOptions, Duplicates, Keys,
-    Misuse, Reading, RebuildOptions, Request,
+    MergeOptions, Misuse, Reading, RebuildOptions, Request,
 };
 use crate::erased::core::any::AnyShape;
 use crate::erased::core::digits::parse_number;
@@ -190,6 +190,7 @@ impl Draft {
             }),
             Topic::Get => self.get(is_stream),
             Topic::Diff => self.diff(is_stream),
+            Topic::Merge => self.merge(),
             _ if self.has_second_stream(is_stream) => Err(CommandMisuse::TwiceInput),
             _ => {
                 let reading = self.reading();
@@ -294,6 +295,27 @@ impl Draft {
             hash: self.hash,
             kinds: self.kinds,
             bound: bound_of(self.is_whole),
+        }))
+    }
+
+    // `merge`, of which the words are the files whose pairs it takes. One of them may be standard input.
+    fn merge(mut self) -> Result<Command, CommandMisuse> {
+        if self.words.is_empty() {
+            return Err(CommandMisuse::Missing("INPUT"));
+        }
+        if self.has_second_stream(false) {
+            return Err(CommandMisuse::TwiceInput);
+        }
+        Ok(Command::Merge(MergeOptions {
+            first: self.words.remove(0),
+            others: self.words,
+            duplicates: self.duplicates,
+            hash: self.hash,
+            kinds: self.kinds,
+            percent: self.percent,
+            bound: bound_of(self.is_whole),
+            breaks_links: self.breaks_links,
+            has_progress: self.has_progress,
         }))
     }
 

@@ -21,10 +21,11 @@ pub enum Topic {
     Put,
     Delete,
     Rebuild,
+    Merge,
 }
 
 /// All commands, in the order of the help text.
-pub(crate) const TOPICS: [Topic; 13] = [
+pub(crate) const TOPICS: [Topic; 14] = [
     Topic::Info,
     Topic::Check,
     Topic::Count,
@@ -38,6 +39,7 @@ pub(crate) const TOPICS: [Topic; 13] = [
     Topic::Put,
     Topic::Delete,
     Topic::Rebuild,
+    Topic::Merge,
 ];
 
 impl Topic {
@@ -67,6 +69,7 @@ impl Topic {
             Topic::Put => "put",
             Topic::Delete => "delete",
             Topic::Rebuild => "rebuild",
+            Topic::Merge => "merge",
         }
     }
 
@@ -78,7 +81,8 @@ impl Topic {
             | Topic::Count
             | Topic::Get
             | Topic::Diff
-            | Topic::Delete => true,
+            | Topic::Delete
+            | Topic::Merge => true,
             _ => false,
         }
     }
@@ -156,6 +160,17 @@ impl Topic {
                 Setting::Percent,
                 Setting::Whole,
                 Setting::Hash,
+                Setting::Progress,
+                Setting::BreakLinks,
+            ],
+            Topic::Merge => &[
+                Setting::Help,
+                Setting::Duplicates,
+                Setting::Key,
+                Setting::Value,
+                Setting::Whole,
+                Setting::Hash,
+                Setting::Percent,
                 Setting::Progress,
                 Setting::BreakLinks,
             ],

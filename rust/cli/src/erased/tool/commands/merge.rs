@@ -8,7 +8,7 @@ use crate::erased::core::failure::Failure;
 use crate::erased::core::files::replace_file;
 use crate::erased::core::forms::{GivenForms, Kinds};
 use crate::erased::core::keys::write_repeated;
-use crate::erased::core::progress::Progress;
+use crate::erased::core::progress::{Progress, Watch};
 use crate::erased::core::shapes::Hash;
 use crate::erased::core::status::{of_output, Status};
 use crate::erased::core::targets::Target;
@@ -151,7 +151,7 @@ fn merged_inputs<R: AllocGlobal + Clock, E: Write>(
     errors: &mut E,
 ) -> Result<Vec<u8>, Unmerged> {
     let texts = Texts::of(shape, forms);
-    let progress = Progress::new(rt, options.has_progress);
+    let progress = Progress::new(rt, Watch::of(options.has_progress));
     let (duplicates, percent) = (options.duplicates, options.percent);
     match shape.hash() {
         Hash::Fx => merge_lengths::<FxHashFn, R, E>(

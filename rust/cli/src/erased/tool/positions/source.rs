@@ -1,5 +1,6 @@
 // Made by `make rust` of crates/odht_tool/src/positions/source.rt.
 //! A file, as a source of bytes.
+
 use crate::host::prelude::*;
 use crate::proved::tables::read_at::{ReadAt, ReadError};
 use std::io::ErrorKind;
