@@ -38,11 +38,11 @@ pub fn build<R: Files + AllocGlobal + Clock, I: BufRead, O: Write, E: Write>(
 where
     R::File: AsFd,
 {
-    if !takes_plain_lines(options) {
-        return build_lines(rt, file, options, input, output, errors);
-    }
-    let forms = options.forms;
+    let (forms, duplicates) = (options.forms, options.duplicates);
+    let (delimiter, is_check) = (options.delimiter, options.is_check);
+    let is_plain = takes_plain_lines(duplicates, delimiter, is_check);
     match options.shape {
+        _ if !is_plain => build_lines(rt, file, options, input, output, errors),
         AnyShape::Ready(shape) if forms.are_own() => {
             build_in(rt, file, shape, OwnForms, options, input, output, errors)
         }
@@ -55,9 +55,9 @@ where
 
 // Whether nothing is said of the lines: the last one of a key counts, key and value are on either side of a tab, and the
 // table is stored.
-fn takes_plain_lines(options: BuildOptions) -> bool {
-    match options.duplicates {
-        Duplicates::Last => options.delimiter == b'\t' && !options.is_check,
+fn takes_plain_lines(duplicates: Duplicates, delimiter: u8, is_check: bool) -> bool {
+    match duplicates {
+        Duplicates::Last => delimiter == b'\t' && !is_check,
         _ => false,
     }
 }

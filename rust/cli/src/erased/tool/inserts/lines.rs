@@ -35,24 +35,25 @@ impl Place {
     pub fn find<R: Files + AllocGlobal>(
         rt: &R,
         file: &str,
-        options: BuildOptions,
+        is_check: bool,
+        breaks_links: bool,
     ) -> Result<Place, Failure> {
-        if options.is_check {
+        if is_check {
             Ok(Place::Nowhere)
         } else if is_stream(file) {
             Ok(Place::Output)
         } else {
-            let target = Target::find(rt, file, options.breaks_links)?;
+            let target = Target::find(rt, file, breaks_links)?;
             Ok(Place::File(target))
         }
     }
 }
 
 /// Whether lines are only read: no table is stored, nor needed to find a key that is there twice.
-pub fn makes_no_table(options: BuildOptions) -> bool {
-    match options.duplicates {
+pub fn makes_no_table(duplicates: Duplicates, is_check: bool) -> bool {
+    match duplicates {
         Duplicates::Error => false,
-        _ => options.is_check,
+        _ => is_check,
     }
 }
 
