@@ -54,14 +54,17 @@ where
     C::Value: Text,
     R::File: AsFd,
 {
-    let forms = LineForms { forms: options.forms, delimiter: options.delimiter };
-    if makes_no_table(options) {
-        let watch = options.watch;
+    let (forms, delimiter) = (options.forms, options.delimiter);
+    let (duplicates, is_check) = (options.duplicates, options.is_check);
+    let (capacity, percent, watch) = (options.capacity, options.percent, options.watch);
+    let forms = LineForms { forms, delimiter };
+    let breaks_links = options.breaks_links;
+    if makes_no_table(duplicates, is_check) {
         return check_lines::<C::Key, C::Value, LineForms, R, I, E>(
             rt, forms, watch, input, errors,
         );
     }
-    let place = Place::find(rt, file, options)?;
-    let table = make_table::<C>(rt.alloc(), options.capacity, options.percent)?;
+    let place = Place::find(rt, file, is_check, breaks_links)?;
+    let table = make_table::<C>(rt.alloc(), capacity, percent)?;
     insert_lines(rt, place, table, forms, options, input, output, errors)
 }

@@ -54,15 +54,18 @@ fn build_lengths<H: HashFn, R: Files + AllocGlobal + Clock, I: BufRead, O: Write
 where
     R::File: AsFd,
 {
-    let forms = forms_of(layout, options.delimiter);
-    if makes_no_table(options) {
-        let watch = options.watch;
+    let (delimiter, duplicates, is_check) =
+        (options.delimiter, options.duplicates, options.is_check);
+    let (capacity, percent, watch) = (options.capacity, options.percent, options.watch);
+    let forms = forms_of(layout, delimiter);
+    let breaks_links = options.breaks_links;
+    if makes_no_table(duplicates, is_check) {
         return check_lines::<ShortBytes, ShortBytes, LineForms, R, I, E>(
             rt, forms, watch, input, errors,
         );
     }
-    let place = Place::find(rt, file, options)?;
-    let table = make_lengths::<H>(rt.alloc(), layout, options.capacity, options.percent)?;
+    let place = Place::find(rt, file, is_check, breaks_links)?;
+    let table = make_lengths::<H>(rt.alloc(), layout, capacity, percent)?;
     insert_lines(rt, place, table, forms, options, input, output, errors)
 }
 
