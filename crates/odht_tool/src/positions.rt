@@ -157,9 +157,7 @@ fn get_words_at<S: ReadAt + Drop, O: Write>(
     let Some(start) = read_start(&source, len, offset) else {
         return Ok(None);
     };
-    get_table_words(
-        alloc, source, &start, hash, kinds, is_json, words, output,
-    )
+    get_table_words(alloc, source, &start, hash, kinds, is_json, words, output)
 }
 
 // The same of the table that begins so.
@@ -196,9 +194,7 @@ fn get_table_words<S: ReadAt + Drop, O: Write>(
     let (at, len) = (start.at, start.len);
     match shape {
         AnyShape::Ready(shape) => {
-            words_ready(
-                alloc, source, at, len, shape, forms, is_json, words, output,
-            )
+            words_ready(alloc, source, at, len, shape, forms, is_json, words, output)
         }
         AnyShape::Other(shape) => words_other(
             alloc, source, at, len, shape, is_json, words, output,

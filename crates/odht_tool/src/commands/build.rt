@@ -116,15 +116,7 @@ where
     R::File: AsFd,
 {
     let table = make_table::<C>(rt.alloc(), options.capacity, options.percent)?;
-    insert_into_file(
-        rt,
-        target,
-        table,
-        forms,
-        options.watch,
-        input,
-        errors,
-    )
+    insert_into_file(rt, target, table, forms, options.watch, input, errors)
 }
 
 /// An empty table for so many items.
@@ -157,26 +149,9 @@ where
     let (shape, forms) = read_any(bytes.as_slice(), hash, kinds)?;
     match shape {
         AnyShape::Ready(shape) => put_ready(
-            rt,
-            target,
-            shape,
-            forms,
-            bytes,
-            bound,
-            watch,
-            input,
-            errors,
+            rt, target, shape, forms, bytes, bound, watch, input, errors,
         ),
-        AnyShape::Other(shape) => put_other(
-            rt,
-            target,
-            shape,
-            bytes,
-            bound,
-            watch,
-            input,
-            errors,
-        ),
+        AnyShape::Other(shape) => put_other(rt, target, shape, bytes, bound, watch, input, errors),
     }
 }
 
@@ -197,28 +172,10 @@ where
 {
     if forms.are_own() {
         put_in(
-            rt,
-            target,
-            shape,
-            OwnForms,
-            bytes,
-            bound,
-            watch,
-            input,
-            errors,
+            rt, target, shape, OwnForms, bytes, bound, watch, input, errors,
         )
     } else {
-        put_in(
-            rt,
-            target,
-            shape,
-            forms,
-            bytes,
-            bound,
-            watch,
-            input,
-            errors,
-        )
+        put_in(rt, target, shape, forms, bytes, bound, watch, input, errors)
     }
 }
 

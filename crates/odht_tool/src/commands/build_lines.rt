@@ -54,21 +54,11 @@ where
 {
     let (forms, delimiter) = (options.forms, options.delimiter);
     let (duplicates, is_check) = (options.duplicates, options.is_check);
-    let (capacity, percent, watch) = (
-        options.capacity,
-        options.percent,
-        options.watch,
-    );
+    let (capacity, percent, watch) = (options.capacity, options.percent, options.watch);
     let forms = LineForms { forms, delimiter };
     let breaks_links = options.breaks_links;
     if makes_no_table(duplicates, is_check) {
-        return check_lines::<C::Key, C::Value, LineForms, R, I, E>(
-            rt,
-            forms,
-            watch,
-            input,
-            errors,
-        );
+        return check_lines::<C::Key, C::Value, LineForms, R, I, E>(rt, forms, watch, input, errors);
     }
     let place = Place::find(rt, file, is_check, breaks_links)?;
     let table = make_table::<C>(rt.alloc(), capacity, percent)?;

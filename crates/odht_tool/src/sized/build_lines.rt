@@ -59,20 +59,12 @@ where
         options.duplicates,
         options.is_check,
     );
-    let (capacity, percent, watch) = (
-        options.capacity,
-        options.percent,
-        options.watch,
-    );
+    let (capacity, percent, watch) = (options.capacity, options.percent, options.watch);
     let forms = forms_of(layout, delimiter);
     let breaks_links = options.breaks_links;
     if makes_no_table(duplicates, is_check) {
         return check_lines::<ShortBytes, ShortBytes, LineForms, R, I, E>(
-            rt,
-            forms,
-            watch,
-            input,
-            errors,
+            rt, forms, watch, input, errors,
         );
     }
     let place = Place::find(rt, file, is_check, breaks_links)?;

@@ -116,24 +116,10 @@ where
     let layout = layout_of(shape);
     match shape.hash {
         Hash::Fx => put_lengths::<FxHashFn, R, I, E>(
-            rt,
-            target,
-            layout,
-            bytes,
-            bound,
-            watch,
-            input,
-            errors,
+            rt, target, layout, bytes, bound, watch, input, errors,
         ),
         Hash::Unhash => put_lengths::<UnHashFn, R, I, E>(
-            rt,
-            target,
-            layout,
-            bytes,
-            bound,
-            watch,
-            input,
-            errors,
+            rt, target, layout, bytes, bound, watch, input, errors,
         ),
     }
 }
