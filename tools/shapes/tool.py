@@ -17,7 +17,7 @@ DISPATCHERS = {
     "positions/shaped/words_of": "words_typed",
 }
 # those of them without type parameters
-PLAIN = {"commands/delete/keys_of_ready", "commands/delete_lines/keys_of_ready"}
+PLAIN = {"commands/delete/keys_of_ready"}
 
 
 def number_part(type_name):
