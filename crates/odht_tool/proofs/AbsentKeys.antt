@@ -1,7 +1,6 @@
 -- Keys that a table has values for, and keys that are absent.
 use Rattle.std.proofs.Common.{◌≡◌, ◌<◌, ◌∙◌, ◌&&◌, ◌++◌, ℕ, zero, suc, Bool, true, false, true≢false, cond, IsTrue, List, [], ◌∷◌, Option, Some, None, length, take, map, get_or, sym, ap, refl, arith, append_assoc, append-nil}
 use Rattle.std.specs.Prelude.{◌↔◌, is_some, IsSome}
-use Rattle.odht_base.specs.Map.{map_of}
 use Rattle.odht_base.specs.Table.{Table}
 use Rattle.odht_tool.specs.Deletes.{absent_lines, has_value, have_values}
 use Rattle.odht_tool_core.specs.Misreads.{absent_line}

@@ -1,29 +1,23 @@
 -- Lookups in a table that is read by position, and the hash function that its first slots leave.
-use Rattle.std.proofs.Common.{arith, refl, ◌≡◌, ◌∙◌, ℕ, zero, suc, ◌+◌, ◌*◌, ◌<◌, ◌≤◌, ◌&&◌, ◌==◌, Bool, true, false, not, List, [], ◌∷◌, length, drop, take, find, is_none, is_some, Option, Some, None, Ok, sym, ap, ap₂, subst, cond, nat_lt, slice_index, le-ltb, mul-le-mul_right, add-mul, zero-add, map, length-drop}
-use Rattle.std.specs.Prelude.{IfSome, option_map, if◌then◌else◌}
+use Rattle.std.proofs.Common.{arith, refl, ◌≡◌, ◌∙◌, ℕ, ◌+◌, ◌*◌, ◌<◌, ◌≤◌, ◌&&◌, ◌==◌, Bool, true, false, not, List, [], ◌∷◌, length, drop, take, find, is_none, is_some, Option, Some, None, Ok, sym, ap, ap₂, subst, cond, slice_index, le-ltb, mul-le-mul_right, add-mul, zero-add, length-drop}
+use Rattle.std.specs.Prelude.{if◌then◌else◌}
 use Rattle.std.specs.Option.{option_or}
 use Rattle.std.proofs.lemmas.Bool.{and_parts, eqb-true, leb-true, false_from_ne_true, true≢false}
 use Rattle.std.proofs.lemmas.List.{get_or-drop}
 use Rattle.odht_base.specs.Bytes.{bytes_at}
-use Rattle.odht_base.specs.Decoded.{header_count, header_slots, entries_of, controls_of, counts_as_free, slot_entry, slot_key}
+use Rattle.odht_base.specs.Decoded.{header_count, header_slots, entries_of, controls_of, counts_as_free, slot_key}
 use Rattle.odht_base.specs.Format.{Format, IsFormat, entry_len, format_of, tag}
-use Rattle.odht_base.specs.Map.{map_of}
 use Rattle.odht_base.specs.Numbers.{num}
 use Rattle.std.proofs.Math.Bool.{and-false}
 use Rattle.odht_base.specs.Valid.{IsValidBytes}
 use Rattle.odht_base.proofs.lemmas.ByteRanges.{bytes_at-bytes_at, index-bytes_at, length-bytes_at}
 use Rattle.odht_base.proofs.lemmas.PartsOf.{slot_within}
-use Rattle.odht_header.specs.Coding.{Coding, HasStored}
-use Rattle.odht_header.specs.Refusals.{opening_refusal, ◌gives◌, checked, differs, first_of, header_refusal, lists_differ, tag_refusal, version_refusal, wrong_size, first_slot, control_mismatch, view_refusal}
+use Rattle.odht_header.specs.Refusals.{opening_refusal, ◌gives◌, checked, differs, first_of, header_refusal, lists_differ, tag_refusal, version_refusal, wrong_size, first_slot, control_mismatch}
 use Rattle.odht_header.specs.declared.error.Error.{Error}
 use Rattle.odht_header.specs.declared.error.Error.TheVariants.{ControlMismatch, TooShort, WrongSizeOf, WrongTag, WrongVersion}
 use Rattle.odht_header.specs.declared.error.Part.TheVariants.{EntryMetadata}
 use Rattle.odht_header.proofs.lemmas.HeaderFits.{IsHeader-header_refusal}
 use Rattle.odht_header.proofs.lemmas.FirstErrors.{Ok-checked, option_or-None, gives_both-None, None-gives_both, differs-false, false-differs, not-true, first_slot-None}
-use Rattle.odht_raw.specs.Sized.{bytes_coding}
-use Rattle.odht.specs.Dynamic.{dyn_refusal}
-use Rattle.odht.specs.Gets.{IsGet}
-use Rattle.odht.proofs.lemmas.Files.{none_rejected}
 use Rattle.odht_tool_core.specs.InfoNumbers.{SizedParts, agrees, found_hash, info_refusal, sized_format, sized_parts, least_key_len}
 use Rattle.odht_tool_core.specs.AnyShapes.{any_of_sizes, fitting_any, found_any, named_any, other_by, other_of, ready_or}
 use Rattle.odht_tool_core.specs.ReadyShapes.{early_refusal, hash_of, is_shape_of, same_hash, typed_len}

@@ -18,7 +18,7 @@
 --                          the bound of searches
 --     IsDeleteFailure B h ks o ws f   f is the failure of the shape, or else the first rule that B breaks, or else tells of
 --                          the first word that is no key, or that there was no memory
-use Rattle.std.specs.Prelude.{◌≡◌, ℕ, Bool, not, List, [], ◌∷◌, ◌++◌, map, filter, is_some, bytes_eq, Option, None, Some, Result, Ok, Err, MatchResult, if◌then◌else◌}
+use Rattle.std.specs.Prelude.{◌≡◌, ℕ, Bool, not, List, [], ◌∷◌, ◌++◌, map, filter, is_some, bytes_eq, Option, None, Some, Ok, MatchResult, if◌then◌else◌}
 use Rattle.std.specs.List.{AllZip, list_all, list_any}
 use Rattle.odht_base.specs.Format.{Format}
 use Rattle.odht_base.specs.Insert.{insert_owned}

@@ -1,11 +1,11 @@
 -- Worked examples: what `delete` makes of a file, and why it fails.
-use Rattle.std.proofs.Common.{◌≡◌, ◌≤◌, ℕ, refl, true, false, List, [], ◌∷◌, Some, None, arith}
+use Rattle.std.proofs.Common.{◌≡◌, ℕ, refl, true, false, List, [], ◌∷◌, Some, None, arith}
 use Rattle.std.specs.Prelude.{codes}
 use Rattle.odht_base.specs.Bounds.{first_longer}
 use Rattle.odht_base.specs.Format.{Format}
 use Rattle.odht_base.specs.Image.{image}
 use Rattle.odht_base.specs.Map.{map_of}
-use Rattle.odht_base.specs.Table.{Pair, Table, empty, walk}
+use Rattle.odht_base.specs.Table.{Table, empty, walk}
 use Rattle.odht_base.proofs.lemmas.FreeSlots.{fresh-IsValid}
 use Rattle.odht_header.specs.declared.error.Error.TheVariants.{TooShort, SearchTooLong}
 use Rattle.odht_header.proofs.examples.Opened.{opened}

@@ -1,5 +1,5 @@
 -- Worked examples: what `get - --json` writes of the lines of an input, and which keys these are for `delete -`.
-use Rattle.std.proofs.Common.{◌≡◌, ◌∙◌, true, inl, inr, ℕ, refl, ap, arith, length, length-append, List, [], ◌∷◌, Some, None, Ok, Err}
+use Rattle.std.proofs.Common.{◌≡◌, ◌∙◌, true, inl, inr, ℕ, refl, ap, arith, length, length-append, List, [], ◌∷◌, Some, None, Ok}
 use Rattle.std.specs.Char.{encode_utf8}
 use Rattle.std.specs.Fmt.{digits}
 use Rattle.std.specs.Prelude.{codes, string_bytes}

@@ -1,4 +1,4 @@
-use Rattle.std.proofs.Common.{◌≡◌, ◌∙◌, ◌+◌, ◌*◌, ℕ, ap, slice_index}
+use Rattle.std.proofs.Common.{◌≡◌, ◌∙◌, ◌+◌, ◌*◌, ap, slice_index}
 use Rattle.odht_base.specs.Decoded.{header_slots}
 use Rattle.odht_tool.proofs.positions.front_len.Goals as goal
 

@@ -1,4 +1,4 @@
-use Rattle.std.proofs.Common.{ℕ, List, ◌≡◌, ◌∙◌, Ok, map, sym, subst}
+use Rattle.std.proofs.Common.{ℕ, List, ◌∙◌, map, sym, subst}
 use Rattle.std.specs.Prelude.{string_bytes}
 use Rattle.odht_base.specs.Bytes.{bytes_at}
 use Rattle.odht_tool.specs.Gets.{words_of_any}

@@ -1,4 +1,4 @@
-use Rattle.std.proofs.Common.{arith, ◌≡◌, ◌∙◌, ◌≤◌, ℕ, List, length, map, sym, ap, subst}
+use Rattle.std.proofs.Common.{arith, ◌≡◌, ◌∙◌, ℕ, List, length, map, sym, ap, subst}
 use Rattle.std.specs.Prelude.{string_bytes, unwrap_or}
 use Rattle.odht_base.specs.Bytes.{bytes_at}
 use Rattle.odht_tool.specs.Gets.{AreFileWordsGot}

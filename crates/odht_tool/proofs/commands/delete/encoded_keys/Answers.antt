@@ -1,4 +1,4 @@
-use Rattle.std.proofs.Common.{rules, ◌≡◌, ◌∙◌, ◌++◌, ◌+◌, ◌∷◌, [], List, ℕ, sym, ap, map, take}
+use Rattle.std.proofs.Common.{◌≡◌, ◌∙◌, ◌++◌, ◌+◌, ◌∷◌, [], List, ℕ, sym, ap, map, take}
 use Rattle.std.proofs.lemmas.List.{map-append, take_more}
 use Rattle.odht_tool.proofs.commands.delete.encoded_keys.Goals as goal
 

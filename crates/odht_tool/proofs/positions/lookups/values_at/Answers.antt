@@ -1,4 +1,4 @@
-use Rattle.std.proofs.Common.{rules, arith, ◌≡◌, ◌∙◌, ◌+◌, ◌∷◌, [], ◌++◌, length, take, sym, ap, subst, length-append}
+use Rattle.std.proofs.Common.{rules, ◌≡◌, ◌∙◌, ◌+◌, ◌∷◌, [], ◌++◌, length, take, sym, ap, subst, length-append}
 use Rattle.odht_tool.specs.Gets.{AreAnswers}
 use Rattle.odht_tool.proofs.KeyAnswers.{no_answers, answers_more}
 use Rattle.odht_tool.proofs.positions.lookups.values_at.Goals as goal

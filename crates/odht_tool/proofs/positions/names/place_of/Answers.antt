@@ -1,4 +1,4 @@
-use Rattle.std.proofs.Common.{arith, ◌≡◌, ◌∙◌, ◌+◌, ◌*◌, ℕ, sym, ap, ap₂}
+use Rattle.std.proofs.Common.{arith, ◌≡◌, ◌∙◌, ◌+◌, ◌*◌, sym, ap, ap₂}
 use Rattle.odht_base.specs.Decoded.{header_slots}
 use Rattle.odht_tool.proofs.FileReads.{start_length}
 use Rattle.odht_tool.proofs.positions.names.place_of.Goals as goal

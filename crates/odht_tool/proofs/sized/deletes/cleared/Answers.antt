@@ -2,7 +2,7 @@ use Rattle.std.proofs.Common.{rules, ◌≡◌, ◌∙◌, ◌+◌, ◌*◌, Lis
 use Rattle.std.proofs.lemmas.List.{length-replicate}
 use Rattle.std.specs.Prelude.{IfOk}
 use Rattle.odht_base.specs.Decoded.{header_factor, header_slots}
-use Rattle.odht_base.specs.Format.{Format, format_of}
+use Rattle.odht_base.specs.Format.{format_of}
 use Rattle.odht_base.specs.Image.{image, image_len}
 use Rattle.odht_base.specs.Load.{IsSlotCount}
 use Rattle.odht_base.specs.Table.{empty, slot_count}

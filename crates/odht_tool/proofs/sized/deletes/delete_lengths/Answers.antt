@@ -1,9 +1,9 @@
 use Rattle.std.proofs.Common.{rules, ◌≡◌, ◌∙◌, sym, ap, subst}
 use Rattle.odht_base.specs.Format.{Format, format_of}
-use Rattle.odht_base.specs.Valid.{IsImage, IsValidBytes}
+use Rattle.odht_base.specs.Valid.{IsImage}
 use Rattle.odht_raw.specs.Frame.{IsAccepted}
 use Rattle.odht_raw.proofs.lemmas.Accepted.{IsAccepted-IsValidBytes}
-use Rattle.odht_tool.specs.Deletes.{IsDeleted, have_values}
+use Rattle.odht_tool.specs.Deletes.{IsDeleted}
 use Rattle.odht_tool.specs.Gets.{found_status}
 use Rattle.odht_tool.proofs.sized.deletes.delete_lengths.Goals as goal
 

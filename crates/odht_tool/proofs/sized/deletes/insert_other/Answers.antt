@@ -5,7 +5,7 @@ use Rattle.odht.specs.Dynamic.{dyn_format}
 use Rattle.odht.specs.DynOwned.{IsDynInsertOwned}
 use Rattle.odht.specs.Lists.{IsAfterInserts}
 use Rattle.odht_tool.specs.Deletes.{is_among, without}
-use Rattle.odht_tool.proofs.Deletions.{known, without-named, without-other}
+use Rattle.odht_tool.proofs.Deletions.{known, without-other}
 use Rattle.odht_tool.proofs.NewTables.{one_more}
 use Rattle.odht_tool.proofs.sized.deletes.insert_other.Goals as goal
 

@@ -1,4 +1,4 @@
-use Rattle.std.proofs.Common.{rules, ◌≡◌, ◌∙◌, ◌++◌, ◌+◌, ◌<◌, suc, [], List, ℕ, Some, true, false, cond, sym, ap, subst, arith, length, map, take}
+use Rattle.std.proofs.Common.{rules, ◌≡◌, ◌∙◌, ◌++◌, ◌+◌, ◌<◌, suc, [], true, false, cond, sym, ap, subst, arith, length, map, take}
 use Rattle.std.specs.Io.KnownBytes.{Appends}
 use Rattle.odht_base.specs.Map.{map_of}
 use Rattle.odht_tool.specs.Deletes.{absent_lines, has_value}

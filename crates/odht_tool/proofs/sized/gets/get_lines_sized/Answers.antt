@@ -9,7 +9,7 @@ use Rattle.odht_tool_core.specs.JsonAnswers.{answer_in}
 use Rattle.odht_tool_core.specs.Misreads.{hex_wanted}
 use Rattle.odht_tool_core.specs.Texts.{hex_text}
 use Rattle.odht_tool_core.specs.declared.failure.Failure.{Failure}
-use Rattle.odht_tool_core.specs.declared.failure.Failure.TheVariants.{Refused, Input, Output, Memory, Misread}
+use Rattle.odht_tool_core.specs.declared.failure.Failure.TheVariants.{Input, Output, Memory, Misread}
 use Rattle.odht_tool_core.specs.declared.misread.Wanted.{Wanted}
 use Rattle.odht_tool_core.specs.declared.status.Status.{Status}
 use Rattle.odht_tool.proofs.sized.gets.get_lines_sized.Goals as goal
