@@ -26,8 +26,9 @@ use crate::shim::Global;
 use std::io::{BufRead, Write};
 use std::os::fd::AsFd;
 
-/// Makes a new table of the pairs of the table in the file whose keys are not named, by words or by the lines of `input`, and stores it in the place of the
-/// older one, which stays where something fails. Not all is done where a key is absent.
+/// Makes a new table of the pairs of the table in the file whose keys are not named, by words or by the lines of
+/// `input`, and stores it in the place of the older one, which stays where something fails. Not all is done where a key
+/// is absent.
 pub fn delete<R: Files + AllocGlobal + Clock, I: BufRead, E: Write>(
     rt: &R,
     file: &str,
