@@ -194,6 +194,18 @@ pub trait BufReadCalls: BufRead {
 
 impl<B: BufRead> BufReadCalls for B {}
 
+/// Whether a stream goes to a terminal. The trait of Rust's std cannot be had for a stream of ours.
+pub trait IsTerminal {
+    /// Whether it does.
+    fn is_terminal(&self) -> bool;
+}
+
+impl IsTerminal for Stream {
+    fn is_terminal(&self) -> bool {
+        std::io::IsTerminal::is_terminal(&*self.0)
+    }
+}
+
 #[cfg(test)]
 mod tests {
     use super::*;
@@ -271,17 +283,5 @@ mod tests {
         assert_eq!(output.flush().unwrap_err().kind(), ErrorKind::Other);
         output.flush().unwrap();
         assert_eq!(output.inner.1, [&b"ab"[..], b"cdef"]);
-    }
-}
-
-/// Whether a stream goes to a terminal. The trait of Rust's std cannot be had for a stream of ours.
-pub trait IsTerminal {
-    /// Whether it does.
-    fn is_terminal(&self) -> bool;
-}
-
-impl IsTerminal for Stream {
-    fn is_terminal(&self) -> bool {
-        std::io::IsTerminal::is_terminal(&*self.0)
     }
 }
