@@ -240,8 +240,9 @@ odht build FILE --key SHAPE --value SHAPE [--duplicates WORD]
     with - as FILE it goes to standard output. The last line of a key wins, unless
     --duplicates says otherwise; an empty last line that is no pair is left out.
     Owner, group, permissions and symbolic links of an older file are kept; one with
-    hard links is not replaced without --break-links. With hexN or none for both, keys and values may have
-    other sizes than the ready shapes; the hash function is fx then, or --hash.
+    hard links is not replaced without --break-links. With hexN or none for both,
+    keys and values may have other sizes than the ready shapes; the hash function is
+    fx then, or --hash.
     SHAPE          u32, u64, none (no bytes), or hexN: N bytes as 2 N digits;
                    i32 and i64 with a sign; u32be and u64be, the highest byte first;
                    text:N, a text of at most N bytes, with zeros behind it
