@@ -103,6 +103,28 @@ fn each_read_is_faulty_in_turn() {
     assert!(most >= 7, "{most}");
 }
 
+#[test]
+fn lengths_are_read_from_the_header_first() {
+    let bytes = table_of(&pairs());
+    let opened = |fault, at| {
+        let source = Faulty::new(&bytes, fault, at);
+        let layout = Table::open_as_stated(&source, bytes.len()).map(|table| table.layout());
+        (layout, source.reads.get())
+    };
+    let (layout, reads) = opened(Fault::Fails, usize::MAX);
+    assert_eq!((layout, reads), (Ok(LAYOUT), 4));
+    for at in 0..reads {
+        assert_eq!(opened(Fault::Fails, at).0, Err(FileError::Read(ReadError::Failed { code: 5 })));
+        assert_eq!(opened(Fault::Ends, at).0, Err(FileError::Read(ReadError::EarlyEnd)));
+        assert_eq!(opened(Fault::Interrupted, at).0, Ok(LAYOUT));
+        assert_eq!(opened(Fault::GivesOne, at).0, Ok(LAYOUT));
+    }
+    // the same bytes behind others
+    let shifted = [&[7; 5][..], &bytes].concat();
+    let behind = Table::open_at_as_stated(&shifted[..], 5, bytes.len()).map(|table| table.layout());
+    assert_eq!(behind, Ok(LAYOUT));
+}
+
 // Each read is interrupted.
 struct Interrupting;
 

@@ -138,6 +138,27 @@ impl<H: HashFn, S: ReadAt> FileTable<H, S> {
         Ok(FileTable { table })
     }
 
+    /// [`open_at_as_stated`](FileTable::open_at_as_stated) of all bytes of a source, of which there are `len`.
+    ///
+    /// # Errors
+    ///
+    /// Those of `open_at_as_stated`.
+    pub fn open_as_stated(source: S, len: usize) -> Result<Self, FileError> {
+        FileTable::open_at_as_stated(source, 0, len)
+    }
+
+    /// [`open_at`](FileTable::open_at) with the lengths that the header states; [`layout`](FileTable::layout) tells
+    /// them. The header is read first by itself, so that it is one read more.
+    ///
+    /// # Errors
+    ///
+    /// `Read` with `EarlyEnd` where the end reaches 2^64; then that of a read, or `Table` with what
+    /// [`DynTable::open_as_stated`](super::DynTable::open_as_stated) returns of the bytes.
+    pub fn open_at_as_stated(source: S, offset: u64, len: usize) -> Result<Self, FileError> {
+        let table = dynamic::FileTable::open_at_as_stated(Source(source), offset, len)?;
+        Ok(FileTable { table })
+    }
+
     /// The lengths of keys and values.
     #[must_use]
     pub fn layout(&self) -> Layout {

@@ -73,6 +73,12 @@ fn lengths_as_numbers<const K: usize, const V: usize, H: Named>(
     let opened = DynTable::<H, _>::open(layout, reading.bytes);
     let stated = DynTable::<H, _>::open_as_stated(reading.bytes);
     let lying = FileTable::<H, _>::open(layout, reading.bytes, reading.bytes.len());
+    let lying_stated = FileTable::<H, _>::open_as_stated(reading.bytes, reading.bytes.len());
+    let stated_layout = stated.as_ref().map(DynTable::layout);
+    match lying_stated.map(|table| table.layout()) {
+        Err(FileError::Table(error)) => assert_eq!(Err(&error), stated_layout),
+        layout => assert_eq!(layout.ok(), stated_layout.ok()),
+    }
     let (table, view) = match (opened, View::<K, V, H>::try_from_raw_bytes(reading.bytes)) {
         (Ok(table), Ok(view)) => (table, view),
         (opened, view) => {
