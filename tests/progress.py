@@ -7,10 +7,12 @@ standard error a terminal.
 import os
 import pty
 import re
+import select
 import signal
 import subprocess
 import sys
 import tempfile
+import threading
 import time
 
 SHAPE = ["--key", "u64", "--value", "u32", "--progress"]
@@ -18,6 +20,8 @@ SHAPE = ["--key", "u64", "--value", "u32", "--progress"]
 BATCH = 1024
 LINE = re.compile(r"odht: (\d+) lines, (\d+) pairs, (\d+) bytes, (\d+) seconds(  [#.]{40})?\r?\n")
 WIDTH = 40
+# half a minute
+MOST_BATCHES = 60
 # enough that inserting them takes longer than a program runs before it is stopped
 PAIRS = 1_000_000
 
@@ -34,20 +38,20 @@ def told(text):
 
 
 def slow_lines(program, room):
-    """Two batches of lines, the second more than a second after the first, with the same keys."""
+    """Batches of lines of the same keys, two in a second, until a line of progress comes."""
     words = [program, "build", f"{room}/slow", *SHAPE]
+    batch = lines_of(range(BATCH))
     with subprocess.Popen(words, stdin=subprocess.PIPE, stderr=subprocess.PIPE) as child:
-        batch = lines_of(range(BATCH))
-        child.stdin.write(batch)
-        child.stdin.flush()
-        time.sleep(1.3)
-        child.stdin.write(batch)
+        for sent in range(1, MOST_BATCHES):
+            child.stdin.write(batch)
+            child.stdin.flush()
+            if select.select([child.stderr], [], [], 0.5)[0]:
+                break
         _, text = child.communicate()
     assert child.returncode == 0, text
-    # The second line is due where the run then takes a second more.
-    lines, pairs, length, seconds, bar = told(text)[-1]
-    assert (lines, pairs, length, bar) == (2 * BATCH, BATCH, 2 * len(batch), None), text
-    assert 1 <= seconds <= 60, text
+    for lines, pairs, length, seconds, bar in told(text):
+        assert lines % BATCH == 0 and lines <= sent * BATCH and seconds >= 1, text
+        assert (pairs, length, bar) == (BATCH, lines // BATCH * len(batch), None), text
 
 
 def stopped(words, **streams):
@@ -57,8 +61,17 @@ def stopped(words, **streams):
         child.send_signal(signal.SIGSTOP)
         time.sleep(1.1)
         child.send_signal(signal.SIGCONT)
-        time.sleep(0.04)
+        time.sleep(0.02)
     return child.returncode
+
+
+def read_all(master, said):
+    """Reads what comes on a terminal until nobody has its other end."""
+    try:
+        while some := os.read(master, 4096):
+            said.append(some)
+    except OSError:
+        pass
 
 
 def bar(program, room):
@@ -67,16 +80,17 @@ def bar(program, room):
     with open(source, "wb") as it:
         size = it.write(lines_of(range(PAIRS)))
     master, slave = pty.openpty()
+    said = []
+    reader = threading.Thread(target=read_all, args=(master, said))
+    reader.start()
     with open(source, "rb") as given:
         status = stopped([program, "build", f"{room}/drawn", *SHAPE], stdin=given, stderr=slave)
-    os.write(slave, b"\n")
-    text = b""
-    while not text.endswith(b"\n\r\n") and text != b"\r\n":
-        text += os.read(master, 4096)
     os.close(slave)
+    reader.join()
     os.close(master)
+    text = b"".join(said)
     assert status == 0, text
-    for lines, pairs, length, _, drawn in told(text[:-2]):
+    for lines, pairs, length, _, drawn in told(text):
         signs = min(length * WIDTH // size, WIDTH)
         assert lines == pairs and drawn == "  " + "#" * signs + "." * (WIDTH - signs), text
 
