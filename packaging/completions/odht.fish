@@ -63,7 +63,7 @@ complete -c odht -n '__fish_seen_subcommand_from build' -l help
 complete -c odht -n '__fish_seen_subcommand_from build' -l key -x -d 'u32, u64, i32, i64, u32be, u64be, hexN or text N'
 complete -c odht -n '__fish_seen_subcommand_from build' -l value -x -d 'u32, u64, i32, i64, u32be, u64be, none, hexN or text N'
 complete -c odht -n '__fish_seen_subcommand_from build' -l duplicates -x -d 'last, first or error'
-complete -c odht -n '__fish_seen_subcommand_from build' -l delimiter -x -d 'a character of ASCII that is no quote'
+complete -c odht -n '__fish_seen_subcommand_from build' -l delimiter -x -d 'a printable character of ASCII that is no quote'
 complete -c odht -n '__fish_seen_subcommand_from build' -l check-only
 complete -c odht -n '__fish_seen_subcommand_from build' -l hash -x -a 'fx unhash' -d 'fx or unhash'
 complete -c odht -n '__fish_seen_subcommand_from build' -l percent -x -d 'a number from 1 to 100'

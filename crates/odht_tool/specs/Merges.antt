@@ -8,8 +8,8 @@
 --     repeat_in d ps xs    the same where such a key is a failure
 --     repeat_from d ps n xss   such a key with the number of its file, of the files with the pairs xss from the number n on,
 --                          behind those with the pairs ps
---     repeat_of d xss      the number of the first file, and its first key, of which that is so, where a file before it has
---                          the key; the files have the pairs xss
+--     repeat_of d xss      where a key of two files is a failure: the first file that has a key of a file before it, by its
+--                          number, and the first such key of it; the files have the pairs xss
 --     input_pairs i        the pairs of the file i, in slot order
 --     IsTableOf kl vl s B  B are a valid table of the shape s, whose keys and values have these lengths
 --     IsInputOf kl vl i    the same of the shape and the bytes of the file i

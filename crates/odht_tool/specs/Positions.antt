@@ -1,6 +1,6 @@
 -- What `get` does where it reads a file by position.
 --     ByPosition old new P r   r says that all bytes have to be read, and nothing was written; or P holds of what r returns
---     IsTableOf gives h k v t T    the table t has keys of k and values of v bytes and the hash h, and is over the bytes T,
+--     IsTableAt gives h k v t T    the table t has keys of k and values of v bytes and the hash h, and is over the bytes T,
 --                              which are some of those that the reads of its source give, as `gives` says
 --     slots_parts k v es cs    the parts that sixteen slots have: their entries es, their control bytes cs, and the sizes
 --                              k and v of keys and values
@@ -39,7 +39,7 @@ ByPosition old new P (Ok None) = Keeps old new
 ByPosition old new P (Ok (Some status)) = P (Ok status)
 ByPosition old new P (Err failure) = P (Err failure)
 
-pub record IsTableOf {S : Type 0} (gives : S → List ℕ → Type 0) (h : List ℕ → ℕ) (k v : ℕ) (t : FileStore S) (T : List ℕ) : Type 0 where
+pub record IsTableAt {S : Type 0} (gives : S → List ℕ → Type 0) (h : List ℕ → ℕ) (k v : ℕ) (t : FileStore S) (T : List ℕ) : Type 0 where
   pub bytes : List ℕ
   pub given : gives t.source bytes
   pub over : IsOver h t bytes

@@ -18,7 +18,6 @@ use std::os::unix::fs::FileExt;
 use std::rt::{Clock, Files};
 
 mod build;
-mod build_lines;
 mod check;
 mod check_json;
 mod count;

@@ -10,7 +10,7 @@ use odht_tool_core::forms::Forms;
 use odht_tool_core::line_messages::line_message;
 use odht_tool_core::lines::read_pair_as;
 use odht_tool_core::progress::{Progress, Taken, Watch};
-use odht_tool_core::status::{Status, of_output};
+use odht_tool_core::status::Status;
 use odht_tool_core::targets::Target;
 use odht_tool_core::text::Text;
 use std::alloc::Global;
@@ -61,28 +61,6 @@ pub trait Inserts: Drop {
     /// All bytes.
     fn all_bytes(&self) -> &[u8]
         ensures { result.now ≡ bytes self.now };
-}
-
-/// Adds the lines to the table, and writes it to `output`.
-pub fn insert_into_stream<
-    T: Inserts,
-    F: Forms,
-    R: AllocGlobal + Clock,
-    I: BufRead,
-    O: Write,
-    E: Write,
->(
-    rt: &R,
-    mut table: T,
-    forms: F,
-    watch: Watch,
-    input: &mut I,
-    output: &mut O,
-    errors: &mut E,
-) -> Result<Status, Failure> {
-    let progress = Progress::new(rt, watch);
-    fill(rt, &mut table, progress, forms, input, errors)?;
-    of_output(output.write_all(table.all_bytes()))
 }
 
 /// Adds the lines to the table, and stores it as the file.

@@ -18,7 +18,6 @@ use odht_tool_core::any::OtherShape;
 use odht_tool_core::failure::Failure;
 use odht_tool_core::shapes::{Hash, Part};
 
-pub mod build_lines;
 pub mod builds;
 pub mod deletes;
 pub mod diffs;

@@ -1,6 +1,6 @@
 -- Lines of a key and a value, with a byte d between them, where w is wanted of values.
 --     IsDelimiter b        the byte b may be named as one: a printable character of ASCII that is no quote
---     delimiter_named word the byte that the word names: its own, or of `\\t` a tab
+--     delimiter_named word the byte that the word names: its own, or of `\t` a tab
 --     AreParts d w line front back   the front and the back of the line are on either side of its first byte d; or it has
 --                          none, and is the front, and nothing is wanted of values
 --     IsPairOf d w K V line p   the front is the text of the key of p, by K, and the back that of its value, by V

@@ -4,18 +4,18 @@ ghost use Rattle.odht_header.specs.Refusals.{check_refusal_by};
 ghost use Rattle.odht_tool.specs.Outcomes.{copy_failure};
 ghost use Rattle.odht.specs.Inserts.{IsFresh};
 
-use crate::commands::build_lines::build_lines;
 use crate::commands::check::check_bytes;
-use crate::inserts::{insert_into_file, insert_into_stream};
+use crate::inserts::insert_into_file;
+use crate::inserts::lines::{Place, check_lines, insert_lines, makes_no_table};
 use crate::shapes::for_shape;
 use crate::sized::builds::{build_other, put_other};
 use odht::HashTableOwned;
 use odht::config::{Coded, Config};
 use odht::load::Percent;
 use odht_tool_core::any::{AnyShape, read_any};
-use odht_tool_core::arguments::{BuildOptions, Duplicates, is_stream};
+use odht_tool_core::arguments::BuildOptions;
 use odht_tool_core::failure::Failure;
-use odht_tool_core::forms::{Forms, GivenForms, Kinds, OwnForms};
+use odht_tool_core::forms::{Forms, GivenForms, Kinds, LineForms, OwnForms};
 use odht_tool_core::progress::Watch;
 use odht_tool_core::shapes::{Hash, Shape};
 use odht_tool_core::status::Status;
@@ -38,27 +38,16 @@ pub fn build<R: Files + AllocGlobal + Clock, I: BufRead, O: Write, E: Write>(
 where
     R::File: AsFd,
 {
-    let (forms, duplicates) = (options.forms, options.duplicates);
-    let (delimiter, is_check) = (options.delimiter, options.is_check);
-    let is_plain = takes_plain_lines(duplicates, delimiter, is_check);
+    let (forms, delimiter) = (options.forms, options.delimiter);
     match options.shape {
-        _ if !is_plain => build_lines(rt, file, options, input, output, errors),
-        AnyShape::Ready(shape) if forms.are_own() => {
+        AnyShape::Ready(shape) if forms.are_own() && delimiter == b'\t' => {
             build_in(rt, file, shape, OwnForms, options, input, output, errors)
         }
         AnyShape::Ready(shape) => {
+            let forms = LineForms { forms, delimiter };
             build_in(rt, file, shape, forms, options, input, output, errors)
         }
         AnyShape::Other(shape) => { build_other(rt, file, shape, options, input, output, errors) }
-    }
-}
-
-// Whether nothing is said of the lines: the last one of a key counts, key and value are on either side of a tab, and the
-// table is stored.
-fn takes_plain_lines(duplicates: Duplicates, delimiter: u8, is_check: bool) -> bool {
-    match duplicates {
-        Duplicates::Last => delimiter == b'\t' && !is_check,
-        _ => false,
     }
 }
 
@@ -76,17 +65,15 @@ fn build_in<F: Forms, R: Files + AllocGlobal + Clock, I: BufRead, O: Write, E: W
 where
     R::File: AsFd,
 {
-    if is_stream(file) {
-        for_shape!(shape, build_stream[F, R, I, O, E](rt, forms, options, input, output, errors))
-    } else {
-        let target = Target::find(rt, file, options.breaks_links)?;
-        for_shape!(shape, build_file[F, R, I, E](rt, target, forms, options, input, errors))
-    }
+    for_shape!(
+        shape,
+        build_ready[F, R, I, O, E](rt, file, forms, options, input, output, errors)
+    )
 }
 
-// Writes the table to `output`.
-fn build_stream<C: Config, F: Forms, R: AllocGlobal + Clock, I: BufRead, O: Write, E: Write>(
+fn build_ready<C: Config, F: Forms, R: Files + AllocGlobal + Clock, I: BufRead, O: Write, E: Write>(
     rt: &R,
+    file: &str,
     forms: F,
     options: BuildOptions,
     input: &mut I,
@@ -96,31 +83,20 @@ fn build_stream<C: Config, F: Forms, R: AllocGlobal + Clock, I: BufRead, O: Writ
 where
     C::Key: Text,
     C::Value: Text,
-{
-    let table = make_table::<C>(rt.alloc(), options.capacity, options.percent)?;
-    let watch = options.watch;
-    insert_into_stream(rt, table, forms, watch, input, output, errors)
-}
-
-fn build_file<C: Config, F: Forms, R: Files + AllocGlobal + Clock, I: BufRead, E: Write>(
-    rt: &R,
-    target: Target,
-    forms: F,
-    options: BuildOptions,
-    input: &mut I,
-    errors: &mut E,
-) -> Result<Status, Failure>
-where
-    C::Key: Text,
-    C::Value: Text,
     R::File: AsFd,
 {
-    let table = make_table::<C>(rt.alloc(), options.capacity, options.percent)?;
-    insert_into_file(rt, target, table, forms, options.watch, input, errors)
+    let (duplicates, is_check) = (options.duplicates, options.is_check);
+    let (capacity, percent, watch) = (options.capacity, options.percent, options.watch);
+    let breaks_links = options.breaks_links;
+    if makes_no_table(duplicates, is_check) {
+        return check_lines::<C::Key, C::Value, F, R, I, E>(rt, forms, watch, input, errors);
+    }
+    let place = Place::find(rt, file, is_check, breaks_links)?;
+    let table = make_table::<C>(rt.alloc(), capacity, percent)?;
+    insert_lines(rt, place, table, forms, options, input, output, errors)
 }
 
-/// An empty table for so many items.
-pub(super) fn make_table<C: Config>(
+fn make_table<C: Config>(
     alloc: Global,
     capacity: usize,
     percent: Percent,

@@ -6,7 +6,7 @@ ghost use Rattle.odht.specs.Files.{file_coding};
 ghost use Rattle.odht.specs.Gets.{IsGet};
 ghost use Rattle.odht_header.specs.Refusals.{view_refusal};
 ghost use Rattle.odht_tool.specs.Gets.{AreAnswers, AreWordsGot, answered_status};
-ghost use Rattle.odht_tool.specs.Positions.{ByPosition, IsTableOf};
+ghost use Rattle.odht_tool.specs.Positions.{ByPosition, IsTableAt};
 ghost use Rattle.odht_tool_core.specs.Endings.{IsOutputFailure};
 ghost use Rattle.odht_tool_core.specs.JsonAnswers.{answer_in};
 ghost use Rattle.odht_tool_core.specs.Keys.{IsReadAs};
@@ -68,7 +68,7 @@ where
 
     ghost coding = { λ t. ⟦<C as Coded>⟧.coding };
 
-    ghost is_over = { λ t. IsTableOf S.gives C.H.hash C.EncodedKey.LEN C.EncodedValue.LEN t.table };
+    ghost is_over = { λ t. IsTableAt S.gives C.H.hash C.EncodedKey.LEN C.EncodedValue.LEN t.table };
 
     fn look_up(&self, key: &C::Key) -> Option<Option<C::Value>> {
         let bytes = C::encode_key(key);
@@ -100,7 +100,7 @@ impl<H: HashFn, S: ReadAt + Drop> FileLookups for FileTable<H, S> {
 
     ghost coding = { λ t. file_coding t H.hash };
 
-    ghost is_over = { λ t. IsTableOf S.gives H.hash t.key_len t.value_len t };
+    ghost is_over = { λ t. IsTableAt S.gives H.hash t.key_len t.value_len t };
 
     fn look_up(&self, key: &ShortBytes) -> Option<Option<ShortBytes>> {
         self.get(key.as_slice()).ok()

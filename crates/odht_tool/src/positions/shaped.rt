@@ -6,7 +6,7 @@ ghost use Rattle.odht_base.specs.Format.{format_of};
 ghost use Rattle.odht_header.specs.Refusals.{view_refusal};
 ghost use Rattle.odht_raw.specs.Sized.{bytes_coding};
 ghost use Rattle.odht_tool.specs.Gets.{AreWordsGot, IsHexOf, words_of_other, words_of_shape};
-ghost use Rattle.odht_tool.specs.Positions.{ByPosition, IsTableOf};
+ghost use Rattle.odht_tool.specs.Positions.{ByPosition, IsTableAt};
 ghost use Rattle.odht_tool_core.specs.InfoNumbers.{least_key_len};
 ghost use Rattle.odht_tool_core.specs.JsonAnswers.{answer_in};
 ghost use Rattle.odht_tool_core.specs.Keys.{IsReadAs};
@@ -178,7 +178,7 @@ fn open_file<H: HashFn, S: ReadAt + Drop>(
     ensures key { IfSome result (λ t. t.key_len ≡ layout.key_len) }
     ensures value { IfSome result (λ t. t.value_len ≡ layout.value_len) }
     ensures given { (B : List ℕ) → S.gives source B → at + len ≤ length B → at + len < 2 ^ 64
-        → IfSome result (λ t. IsTableOf S.gives H.hash layout.key_len layout.value_len t
+        → IfSome result (λ t. IsTableAt S.gives H.hash layout.key_len layout.value_len t
         (bytes_at B at len)) }
     ensures opened { let F = format_of layout.key_len layout.value_len H.hash
         in (B : List ℕ) → S.gives source B → at + len ≤ length B → at + len < 2 ^ 64

@@ -5,20 +5,23 @@ ghost use Rattle.odht_header.specs.Refusals.{check_refusal_by};
 ghost use Rattle.odht_tool.specs.Outcomes.{copy_failure};
 ghost use Rattle.odht_tool.specs.Rebuilds.{IsNewFailure};
 ghost use Rattle.odht_tool_core.specs.InfoNumbers.{least_key_len};
+ghost use Rattle.odht_tool_core.specs.declared.forms.Form.TheVariants.{Hex};
 ghost use Rattle.odht.specs.Dynamic.{dyn_store};
 ghost use Rattle.odht.specs.DynOwned.{IsDynWith};
 ghost use Rattle.odht.specs.Inserts.{IsFresh};
 
-use crate::inserts::{insert_into_file, insert_into_stream};
+use crate::inserts::insert_into_file;
+use crate::inserts::lines::{Place, check_lines, insert_lines, makes_no_table};
 use crate::sized::gets::forms_of;
 use crate::sized::{check_lengths, layout_of};
-use odht::dynamic::{DynError, DynTableOwned, Layout};
+use odht::dynamic::{DynError, DynTableOwned, Layout, ShortBytes};
 use odht::hash::HashFn;
 use odht::load::Percent;
 use odht::{FxHashFn, UnHashFn};
 use odht_tool_core::any::OtherShape;
-use odht_tool_core::arguments::{BuildOptions, is_stream};
+use odht_tool_core::arguments::BuildOptions;
 use odht_tool_core::failure::Failure;
+use odht_tool_core::forms::{Form, GivenForms, LineForms};
 use odht_tool_core::progress::Watch;
 use odht_tool_core::shapes::Hash;
 use odht_tool_core::status::Status;
@@ -64,14 +67,36 @@ fn build_lengths<H: HashFn, R: Files + AllocGlobal + Clock, I: BufRead, O: Write
 where
     R::File: AsFd,
 {
-    let (forms, watch) = (forms_of(layout), options.watch);
-    if is_stream(file) {
-        let table = make_lengths::<H>(rt.alloc(), layout, options.capacity, options.percent)?;
-        insert_into_stream(rt, table, forms, watch, input, output, errors)
-    } else {
-        let target = Target::find(rt, file, options.breaks_links)?;
-        let table = make_lengths::<H>(rt.alloc(), layout, options.capacity, options.percent)?;
-        insert_into_file(rt, target, table, forms, watch, input, errors)
+    let (delimiter, duplicates, is_check) = (
+        options.delimiter,
+        options.duplicates,
+        options.is_check,
+    );
+    let (capacity, percent, watch) = (options.capacity, options.percent, options.watch);
+    let forms = lines_of(layout, delimiter);
+    let breaks_links = options.breaks_links;
+    if makes_no_table(duplicates, is_check) {
+        return check_lines::<ShortBytes, ShortBytes, LineForms, R, I, E>(
+            rt, forms, watch, input, errors,
+        );
+    }
+    let place = Place::find(rt, file, is_check, breaks_links)?;
+    let table = make_lengths::<H>(rt.alloc(), layout, capacity, percent)?;
+    insert_lines(rt, place, table, forms, options, input, output, errors)
+}
+
+// Bytes of these lengths in hexadecimal digits, with this byte between key and value.
+fn lines_of(layout: Layout, delimiter: u8) -> LineForms
+    ensures key { result.forms.key ≡ Hex layout.key_len }
+    ensures value { result.forms.value ≡ Hex layout.value_len }
+    ensures delimiter { result.delimiter ≡ delimiter }
+{
+    LineForms {
+        forms: GivenForms {
+            key: Form::Hex(layout.key_len),
+            value: Form::Hex(layout.value_len),
+        },
+        delimiter,
     }
 }
 

@@ -289,7 +289,7 @@ impl Setting {
             Setting::Key => Some("u32, u64, i32, i64, u32be, u64be, hexN or text:N"),
             Setting::Value => Some("u32, u64, i32, i64, u32be, u64be, none, hexN or text:N"),
             Setting::Duplicates => Some("last, first or error"),
-            Setting::Delimiter => Some("a character of ASCII that is no quote"),
+            Setting::Delimiter => Some("a printable character of ASCII that is no quote"),
             Setting::Percent => Some("a number from 1 to 100"),
         }
     }

@@ -109,9 +109,9 @@ const GENERAL: &str = "\
 odht help COMMAND    is the help of a command, as odht COMMAND --help or -h is
 odht --version       is the version of the program and of the format; also -V
 
-With - as FILE a table is read from standard input, and build writes one to
-standard output. An option's value is the next word, or comes behind a =. Words
-that begin with a hyphen come after --, which ends the options.
+With - as FILE a table is read from standard input, and build and merge write
+one to standard output. An option's value is the next word, or comes behind a =.
+Words that begin with a hyphen come after --, which ends the options.
 
 Status 0: done; 1: rejected, failed, or a key is absent; 2: the words are not
 understood.
@@ -128,13 +128,13 @@ odht info FILE.. [--whole] [--json] [--at OFFSET]
     there are more files, the name of each comes first. The file may have any key
     and value sizes. Only its header and its length are checked. With --at the table
     begins at that byte of the file; bytes after its end are not read.
-    --json         an object of JSON: file, key_bytes, value_bytes, header_bytes,
-                   all_bytes, items, slots, maximum, load_percent,
+    --json         an object of JSON for each file: file, key_bytes, value_bytes,
+                   header_bytes, all_bytes, items, slots, maximum, load_percent,
                    maximum_load_percent, hash (fx, unhash or null), bound (of
                    groups; null with --whole), histogram (how many items by one
                    group, by two, and so on; the 64th has all above), longest_hit
-                   (null without a hash function), longest_miss. A number of
-                   groups that is above the bound is one more than it
+                   (null without a hash function), longest_miss. A number of groups
+                   that is above the bound is one more than it
 ";
 
 const CHECK: &str = "\
@@ -164,10 +164,10 @@ odht get FILE KEY.. [--json] [--key SHAPE] [--value SHAPE]
     Writes a line for each key, in their order: KEY, a tab and VALUE; or KEY alone
     where it is absent, and then ends with status 1. With the one word - the keys
     are the lines of standard input, but for an empty last one that is no key. The
-    hash function is the one that all control bytes fit, unless --hash names it.
-    Keys and values have the texts of the ready shape, unless --key and --value name
-    others, as in `odht build`; where no ready shape has these sizes they are
-    hexadecimal digits.
+    hash function, unless --hash names it, is the one that the first slots leave,
+    and of - the one that all control bytes fit. Keys and values have the texts of
+    the ready shape, unless --key and --value name others, as in `odht build`; where
+    no ready shape has these sizes they are hexadecimal digits.
     --json         an object of JSON for each key: key and value, strings as those
                    of `odht dump`; value is null where the key is absent
 ";
@@ -322,8 +322,8 @@ odht merge FILE INPUT.. [--duplicates WORD] [--key SHAPE] [--value SHAPE]
     links of FILE are kept; one with hard links is not replaced without --break-links.
     --duplicates   which file's pair of a key counts: last, first, or error: a key
                    that an earlier file has is a failure; else last
-    --key, --value texts other than those of the ready shape, as in `odht build`, for
-                   the key that this failure names
+    --key, --value the types and texts of the first INPUT, as in `odht build`; this
+                   failure has the text of --key
     --percent      the load factor of the new table, 1 to 100, else 87
     --progress     a line on standard error each second
     --break-links  replaces this name of a file; its other names keep the old one

@@ -20,7 +20,6 @@ use std::os::fd::AsFd;
 use std::os::unix::fs::FileExt;
 
 mod build;
-mod build_lines;
 mod check;
 mod check_json;
 mod count;

@@ -7,7 +7,7 @@ use crate::erased::core::forms::Forms;
 use crate::erased::core::line_messages::line_message;
 use crate::erased::core::lines::read_pair_as;
 use crate::erased::core::progress::{Progress, Taken, Watch};
-use crate::erased::core::status::{of_output, Status};
+use crate::erased::core::status::Status;
 use crate::erased::core::targets::Target;
 use crate::erased::core::text::Text;
 use crate::host::prelude::*;
@@ -42,28 +42,6 @@ pub trait Inserts {
 
     /// All bytes.
     fn all_bytes(&self) -> &[u8];
-}
-
-/// Adds the lines to the table, and writes it to `output`.
-pub fn insert_into_stream<
-    T: Inserts,
-    F: Forms,
-    R: AllocGlobal + Clock,
-    I: BufRead,
-    O: Write,
-    E: Write,
->(
-    rt: &R,
-    mut table: T,
-    forms: F,
-    watch: Watch,
-    input: &mut I,
-    output: &mut O,
-    errors: &mut E,
-) -> Result<Status, Failure> {
-    let progress = Progress::new(rt, watch);
-    fill(rt, &mut table, progress, forms, input, errors)?;
-    of_output(output.write_all(table.all_bytes()))
 }
 
 /// Adds the lines to the table, and stores it as the file.

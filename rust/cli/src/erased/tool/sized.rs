@@ -12,7 +12,6 @@ use crate::proved::tables::hash::HashFn;
 use crate::proved::tables::memory_layout::{check_opening, check_sized, check_sized_within};
 use crate::proved::tables::{FxHashFn, UnHashFn};
 
-pub mod build_lines;
 pub mod builds;
 pub mod deletes;
 pub mod diffs;

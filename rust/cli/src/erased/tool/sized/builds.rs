@@ -2,18 +2,20 @@
 //! `odht build` and `odht put` of tables of other sizes than the ready shapes have.
 
 use crate::erased::core::any::OtherShape;
-use crate::erased::core::arguments::{is_stream, BuildOptions};
+use crate::erased::core::arguments::BuildOptions;
 use crate::erased::core::failure::Failure;
+use crate::erased::core::forms::{Form, GivenForms, LineForms};
 use crate::erased::core::progress::Watch;
 use crate::erased::core::shapes::Hash;
 use crate::erased::core::status::Status;
 use crate::erased::core::targets::Target;
-use crate::erased::tool::inserts::{insert_into_file, insert_into_stream};
+use crate::erased::tool::inserts::insert_into_file;
+use crate::erased::tool::inserts::lines::{check_lines, insert_lines, makes_no_table, Place};
 use crate::erased::tool::sized::gets::forms_of;
 use crate::erased::tool::sized::{check_lengths, layout_of};
 use crate::host::prelude::*;
 use crate::host::rt::{Clock, Files};
-use crate::proved::tables::dynamic::{DynError, DynTableOwned, Layout};
+use crate::proved::tables::dynamic::{DynError, DynTableOwned, Layout, ShortBytes};
 use crate::proved::tables::hash::HashFn;
 use crate::proved::tables::load::Percent;
 use crate::proved::tables::{FxHashFn, UnHashFn};
@@ -57,14 +59,26 @@ fn build_lengths<H: HashFn, R: Files + AllocGlobal + Clock, I: BufRead, O: Write
 where
     R::File: AsFd,
 {
-    let (forms, watch) = (forms_of(layout), options.watch);
-    if is_stream(file) {
-        let table = make_lengths::<H>(rt.alloc(), layout, options.capacity, options.percent)?;
-        insert_into_stream(rt, table, forms, watch, input, output, errors)
-    } else {
-        let target = Target::find(rt, file, options.breaks_links)?;
-        let table = make_lengths::<H>(rt.alloc(), layout, options.capacity, options.percent)?;
-        insert_into_file(rt, target, table, forms, watch, input, errors)
+    let (delimiter, duplicates, is_check) =
+        (options.delimiter, options.duplicates, options.is_check);
+    let (capacity, percent, watch) = (options.capacity, options.percent, options.watch);
+    let forms = lines_of(layout, delimiter);
+    let breaks_links = options.breaks_links;
+    if makes_no_table(duplicates, is_check) {
+        return check_lines::<ShortBytes, ShortBytes, LineForms, R, I, E>(
+            rt, forms, watch, input, errors,
+        );
+    }
+    let place = Place::find(rt, file, is_check, breaks_links)?;
+    let table = make_lengths::<H>(rt.alloc(), layout, capacity, percent)?;
+    insert_lines(rt, place, table, forms, options, input, output, errors)
+}
+
+// Bytes of these lengths in hexadecimal digits, with this byte between key and value.
+fn lines_of(layout: Layout, delimiter: u8) -> LineForms {
+    LineForms {
+        forms: GivenForms { key: Form::Hex(layout.key_len), value: Form::Hex(layout.value_len) },
+        delimiter,
     }
 }
 
