@@ -17,9 +17,11 @@
 # cases and table in docs/TOOL.md, the manual page, and what completes its words
 # make documents: docs/PROOFS.md, of its text in docs/parts and the contracts and definitions, docs/FILES.md, and the
 # speeds in README.md and rust/README.md, of bench/RESULTS.md
-# make cli: the program for table files, `odht`, of erased source, by cargo alone
+# make tool: the program for table files, `odht`, with its proofs, and its path; where nothing is proved yet that takes
+# some twenty to thirty minutes
+# make cli: the same program of erased source, by cargo alone
 # make install-tool, make uninstall-tool: this program below PREFIX, and below DESTDIR before it: with its proofs, where
-# `rt run` in crates/odht_tool has left it, else as `make cli` makes it; with its manual page, and what completes its words
+# `make tool` has left it, else as `make cli` makes it; with its manual page, and what completes its words
 # make examples: all examples, compiled against an installed copy and compared with what they must print, and the tests
 # of the calls for C once more
 # make bench: the tables of speeds; QUICK=1 for a short run, ODHT_RUST=folder for the Rust crate beside it, CHECK=1 for
@@ -41,6 +43,8 @@ WORD ?=
 # lowest first: what the programs use, and over it the calls for C
 LIBRARIES = odht_base odht_header odht_raw odht
 FOR_C = $(LIBRARIES) odht_calls odht_c
+# and the program for table files
+FOR_TOOL = $(LIBRARIES) odht_tool_core odht_tool_tables odht_tool_reads odht_tool_writes
 LIBRARY ?= crates/odht_c/out/libodht_c.a
 QUICK ?=
 CHECK ?=
@@ -81,9 +85,9 @@ edits:
 	@python3 tools/edits.py run $(NAMES)
 
 # `rt lib` takes a quarter of a minute also where nothing changed, so it is asked only where something is newer
-SOURCES = crates.txt $(shell find $(foreach crate,$(FOR_C),crates/$(crate)) -path '*/out' -prune -o \
+sources = crates.txt $(shell find $(foreach crate,$(1),crates/$(crate)) -path '*/out' -prune -o \
   '(' -name '*.rt' -o -name '*.antt' ')' -print)
-crates/odht_c/out/libodht_c.a: $(SOURCES)
+crates/odht_c/out/libodht_c.a: $(call sources,$(FOR_C))
 	@$(NEEDS_KIT)
 	@mkdir -p build
 	@test -f $@ || echo 'proving the library first, ten to twenty minutes; build/lib.log tells how far it is' >&2
@@ -130,7 +134,20 @@ IN_BASH = $(SHARED_DIR)/bash-completion/completions/odht
 IN_ZSH = $(SHARED_DIR)/zsh/site-functions/_odht
 IN_FISH = $(SHARED_DIR)/fish/vendor_completions.d/odht.fish
 BESIDE_TOOL = $(MANUAL) $(IN_BASH) $(IN_ZSH) $(IN_FISH)
-.PHONY: cli install-tool uninstall-tool
+.PHONY: tool cli install-tool uninstall-tool
+tool: $(PROVED_TOOL)
+	@echo $(PROVED_TOOL)
+
+$(PROVED_TOOL): $(call sources,$(FOR_TOOL) odht_tool)
+	@$(NEEDS_KIT)
+	@mkdir -p build
+	@echo 'proving the program, twenty to thirty minutes where nothing is proved yet; build/tool.log tells how far it is' >&2
+	@for crate in $(FOR_TOOL); do \
+	  (cd crates/$$crate && rt lib) > build/tool.log 2>&1 || { cat build/tool.log >&2; exit 1; }; \
+	done
+	@(cd crates/odht_tool && rt run -- --version) > build/tool.log 2>&1 || { cat build/tool.log >&2; exit 1; }
+	@touch $@
+
 cli:
 	@cargo build --quiet --release --offline --manifest-path rust/cli/Cargo.toml --target-dir build/cargo-cli
 	@echo $(ERASED_TOOL)

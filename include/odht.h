@@ -23,8 +23,11 @@
  *   odht_b32_*      of hashes of 32 bytes, a set, UnHashFn
  *
  * FxHashFn hashes numbers, and bytes of any length. UnHashFn is for keys that are hashes already: their
- * last four bytes are taken as the hash, and should vary. Numbers are stored in
- * little-endian order. A table is a slice of bytes that the caller owns: a file's
+ * last four bytes are taken as the hash, and should vary. The low bits of the hash choose
+ * the slot, and by FxHashFn they come from the low bits of a number alone: keys that are
+ * all multiples of 4096, as addresses of pages are, begin at few slots, take searches a
+ * hundred times as long, and odht_*_check_within may reject their table. Shift such keys
+ * right first. Numbers are stored in little-endian order. A table is a slice of bytes that the caller owns: a file's
  * contents, a mapping, a part of either, or allocated memory. It may begin at any
  * address. There is nothing to close or to free.
  *
@@ -114,7 +117,8 @@
  * function, which passes a variable of its own where a pointer may be NULL, and calls
  * the symbol of the library; both have the same name in C, so the function has
  * another one in the object file. Other compilers get the symbols themselves, and
- * so do tools that read headers and define ODHT_PLAIN before.
+ * so do tools that read headers and define ODHT_PLAIN before, dlsym, and bindings of
+ * other languages. The symbols take no NULL.
  */
 #if defined(__GNUC__) && defined(__ELF__) && !defined(ODHT_PLAIN)
 #define ODHT_TAKES_NULL 1
@@ -127,7 +131,7 @@ extern "C" {
 #endif
 
 /* A bound of searches for odht_*_check_within, in groups of sixteen control bytes, that tables of
-   keys whose hashes vary keep. */
+   keys whose hashes vary keep, up to 95 percent and 2^24 slots. */
 #define ODHT_DEFAULT_GROUPS 128
 
 /* What odht_*_open_at, odht_*_check_at and odht_*_check_within_at write where the first error is in
@@ -240,7 +244,8 @@ static inline const char *odht_status_name(uint32_t status)
  * What a caller has to ensure for a view that it passes to a lookup, since the
  * library does not check it:
  *
- * - odht_*_open_view of the same kind of table has written it, and answered ODHT_OK.
+ * - odht_*_open_view of the same kind of table has written it, and answered ODHT_OK; for
+ *   odht_any_* that of the same lengths of keys and values.
  *   (Its members may be set by hand too, to bytes for which odht_*_open or odht_*_check
  *   has answered ODHT_OK.)
  * - The bytes are still where they were.
@@ -343,7 +348,7 @@ typedef struct odht_view {
  *     control bytes of its key's probe order up to it, sixteen at a time; a key is
  *     compared only where an earlier slot of that order has its tag. It allocates
  *     nothing. For a table of keys whose hashes vary this takes up to three times as
- *     long as looking up each key once.
+ *     long as looking up each key once, and at 87 percent up to 1.4 times.
  *     Where many keys have one hash, by chance or since somebody has forged them, it
  *     takes far longer: up to one comparison for each pair of keys, so the time grows
  *     as the square of the number of slots. bench/README.md has times. For untrusted
@@ -457,8 +462,11 @@ typedef struct odht_view {
  *     Writes the table that this one grows into to out: with slots for twice as many
  *     items, and for one at least, and the same load factor. A caller whose insert was
  *     answered FULL continues so: it grows the table into larger memory and inserts
- *     there. At the maximum the bytes are those that a table has which grows by itself. It
- *     does not look at the maximum: where the table is not full, *len may be no more than
+ *     there; for a valid table one growth is enough. Check bytes of strangers before: of
+ *     bytes that odht_S_check rejects *len follows the header's count, however large, and
+ *     an insert into the grown table may be answered FULL again, each time. At the
+ *     maximum the bytes are those that a table has which grows by itself. It does not
+ *     look at the maximum: where the table is not full, *len may be no more than
  *     bytes_len.
  *     OK: the first *len bytes of out are the grown table, and the rest of out is
  *     unchanged. TOO_SMALL: out_len is below *len, the length in bytes of the grown
@@ -887,8 +895,9 @@ ODHT_NODISCARD extern uint32_t odht_version(void);
  *
  * The calls odht_any_* take the lengths of keys and values, and the hash function, as a layout, and keys and values as
  * pointers to so many bytes. They read and write the same bytes as the calls of a shape of these lengths, and answer
- * the same; what is said above of odht_S_NAME goes for odht_any_NAME. There are none of build_growing and views. Of
- * each call but odht_any_layout_of two answers come before all others, and with both nothing is written:
+ * the same; what is said above of odht_S_NAME goes for odht_any_NAME. A view of one is a view of the other: the kind of
+ * table is the lengths. For many lookups the calls of a shape are faster. Of each call but odht_any_layout_of and
+ * odht_any_view_len, which take no layout, two answers come before all others, and with both nothing is written:
  *
  * - BAD_LAYOUT: no hash function has the number of the layout, or its keys are shorter than the function needs.
  *   ODHT_HASH_UN needs four bytes.
@@ -1041,8 +1050,8 @@ ODHT_CALL(uint32_t, any_insert_order,
         odht_write_size_t(slots, slots_len), slots_len, odht_write_size_t(scratch, scratch_len),
         scratch_len);)
 
-/* OK: the key was new. REPLACED: the former value is written, unless former is NULL (as
-   ODHT_TAKES_NULL says). FULL, or an error, 1 to 7:
+/* OK: the key was new. REPLACED: the former value is written. Where former is NULL (as ODHT_TAKES_NULL says) it is not
+   wanted, and former_len is not looked at. FULL, or an error, 1 to 7:
    nothing changes. */
 ODHT_CALL(uint32_t, any_insert,
     (const odht_layout *layout, uint8_t *bytes, size_t bytes_len, const uint8_t *key, size_t key_len,
@@ -1085,6 +1094,56 @@ ODHT_CALL(uint32_t, any_build,
     return odht_symbol_any_build(layout, count, odht_read_uint8_t(keys, keys_len), keys_len,
         odht_read_uint8_t(values, values_len), values_len, percent, odht_write_uint8_t(out, out_len),
         out_len, len ? len : &unwanted);)
+
+/* OK, TOO_SMALL and BAD_LENGTHS as of build. MEMORY: out and *len are unchanged. */
+ODHT_CALL(uint32_t, any_build_growing,
+    (const odht_layout *layout, size_t count, const uint8_t *keys, size_t keys_len,
+        const uint8_t *values, size_t values_len, uint8_t *out, size_t out_len, size_t *len),
+    size_t unwanted = 0;
+    return odht_symbol_any_build_growing(layout, count, odht_read_uint8_t(keys, keys_len), keys_len,
+        odht_read_uint8_t(values, values_len), values_len, odht_write_uint8_t(out, out_len),
+        out_len, len ? len : &unwanted);)
+
+/* OK: *view is the view of the bytes. An error, 1 to 9: it is unchanged. "Opened tables" above says what to ensure
+   for a view; each lookup in it takes a layout with the lengths by which it was opened. */
+ODHT_CALL(uint32_t, any_open_view,
+    (const odht_layout *layout, const uint8_t *bytes, size_t bytes_len, odht_view *view),
+    odht_view opened = ODHT_NO_VIEW;
+    uint32_t status = odht_symbol_any_open_view(
+        layout, odht_read_uint8_t(bytes, bytes_len), bytes_len, &opened);
+    if (status == ODHT_OK)
+        *view = opened;
+    return status;)
+
+/* OK: the value is written. ABSENT: it is unchanged. A value that is NULL is not wanted, as of any_get. */
+ODHT_CALL(uint32_t, any_view_get,
+    (const odht_layout *layout, const odht_view *view, const uint8_t *key, size_t key_len,
+        uint8_t *value, size_t value_len),
+    if (!value) {
+        uint8_t unwanted[255] = { 0 };
+        return odht_symbol_any_view_get(layout, view, odht_read_uint8_t(key, key_len), key_len,
+            unwanted, layout->value_len);
+    }
+    return odht_symbol_any_view_get(
+        layout, view, odht_read_uint8_t(key, key_len), key_len, value, value_len);)
+
+/* OK: the key is there. ABSENT. */
+ODHT_CALL(uint32_t, any_view_contains,
+    (const odht_layout *layout, const odht_view *view, const uint8_t *key, size_t key_len),
+    return odht_symbol_any_view_contains(
+        layout, view, odht_read_uint8_t(key, key_len), key_len);)
+
+/* OK: found[i] is 1 and value i the value of key i, or found[i] is 0 and value i unchanged. */
+ODHT_CALL(uint32_t, any_view_get_all,
+    (const odht_layout *layout, const odht_view *view, size_t count, const uint8_t *keys,
+        size_t keys_len, uint8_t *values, size_t values_len, uint8_t *found, size_t found_len),
+    return odht_symbol_any_view_get_all(layout, view, count, odht_read_uint8_t(keys, keys_len),
+        keys_len, odht_write_uint8_t(values, values_len), values_len,
+        odht_write_uint8_t(found, found_len), found_len);)
+
+/* The header's count of items. */
+ODHT_CALL(size_t, any_view_len, (const odht_view *view),
+    return odht_symbol_any_view_len(view);)
 
 /* Each shape. */
 ODHT_DECLARE_MAP(u32_u32, ODHT_NUMBER, 32, ODHT_NUMBER, 32)

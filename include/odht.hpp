@@ -12,7 +12,8 @@
  *
  * A key or a value is std::uint32_t, std::uint64_t or odht::bytes<N>, and there are the shapes of odht.h; a set has no
  * Value. Another pair of types does not compile. All that odht.h says of its calls holds: a view copies nothing, the
- * bytes have to stay where they are and unchanged, and any number of threads may read it. Nothing here throws, but
+ * bytes have to stay where they are ("Opened tables" in odht.h says which calls may write them meanwhile; none during a
+ * walk), and any number of threads may read it. Nothing here throws, but
  * open_or_throw, and build as std::vector does. Sets need GCC or Clang, as in odht.h. With std::span (C++20) there are
  * the same calls with spans.
  */

@@ -8,6 +8,7 @@ removes it; all cases of tests/tool go on it; and each request for memory of eac
 buffer on: the program then says that it is out of memory, and returns 1 or 2, and the file is as it was. Where ODHT_TOOL
 names the program as the kit compiles it, tests/beside.py runs both. The last line counts.
 """
+import filecmp
 import os
 import re
 import resource
@@ -59,6 +60,13 @@ COMMANDS += [
     (["put", "other"], b"0a0b0c\t0102030405\n"),
     (["build", "made", "--key", "hex3", "--value", "hex5"], b"".join(b"%06x\t0102030405\n" % it for it in range(40))),
 ]
+# what `make install-tool` puts below its prefix beside the program, and the file of packaging that it is
+BESIDE_TOOL = {
+    "share/man/man1/odht.1": "odht.1",
+    "share/bash-completion/completions/odht": "completions/odht.bash",
+    "share/zsh/site-functions/_odht": "completions/_odht",
+    "share/fish/vendor_completions.d/odht.fish": "completions/odht.fish",
+}
 # more requests than any of these makes
 MOST = 60
 # of processor time, for one run
@@ -98,10 +106,15 @@ def put_in_place(room):
     run("make", "--silent", "install-tool", *below)
     if not run(f"{room}/packed/usr/bin/odht", "--version").startswith("odht "):
         raise Failed("what make install-tool put in place is another program")
+    for name, source in BESIDE_TOOL.items():
+        if not os.path.isfile(f"{room}/packed/usr/{name}") or not filecmp.cmp(
+                f"{room}/packed/usr/{name}", f"{TOP}/packaging/{source}", shallow=False):
+            raise Failed(f"make install-tool did not put {source} in place as {name}")
     run("make", "--silent", "uninstall-tool", *below)
-    if os.listdir(f"{room}/packed/usr/bin"):
-        raise Failed("make uninstall-tool left the program")
-    return 2
+    left = [f"{folder}/{name}" for folder, _, names in os.walk(f"{room}/packed") for name in names]
+    if left:
+        raise Failed(f"make uninstall-tool left {', '.join(left)}")
+    return 3
 
 
 def limit():
@@ -177,6 +190,7 @@ def main(*words):
         runs = [["tests/cases.py", program, "made=erased", "tests/tool"]]
         runs += [["tests/sizes.py", program], ["tests/objects.py", program]]
         runs += [["tests/lines.py", program], ["tests/progress.py", program]]
+        runs += [["tests/together.py", program], ["tests/pairs.py", program]]
         if os.environ.get("ODHT_TOOL"):
             runs.append(["tests/beside.py", os.environ["ODHT_TOOL"], program])
         failed = 0

@@ -22,6 +22,9 @@ PLACES = {
     "odht_calls": ("erased :: calls", "c/src/erased/calls"),
     "odht_c": ("erased :: exports", "c/src/erased/exports"),
     "odht_tool_core": ("erased :: core", "cli/src/erased/core"),
+    "odht_tool_tables": ("erased :: tables", "cli/src/erased/tables"),
+    "odht_tool_reads": ("erased :: reads", "cli/src/erased/reads"),
+    "odht_tool_writes": ("erased :: writes", "cli/src/erased/writes"),
     "odht_tool": ("erased :: tool", "cli/src/erased/tool"),
 }
 ROOTS = {"lib.rt", "main.rt"}
@@ -174,7 +177,7 @@ def source_left(text):
         left = re.sub(pattern, short, left)
     # C passes no allocator, and a list that is borrowed for a while loses the name of that while
     left = re.sub(r"(extern \"C\" fn \w+ \( )alloc : Global , ", r"\1", left)
-    left = re.sub(r"(extern \"C\" fn \w+ < '\w+ > \( \w+ : & )'\w+ (\[)", r"\1\2", left)
+    left = re.sub(r"(extern \"C\" fn \w+ < '\w+ > \( (?:\w+ : & \w+ , )?\w+ : & )'\w+ (\[)", r"\1\2", left)
     return without_labels(without_chains(left))
 
 

@@ -23,6 +23,9 @@ ASKED = [
     (["keys", "--"], ["--hash"], ["--slots"]),
     (["dump", "--sl"], ["--slots"], ["--whole"]),
     (["get", "--hash", ""], ["fx", "unhash"], ["--at"]),
+    (["merge", "x", "--duplicates", ""], ["last", "first", "error"], ["--at"]),
+    (["get", "x", "--key", ""], ["u32", "u64be", "hex", "text:"], ["none", "SHAPE"]),
+    (["build", "x", "--value", "n"], ["none"], ["u32"]),
     (["info", "a ta"], ["a table.odht"], ["--whole"]),
 ]
 
@@ -45,7 +48,9 @@ def run(*words, **how):
 def fault_of_manual():
     """Returns what is wrong with the manual page, or None."""
     status, printed = run("man", "--warnings", "-l", f"{PACKAGING}/odht.1", env={**os.environ, "MANWIDTH": "100"})
-    wanted = ["ODHT(1)", "odht build FILE --key SHAPE --value SHAPE", "EXIT STATUS"]
+    wanted = ["ODHT(1)", "odht build FILE --key SHAPE --value SHAPE", "EXIT STATUS", "hex16  hex16  unhash"]
+    # an option has a line of its own
+    wanted += ["\n       --key, --value\n", "\n       --break-links\n", "\n       SHAPE  u32, u64, none"]
     missing = [it for it in wanted if it not in printed]
     return f"status {status}, without {missing}" if status or missing or "warning:" in printed else None
 

@@ -22,8 +22,8 @@ HERE = os.path.dirname(os.path.realpath(__file__))
 sys.path.insert(0, f"{HERE}/../tools")
 import watched
 
-CALLS = """allocate below_the_maximum clear clone default dynamic extend from_iterator from_raw_bytes
-    from_raw_bytes_unchecked from_raw_bytes_within index insert insert_all insert_order numbers probe_order
+CALLS = """allocate below_the_maximum clear clone default dynamic dynamic_reserve extend from_iterator
+    from_raw_bytes from_raw_bytes_unchecked from_raw_bytes_within index insert insert_all insert_order numbers probe_order
     refused_bytes reserve view with_capacity""".split()
 # commands of the program for table files that only read, and their files
 COMMANDS = [("find", "inside.bin"), ("info", "one_pair.odht")]

@@ -46,7 +46,7 @@ def as_info(name, text, words):
         return []
     lines = text.decode().splitlines()
     said = {it[:14].strip(): it[14:] for it in lines if it[:14].strip() and not it.startswith("  ")}
-    found = {"file": name, **{key: int(said[it].split()[0]) for key, it in HEADINGS.items()}}
+    found = {"file": name, "at": None, **{key: int(said[it].split()[0]) for key, it in HEADINGS.items()}}
     is_known = said["hash"] != "neither fx nor unhash"
     found["hash"] = said["hash"] if is_known else None
     found["bound"] = None if "--whole" in words else 128
@@ -55,7 +55,16 @@ def as_info(name, text, words):
     for key, it in ("longest_hit", "longest hit"), ("longest_miss", "longest miss"):
         number = re.match(r"(more than )?(\d+)", said.get(it, ""))
         found[key] = number and int(number[2]) + (1 if number[1] else 0)
-    return [found]
+    help = re.search(r": odht rebuild .* (--(percent|hash) \w+( --whole)?)$", said.get("may help", ""))
+    return [{**found, "may_help": help and help[1], "along_slots": said["along slots"]}]
+
+
+def with_signs(found):
+    """The object of `info` with the signs of its counts along the slots, which are those of all items."""
+    counts, size = found["along_slots"], max(1, found["slots"] // 64)
+    assert sum(counts) == found["items"], counts
+    signs = ["." if it == 0 else "9" if it == size else str(it * 8 // size + 1) for it in counts]
+    return {**found, "along_slots": "".join(signs)}
 
 
 def as_check(name, text, words):
@@ -124,7 +133,7 @@ def differs(program, words, name, room):
     if ended != ended_too:
         return f"{ended} and {ended_too}"
     try:
-        found = objects(told)
+        found = [with_signs(it) if words[0] == "info" else it for it in objects(told)]
         wanted = READ[words[0]](name, plain, words)
         if words[0] == "find" and b"forged" in ended[1]:
             wanted = []

@@ -1,6 +1,6 @@
 #!/usr/bin/env python3
-"""Tests the lines of `--progress`: what they tell where lines come slowly, and the bar where standard input is a file and
-standard error a terminal.
+"""Tests the lines of `--progress`: what they tell where lines come slowly, the bar where standard input is a file and
+standard error a terminal, and the last line, which tells of all.
 
   tests/progress.py PROGRAM..
 """
@@ -49,9 +49,19 @@ def slow_lines(program, room):
                 break
         _, text = child.communicate()
     assert child.returncode == 0, text
-    for lines, pairs, length, seconds, bar in told(text):
-        assert lines % BATCH == 0 and lines <= sent * BATCH and seconds >= 1, text
+    *due, last = told(text)
+    assert due and all(it[3] >= 1 for it in due) and last[0] == sent * BATCH, text
+    for lines, pairs, length, _, bar in [*due, last]:
+        assert lines % BATCH == 0 and lines <= sent * BATCH, text
         assert (pairs, length, bar) == (BATCH, lines // BATCH * len(batch), None), text
+
+
+def few_lines(program, room):
+    """What the last line tells of fewer lines than are inserted at once, by each way that lines are read."""
+    given = b"1\t2\n1\t3\n7\t4\n"
+    for words, pairs in [([], 2), (["--duplicates", "first"], 2), (["--check-only"], 0)]:
+        done = subprocess.run([program, "build", f"{room}/few", *SHAPE, *words], input=given, stderr=subprocess.PIPE)
+        assert done.returncode == 0 and told(done.stderr)[-1][:3] == (3, pairs, len(given)), done
 
 
 def stopped(words, **streams):
@@ -90,7 +100,9 @@ def bar(program, room):
     os.close(master)
     text = b"".join(said)
     assert status == 0, text
-    for lines, pairs, length, _, drawn in told(text):
+    found = told(text)
+    assert len(found) > 1 and found[-1][0] == PAIRS, text
+    for lines, pairs, length, _, drawn in found:
         signs = min(length * WIDTH // size, WIDTH)
         assert lines == pairs and drawn == "  " + "#" * signs + "." * (WIDTH - signs), text
 
@@ -102,14 +114,15 @@ def copied(program, room):
         status = stopped(words, stderr=errors)
         errors.seek(0)
         text = errors.read().decode()
-    assert status == 0 and re.fullmatch(r"(odht: \d+ pairs, [1-9]\d* seconds\n)+", text), text
+    last = rf"odht: {PAIRS} pairs, [1-9]\d* seconds\n"
+    assert status == 0 and re.fullmatch(rf"(odht: \d+ pairs, [1-9]\d* seconds\n)+{last}", text), text
 
 
 def main(*programs):
     passed = failed = 0
     for program in programs:
         with tempfile.TemporaryDirectory() as room:
-            for test in (slow_lines, bar, copied):
+            for test in (slow_lines, few_lines, bar, copied):
                 try:
                     test(os.path.abspath(program), room)
                     passed += 1

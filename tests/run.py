@@ -154,7 +154,8 @@ def program_of_the_kit(part):
     tool = f"{BUILT}/odht_tool"
     ran = [part.run(sys.executable, *words) for words in (["tests/cases.py", tool, "tests/tool"], ["tests/sizes.py", tool],
                                                       ["tests/objects.py", tool], ["tests/lines.py", tool],
-                                                      ["tests/progress.py", tool])]
+                                                      ["tests/progress.py", tool], ["tests/together.py", tool],
+                                                      ["tests/pairs.py", tool])]
     return counted(max(status for status, _ in ran), "".join(printed for _, printed in ran))
 
 

@@ -121,7 +121,7 @@ FAULTS = [
     ("cli/src/erased/core/histogram.rs", "filled( alloc, 0, MOST)", "filled( alloc, 1, MOST)"),
     ("cli/src/erased/core/files.rs", "use crate::host::rt::Files", "use crate::host::fs::Files"),
     ("cli/src/erased/tool.rs", "rt.stderr()", "rt.stdout()"),
-    ("cli/src/erased/tool/inserts.rs", "pairs.clear();", ""),
+    ("cli/src/erased/writes/inserts.rs", "pairs.clear();", ""),
 ]
 
 

@@ -14,7 +14,10 @@ sys.path.insert(0, f"{TOP}/tools/commands")
 import command_list
 
 HELP = f"{TOP}/crates/odht_tool_core/src/help.rt"
+READY = f"{TOP}/crates/odht_tool_core/src/help/ready.rt"
 MADE = "made by tools/manual.py of the program's help texts"
+# where in a line of the help what is said of an option begins
+TEXT_COLUMN = 15
 
 
 def read(path):
@@ -41,16 +44,17 @@ class Command:
 
 
 def described(line):
-    """Returns the option or word that a line describes, and what it says of it; None of any other line."""
-    found = re.match(r"(--[a-z-]+|[A-Z]+) {2,}(\S.*)", line)
-    return found and found.groups()
+    """Returns the options or the word that a line describes, and what it says of them, which begins at column 15; None of
+    any other line."""
+    found = re.match(r"((?:--[a-z-]+(?:, )?)+|[A-Z]+) +(\S.*)", line)
+    return found.groups() if found and found.start(2) == TEXT_COLUMN else None
 
 
 def listed():
     """Returns all commands, the general text of the help, and of each option that takes a value what that is, in words,
     and the words that complete it, if any do."""
     commands, options = command_list.read()
-    values = command_list.values(commands)
+    values = command_list.values(commands, options)
     general = re.search(r'^const GENERAL: &str = "\\\n(.*?)";', read(HELP), re.S | re.M)
     valued = {it.name: (it.wanted, " ".join(values.get(it.name, []))) for it in options if it.wanted}
     return list(map(Command, commands)), general[1], valued
@@ -76,12 +80,19 @@ def page(made, general, _):
         lines += [f".SS {it.name}", roff(it.paragraph())]
         for word, text in it.described():
             lines += [".TP", f".B {roff(word)}", roff(text)]
+        if it.name == "build":
+            lines += [".PP", ".nf", *map(roff, ready_shapes()), ".fi"]
     first, *parts = general.rstrip("\n").split("\n\n")
     status = next(part for part in parts if part.startswith("Status"))
     lines += [".SH HELP AND WORDS", ".nf", *map(roff, first.split("\n")), ".fi"]
     lines += [line for part in parts if part != status for line in (".PP", roff(in_a_line(part)))]
     lines += [".SH EXIT STATUS", roff(in_a_line(status).removeprefix("Status "))]
     return "\n".join(lines) + "\n"
+
+
+def ready_shapes():
+    """Returns the lines of the ready shapes, which the help of `build` ends with."""
+    return re.search(r'READY: &str = "\\\n(.*?)\n";', read(READY), re.S)[1].split("\n")
 
 
 def in_a_line(text):
@@ -113,7 +124,7 @@ def zsh(made, _, valued):
     """Returns what completes words in zsh."""
     lines = ["#compdef odht", f"# {MADE}", "_odht() {", "    local -a commands options"]
     lines += ["    commands=("]
-    lines += [f"        '{it.name}:{quoted(it.summary)}'" for it in made]
+    lines += [f"        '{it.name}:{in_zsh(it.summary)}'" for it in made]
     lines += ["        'help:is the help of a command'", "    )", "    if (( CURRENT == 2 )); then"]
     lines += ["        _describe command commands", "        return", "    fi", "    case $words[2] in"]
     lines += ["        help) _describe command commands;;"]
@@ -128,7 +139,7 @@ def option_in_zsh(option, valued):
     if option not in valued:
         return option
     wanted, words = valued[option]
-    return f"{option}=:{quoted(wanted)}:({words})" if words else f"{option}=:{quoted(wanted)}: "
+    return f"{option}=:{in_zsh(wanted)}:({words.replace(':', in_zsh(':'))})" if words else f"{option}=:{in_zsh(wanted)}: "
 
 
 def fish(made, _, valued):
@@ -151,7 +162,12 @@ def fish(made, _, valued):
 
 def quoted(text):
     """Returns a text as a part of a word within single quotes."""
-    return text.replace("'", "").replace(":", " ")
+    return text.replace("'", "")
+
+
+def in_zsh(text):
+    """Returns the same of a part of a description, where a colon ends one."""
+    return quoted(text).replace(":", "\\:")
 
 
 MADE_FILES = {

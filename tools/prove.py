@@ -5,8 +5,15 @@
 
 With --word the gate runs on a copy of the tracked files, outside of the repository, with the word search compiled in.
 The processor time is read once a second from the running checks, so what ends within a second is not counted.
+
+`rt ci` runs as many checks at once as its own estimate of their memory allows, which is four times what they take: two
+or three of the larger crates. Where there are 4 GB for each processor it is told to run one on each (RT_JOBS), where
+the caller has not said how many. Each then has one processor, so the crates that all others wait for are proved first,
+with all processors, on a copy without their edits: `rt ci` keeps what it proves on a machine, and takes it again for
+the same files.
 """
 import os
+import shutil
 import subprocess
 import sys
 import tempfile
@@ -20,6 +27,10 @@ import word_search
 TOP = os.path.dirname(os.path.dirname(os.path.realpath(__file__)))
 KINDS = ("proof", "tests", "base of edits", "edits")
 TICK = os.sysconf("SC_CLK_TCK")
+# more than a check of any crate takes, in bytes
+CHECK_MEMORY = 4 << 30
+# the crate that nearly all others wait for
+FIRST = "odht_raw"
 
 
 def crates():
@@ -35,6 +46,14 @@ def crates():
     return found
 
 
+def lanes():
+    """Returns how many checks `rt ci` is to run at once, as the value of RT_JOBS: its own choice where it is empty."""
+    processors = len(os.sched_getaffinity(0))
+    with open("/proc/meminfo", encoding="utf-8") as it:
+        free = next(int(line.split()[1]) << 10 for line in it if line.startswith("MemAvailable:"))
+    return os.environ.get("RT_JOBS") or (str(processors) if free >= processors * CHECK_MEMORY else "")
+
+
 def stat_of(pid):
     """Returns what /proc says of a process, from its state on: its parent is the second field."""
     with open(f"/proc/{pid}/stat", encoding="utf-8") as it:
@@ -44,8 +63,8 @@ def stat_of(pid):
 class Watch:
     """Looks at the checks that the gate began, and adds up what they cost. Its temporary files are below a folder."""
 
-    def __init__(self, room, gate):
-        self.room, self.gate, self.cost, self.kinds, self.copies = room, gate, {}, {}, {}
+    def __init__(self, room):
+        self.room, self.gate, self.cost, self.kinds, self.copies = room, None, {}, {}, {}
 
     def look(self):
         for pid in filter(str.isdigit, os.listdir("/proc")):
@@ -104,39 +123,62 @@ def table(minutes, names):
     return "\n".join(lines)
 
 
+def run(words, tree, at_once, watch, proved, known):
+    """Runs `rt ci`, so many checks at once, and tells each minute how far it is. Returns its status."""
+    env = {**os.environ, "TMPDIR": watch.room, "RT_JOBS": at_once}
+    how = {"cwd": tree, "env": env, "text": True, "errors": "replace"}
+    gate = subprocess.Popen(words, stdout=subprocess.PIPE, stderr=subprocess.STDOUT, **how)
+    printing = threading.Thread(target=pass_on, args=(gate.stdout, proved))
+    printing.start()
+    watch.gate, began, told, edits = gate.pid, time.monotonic(), 0, sum(known.values())
+    while gate.poll() is None:
+        watch.look()
+        minute = int((time.monotonic() - began) // 60)
+        if minute > told:
+            told = minute
+            done = min(watch.edits_begun(), edits)
+            print(f"minute {minute}: {len(proved)} of {len(known)} crates proved, {done} of {edits} edits begun",
+                  flush=True)
+        time.sleep(1)
+    printing.join()
+    return gate.returncode
+
+
+def prove_first(tree, by_word, watch, known):
+    """Proves the crates that all others wait for, with all processors, on a copy without edits. Returns the status."""
+    print(f"first {FIRST} and the crates below it, with all processors", flush=True)
+    word_search.copy_tracked(tree, is_changed=by_word)
+    for name in known:
+        shutil.rmtree(f"{tree}/crates/{name}/must-fail", ignore_errors=True)
+    status = run(["rt", "ci", FIRST], tree, "", watch, [], {name: 0 for name in known})
+    shutil.rmtree(tree)
+    return status
+
+
 def main(*words):
     by_word, words = words[:1] == ("--word",), [it for it in words if it != "--word"]
     if words[:1] in ([], ["rt"]):
         kit.need()
     known = crates()
     edits = sum(known.values())
-    lanes = len(os.sched_getaffinity(0))
+    at_once = lanes()
     print(f"proving {len(known)} crates from nothing, and trying {edits} edits that must be refused;")
-    print(f"on four processors expect half an hour or less; here are {lanes}", flush=True)
+    print(f"{at_once or 'as many as memory allows'} at once", flush=True)
     began, proved = time.monotonic(), []
     with tempfile.TemporaryDirectory(prefix="odht-prove-") as room:
         tree = f"{room}/word" if by_word else os.getcwd()
         if by_word:
             word_search.copy_tracked(tree)
             print(f"on a copy with the word search compiled in, {tree}", flush=True)
-        how = {"cwd": tree, "env": {**os.environ, "TMPDIR": room}, "text": True, "errors": "replace"}
         os.chmod(room, 0o755)
-        gate = subprocess.Popen(words or ["rt", "ci"], stdout=subprocess.PIPE, stderr=subprocess.STDOUT, **how)
-        printing = threading.Thread(target=pass_on, args=(gate.stdout, proved))
-        printing.start()
-        watch, told = Watch(room, gate.pid), 0
-        while gate.poll() is None:
-            watch.look()
-            minute = int((time.monotonic() - began) // 60)
-            if minute > told:
-                told = minute
-                done = min(watch.edits_begun(), edits)
-                print(f"minute {minute}: {len(proved)} of {len(known)} crates proved, {done} of {edits} edits begun", flush=True)
-            time.sleep(1)
-        printing.join()
+        watch = Watch(room)
+        status = 0
+        if at_once and "RT_JOBS" not in os.environ and words in ([], ["rt", "ci"]):
+            status = prove_first(f"{room}/first", by_word, watch, known)
+        status = status or run(words or ["rt", "ci"], tree, at_once, watch, proved, known)
     print(table(watch.minutes(), known))
     print(f"{(time.monotonic() - began) / 60:.1f} minutes")
-    return gate.returncode
+    return status
 
 
 if __name__ == "__main__":

@@ -16,14 +16,23 @@ SIZES = ["10^5", "10^6"]
 # the text of a row, and the line of the table of the calls for C
 ROWS = [
     ("`insert_all` into a table that is large enough", "presized, insert_all"),
+    ("a call of `insert` for each new key", "presized, insert from C"),
     ("`get_all`, present keys, beside a `get` of each", "hits, get_all"),
     ("walk", "walk"),
-    ("from C a call of `view_get` for each present key", "hits, view_get"),
-    ("from C a call of `get`, which looks at the header, for each present key", "hits, get from C"),
+    ("a call of `view_get` for each present key", "hits, view_get"),
+    ("a call of `get`, which looks at the header, for each present key", "hits, get from C"),
 ]
 # the same of the table of the crate for Rust
 CRATE_SIZE = "10^5"
-CRATE_ROWS = [("`insert`", "insert"), ("`get` of a present key", "get, present"), ("walk", "walk")]
+CRATE_ROWS = [
+    ("`insert`", "insert"),
+    ("`insert_all`", "insert_all"),
+    ("`get` of a present key", "get, present"),
+    ("`get_all` beside a `get` of each", "get_all, present"),
+    ("walk", "walk"),
+]
+# those of them that rust/README.md tells
+CRATE_TOLD = ["insert", "get, present", "walk"]
 
 
 def read(file):
@@ -48,8 +57,8 @@ def made(results):
         crate.append(f"{text} {plain} and {fast}")
     head = ["| | " + " | ".join(SIZES) + " |", "|---|" + "---|" * len(SIZES)]
     told = (
-        "Our crate, as it is and with the feature `fast`, which checks no index that is proved to be in bounds, "
-        f"at {CRATE_SIZE}: " + ", ".join(crate) + "."
+        f"**Our crate**, as it is and with the feature `fast`, at {CRATE_SIZE}: " + ", ".join(crate[:3]) + "; "
+        + ", ".join(crate[3:]) + ". With `fast` no index is checked that is proved to be in bounds."
     )
     return "\n".join(head + rows) + "\n\n" + textwrap.fill(told, WIDTH) + "\n"
 
@@ -61,7 +70,7 @@ def of_readme(text, results):
 
 def of_crate(text, results):
     """Returns the text with the paragraph that begins so made anew; the sentence behind it stays."""
-    found = [cells(results, "## The crate for Rust", name, [CRATE_SIZE])[0].split(" / ") for _, name in CRATE_ROWS]
+    found = [cells(results, "## The crate for Rust", name, [CRATE_SIZE])[0].split(" / ") for name in CRATE_TOLD]
     (insert, insert_fast), (get, get_fast), (walk, walk_fast) = found
     told = (
         f"Beside the original, on tables of {CRATE_SIZE} numbers, `insert` takes {insert} of the time, and {insert_fast} "

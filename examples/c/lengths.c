@@ -64,6 +64,25 @@ static void looks_up(const uint8_t *bytes)
     EXPECT(odht_any_contains(&layout, bytes, LENGTH, key, KEY), ODHT_ABSENT);
 }
 
+/* Many lookups in bytes that are opened once. */
+static void looks_up_often(const uint8_t *bytes)
+{
+    odht_view view = ODHT_NO_VIEW;
+    uint8_t key[KEY];
+    uint8_t value[VALUE];
+    uint8_t expected[VALUE];
+
+    EXPECT(odht_any_open_view(&layout, bytes, LENGTH, &view), ODHT_OK);
+    EXPECT(odht_any_view_len(&view), PARTS);
+    for (unsigned part = 0; part < PARTS; part++) {
+        write_part(part, key, expected);
+        EXPECT(odht_any_view_get(&layout, &view, key, KEY, value, VALUE), ODHT_OK);
+        EXPECT(memcmp(value, part == 7 ? (const uint8_t *)"sold!" : expected, VALUE), 0);
+    }
+    write_part(PARTS, key, expected);
+    EXPECT(odht_any_view_contains(&layout, &view, key, KEY), ODHT_ABSENT);
+}
+
 /* A file says which lengths its table has, and not which hash function. */
 static void reads_the_lengths(const uint8_t *bytes)
 {
@@ -129,6 +148,7 @@ int main(void)
 
     fills(bytes);
     looks_up(bytes);
+    looks_up_often(bytes);
     reads_the_lengths(bytes);
     walks(bytes);
     grows(bytes, grown);

@@ -102,3 +102,25 @@ fn rejected() {
     let many = DynTableOwned::<FxHashFn>::with_capacity(layout, usize::MAX, 87).err();
     assert_eq!(many, Some(DynError::Rejected(Error::Capacity)));
 }
+
+// Sixteen slots at 87 percent take 13 items, 32 slots 27, 64 slots 55.
+#[test]
+fn room_for_more() {
+    let layout = Layout::of::<U64ToU32>();
+    let mut table = HashTableOwned::<U64ToU32>::with_capacity(13, 87);
+    let mut twin = DynTableOwned::<FxHashFn>::with_capacity(layout, 13, 87).unwrap();
+    for n in 0..5_u64 {
+        table.insert(&n, &7);
+        twin.insert(&n.to_le_bytes(), &7_u32.to_le_bytes()).unwrap();
+    }
+    for (additional, slots) in [(0, 16), (8, 16), (9, 32), (22, 32), (23, 64), (1, 64)] {
+        table.reserve(additional);
+        assert_eq!(twin.reserve(additional), Ok(()));
+        assert_eq!(twin.raw_bytes().len(), 32 + slots * 12 + slots + 16);
+        assert_eq!(twin.raw_bytes(), table.raw_bytes());
+    }
+    for many in [usize::MAX, usize::MAX - 5, 1 << 62] {
+        assert_eq!(twin.reserve(many), Err(DynError::Rejected(Error::Capacity)));
+        assert_eq!(twin.raw_bytes(), table.raw_bytes());
+    }
+}

@@ -190,6 +190,24 @@ fn room_that_is_refused_changes_nothing() {
     assert_eq!(granting(0, || table.try_reserve(14)), (Ok(()), 0));
 }
 
+// The same of lengths that are known at run time alone.
+#[test]
+fn room_of_run_time_lengths_that_is_refused_changes_nothing() {
+    let layout = dynamic::Layout { key_len: 3, value_len: 1 };
+    let mut table = DynTableOwned::<FxHashFn>::with_capacity(layout, 13, 87).unwrap();
+    for key in 0..13 {
+        table.insert(&[key; 3], &[key]).unwrap();
+    }
+    let before = table.raw_bytes().to_vec();
+    let refused = |error| Err(DynError::Rejected(error));
+    assert_eq!(granting(0, || table.reserve(14)), (refused(Error::Memory), 1));
+    assert_eq!(granting(0, || table.reserve(usize::MAX)), (refused(Error::Capacity), 0));
+    assert_eq!(granting(0, || table.reserve(0)), (Ok(()), 0));
+    assert_eq!(table.raw_bytes(), before);
+    assert_eq!(granting(1, || table.reserve(14)), (Ok(()), 1));
+    assert_eq!((table.len(), table.raw_bytes().len()), (13, 32 + 32 * 4 + 32 + 16));
+}
+
 // An iterator of known length asks for one list, and 14 new items for one growth.
 #[test]
 fn items_of_an_iterator_are_inserted_or_not() {

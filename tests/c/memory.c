@@ -2,12 +2,14 @@
  * The calls that take memory, with each request failing in turn, and all others with every request failing. A growing
  * build has one request for its first table, and one for each growth: docs/FORMAT.md, "Growth".
  */
+#include <stdbool.h>
 #include <stdint.h>
 #include <stdlib.h>
 
 #include "buffers.h"
 #include "calls.h"
 #include "keys.h"
+#include "layouts.h"
 #include "odht.h"
 #include "requests.h"
 #include "subjects.h"
@@ -15,9 +17,10 @@
 /* As many items as 64 slots take at 87 percent, and the most bytes of a table of 64 slots: keys of 32, values of 8. */
 enum { MOST_ITEMS = 55, MOST_BYTES = 32 + 64 * 64 + 64 + 16 };
 
-/* The pairs of a build, and what it writes. */
+/* The pairs of a build, by the call of a shape or by that for any lengths, and what it writes. */
 struct build {
     const struct calls *calls;
+    bool any;
     void *keys;
     void *values;
     size_t items;
@@ -41,7 +44,14 @@ static struct build build_of(const struct calls *calls, size_t items)
 /* Builds a growing table, where the request with this number fails. */
 static uint32_t build_growing(const struct build *build, size_t failing)
 {
+    struct shape shape = build->calls->shape;
+    odht_layout layout = layout_of(shape);
+
     count_requests(failing);
+    if (build->any)
+        return odht_any_build_growing(&layout, build->items, build->keys, build->items * shape.key,
+                                      build->values, build->items * shape.value, build->out,
+                                      MOST_BYTES, build->len);
     return build->calls->build_growing(build->keys, build->items, build->values, build->items,
                                        build->out, MOST_BYTES, build->len);
 }
@@ -69,17 +79,24 @@ static void check_refused_build(const struct build *build, size_t failing)
 }
 
 /* Each of so many requests fails in turn, and there is no more. */
-static void check_requests(const struct calls *calls, size_t items, size_t expected)
+static void check_requests_by(const struct calls *calls, bool any, size_t items, size_t expected)
 {
     struct build build = build_of(calls, items);
     size_t kept = blocks_in_use();
 
+    build.any = any;
     for (size_t failing = 1; failing <= expected; failing++)
         check_refused_build(&build, failing);
     STATUS(build_growing(&build, expected + 1), ODHT_OK);
     EQUAL(requests(), expected);
     EQUAL(blocks_in_use(), kept);
     check_built(&build);
+}
+
+static void check_requests(const struct calls *calls, size_t items, size_t expected)
+{
+    check_requests_by(calls, false, items, expected);
+    check_requests_by(calls, true, items, expected);
 }
 
 /* A table of 16 slots at 87 percent takes 13 items, one of 32 takes 27, and one of 64 takes 55. */
@@ -132,6 +149,34 @@ static void errors_of_a_growing_build(void)
     ALL_BYTES(build.out, MOST_BYTES, FILL);
 }
 
+/* The same of the call for any lengths, which also finds a bad layout before. */
+static void errors_of_a_growing_build_of_any_lengths(void)
+{
+    static const odht_layout none = { 8, 4, 2 };
+    struct build build = build_of(u64_u32_calls, 3);
+    odht_layout layout = layout_of(build.calls->shape);
+
+    refuse_requests();
+    STATUS(odht_any_build_growing(&none, 3, build.keys, 24, build.values, 12, build.out,
+                                  MOST_BYTES, build.len),
+           ODHT_BAD_LAYOUT);
+    STATUS(odht_any_build_growing(&layout, 3, build.keys, 24, build.values, 11, build.out,
+                                  MOST_BYTES, build.len),
+           ODHT_BAD_LENGTHS);
+    EQUAL(requests(), 0);
+    STATUS(odht_any_build_growing(&layout, 3, build.keys, 24, build.values, 12, build.out, 255,
+                                  build.len),
+           ODHT_MEMORY);
+    EQUAL(*build.len, 99);
+    count_requests(NO_REQUEST);
+    STATUS(odht_any_build_growing(&layout, 3, build.keys, 24, build.values, 12, build.out, 255,
+                                  build.len),
+           ODHT_TOO_SMALL);
+    EQUAL(requests(), 1);
+    EQUAL(*build.len, 256);
+    ALL_BYTES(build.out, MOST_BYTES, FILL);
+}
+
 /* A table of 16 slots that is at its maximum, made without memory. */
 static size_t make_full(const struct calls *calls, uint8_t *bytes)
 {
@@ -177,6 +222,24 @@ static void read_full(const struct calls *calls, const uint8_t *bytes, size_t le
     EQUAL(calls->view_len(view), 13);
 }
 
+/* The view and its lookups by the calls for any lengths. */
+static void view_full(const struct calls *calls, const uint8_t *bytes, size_t len)
+{
+    struct shape shape = calls->shape;
+    odht_layout layout = layout_of(shape);
+    const uint8_t *keys = counted_keys(shape, 13);
+    uint8_t *values = bytes_of(13 * shape.value);
+    odht_view *view = view_of_nothing();
+
+    STATUS(odht_any_open_view(&layout, bytes, len, view), ODHT_OK);
+    STATUS(odht_any_view_get(&layout, view, keys, shape.key, values, shape.value), ODHT_OK);
+    STATUS(odht_any_view_contains(&layout, view, keys, shape.key), ODHT_OK);
+    STATUS(odht_any_view_get_all(&layout, view, 13, keys, 13 * shape.key, values,
+                                 13 * shape.value, bytes_of(13), 13),
+           ODHT_OK);
+    EQUAL(odht_any_view_len(view), 13);
+}
+
 /* A growth into the caller's bytes, and a build there. */
 static void grow_and_build(const struct calls *calls, const uint8_t *bytes, size_t len)
 {
@@ -201,6 +264,7 @@ static void no_other_call_takes_memory(void)
         refuse_requests();
         len = make_full(&all_shapes[index], bytes);
         read_full(&all_shapes[index], bytes, len);
+        view_full(&all_shapes[index], bytes, len);
         grow_and_build(&all_shapes[index], bytes, len);
         EQUAL(requests(), 0);
     }
@@ -228,6 +292,7 @@ const struct test memory_tests[] = {
     TEST(a_growing_build_has_a_request_for_each_table),
     TEST(one_try_to_build_growing),
     TEST(errors_of_a_growing_build),
+    TEST(errors_of_a_growing_build_of_any_lengths),
     TEST(no_other_call_takes_memory),
     END_OF_TESTS
 };

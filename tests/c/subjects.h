@@ -8,6 +8,7 @@ extern const struct test harness_tests[];
 extern const struct test any_list_tests[];
 extern const struct test any_order_tests[];
 extern const struct test any_tests[];
+extern const struct test any_view_tests[];
 extern const struct test bound_tests[];
 extern const struct test build_tests[];
 extern const struct test carried_tests[];
@@ -34,11 +35,11 @@ extern const struct test whole_check_tests[];
 /* The tables in the order in which they are run. */
 #define SUBJECTS \
     { \
-        harness_tests, any_list_tests, any_order_tests, any_tests, bound_tests, build_tests, \
-        carried_tests, changed_table_tests, check_tests, error_tests, grow_tests, header_tests, \
-        init_tests, insert_tests, large_tests, list_tests, lookup_tests, memory_tests, \
-        order_tests, place_tests, prefix_tests, shape_tests, status_tests, view_tests, \
-        walk_tests, whole_check_tests \
+        harness_tests, any_list_tests, any_order_tests, any_tests, any_view_tests, bound_tests, \
+        build_tests, carried_tests, changed_table_tests, check_tests, error_tests, grow_tests, \
+        header_tests, init_tests, insert_tests, large_tests, list_tests, lookup_tests, \
+        memory_tests, order_tests, place_tests, prefix_tests, shape_tests, status_tests, \
+        view_tests, walk_tests, whole_check_tests \
     }
 
 #endif

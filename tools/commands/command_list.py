@@ -138,7 +138,12 @@ def read():
     return commands, list(options.values())
 
 
-def values(commands):
-    """The values of each option that takes one of a few, by its name: those with a bar between them."""
+def values(commands, options):
+    """What completes the value of each option that takes one of a few, by its name: the words with a bar between them,
+    or, of a SHAPE, those of the list of options; of `hexN` and `text:N` what comes before the number."""
     written = " ".join(it for command in commands for it in command.written)
-    return {name: words.split("|") for name, words in re.findall(r"(--[a-z-]+) ([^] ]*\|[^] ]*)", written)}
+    found = {name: words.split("|") for name, words in re.findall(r"(--[a-z-]+) ([^] ]*\|[^] ]*)", written)}
+    for it in options:
+        if f"{it.name} SHAPE" in written:
+            found[it.name] = [word.removesuffix("N") for word in re.split(", | or ", it.wanted)]
+    return found

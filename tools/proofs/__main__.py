@@ -37,10 +37,13 @@ GROUPS = [
     ("Tables of any lengths", ["odht/src/dynamic.rt", "odht/src/dynamic/"]),
     ("Laws of whole tables", ["odht/src/laws.rt", "odht/src/laws/"]),
     ("Calls for C", ["odht_c/src/shapes/u64_u32.rt"]),
-    ("Calls for C of tables of any lengths", ["odht_c/src/any.rt"]),
+    ("Calls for C of tables of any lengths", ["odht_c/src/any.rt", "odht_c/src/any/views.rt"]),
     ("The index", ["odht_index/src"]),
     ("The script program", ["odht_table/src"]),
-    ("The program for table files", ["odht_tool_core/src", "odht_tool/src"]),
+    (
+        "The program for table files",
+        ["odht_tool_core/src", "odht_tool_tables/src", "odht_tool_reads/src", "odht_tool_writes/src"],
+    ),
 ]
 # each public function of these crates is in a group
 LIBRARY = ["odht_base", "odht_header", "odht_raw", "odht"]

@@ -5,16 +5,18 @@ from shape_list import byte_count
 FOLDERS = []
 
 CORE = "crates/odht_tool_core"
-TOOL = "crates/odht_tool"
+# the crates that go from a shape to its configuration
+OVER_SHAPES = ["odht_tool_tables", "odht_tool_reads", "odht_tool_writes"]
 MADE = "made of shapes.txt by tools/shapes; `make exports` makes it anew"
 
-# the functions that go from a shape to its configuration, each with the function that it calls for that
+# the functions that go from a shape to its configuration, each by its crate and place, with the function that it calls
+# for that
 DISPATCHERS = {
-    "commands/get/get_words_of": "get_words",
-    "commands/get/get_lines_of": "get_lines",
-    "commands/delete/keys_of_ready": "keys_of",
-    "commands/delete_lines/keys_of_ready": "keys_of",
-    "positions/shaped/words_of": "words_typed",
+    ("odht_tool_reads", "commands/get/get_words_of"): "get_words",
+    ("odht_tool_reads", "commands/get/get_lines_of"): "get_lines",
+    ("odht_tool_writes", "commands/delete/keys_of_ready"): "keys_of",
+    ("odht_tool_writes", "commands/delete_lines/keys_of_ready"): "keys_of",
+    ("odht_tool_reads", "positions/shaped/words_of"): "words_typed",
 }
 # those of them without type parameters
 PLAIN = {"commands/delete/keys_of_ready"}
@@ -165,10 +167,10 @@ pub(crate) use for_shape;
 """
 
 
-def answers(shapes, dispatcher, called):
+def answers(shapes, crate, dispatcher, called):
     """What the prover asks for of a function that goes from a shape to its configuration: an answer for each."""
     text = f"-- An answer for each shape: {MADE}.\n"
-    text += f"use Rattle.odht_tool.proofs.{dispatcher.replace('/', '.')}.Goals as goal\n"
+    text += f"use Rattle.{crate}.proofs.{dispatcher.replace('/', '.')}.Goals as goal\n"
     given = "c" if dispatcher in PLAIN else "g c"
     for at, shape in enumerate(shapes):
         goal = f"returns-in-{shape.configuration}"
@@ -184,8 +186,9 @@ def files(shapes):
         f"{CORE}/src/help/ready.rt": help_lines(shapes),
         f"{CORE}/src/help/version.rt": version(),
         f"{CORE}/specs/ShapeList.antt": definitions(shapes),
-        f"{TOOL}/src/shapes.rt": macro(shapes),
     }
-    for dispatcher, called in DISPATCHERS.items():
-        texts[f"{TOOL}/proofs/{dispatcher}/Answers.antt"] = answers(shapes, dispatcher, called)
+    for crate in OVER_SHAPES:
+        texts[f"crates/{crate}/src/shapes.rt"] = macro(shapes)
+    for (crate, dispatcher), called in DISPATCHERS.items():
+        texts[f"crates/{crate}/proofs/{dispatcher}/Answers.antt"] = answers(shapes, crate, dispatcher, called)
     return texts

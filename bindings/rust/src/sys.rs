@@ -13,9 +13,9 @@
 //! - A pointer and its length are a slice that may be read, and may be written where the pointer is `*mut`; a slice or
 //!   out-parameter that a call writes overlaps no other of that call.
 //! - Nobody writes the bytes while a call reads them, and nobody reads or writes them while a call writes them.
-//! - A view that is looked up in was written by `open_view` of the same shape, or by hand with bytes that `open` of
-//!   that shape has accepted. Its bytes are still there, and nothing has written their header since but `insert`,
-//!   `insert_all` and `init` of that shape, on exactly these bytes.
+//! - A view that is looked up in was written by `open_view` of the same shape or the same lengths, or by hand with bytes
+//!   that `open` of these has accepted. Its bytes are still there, and nothing has written their header since but
+//!   `insert`, `insert_all` and `init` of these, on exactly these bytes.
 
 const _: () = assert!(size_of::<usize>() == 8, "the library is built for 64 bits");
 
@@ -49,7 +49,7 @@ pub struct Layout {
 
 /// Tables of any lengths: keys and values are so many bytes, also many of them, and their lengths are in bytes.
 pub mod any {
-    use super::Layout;
+    use super::{Layout, View};
 
     unsafe extern "C" {
         /// How many bytes a new table has.
@@ -219,6 +219,57 @@ pub mod any {
             out_len: usize,
             len: *mut usize,
         ) -> u32;
+
+        /// A table that starts with sixteen slots and grows, in memory of its own.
+        #[link_name = "odht_any_build_growing"]
+        pub fn build_growing(
+            layout: *const Layout,
+            count: usize,
+            keys: *const u8,
+            keys_len: usize,
+            values: *const u8,
+            values_len: usize,
+            out: *mut u8,
+            out_len: usize,
+            len: *mut usize,
+        ) -> u32;
+
+        /// Opens bytes, and keeps them as a view, which is also one of a shape of these lengths.
+        #[link_name = "odht_any_open_view"]
+        pub fn open_view(layout: *const Layout, bytes: *const u8, bytes_len: usize, view: *mut View) -> u32;
+
+        /// The value of a key in a view.
+        #[link_name = "odht_any_view_get"]
+        pub fn view_get(
+            layout: *const Layout,
+            view: *const View,
+            key: *const u8,
+            key_len: usize,
+            value: *mut u8,
+            value_len: usize,
+        ) -> u32;
+
+        /// Whether a key is in a view.
+        #[link_name = "odht_any_view_contains"]
+        pub fn view_contains(layout: *const Layout, view: *const View, key: *const u8, key_len: usize) -> u32;
+
+        /// The values of many keys in a view.
+        #[link_name = "odht_any_view_get_all"]
+        pub fn view_get_all(
+            layout: *const Layout,
+            view: *const View,
+            count: usize,
+            keys: *const u8,
+            keys_len: usize,
+            values: *mut u8,
+            values_len: usize,
+            found: *mut u8,
+            found_len: usize,
+        ) -> u32;
+
+        /// The header's count of items of a view, whatever its lengths.
+        #[link_name = "odht_any_view_len"]
+        pub fn view_len(view: *const View) -> usize;
 
         /// The table that this one grows into at its maximum.
         #[link_name = "odht_any_grow"]

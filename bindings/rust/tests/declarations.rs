@@ -104,6 +104,6 @@ fn the_header_declares_the_same() {
         return;
     };
     let (shapes, declared) = declared_in_rust();
-    assert_eq!(declared.len(), shapes * 24 + 21);
+    assert_eq!(declared.len(), shapes * 24 + 27);
     assert_eq!(declared, declared_in_c(&header));
 }

@@ -11,6 +11,8 @@ pub mod Growths
 pub mod GrownBytes
 -- a table whose pairs move to other slots
 pub mod Moves
+-- a growth by such a move
+pub mod GrownMoves
 -- tables that are the same map
 pub mod SameMaps
 -- inserts in turn

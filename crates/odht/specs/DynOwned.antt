@@ -4,6 +4,9 @@
 --     IsDynInsertOwned t h k v r B   an insert of the key k with the value v, which have the lengths of the table t, of
 --                          the hash h, returns r and leaves the bytes B: it does what an insert into a table that grows
 --                          does (`on_valid`), and its only error is `Memory` (`only_memory`), as a `Rejected`
+--     IsDynReserve t h n r B   room for n more items in the table t of the hash h returns r and leaves the bytes B: it does
+--                          what it does for a table that grows (`on_valid`), and its only errors are `Capacity` and
+--                          `Memory` (`only`), as a `Rejected`
 use Rattle.std.specs.Prelude.{◌≡◌, List, ℕ, Option, Result, Err, OnErr}
 use Rattle.std.specs.Result.{result_map_both}
 use Rattle.odht_header.specs.declared.error.Error.{Error}
@@ -12,6 +15,8 @@ use Rattle.odht.specs.declared.dynamic.DynError.{DynError}
 use Rattle.odht.specs.declared.dynamic.DynError.TheVariants.{Rejected}
 use Rattle.odht.specs.Dynamic.{DynStore, dyn_coding}
 use Rattle.odht.specs.Inserts.{IsInsertOwned}
+use Rattle.odht.specs.NewTables.{IsCapacityOrMemory}
+use Rattle.odht.specs.Reserves.{IsReserve}
 use Rattle.odht.specs.Tables.{InTable}
 
 pub record IsDynWith (kl vl : ℕ) (S : List ℕ → Type 0) (t : DynStore (List ℕ)) : Type 0 where
@@ -30,3 +35,10 @@ pub record IsOwnedAnswer (t : DynStore (List ℕ)) (h : List ℕ → ℕ) (k v :
 
 abbrev pub IsDynInsertOwned : DynStore (List ℕ) → (List ℕ → ℕ) → List ℕ → List ℕ → Result (Option (List ℕ)) DynError → List ℕ → Type 0
 IsDynInsertOwned t h k v r B = IsRejecting (IsOwnedAnswer t h k v B) r
+
+pub record IsRoomAnswer (t : DynStore (List ℕ)) (h : List ℕ → ℕ) (n : ℕ) (B : List ℕ) (r : Result Unit Error) : Type 0 where
+  pub on_valid : InTable (dyn_coding t h) t.store (λ c P. IsReserve c P n r B)
+  pub only : OnErr r (IsCapacityOrMemory r)
+
+abbrev pub IsDynReserve : DynStore (List ℕ) → (List ℕ → ℕ) → ℕ → Result Unit DynError → List ℕ → Type 0
+IsDynReserve t h n r B = IsRejecting (IsRoomAnswer t h n B) r

@@ -1,5 +1,5 @@
 -- Lookups of many keys in the parts T of a table, each of them a first look and the search that continues it.
---     IsLookAt c T ks i l     l is the first look of the search for key i of ks
+--     IsFirstLookAt c T ks i l     l is the first look of the search for key i of ks
 --     IsLookup c T k o        o is the result of the lookup of the key k: in a placed table the value for k, and in any
 --                             parts only one that is stored with this very key
 --     IsLookupAt c T ks i o   o is the result of the lookup of key i of ks
@@ -17,8 +17,8 @@ use Rattle.odht_raw.specs.FirstLooks.{FirstLookOf, first_look_of}
 use Rattle.odht_raw.specs.Parts.{TableParts}
 use Rattle.odht_raw.specs.SearchEnds.{IsBesideKey}
 
-abbrev pub IsLookAt : {K V : Type 0} → Coding K V → TableParts → List K → ℕ → FirstLookOf → Type 0
-IsLookAt {K = K} c T ks i l = (k : K) → slice_get ks i ≡ Some k → l ≡ first_look_of c.format T (c.key_bytes k)
+abbrev pub IsFirstLookAt : {K V : Type 0} → Coding K V → TableParts → List K → ℕ → FirstLookOf → Type 0
+IsFirstLookAt {K = K} c T ks i l = (k : K) → slice_get ks i ≡ Some k → l ≡ first_look_of c.format T (c.key_bytes k)
 
 pub record IsLookup {K V : Type 0} (c : Coding K V) (T : TableParts) (k : K) (o : Option V) : Type 0 where
   pub on_placed : (P : Table) → IsPartsOf c.format P T.entries.bytes T.control → o ≡ value_for c P k

@@ -3,12 +3,15 @@
 --     AreInOrder c P items the items, encoded, are the pairs of the slots `order`, an insert order of P
 --     IsRebuilding c items n p P   P is valid, the items are in an insert order of it, and a new table for n items at p
 --                          percent has its size
+--     IsBuilt c items n p B    B are the bytes of the fresh table for n items at p percent, after the inserts of the items
+--                          into it by the owned table
 use Rattle.std.specs.Prelude.{◌≡◌, ℕ, List, Some}
+use Rattle.odht_base.specs.Insert.{insert_owned}
 use Rattle.odht_base.specs.Made.{IsInsertOrder, pairs_of}
 use Rattle.odht_base.specs.Table.{Table, slot_count, empty, fresh}
 use Rattle.odht_base.specs.Valid.{IsValid}
 use Rattle.odht_header.specs.Coding.{Coding}
-use Rattle.odht.specs.Lists.{encoded_all}
+use Rattle.odht.specs.Lists.{encoded_all, IsAfterInserts}
 
 abbrev pub IsNewSizeOf : Table → ℕ → ℕ → Type 0
 IsNewSizeOf P n percent = fresh n percent ≡ Some (empty (slot_count P) P.factor)
@@ -22,3 +25,8 @@ pub record IsRebuilding {K V : Type 0} (c : Coding K V) (items : List (K × V)) 
   pub valid : IsValid c.format P
   pub in_order : AreInOrder c P items
   pub size : IsNewSizeOf P n percent
+
+pub record IsBuilt {K V : Type 0} (c : Coding K V) (items : List (K × V)) (n percent : ℕ) (B : List ℕ) : Type 0 where
+  pub start : Table
+  pub new : fresh n percent ≡ Some start
+  pub inserted : IsAfterInserts c.format (insert_owned c.format) start (encoded_all c items) B

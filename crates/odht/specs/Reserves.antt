@@ -8,10 +8,12 @@
 --     IsReserved F P n B   B is the image of reserved F P n, a table with the map of P and with room for n more items
 --     IsMove c B s T       T has the pairs of the table of the bytes B in s slots: of a valid table that has room there they
 --                          are placed (`on_valid`), and header and length fit (`accepted`)
+--     IsMoveFor F P n r    r is what P moves into for room for n more items: None where it has the room; else the slots for
+--                          as many as it has and n more, and the length for them, or an error where no table is that large
 --     IsReserve c P n r B    room for n more items in P is made, with the result r, and leaves the bytes B: on success
 --                          there is room; it is `Capacity` exactly where the room is lacking and no table is that
 --                          large, and an error only where the room is lacking
-use Rattle.std.specs.Prelude.{◌≡◌, ℕ, ◌+◌, ◌<◌, ◌≤◌, ◌↔◌, nat_le, Bool, List, Option, Some, Result, Err, OnOk, OnErr, option_and_then, if◌then◌else◌}
+use Rattle.std.specs.Prelude.{◌≡◌, ℕ, ◌+◌, ◌<◌, ◌≤◌, ◌↔◌, nat_le, Bool, List, Option, Some, Result, Err, OnOk, OnErr, MatchOption, MatchResult, option_and_then, if◌then◌else◌}
 use Rattle.odht_base.specs.Format.{Format}
 use Rattle.odht_base.specs.Insert.{place_all}
 use Rattle.odht_base.specs.Load.{max_items, slots_for}
@@ -19,6 +21,7 @@ use Rattle.odht_base.specs.Map.{map_of}
 use Rattle.odht_base.specs.Table.{Table, slot_count, count, walk, empty}
 use Rattle.odht_base.specs.Valid.{IsImage}
 use Rattle.odht_header.specs.Coding.{Coding}
+use Rattle.odht_header.specs.Layouts.{IsLayout}
 use Rattle.odht_header.specs.Refusals.{IsTooLarge}
 use Rattle.odht_header.specs.declared.error.Error.{Error}
 use Rattle.odht_header.specs.declared.error.Error.TheVariants.{Capacity}
@@ -50,6 +53,11 @@ pub record IsReserved (F : Format) (P : Table) (n : ℕ) (B : List ℕ) : Type 0
 pub record IsMove {K V : Type 0} (c : Coding K V) (B : List ℕ) (s : ℕ) (T : List ℕ) : Type 0 where
   pub on_valid : OfTable c.format B (λ P. count P ≤ max_items s P.factor → IsMovedImage c.format P s T)
   pub accepted : IsAccepted c.format T
+
+abbrev pub IsMoveFor : Format → Table → ℕ → Result (Option (ℕ × ℕ)) Error → Type 0
+IsMoveFor F P n r = MatchResult r
+    (λ o. MatchOption o (count P + n ≤ max_items (slot_count P) P.factor) (λ l. LacksRoom P n × IsLayout F (count P + n) P.factor l.0 l.1))
+    (λ e. LacksRoom P n × IsTooLarge F (count P + n) P.factor)
 
 pub record IsReserve {K V : Type 0} (c : Coding K V) (P : Table) (n : ℕ) (r : Result Unit Error) (B : List ℕ) : Type 0 where
   pub ok : OnOk r (IsReserved c.format P n B)

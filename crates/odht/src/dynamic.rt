@@ -198,9 +198,9 @@ impl<H: HashFn, D: ByteStore> DynTable<H, D> {
         self.layout
     }
 
-    /// The value of a key, or None. On valid bytes it is the value of the key's last insert; on any bytes it is one
-    /// that is stored with this very key. A key of another length has no value. [`DynTable::get_counted`] says how many
-    /// groups the search reads.
+    /// The value of a key, or None. On valid bytes it is the table's value for the key; on any bytes it is one that
+    /// some entry has beside this very key. A key of another length has no value. [`DynTable::get_counted`] counts the
+    /// groups of such a search.
     pub fn get(&self, key: &[u8]) -> Option<&[u8]>
         ensures { IsGet (dyn_coding self.now H.hash) (D.bytes self.now.store) key.now
             (option_copied result) }

@@ -1,6 +1,7 @@
 //! Growth: a table with the slots for twice as many items, written into larger bytes.
 ghost use Rattle.odht.specs.Tables.{InTable};
 ghost use Rattle.std.specs.Prelude.{◌≡◌, Some, length, map};
+ghost use Rattle.odht_base.specs.Decoded.{header_count, header_factor};
 ghost use Rattle.odht_base.specs.Format.{format_of};
 ghost use Rattle.odht_base.specs.Insert.{grown_slots};
 ghost use Rattle.odht_base.specs.Load.{IsSlotCount};
@@ -8,7 +9,8 @@ ghost use Rattle.odht_base.specs.Table.{Table};
 ghost use Rattle.odht_base.specs.Valid.{IsPartsOf};
 ghost use Rattle.odht_raw.specs.PartLengths.{ArePartLengths};
 ghost use Rattle.odht_raw.specs.Walks.{stored};
-ghost use Rattle.odht.specs.Growths.{grown_len, grown_slots_of, table_len};
+ghost use Rattle.odht.specs.Growths.{grown_len, table_len};
+ghost use Rattle.odht.specs.Reserves.{IsMove};
 ghost use Rattle.odht.specs.Growths.{IsWritten, IsGrownFrom, IsGrownLayout, IsRoomFor, IsPlacing};
 
 use crate::bytes::{ByteArray, ByteStore};
@@ -59,7 +61,7 @@ impl<C: Config, D: ByteStore> HashTable<C, D> {
             unreachable!()
         };
         memory_layout::clear_entries::<C>(out, slot_count);
-        write_grown(self, slot_count, out);
+        write_moved(self, slot_count, out);
     }
 }
 
@@ -86,15 +88,18 @@ pub(crate) fn grown_sizes<H: HashFn>(layout: Layout, header: &Header<'_>) -> Opt
     layout.table_for(twice.max(1), factor)
 }
 
-/// Writes the grown table with so many slots into bytes whose entries are zeros.
-pub(crate) fn write_grown<C: Config, D: ByteStore>(
+/// Writes the pairs of a table, placed in slot order into so many slots, into bytes whose entries are zeros. The new
+/// header has the item count and the load factor of the table's.
+pub(crate) fn write_moved<C: Config, D: ByteStore>(
     table: &HashTable<C, D>,
     slot_count: usize,
     out: &mut [u8],
 )
-    requires slots { grown_slots_of (D.bytes table.now) ≡ Some slot_count }
+    requires slots { IsSlotCount slot_count }
     requires room { IsRoomFor ⟦<C as Coded>⟧.coding slot_count out.old }
-    ensures { IsGrownFrom ⟦<C as Coded>⟧.coding.format (D.bytes table.now) out.new }
+    ensures moved { IsMove ⟦<C as Coded>⟧.coding (D.bytes table.now) slot_count out.new }
+    ensures count { header_count out.new ≡ header_count (D.bytes table.now) }
+    ensures factor { header_factor out.new ≡ header_factor (D.bytes table.now) }
 {
     let header = table.allocation.header();
     let item_count = header.item_count();
@@ -106,7 +111,7 @@ pub(crate) fn write_grown<C: Config, D: ByteStore>(
 
 // Writes the table of so many slots with the items of the walk into bytes whose entries are zeros. The new header gets
 // `item_count`, whatever the walk gives.
-pub(crate) fn write_walked<C: Config>(
+fn write_walked<C: Config>(
     bytes: &mut [u8],
     slot_count: usize,
     item_count: usize,
@@ -121,12 +126,12 @@ pub(crate) fn write_walked<C: Config>(
     memory_layout::write_empty::<C>(bytes, slot_count, item_count, max_load_factor);
     let (table, control) = bytes.split_at_mut(memory_layout::entry_at::<C>(slot_count));
     let (_header, entries) = table.split_at_mut(HEADER_SIZE);
-    insert_walk::<C::EncodedKey, C::EncodedValue, C::H>(control, entries, walk);
+    place_walk::<C::EncodedKey, C::EncodedValue, C::H>(control, entries, walk);
 }
 
 // Places the items of a walk in turn into the parts of a table, each as long as a slot is free. The clause is for keys
 // that are pairwise distinct and new to the table, as on valid bytes; other walks are taken too.
-fn insert_walk<K: ByteArray, V: ByteArray, H: HashFn>(
+fn place_walk<K: ByteArray, V: ByteArray, H: HashFn>(
     control: &mut [u8],
     entries: &mut [u8],
     walk: RawIter<'_, K, V>,

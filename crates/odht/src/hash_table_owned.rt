@@ -5,8 +5,8 @@ ghost use Rattle.odht_base.specs.Load.{factor_of, IsPercent};
 ghost use Rattle.odht_base.specs.Table.{count};
 ghost use Rattle.odht_base.specs.Insert.{IsFullFor};
 ghost use Rattle.odht_base.specs.Valid.{IsValidBytes};
-ghost use Rattle.odht.specs.Lists.{EndsAfter, IsFreshAfterInserts};
-ghost use Rattle.odht.specs.LastValues.{HasLastValues};
+ghost use Rattle.odht.specs.Lists.{EndsAfter};
+ghost use Rattle.odht.specs.LastValues.{IsCollected};
 ghost use Rattle.odht.specs.Inserts.{IsFresh, IsInsertOwned};
 ghost use Rattle.odht.specs.Tables.{OfTable, InTable};
 ghost use Rattle.std.specs.Iterator.{IsFinite};
@@ -19,7 +19,7 @@ ghost use Rattle.odht.specs.Walks.{IsWalk};
 use crate::bytes::OwnedBytes;
 use crate::config::{Coded, Config};
 use crate::error::Error;
-use crate::growth::{grown_layout, write_grown};
+use crate::growth::{grown_layout, write_moved};
 use crate::hash_table::HashTable;
 use crate::iter::Iter;
 use crate::load::{Factor, slots_needed};
@@ -106,13 +106,11 @@ impl<C: Config> HashTableOwned<C> {
         requires ends { IsFinite (I.remaining items) }
         requires percent { IsPercent max_load_factor_percent }
         ensures ok { IfOk result (λ t. EndsAfter I.next_gives items
-            (λ xs. IsFreshAfterInserts ⟦<C as Coded>⟧.coding max_load_factor_percent xs t)) }
-        ensures last_values { IfOk result (λ t. EndsAfter I.next_gives items
-            (λ xs. HasLastValues ⟦<C as Coded>⟧.coding xs t)) }
+            (λ xs. IsCollected ⟦<C as Coded>⟧.coding max_load_factor_percent xs t)) }
         ensures capacity { let F = ⟦<C as Coded>⟧.coding.format
             in IsErrOf result Error.Capacity → EndsAfter I.next_gives items
             (λ xs. IsTooLarge F (length xs) (factor_of max_load_factor_percent)) }
-        ensures memory { OnErr result (IsCapacityOrMemory result) }
+        ensures capacity_or_memory { OnErr result (IsCapacityOrMemory result) }
     {
         let items: Vec<(C::Key, C::Value)> = items.collect(alloc)?;
         let mut table = Self::with_capacity(alloc, items.len(), max_load_factor_percent)?;
@@ -120,8 +118,8 @@ impl<C: Config> HashTableOwned<C> {
         Ok(table)
     }
 
-    /// The value of a key, or None: that of its last insert. [`HashTableOwned::get_counted`] says how many groups the
-    /// search reads.
+    /// The value of a key, or None: what its last insert gave it, or what the bytes have for it that were opened.
+    /// [`HashTableOwned::get_counted`] counts the groups of such a search.
     #[inline]
     pub fn get(&self, key: &C::Key) -> Option<C::Value>
         ensures { IsGet ⟦<C as Coded>⟧.coding self.now key.now result }
@@ -243,12 +241,13 @@ impl<C: Config> HashTableOwned<C> {
         Self::from_raw_bytes_unchecked(self.alloc, self.table.raw_bytes())
     }
 
-    /// Gives the key this value, and returns its former one: that of its last insert. At the maximum the table grows
-    /// for an absent key; a present key is given its value in place, which takes no memory. docs/FORMAT.md, "Insert"
-    /// and "Growth", has the rules.
+    /// Gives the key this value, and returns its former one, or None. At the maximum the table grows for an absent
+    /// key; a present key is given its value in place, which takes no memory. docs/FORMAT.md, "Insert" and "Growth",
+    /// has the rules.
     ///
-    /// `Memory` only at the maximum and for an absent key, where the allocator gives none, or the grown table would
-    /// need more than 2^63 slots, or more bytes than a `usize` counts. Then nothing changes.
+    /// The one error is `Memory`, only at the maximum and for an absent key; then nothing changes. It comes where the
+    /// allocator gives none, or the grown table would need more than 2^63 slots, or more bytes than a `usize` counts;
+    /// that it comes for no other reason, no clause says.
     ///
     /// The key is hashed once, and once more at a growth, which hashes and places each item again.
     #[inline(always)]
@@ -299,7 +298,7 @@ impl<C: Config> HashTableOwned<C> {
         let Ok(mut bytes) = vec![in self.alloc; 0; len] else {
             return Err(Error::Memory);
         };
-        write_grown(&self.table, slot_count, bytes.as_mut_slice());
+        write_moved(&self.table, slot_count, bytes.as_mut_slice());
         Ok(HashTable::from_raw_bytes_unchecked(OwnedBytes::new(bytes)))
     }
 }

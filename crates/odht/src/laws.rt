@@ -1,6 +1,7 @@
-//! Laws of whole tables that are the contract of no single call: a table of a `Lossless` configuration is a map of the
-//! keys to the values themselves, valid bytes are accepted, and an order of inserts makes its table again. Each
-//! function is a few calls at most, and its contract is the law. docs/PROOFS.md lists them in "Laws of whole tables".
+//! Laws of whole tables that are the contract of no single call: in a table of a `Lossless` configuration that is
+//! built from empty a key has its last value, valid bytes are accepted, and an order of inserts makes its table again.
+//! Each function is a few calls at most, and its contract is the law. docs/PROOFS.md lists them in "Laws of whole
+//! tables".
 ghost use Rattle.std.specs.Prelude.{◌≡◌, ◌≤◌, ℕ, List, None, length, IfOk};
 ghost use Rattle.odht_base.specs.Bounds.{first_longer};
 ghost use Rattle.odht_base.specs.Decoded.{controls_of};
@@ -13,7 +14,7 @@ ghost use Rattle.odht_base.specs.Valid.{IsImage, IsValidBytes};
 ghost use Rattle.odht_header.specs.Coding.{value_for};
 ghost use Rattle.odht_raw.specs.Frame.{IsAccepted};
 ghost use Rattle.odht.specs.NewTables.{FailsAsNew};
-ghost use Rattle.odht.specs.Rebuilds.{IsRebuilding};
+ghost use Rattle.odht.specs.Rebuilds.{IsBuilt, IsRebuilding};
 
 use crate::config::{Coded, Config, Lossless};
 use crate::error::Error;
@@ -93,9 +94,9 @@ pub fn built_from_empty<C: Lossless>(
     Ok(last_value(&table, items, key))
 }
 
-/// Inserts the items in turn into a new table. Where they are the pairs of a valid table `P` in an insert order, such
-/// as [`HashTableOwned::insert_order`] finds, and the new table has the slot count and load factor of `P`, the bytes
-/// are those of `P`; of other items only the errors are said.
+/// A new table after inserts of the items in turn. Where they are the pairs of a valid table `P` in an insert order,
+/// such as [`HashTableOwned::insert_order`] finds, and the new table has the slot count and load factor of `P`, its
+/// bytes are those of `P`.
 ///
 /// `Capacity` exactly where no slot count is enough for `max_item_count`, or its length passes `usize`; `Memory` where
 /// the allocator gives none.
@@ -106,6 +107,8 @@ pub fn rebuilt<C: Config>(
     max_load_factor_percent: u8,
 ) -> Result<HashTableOwned<C>, Error>
     requires percent { IsPercent max_load_factor_percent }
+    ensures inserted { IfOk result (IsBuilt ⟦<C as Coded>⟧.coding items.now max_item_count
+        max_load_factor_percent) }
     ensures ok { let c = ⟦<C as Coded>⟧.coding
         in (P : Table) → IsRebuilding c items.now max_item_count max_load_factor_percent P
         → IfOk result (IsImage c.format P) }

@@ -21,3 +21,4 @@ mod hash_table_owned;
 mod iter;
 pub mod laws;
 pub mod lookups;
+mod reserve;

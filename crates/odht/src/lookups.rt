@@ -1,7 +1,7 @@
 //! Lookups of many keys. A first look hashes a key and reads the group of control bytes at its home. The first looks of
 //! eight keys are taken before any of their searches goes on, so that the loads from memory overlap.
 ghost use Rattle.std.specs.Prelude.{◌≡◌, ◌+◌, ◌≤◌, ◌<◌, ℕ, length, set, Some};
-ghost use Rattle.odht.specs.Lookups.{IsLookAt, lookups_of, ArePut, PutsOn, IsLookupAt};
+ghost use Rattle.odht.specs.Lookups.{IsFirstLookAt, lookups_of, ArePut, PutsOn, IsLookupAt};
 
 use crate::config::{Coded, Config};
 use crate::raw_table::{FirstLook, RawTable};
@@ -130,7 +130,7 @@ fn get_one<C: Config, A: Answers<Option<C::Value>>>(
 )
     requires index { index < length keys.now }
     requires places { length keys.now ≤ A.places answers.old }
-    requires look { IsLookAt ⟦<C as Coded>⟧.coding raw.now keys.now index look }
+    requires look { IsFirstLookAt ⟦<C as Coded>⟧.coding raw.now keys.now index look }
     ensures answers { let all = lookups_of ⟦<C as Coded>⟧.coding raw.now keys.now A.after_put
         in PutsOn all answers.old answers.new index (index + 1) }
     ensures places { A.places answers.new ≡ A.places answers.old }
@@ -146,7 +146,7 @@ fn first_look_at<C: Config>(
     index: usize,
 ) -> FirstLook
     requires { index < length keys.now }
-    ensures { IsLookAt ⟦<C as Coded>⟧.coding raw.now keys.now index result }
+    ensures { IsFirstLookAt ⟦<C as Coded>⟧.coding raw.now keys.now index result }
 {
     raw.first_look(&C::encode_key(&keys[index]))
 }
@@ -160,7 +160,7 @@ fn find_at<C: Config>(
     index: usize,
 ) -> Option<C::Value>
     requires index { index < length keys.now }
-    requires look { IsLookAt ⟦<C as Coded>⟧.coding raw.now keys.now index look }
+    requires look { IsFirstLookAt ⟦<C as Coded>⟧.coding raw.now keys.now index look }
     ensures { IsLookupAt ⟦<C as Coded>⟧.coding raw.now keys.now index result }
 {
     let key = C::encode_key(&keys[index]);

@@ -1,7 +1,7 @@
 -- Tables that inserts make, and the orders of inserts that make them.
 --     IsMadeBy F insert P    inserts by `insert` of pairs of F, in turn, into an empty table of P's load factor leave P
---     IsMade F P             some list of inserts by the owned table or a view, by either rule at the maximum, makes P
---                            from an empty table of its load factor
+--     IsMade F P             some list of inserts by the owned table or a view makes P from an empty table of its load
+--                            factor, by the rule of this library at the maximum or by that of the original (CountRule)
 --     occupied P             the slots that hold a pair, rising
 --     pairs_of P out         the pairs of the slots `out`, in their order
 --     IsInsertOrder F P out  `out` is the occupied slots of P, each once, and their pairs, placed in this order into an

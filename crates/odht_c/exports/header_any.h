@@ -3,8 +3,9 @@
  *
  * The calls odht_any_* take the lengths of keys and values, and the hash function, as a layout, and keys and values as
  * pointers to so many bytes. They read and write the same bytes as the calls of a shape of these lengths, and answer
- * the same; what is said above of odht_S_NAME goes for odht_any_NAME. There are none of build_growing and views. Of
- * each call but odht_any_layout_of two answers come before all others, and with both nothing is written:
+ * the same; what is said above of odht_S_NAME goes for odht_any_NAME. A view of one is a view of the other: the kind of
+ * table is the lengths. For many lookups the calls of a shape are faster. Of each call but odht_any_layout_of and
+ * odht_any_view_len, which take no layout, two answers come before all others, and with both nothing is written:
  *
  * - BAD_LAYOUT: no hash function has the number of the layout, or its keys are shorter than the function needs.
  *   ODHT_HASH_UN needs four bytes.
@@ -157,8 +158,8 @@ ODHT_CALL(uint32_t, any_insert_order,
         odht_write_size_t(slots, slots_len), slots_len, odht_write_size_t(scratch, scratch_len),
         scratch_len);)
 
-/* OK: the key was new. REPLACED: the former value is written, unless former is NULL (as
-   ODHT_TAKES_NULL says). FULL, or an error, @HEADER@:
+/* OK: the key was new. REPLACED: the former value is written. Where former is NULL (as ODHT_TAKES_NULL says) it is not
+   wanted, and former_len is not looked at. FULL, or an error, @HEADER@:
    nothing changes. */
 ODHT_CALL(uint32_t, any_insert,
     (const odht_layout *layout, uint8_t *bytes, size_t bytes_len, const uint8_t *key, size_t key_len,
@@ -201,3 +202,53 @@ ODHT_CALL(uint32_t, any_build,
     return odht_symbol_any_build(layout, count, odht_read_uint8_t(keys, keys_len), keys_len,
         odht_read_uint8_t(values, values_len), values_len, percent, odht_write_uint8_t(out, out_len),
         out_len, len ? len : &unwanted);)
+
+/* OK, TOO_SMALL and BAD_LENGTHS as of build. MEMORY: out and *len are unchanged. */
+ODHT_CALL(uint32_t, any_build_growing,
+    (const odht_layout *layout, size_t count, const uint8_t *keys, size_t keys_len,
+        const uint8_t *values, size_t values_len, uint8_t *out, size_t out_len, size_t *len),
+    size_t unwanted = 0;
+    return odht_symbol_any_build_growing(layout, count, odht_read_uint8_t(keys, keys_len), keys_len,
+        odht_read_uint8_t(values, values_len), values_len, odht_write_uint8_t(out, out_len),
+        out_len, len ? len : &unwanted);)
+
+/* OK: *view is the view of the bytes. An error, @OPENING@: it is unchanged. "Opened tables" above says what to ensure
+   for a view; each lookup in it takes a layout with the lengths by which it was opened. */
+ODHT_CALL(uint32_t, any_open_view,
+    (const odht_layout *layout, const uint8_t *bytes, size_t bytes_len, odht_view *view),
+    odht_view opened = ODHT_NO_VIEW;
+    uint32_t status = odht_symbol_any_open_view(
+        layout, odht_read_uint8_t(bytes, bytes_len), bytes_len, &opened);
+    if (status == ODHT_OK)
+        *view = opened;
+    return status;)
+
+/* OK: the value is written. ABSENT: it is unchanged. A value that is NULL is not wanted, as of any_get. */
+ODHT_CALL(uint32_t, any_view_get,
+    (const odht_layout *layout, const odht_view *view, const uint8_t *key, size_t key_len,
+        uint8_t *value, size_t value_len),
+    if (!value) {
+        uint8_t unwanted[255] = { 0 };
+        return odht_symbol_any_view_get(layout, view, odht_read_uint8_t(key, key_len), key_len,
+            unwanted, layout->value_len);
+    }
+    return odht_symbol_any_view_get(
+        layout, view, odht_read_uint8_t(key, key_len), key_len, value, value_len);)
+
+/* OK: the key is there. ABSENT. */
+ODHT_CALL(uint32_t, any_view_contains,
+    (const odht_layout *layout, const odht_view *view, const uint8_t *key, size_t key_len),
+    return odht_symbol_any_view_contains(
+        layout, view, odht_read_uint8_t(key, key_len), key_len);)
+
+/* OK: found[i] is 1 and value i the value of key i, or found[i] is 0 and value i unchanged. */
+ODHT_CALL(uint32_t, any_view_get_all,
+    (const odht_layout *layout, const odht_view *view, size_t count, const uint8_t *keys,
+        size_t keys_len, uint8_t *values, size_t values_len, uint8_t *found, size_t found_len),
+    return odht_symbol_any_view_get_all(layout, view, count, odht_read_uint8_t(keys, keys_len),
+        keys_len, odht_write_uint8_t(values, values_len), values_len,
+        odht_write_uint8_t(found, found_len), found_len);)
+
+/* The header's count of items. */
+ODHT_CALL(size_t, any_view_len, (const odht_view *view),
+    return odht_symbol_any_view_len(view);)

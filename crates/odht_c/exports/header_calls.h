@@ -71,7 +71,7 @@
  *     control bytes of its key's probe order up to it, sixteen at a time; a key is
  *     compared only where an earlier slot of that order has its tag. It allocates
  *     nothing. For a table of keys whose hashes vary this takes up to three times as
- *     long as looking up each key once.
+ *     long as looking up each key once, and at 87 percent up to 1.4 times.
  *     Where many keys have one hash, by chance or since somebody has forged them, it
  *     takes far longer: up to one comparison for each pair of keys, so the time grows
  *     as the square of the number of slots. bench/README.md has times. For untrusted
@@ -185,8 +185,11 @@
  *     Writes the table that this one grows into to out: with slots for twice as many
  *     items, and for one at least, and the same load factor. A caller whose insert was
  *     answered FULL continues so: it grows the table into larger memory and inserts
- *     there. At the maximum the bytes are those that a table has which grows by itself. It
- *     does not look at the maximum: where the table is not full, *len may be no more than
+ *     there; for a valid table one growth is enough. Check bytes of strangers before: of
+ *     bytes that odht_S_check rejects *len follows the header's count, however large, and
+ *     an insert into the grown table may be answered FULL again, each time. At the
+ *     maximum the bytes are those that a table has which grows by itself. It does not
+ *     look at the maximum: where the table is not full, *len may be no more than
  *     bytes_len.
  *     OK: the first *len bytes of out are the grown table, and the rest of out is
  *     unchanged. TOO_SMALL: out_len is below *len, the length in bytes of the grown

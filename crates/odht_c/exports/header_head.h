@@ -8,8 +8,11 @@
 @SHAPES@
  *
  * FxHashFn hashes numbers, and bytes of any length. UnHashFn is for keys that are hashes already: their
- * last four bytes are taken as the hash, and should vary. Numbers are stored in
- * little-endian order. A table is a slice of bytes that the caller owns: a file's
+ * last four bytes are taken as the hash, and should vary. The low bits of the hash choose
+ * the slot, and by FxHashFn they come from the low bits of a number alone: keys that are
+ * all multiples of 4096, as addresses of pages are, begin at few slots, take searches a
+ * hundred times as long, and odht_*_check_within may reject their table. Shift such keys
+ * right first. Numbers are stored in little-endian order. A table is a slice of bytes that the caller owns: a file's
  * contents, a mapping, a part of either, or allocated memory. It may begin at any
  * address. There is nothing to close or to free.
  *
@@ -99,7 +102,8 @@
  * function, which passes a variable of its own where a pointer may be NULL, and calls
  * the symbol of the library; both have the same name in C, so the function has
  * another one in the object file. Other compilers get the symbols themselves, and
- * so do tools that read headers and define ODHT_PLAIN before.
+ * so do tools that read headers and define ODHT_PLAIN before, dlsym, and bindings of
+ * other languages. The symbols take no NULL.
  */
 #if defined(__GNUC__) && defined(__ELF__) && !defined(ODHT_PLAIN)
 #define ODHT_TAKES_NULL 1
@@ -112,7 +116,7 @@ extern "C" {
 #endif
 
 /* A bound of searches for odht_*_check_within, in groups of sixteen control bytes, that tables of
-   keys whose hashes vary keep. */
+   keys whose hashes vary keep, up to 95 percent and 2^24 slots. */
 #define ODHT_DEFAULT_GROUPS 128
 
 /* What odht_*_open_at, odht_*_check_at and odht_*_check_within_at write where the first error is in
@@ -171,7 +175,8 @@ static inline const char *odht_status_name(uint32_t status)
  * What a caller has to ensure for a view that it passes to a lookup, since the
  * library does not check it:
  *
- * - odht_*_open_view of the same kind of table has written it, and answered ODHT_OK.
+ * - odht_*_open_view of the same kind of table has written it, and answered ODHT_OK; for
+ *   odht_any_* that of the same lengths of keys and values.
  *   (Its members may be set by hand too, to bytes for which odht_*_open or odht_*_check
  *   has answered ODHT_OK.)
  * - The bytes are still where they were.

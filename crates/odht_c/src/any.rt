@@ -4,19 +4,23 @@
 //! hash function has the number of the layout, or keys are shorter than it needs; then nothing is written.
 ghost use Rattle.std.specs.Prelude.{◌≡◌, length, Some};
 ghost use Rattle.odht_header.specs.Refusals.{view_refusal, check_refusal, check_refusal_by};
+ghost use Rattle.odht_raw.specs.Frame.{IsAccepted};
 ghost use Rattle.odht_calls.specs.Statuses.{status_or_ok};
 ghost use Rattle.odht_calls.specs.Layouts.{AnyAnswers, SizedAnswers};
-ghost use Rattle.odht_calls.specs.Layouts.{ContainsAnswers, LayoutAnswers};
+ghost use Rattle.odht_calls.specs.Layouts.{ContainsAnswers, LayoutAnswers, any_coding};
 ghost use Rattle.odht_calls.specs.Orders.{ScratchAnswers};
 ghost use Rattle.odht_calls.specs.Places.{PlaceAnswers};
 ghost use Rattle.odht_calls.specs.Pieces.{AnyWalkAnswers, AnyGetAllAnswers, AnyInsertAllAnswers};
-ghost use Rattle.odht_calls.specs.Pieces.{AnyBuildAnswers};
+ghost use Rattle.odht_calls.specs.Pieces.{AnyBuildAnswers, AnyBuildGrowingAnswers};
 ghost use Rattle.odht_calls.specs.Prefixes.{TableLenAnswers};
 ghost use Rattle.odht_calls.specs.Reads.{GetAnswers, LenAnswers, SizesAnswers};
 ghost use Rattle.odht_calls.specs.Writes.{BytesNeededAnswers, InitAnswers, InsertAnswers};
 ghost use Rattle.odht_calls.specs.Grows.{GrowAnswers};
 
 use odht_calls::any::{AnyLayout, build, lists, order, places, read, walk, write};
+use std::alloc::Global;
+
+pub(crate) mod views;
 
 /// Writes to `len` how many bytes a new table for so many items has: status 0. `BAD_PERCENT` where the load factor is
 /// not from 1 to 100 percent, `CAPACITY` where no slot count is enough or the length does not fit `usize`; then `len`
@@ -268,7 +272,8 @@ pub extern "C" fn odht_any_insert_order(
 
 /// Gives the key this value: status 0 where the key was new, `REPLACED` where it had a value, which is written to
 /// `former`. `FULL` at the maximum where the key is absent, `BAD_LENGTHS` where the key, the value or `former` has
-/// another length than the layout says, or an error of the header or length; then nothing changes.
+/// another length than the layout says, or an error of the header or length; then nothing changes. A view of the bytes
+/// remains usable, whatever the status.
 #[unsafe(no_mangle)]
 pub extern "C" fn odht_any_insert(
     layout: &AnyLayout,
@@ -277,19 +282,22 @@ pub extern "C" fn odht_any_insert(
     value: &[u8],
     former: &mut [u8],
 ) -> u32
-    ensures { let Long = (length key.now ≡ layout.now.key_len)
+    ensures answers { let Long = (length key.now ≡ layout.now.key_len)
         × (length value.now ≡ layout.now.value_len)
         × (length former.old ≡ layout.now.value_len)
         in let Same = (bytes.new ≡ bytes.old) × (former.new ≡ former.old)
         in AnyAnswers layout.now result Same (λ c. SizedAnswers Long result Same
         (InsertAnswers c bytes.old key.now value.now former.old result bytes.new former.new)) }
+    ensures accepted { let F = (any_coding layout.now).format
+        in IsAccepted F bytes.old → IsAccepted F bytes.new }
 {
     write::insert(*layout, bytes, key, value, former)
 }
 
 /// Inserts `count` pairs, whose keys and values lie one after the other, in order: status 0, or `FULL` at the first
 /// that does not fit; and writes to `accepted` how many were inserted. `BAD_LENGTHS` where `keys` or `values` have
-/// another length than so many of them, or an error of the header or length; then nothing changes.
+/// another length than so many of them, or an error of the header or length; then nothing changes. A view of the bytes
+/// remains usable, whatever the status.
 #[unsafe(no_mangle)]
 pub extern "C" fn odht_any_insert_all(
     layout: &AnyLayout,
@@ -299,8 +307,10 @@ pub extern "C" fn odht_any_insert_all(
     values: &[u8],
     accepted: &mut usize,
 ) -> u32
-    ensures { AnyInsertAllAnswers layout.now bytes.old
+    ensures answers { AnyInsertAllAnswers layout.now bytes.old
         count keys.now values.now accepted.old result bytes.new accepted.new }
+    ensures accepted { let F = (any_coding layout.now).format
+        in IsAccepted F bytes.old → IsAccepted F bytes.new }
 {
     lists::insert_all(*layout, bytes, count, keys, values, accepted)
 }
@@ -352,4 +362,26 @@ pub extern "C" fn odht_any_build(
         out,
         len,
     )
+}
+
+/// Builds a table of `count` pairs, whose keys and values lie one after the other, in memory of its own, copies it to
+/// the front of `out`, and writes its length in bytes to `len`: status 0. It begins with sixteen slots at 87 percent,
+/// and grows as the pairs are inserted; of equal keys the last value counts. `TOO_SMALL` where `out` is shorter than
+/// the table: then only `len` is written. `BAD_LENGTHS` where `keys` or `values` have another length than so many of
+/// them, `MEMORY` when an allocation fails or no table is large enough; then nothing is written. After the table `out`
+/// is unchanged. One insert for each pair, the growths, and one copy of the table.
+#[unsafe(no_mangle)]
+pub extern "C" fn odht_any_build_growing(
+    alloc: Global,
+    layout: &AnyLayout,
+    count: usize,
+    keys: &[u8],
+    values: &[u8],
+    out: &mut [u8],
+    len: &mut usize,
+) -> u32
+    ensures { AnyBuildGrowingAnswers layout.now count keys.now values.now out.old len.old result
+        out.new len.new }
+{
+    build::build_growing(alloc, *layout, count, keys, values, out, len)
 }

@@ -34,3 +34,5 @@ pub mod Layouts
 pub mod Pieces
 -- lists of them: lookups, inserts and walks
 pub mod AnyLists
+-- tables of bytes that grow while they are built
+pub mod GrownBuilds

@@ -10,6 +10,8 @@
 --                          unchanged; else A of the coding of l
 --     IsFoundBy o s        a search that finds o answers the status s
 --     ContainsAnswers c B k s   a search for the key k in the bytes B, whose value is not wanted
+--     ViewContainsAnswers c B k s   the same in an opened table, whose bytes are B
+--     AnyViewLenAnswers B n   the header's item count of an opened table, whatever its layout
 --     LayoutAnswers B old s new   the lengths that the header of B states; the hash function of the caller stays
 use Rattle.std.specs.Prelude.{◌≡◌, ◌≤◌, ℕ, zero, suc, List, Option, Some, None, IfSome, slice_index}
 use Rattle.odht_base.specs.Format.{format_of}
@@ -24,6 +26,7 @@ use Rattle.odht_raw.specs.Sized.{bytes_coding}
 use Rattle.odht.specs.Dynamic.{stated_format}
 use Rattle.odht_calls.specs.declared.any.AnyLayout.{AnyLayout}
 use Rattle.odht_calls.specs.Statuses.{status_of, status_or_ok, done, absent, bad_lengths}
+use Rattle.odht_calls.specs.Views.{ViewLenAnswers}
 
 abbrev pub hash_of : ℕ → List ℕ → ℕ
 hash_of zero = fx
@@ -59,6 +62,13 @@ pub record ContainsAnswers {K V : Type 0} (c : Coding K V) (B : List ℕ) (k : K
   pub refused : (e : Error) → opening_refusal c.format B ≡ Some e → s ≡ status_of e
   pub on_valid : (P : Table) → IsImage c.format P B → IsFoundBy (value_for c P k) s
   pub on_any : IsAccepted c.format B → (o : Option V) × IsFoundBy o s × IfSome o (HasStored c B k)
+
+pub record ViewContainsAnswers {K V : Type 0} (c : Coding K V) (B : List ℕ) (k : K) (s : ℕ) : Type 0 where
+  pub on_valid : (P : Table) → IsImage c.format P B → IsFoundBy (value_for c P k) s
+  pub on_any : (o : Option V) × IsFoundBy o s × IfSome o (HasStored c B k)
+
+abbrev pub AnyViewLenAnswers : List ℕ → ℕ → Type 0
+AnyViewLenAnswers B n = (l : AnyLayout) → ViewLenAnswers (any_coding l) B n
 
 pub record LayoutAnswers (B : List ℕ) (old : AnyLayout) (s : ℕ) (new : AnyLayout) : Type 0 where
   pub status : (h : List ℕ → ℕ) → s ≡ status_or_ok (opening_refusal (stated_format h B) B)

@@ -5,17 +5,20 @@
 --     the format F:
 --     PiecesWalkAnswers F B at n ks vs m s at' ks' vs' m'   a walk into bytes for n keys and n values
 --     PiecesGetAllAnswers F B n ks vs fs s vs' fs'          lookups of n keys
+--     PiecesViewGetAllAnswers F B n ks vs fs s vs' fs'      the same in an opened table
 --     PiecesInsertAllAnswers F B n ks vs m s B' m'          inserts of n pairs in turn
 --     PiecesBuildAnswers F n ks vs p out len s out' len'    a table of n pairs at p percent
+--     PiecesBuildGrowingAnswers F n ks vs out len s out' len'   a table of n pairs that grows
 --     Where there are more or fewer bytes it answers bad_lengths, and nothing is written (`Sized..`); and before that,
 --     where the layout l is none, bad_layout, and nothing is written (`Any..`).
 use Rattle.std.specs.Prelude.{◌≡◌, ℕ, ◌*◌, zero, suc, List, [], ◌∷◌, length, take, drop}
 use Rattle.odht_base.specs.Format.{Format}
 use Rattle.odht_raw.specs.Sized.{bytes_coding}
-use Rattle.odht_calls.specs.Builds.{BuildAnswers}
+use Rattle.odht_calls.specs.Builds.{BuildAnswers, BuildGrowingAnswers}
 use Rattle.odht_calls.specs.declared.any.AnyLayout.{AnyLayout}
 use Rattle.odht_calls.specs.Layouts.{AnyAnswers, SizedAnswers}
 use Rattle.odht_calls.specs.Reads.{GetAllAnswers}
+use Rattle.odht_calls.specs.Views.{ViewGetAllAnswers}
 use Rattle.odht_calls.specs.Walks.{WalkAnswers}
 use Rattle.odht_calls.specs.Writes.{InsertAllAnswers}
 
@@ -54,6 +57,19 @@ abbrev pub AnyGetAllAnswers : AnyLayout → List ℕ → ℕ → List ℕ → Li
 AnyGetAllAnswers l B n ks vs fs s vs' fs' =
     AnyAnswers l s ((vs' ≡ vs) × (fs' ≡ fs)) (λ c. SizedGetAllAnswers c.format B n ks vs fs s vs' fs')
 
+-- ---- the same in an opened table
+abbrev pub PiecesViewGetAllAnswers : Format → List ℕ → ℕ → List ℕ → List ℕ → List ℕ → ℕ → List ℕ → List ℕ → Type 0
+PiecesViewGetAllAnswers F B n ks vs fs s vs' fs' =
+    ViewGetAllAnswers (bytes_coding F) B (pieces F.key_len n ks) (pieces F.value_len n vs) fs s (pieces F.value_len n vs') fs'
+
+abbrev pub SizedViewGetAllAnswers : Format → List ℕ → ℕ → List ℕ → List ℕ → List ℕ → ℕ → List ℕ → List ℕ → Type 0
+SizedViewGetAllAnswers F B n ks vs fs s vs' fs' =
+    SizedAnswers (ArePieces F.key_len F.value_len n ks vs × (length fs ≡ n)) s ((vs' ≡ vs) × (fs' ≡ fs)) (PiecesViewGetAllAnswers F B n ks vs fs s vs' fs')
+
+abbrev pub AnyViewGetAllAnswers : AnyLayout → List ℕ → ℕ → List ℕ → List ℕ → List ℕ → ℕ → List ℕ → List ℕ → Type 0
+AnyViewGetAllAnswers l B n ks vs fs s vs' fs' =
+    AnyAnswers l s ((vs' ≡ vs) × (fs' ≡ fs)) (λ c. SizedViewGetAllAnswers c.format B n ks vs fs s vs' fs')
+
 -- ---- inserts of many pairs
 abbrev pub PiecesInsertAllAnswers : Format → List ℕ → ℕ → List ℕ → List ℕ → ℕ → ℕ → List ℕ → ℕ → Type 0
 PiecesInsertAllAnswers F B n ks vs m s B' m' =
@@ -79,3 +95,16 @@ SizedBuildAnswers F n ks vs p out len s out' len' =
 abbrev pub AnyBuildAnswers : AnyLayout → ℕ → List ℕ → List ℕ → ℕ → List ℕ → ℕ → ℕ → List ℕ → ℕ → Type 0
 AnyBuildAnswers l n ks vs p out len s out' len' =
     AnyAnswers l s ((out' ≡ out) × (len' ≡ len)) (λ c. SizedBuildAnswers c.format n ks vs p out len s out' len')
+
+-- ---- builds of tables that grow
+abbrev pub PiecesBuildGrowingAnswers : Format → ℕ → List ℕ → List ℕ → List ℕ → ℕ → ℕ → List ℕ → ℕ → Type 0
+PiecesBuildGrowingAnswers F n ks vs out len s out' len' =
+    BuildGrowingAnswers (bytes_coding F) (pieces F.key_len n ks) (pieces F.value_len n vs) out len s out' len'
+
+abbrev pub SizedBuildGrowingAnswers : Format → ℕ → List ℕ → List ℕ → List ℕ → ℕ → ℕ → List ℕ → ℕ → Type 0
+SizedBuildGrowingAnswers F n ks vs out len s out' len' =
+    SizedAnswers (ArePieces F.key_len F.value_len n ks vs) s ((out' ≡ out) × (len' ≡ len)) (PiecesBuildGrowingAnswers F n ks vs out len s out' len')
+
+abbrev pub AnyBuildGrowingAnswers : AnyLayout → ℕ → List ℕ → List ℕ → List ℕ → ℕ → ℕ → List ℕ → ℕ → Type 0
+AnyBuildGrowingAnswers l n ks vs out len s out' len' =
+    AnyAnswers l s ((out' ≡ out) × (len' ≡ len)) (λ c. SizedBuildGrowingAnswers c.format n ks vs out len s out' len')

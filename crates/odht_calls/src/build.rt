@@ -132,7 +132,7 @@ pub fn grown<C: Config>(
 }
 
 // Copies the table to the front of `out`, if it fits, and writes its length in bytes to `len`.
-fn hand_out(table: &[u8], out: &mut [u8], len: &mut usize) -> u32
+pub(crate) fn hand_out(table: &[u8], out: &mut [u8], len: &mut usize) -> u32
     ensures len { len.new ≡ length table.now }
     ensures copied { IsHandedOut (λ B. B ≡ table.now) out.old result out.new len.new }
     ensures status { (result ≡ done) ⊎ (result ≡ too_small) }

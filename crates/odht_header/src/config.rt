@@ -67,8 +67,8 @@ impl<C: Config> Coded for C {
         C.encode_value C.decode_key C.decode_value };
 }
 
-/// A configuration whose decodings undo its encodings, so that a table of it is a map of the keys to the values
-/// themselves.
+/// A configuration whose decodings undo its encodings, so that different keys have different bytes. By `odht::laws`,
+/// `get` in a table that is built from empty then returns the last value of this very key.
 ///
 /// Both functions do nothing: their contracts are the law, for a given key and a given value.
 pub trait Lossless: Config {

@@ -138,7 +138,7 @@ impl<'a> Index<'a> {
     }
 
     /// The number of a path, or None. On bytes that were opened and are not valid it is a number that is stored with
-    /// this very path, or None. [`HashTable::get_counted`] says how many groups such a search reads.
+    /// this very path, or None. [`HashTable::get_counted`] counts the groups of such a search.
     #[inline]
     pub fn lookup(&self, path: &[u8; 16]) -> Option<u32>
         ensures on_valid { let c = ⟦<IndexConfig as Coded>⟧.coding

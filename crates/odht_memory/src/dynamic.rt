@@ -43,17 +43,25 @@ fn tell_table(report: &mut Report, table: &Table) {
     report.number("keys found", found);
 }
 
-/// Makes a table for thirteen items, inserts fourteen, of which the last makes it grow, once more where memory was
-/// exhausted, and copies it.
-pub fn grow(alloc: Global, report: &mut Report) {
+// A table for thirteen items that has them, where memory suffices.
+fn full_table(alloc: Global, report: &mut Report) -> Option<Table> {
     let made = rejected(Table::with_capacity(alloc, LAYOUT, 13, 87));
     report.result("with_capacity", &made);
     let Ok(mut table) = made else {
-        return;
+        return None;
     };
     for key in 0..13 {
         let _ = insert(&mut table, key);
     }
+    Some(table)
+}
+
+/// Makes a table for thirteen items, inserts fourteen, of which the last makes it grow, once more where memory was
+/// exhausted, and copies it.
+pub fn grow(alloc: Global, report: &mut Report) {
+    let Some(mut table) = full_table(alloc, report) else {
+        return;
+    };
     tell_table(report, &table);
     let inserted = insert(&mut table, 13);
     report.result("insert of 13", &inserted);
@@ -71,4 +79,16 @@ pub fn grow(alloc: Global, report: &mut Report) {
             copy.raw_bytes() == table.raw_bytes(),
         );
     }
+}
+
+/// Makes room in a full table for 0, `usize::MAX` and 14 more items: only the last asks for memory.
+pub fn reserve(alloc: Global, report: &mut Report) {
+    let Some(mut table) = full_table(alloc, report) else {
+        return;
+    };
+    report.result("reserve of 0", &rejected(table.reserve(0)));
+    report.result("reserve of the most", &rejected(table.reserve(usize::MAX)));
+    tell_table(report, &table);
+    report.result("reserve of 14", &rejected(table.reserve(14)));
+    tell_table(report, &table);
 }

@@ -46,6 +46,7 @@ fn run(alloc: Global, call: &str, report: &mut Report) -> bool {
         "from_raw_bytes_unchecked" => owned::from_raw_bytes_unchecked(alloc, report),
         "refused_bytes" => owned::refused_bytes(alloc, report),
         "dynamic" => dynamic::grow(alloc, report),
+        "dynamic_reserve" => dynamic::reserve(alloc, report),
         "index" => index::build(alloc, report),
         "allocate" => parts::allocation(alloc, report),
         "probe_order" => parts::order(alloc, report),

@@ -4,7 +4,7 @@
 --     CountsAsFree ctrl i  one of these bytes counts as free
 --     CountsAsOccupied ctrl i  one of them does not
 --     HasNoFree bs n       none of the first n bytes of bs counts as free
---     HasNoFreeSlot ctrl s each of the s slots counts as occupied
+--     EachCountsAsOccupied ctrl s   each of the s slots counts as occupied
 --     order_slot F E k p   the slot at position p of the probe order of k
 --     IsOther F E k i c    with the control byte c, slot i is not one where k is found: c is not the tag of k, or the
 --                          entry has another key
@@ -31,8 +31,8 @@ CountsAsOccupied ctrl i = OfSlot (λ c. IsFalse (counts_as_free c)) ctrl i
 abbrev pub HasNoFree : List ℕ → ℕ → Type 0
 HasNoFree bs n = (i : ℕ) → i < n → IsFalse (counts_as_free (slice_index bs i))
 
-abbrev pub HasNoFreeSlot : List ℕ → ℕ → Type 0
-HasNoFreeSlot ctrl s = (i : ℕ) → i < s → CountsAsOccupied ctrl i
+abbrev pub EachCountsAsOccupied : List ℕ → ℕ → Type 0
+EachCountsAsOccupied ctrl s = (i : ℕ) → i < s → CountsAsOccupied ctrl i
 
 abbrev pub order_slot : Format → EntryBytes → List ℕ → ℕ → ℕ
 order_slot F E k p = probe_slot (home F k E.slots) E.slots p

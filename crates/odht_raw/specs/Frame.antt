@@ -20,7 +20,7 @@ use Rattle.odht_base.specs.Decoded.{header_count, header_slots, header_factor, e
 use Rattle.odht_base.specs.Writes.{with_value, with_pair, with_count, tagged}
 use Rattle.odht_header.specs.Coding.{Coding, encoded}
 use Rattle.odht_header.specs.Refusals.{opening_refusal}
-pub use Rattle.odht_raw.specs.ControlBytes.{CountsAsFree, CountsAsOccupied, HasNoFree, HasNoFreeSlot, IsMissing}
+pub use Rattle.odht_raw.specs.ControlBytes.{CountsAsFree, CountsAsOccupied, HasNoFree, EachCountsAsOccupied, IsMissing}
 use Rattle.odht_raw.specs.Parts.{EntryBytes}
 use Rattle.odht_header.specs.declared.error.Error.{Error}
 use Rattle.odht_header.specs.declared.error.Error.TheVariants.{Full}
@@ -39,7 +39,7 @@ IsAbsent F B k = IsMissing F (entries_in F B) (controls_of F B) k
 
 pub data InsertFrame (F : Format) (B : List ℕ) (p : Pair) : Result (Option (List ℕ)) Error → List ℕ → Type 0 where
   full : header_maximum B ≤ header_count B → IsAbsent F B p.key → InsertFrame F B p (Err Full) B
-  no_slot : HasNoFreeSlot (controls_of F B) (header_slots B) → IsAbsent F B p.key → InsertFrame F B p (Err Full) B
+  no_slot : EachCountsAsOccupied (controls_of F B) (header_slots B) → IsAbsent F B p.key → InsertFrame F B p (Err Full) B
   overwrote : (i : ℕ) → i < header_slots B → key_at F B i ≡ p.key → InsertFrame F B p (Ok (Some (value_at F B i))) (with_value F B i p.value)
   added : (i : ℕ) → i < header_slots B → CountsAsFree (controls_of F B) i → header_count B < header_maximum B → InsertFrame F B p (Ok None) (with_count (with_pair F (header_slots B) B i p) (header_count B + 1))
 
@@ -50,7 +50,7 @@ abbrev pub IsFramed : {K V : Type 0} → Coding K V → List ℕ → K → V →
 IsFramed c B k v r B' = IsBytesFramed c.format c.value_of B (encoded c k v) r B'
 
 pub data PartsFrame (F : Format) (es ctrl : List ℕ) (p : Pair) : Result (Option (List ℕ)) Error → List ℕ → List ℕ → Type 0 where
-  no_slot : HasNoFreeSlot ctrl (length ctrl - 16) → IsMissing F (record { slots = length ctrl - 16; bytes = es }) ctrl p.key → PartsFrame F es ctrl p (Err Full) es ctrl
+  no_slot : EachCountsAsOccupied ctrl (length ctrl - 16) → IsMissing F (record { slots = length ctrl - 16; bytes = es }) ctrl p.key → PartsFrame F es ctrl p (Err Full) es ctrl
   overwrote : (i : ℕ) → i < length ctrl - 16 → slot_key F es i ≡ p.key → PartsFrame F es ctrl p (Ok (Some (slot_value F es i))) (overwritten_at es (i * entry_len F + F.key_len) p.value) ctrl
   added : (i : ℕ) → i < length ctrl - 16 → CountsAsFree ctrl i → PartsFrame F es ctrl p (Ok None) (overwritten_at es (i * entry_len F) (p.key ++ p.value)) (tagged ctrl i (tag F p.key))
 

@@ -15,7 +15,7 @@ use Rattle.odht_base.specs.Map.{map_of}
 use Rattle.odht_base.specs.Table.{Pair, Table}
 use Rattle.odht_base.specs.Valid.{IsFullWithout}
 use Rattle.odht_base.specs.Writes.{tagged}
-use Rattle.odht_raw.specs.Frame.{HasNoFreeSlot, IsOnlyFull}
+use Rattle.odht_raw.specs.Frame.{EachCountsAsOccupied, IsOnlyFull}
 use Rattle.odht_raw.specs.FreeSlots.{IsFirstFree}
 use Rattle.odht_raw.specs.PartsInserts.{ArePartsPlaced}
 use Rattle.odht_header.specs.declared.error.Error.{Error}
@@ -30,7 +30,7 @@ pub record IsNewPlacing (F : Format) (P : Table) (p : Pair) (r : Result (Unit {0
   pub no_room : (r ≡ Err Full) ↔ IsFullWithout P p.key
 
 pub data PlacingFrame (F : Format) (es ctrl : List ℕ) (p : Pair) : Result (Unit {0}) Error → List ℕ → List ℕ → Type 0 where
-  no_slot : HasNoFreeSlot ctrl (length ctrl - 16) → PlacingFrame F es ctrl p (Err Full) es ctrl
+  no_slot : EachCountsAsOccupied ctrl (length ctrl - 16) → PlacingFrame F es ctrl p (Err Full) es ctrl
   added : (i : ℕ) → IsFirstFree ctrl (F.hash p.key) (length ctrl - 16) i → PlacingFrame F es ctrl p (Ok tt) (overwritten_at es (i * entry_len F) (p.key ++ p.value)) (tagged ctrl i (tag F p.key))
 
 pub record IsAddition (F : Format) (es ctrl : List ℕ) (p : Pair) (r : Result (Unit {0}) Error) (es' ctrl' : List ℕ) : Type 0 where

@@ -19,7 +19,7 @@ use Rattle.std.specs.Prelude.{◌≡◌, ℕ, ◌+◌, ◌-◌, ◌%◌, ◌<◌
 use Rattle.odht_base.specs.Format.{Format}
 use Rattle.odht_base.specs.Decoded.{slot_key, slot_value, counts_as_free}
 use Rattle.odht_raw.specs.SearchResults.{MatchSearchResult}
-use Rattle.odht_raw.specs.ControlBytes.{CountsAsFree, HasNoFree, HasNoFreeSlot, order_slot, IsOther, Differs, GoesOnTo}
+use Rattle.odht_raw.specs.ControlBytes.{CountsAsFree, HasNoFree, EachCountsAsOccupied, order_slot, IsOther, Differs, GoesOnTo}
 use Rattle.odht_raw.specs.Parts.{EntryBytes}
 use Rattle.odht_raw.specs.declared.raw_table.search_result.Search.{Search}
 
@@ -31,7 +31,7 @@ IsEnd F E ctrl k r =
     MatchSearchResult r
     (HoldsKeyAt F E k)
     (λ i. (i < E.slots) × CountsAsFree ctrl i)
-    (HasNoFreeSlot ctrl E.slots × GoesOnTo F E ctrl k E.slots)
+    (EachCountsAsOccupied ctrl E.slots × GoesOnTo F E ctrl k E.slots)
 
 abbrev pub IsAfter : Format → EntryBytes → List ℕ → List ℕ → Search → Type 0
 IsAfter F E ctrl k r =

@@ -1,7 +1,7 @@
 //! The parts of a table, control bytes and entries, and searches, inserts and walks in them.
 //!
-//! Where a comment says "on the parts of a table whose keys are all reached", its clause says `IsPartsOf`: no key is in
-//! two slots, the search for each key ends at its slot, and control bytes, mirror and entries are those of the table.
+//! A table is *placed* where no key is in two slots, and the search for each key ends at its slot. "On the parts of a
+//! placed table" is `IsPartsOf` in a clause: control bytes, mirror and entries are those of such a table.
 ghost use Rattle.std.specs.Prelude.{◌≡◌, ◌+◌, ◌/◌, ◌^◌, ◌<◌, ◌≤◌, length, slice_index, IfOk};
 ghost use Rattle.std.specs.Prelude.{IsFalse, List, ℕ, ⊤};
 ghost use Rattle.std.specs.Result.{result_err};
@@ -130,8 +130,8 @@ impl<'a, K: ByteArray, V: ByteArray, H: HashFn> RawTable<'a, K, V, H> {
 
     /// The value stored with the key, searched for group by group along the probe order (docs/FORMAT.md, "Search").
     ///
-    /// On the parts of a table whose keys are all reached it is the map's result. On any parts it is a value that is
-    /// stored with an equal key. `find_counted` says how many groups that takes.
+    /// On the parts of a placed table it is the map's result. On any parts it is a value that is stored with an equal
+    /// key. `find_counted` says how many groups that takes.
     #[inline(always)]
     pub fn find(&self, key: &K) -> Option<V>
         ensures { IsFind (format_of K.LEN V.LEN H.hash) V.of_bytes self.now
@@ -141,9 +141,8 @@ impl<'a, K: ByteArray, V: ByteArray, H: HashFn> RawTable<'a, K, V, H> {
         value
     }
 
-    /// `find`, and how many groups were read: on the parts of a table whose keys are all reached those up to the first
-    /// slot that is free or holds the key, and on any parts at most all groups. How they are counted: docs/FORMAT.md,
-    /// "Search".
+    /// `find`, and how many groups were read: on the parts of a placed table those up to the first slot that is free
+    /// or holds the key, and on any parts at most all groups. How they are counted: docs/FORMAT.md, "Search".
     #[inline(always)]
     pub fn find_counted(&self, key: &K) -> (Option<V>, usize)
         ensures { IsCountedFind (format_of K.LEN V.LEN H.hash) V.of_bytes self.now (K.bytes key.now)
@@ -152,8 +151,8 @@ impl<'a, K: ByteArray, V: ByteArray, H: HashFn> RawTable<'a, K, V, H> {
         self.find_counted_by::<GroupQuery>(key)
     }
 
-    /// `find_counted` by a group search of the caller's choice. On the parts of a table whose keys are all reached all
-    /// searches give the same.
+    /// `find_counted` by a group search of the caller's choice. On the parts of a placed table all searches give the
+    /// same.
     #[inline(always)]
     pub fn find_counted_by<Q: Group>(&self, key: &K) -> (Option<V>, usize)
         ensures { IsCountedFind (format_of K.LEN V.LEN H.hash) V.of_bytes self.now (K.bytes key.now)

@@ -4,6 +4,7 @@ of them: those in tests/tool/tables, and tests/script/hex.cases.
 It shares no code with the programs. Run it anywhere: `python3 tables.py`."""
 import os
 
+import along
 from model import Table, fx, unhash
 
 # docs/TOOL.md: the bound of searches, in groups, where `--whole` is not given, and what `check` then writes
@@ -37,12 +38,13 @@ def groups_line(label, groups, bound):
     return f"{label:<14}" + (f"more than {bound}" if bound is not None and groups > bound else f"{groups}") + " groups\n"
 
 
-def info_text(table, percent, bound=BOUND):
-    lines = [
+def info_text(table, percent, bound=BOUND, name="", at=None):
+    lines = [("at byte", at)] if at is not None else []
+    lines += [
         ("key bytes", table.key_size), ("value bytes", table.value_size), ("header bytes", 32),
         ("all bytes", len(table.image())), ("items", table.count()), ("slots", len(table.cells)),
         ("maximum", table.most()), ("load", f"{table.count() * 100 // len(table.cells)} percent"),
-        ("maximum load", f"{percent} percent"),
+        ("maximum load", f"{percent} percent"), ("along slots", along.signs(table)),
         ("hash", "fx" if table.hash is fx else "unhash"),
     ]
     text = "".join(f"{name:<14}{value}\n" for name, value in lines)
@@ -54,8 +56,8 @@ def info_text(table, percent, bound=BOUND):
         bar = "#" * max(1, count * 40 // max(counts)) if count else ""
         more = "+" if n == 64 and longest > 64 else ""
         text += f"{n:>8}{more}  {count:>12}  {bar}\n"
-    misses = [table.groups_to_free(home) for home in range(len(table.cells))]
-    return text + groups_line("longest hit", longest, bound) + groups_line("longest miss", max(misses), bound)
+    text += groups_line("longest hit", longest, bound) + groups_line("longest miss", along.longest_miss(table), bound)
+    return text + along.advice_line(table, name)
 
 
 def dump_text(table, key_text, value_text):
@@ -111,7 +113,7 @@ class Case:
         for key, value in pairs:
             self.table.put(key, value)
         self.hash_words = " --hash unhash" if hash is unhash and (key_size == 4 or is_other) else ""
-        self.info = info_text(self.table, percent)
+        self.percent, self.info = percent, info_text(self.table, percent, name=f"{name}.odht")
         self.key_text, self.value_text = key_text, value_text
         self.dump = dump_text(self.table, key_text, value_text)
         self.slots = slots_text(self.table, key_text, value_text)
@@ -176,6 +178,7 @@ def block(key, text):
     """A key of a case with its lines, whose ends are in sight."""
     lines = [line.replace("\t", "\\t").replace("\r", "\\r") for line in text.split("\n")[:-1]]
     lines = [line[:-1] + "\\s" if line.endswith(" ") else line or "\\0{-}" for line in lines]
+    lines = [line[:-1] + "\\x2e" if line.endswith("...") else line for line in lines]
     return f"{key}:\n" + "".join(f"    {line}\n" for line in lines) if lines else ""
 
 
@@ -307,7 +310,8 @@ def write_find_cases():
     text = HEAD + case("the tables inside a file", "find inside.bin", rows)
     for name in ("direct", "u64_u32", "odd_sizes"):
         at = f"inside.bin --at {places[name]}"
-        text += case(f"info of {name} inside a file", f"info {at}", made[name].info)
+        told = info_text(made[name].table, made[name].percent, at=places[name])
+        text += case(f"info of {name} inside a file", f"info {at}", told)
         if made[name].words:
             text += case(f"check of {name}", f"check {at}{made[name].hash_words}", f"inside.bin: {VALID}")
             text += case(f"dump of {name}", f"dump {at}", made[name].dump)
@@ -333,7 +337,7 @@ def write_bound_cases():
         return made.run_text(title, args, stdin, stdout)
 
     text = HEAD + case("info", "info one_home.odht", made.info)
-    text += case("info --whole", "info --whole one_home.odht", info_text(made.table, 87, None))
+    text += case("info --whole", "info --whole one_home.odht", info_text(made.table, 87, None, "one_home.odht"))
     text += case("check", "check one_home.odht --hash unhash", long).rstrip("\n") + "\nstatus: 1\n\n"
     text += case("check --whole", "check one_home.odht --hash unhash --whole", "one_home.odht: valid\n")
     text += case("find", "find one_home.odht", f"{row}\tlong\n")
@@ -392,8 +396,14 @@ def write_rebuilt_cases():
             out.write(rebuilt(made[name], hash, percent).image())
         words = f" {words}" if words else ""
         text += (f"== rebuild of {name}{words}\nbefore {name}.odht: < crates/odht_tool/data/{name}.odht\n"
-                 f"args: rebuild {name}.odht{words}\nafter {name}.odht: < crates/odht_tool/data/{file}.odht\n\n")
+                 f"args: rebuild {name}.odht{words}\nafter {name}.odht: < crates/odht_tool/data/{file}.odht\n"
+                 f"{told(words, made[name].count())}\n")
     write_test("tool/tables/rebuilt.cases", text)
+
+
+def told(words, count):
+    """What `--progress` tells at the end of so many pairs, but for the time, where the words have it."""
+    return f"stderr: odht: {count} pairs, ...\n" if "--progress" in words else ""
 
 
 def shown(word):
@@ -437,7 +447,7 @@ def write_deleted_cases():
                      f"before {name}.odht: < crates/odht_tool/data/{name}.odht\n"
                      f"args: delete {name}.odht {keys}{case.key_kind}{words and ' '}{words}\n{given}"
                      f"after {name}.odht: < crates/odht_tool/data/{file}.odht\n"
-                     + (block("stderr", lines) + "status: 1\n" if lines else "") + "\n")
+                     + (block("stderr", lines) + "status: 1\n" if lines else told(words, case.table.count())) + "\n")
     write_test("tool/tables/deleted.cases", text)
 
 
@@ -492,7 +502,8 @@ def write_merged_cases():
             inputs = " ".join(f"{it}.odht" for it in names)
             text += f"args: merge out.odht {inputs}{chosen}{kinds}{words and ' '}{words}\n"
             if new:
-                text += f"after out.odht: < crates/odht_tool/data/{file}.odht\n\n"
+                text += f"after out.odht: < crates/odht_tool/data/{file}.odht\n"
+                text += f"{told(words, sum(it.count() for it in tables))}\n"
             else:
                 at, key = twice
                 key = shown(made[names[0]].key_text(key))
@@ -521,6 +532,7 @@ if __name__ == "__main__":
     write_hex_case()
     write_find_cases()
     write_bound_cases()
+    write_test("tool/tables/along.cases", HEAD + along.text_of(HERE, info_text, block))
     write_unmade_cases()
     write_rebuilt_cases()
     write_deleted_cases()

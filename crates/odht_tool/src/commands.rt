@@ -1,8 +1,7 @@
 //! Runs the commands, each from its parsed words to the status of the program.
-use crate::positions;
-use odht_tool_core::arguments::{Command, Keys, Reading, Request, is_stream, parse};
+use odht_tool_core::arguments::{Command, Keys, Reading, Request, parse};
 use odht_tool_core::failure::Failure;
-use odht_tool_core::files::{read_file, read_input};
+use odht_tool_core::files::read_file;
 use odht_tool_core::forms::Kinds;
 use odht_tool_core::front::table_at;
 use odht_tool_core::help::{write_help, write_version};
@@ -11,27 +10,15 @@ use odht_tool_core::inside::{first_inside, write_inside};
 use odht_tool_core::shapes::Hash;
 use odht_tool_core::status::{Status, of_output};
 use odht_tool_core::targets::Target;
+use odht_tool_reads::commands::{check, check_json, count, diff, dump, find, get, keys, order};
+use odht_tool_reads::positions;
+use odht_tool_tables::files::{finish, finish_as, read_bytes};
+use odht_tool_writes::commands::{build, delete, merge, rebuild};
 use std::alloc::Global;
-use std::io::{BufRead, ErrorKind, IsTerminal, Write};
+use std::io::{BufRead, IsTerminal, Write};
 use std::os::fd::AsFd;
 use std::os::unix::fs::FileExt;
 use std::rt::{Clock, Files};
-
-mod build;
-mod check;
-mod check_json;
-mod count;
-mod delete;
-mod delete_lines;
-mod diff;
-mod dump;
-mod find;
-mod find_json;
-mod get;
-mod keys;
-mod merge;
-mod order;
-pub mod rebuild;
 
 /// Does what the words ask for. Each failure is reported by a line on `errors`; where that cannot
 /// be written either, the status alone reports it. Where nobody reads `output` any more, nothing is
@@ -48,22 +35,32 @@ where
 {
     let alloc: Global = rt.alloc();
     match parse(alloc, words) {
-        Ok(Request::Help(topic)) => { finish("help", of_output(write_help(topic, output)), errors) }
-        Ok(Request::Version) => finish("version", of_output(write_version(output)), errors),
+        Ok(Request::Help(topic)) => {
+            let done = of_output(write_help(topic, output));
+            finish("help", flushed(done, output), errors)
+        }
+        Ok(Request::Version) => {
+            let done = of_output(write_version(output));
+            finish("version", flushed(done, output), errors)
+        }
         Ok(Request::Run { file, command }) => {
             let file = file.as_str();
             let failed = command.failed();
             let done = run_command(rt, file, command, input, output, errors);
-            let done = match output.flush() {
-                Ok(()) => done,
-                Err(error) => done.and(Err(Failure::Output(error))),
-            };
-            finish_as(file, done, failed, errors)
+            finish_as(file, flushed(done, output), failed, errors)
         }
         Err(misuse) => {
             let _ = writeln!(errors, "odht: {misuse}");
             misuse.status()
         }
+    }
+}
+
+// How a command ended, once all that it wrote has left the buffer.
+fn flushed<O: Write>(done: Result<Status, Failure>, output: &mut O) -> Result<Status, Failure> {
+    match output.flush() {
+        Ok(()) => done,
+        Err(error) => done.and(Err(Failure::Output(error))),
     }
 }
 
@@ -185,6 +182,7 @@ where
         rt.alloc(),
         file,
         is_one,
+        at,
         table,
         reading,
         input,
@@ -242,24 +240,13 @@ fn with_hint<E: Write>(
     Ok(status)
 }
 
-// All bytes of the file, or of standard input where the name stands for that.
-fn read_bytes<R: Files + AllocGlobal, I: BufRead>(
-    rt: &R,
-    file: &str,
-    input: &mut I,
-) -> Result<Vec<u8>, Failure> {
-    if is_stream(file) {
-        read_input(rt.alloc(), input)
-    } else {
-        read_file(rt, file)
-    }
-}
-
-// Runs a command that reads its file alone, which has these bytes, and may be the only one.
+// Runs a command that reads its file alone, which has these bytes, from `at` on where that is told, and may be the only
+// one.
 fn run_reading<I: BufRead, O: Write, E: Write>(
     alloc: Global,
     file: &str,
     is_one: bool,
+    at: Option<usize>,
     bytes: &[u8],
     reading: &Reading,
     input: &mut I,
@@ -268,7 +255,7 @@ fn run_reading<I: BufRead, O: Write, E: Write>(
 ) -> Result<Status, Failure> {
     match reading {
         Reading::Info { bound, is_json } => {
-            info_file(alloc, file, is_one, bytes, *bound, *is_json, output)
+            info_file(alloc, file, is_one, at, bytes, *bound, *is_json, output)
         }
         Reading::Check {
             hash,
@@ -386,26 +373,4 @@ fn order_in<O: Write, E: Write>(
         let _ = order::write_unmade(file, errors);
     }
     Ok(status)
-}
-
-// Reports a failure, after the file's name.
-fn finish<E: Write>(file: &str, done: Result<Status, Failure>, errors: &mut E) -> Status {
-    finish_as(file, done, Status::NotDone, errors)
-}
-
-// The same where the run then ends so.
-fn finish_as<E: Write>(
-    file: &str,
-    done: Result<Status, Failure>,
-    failed: Status,
-    errors: &mut E,
-) -> Status {
-    match done {
-        Ok(status) => status,
-        Err(Failure::Output(error)) if error.kind() == ErrorKind::BrokenPipe => failed,
-        Err(failure) => {
-            let _ = writeln!(errors, "odht: {file}: {failure}");
-            failed
-        }
-    }
 }

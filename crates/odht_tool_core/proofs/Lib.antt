@@ -26,6 +26,8 @@ pub mod GroupBounds
 pub mod Counting
 -- the slots of a table of any sizes
 pub mod SizedSlots
+-- the stretches of a table's slots
+pub mod StretchCounts
 -- counts of numbers of groups
 pub mod Tallies
 -- the lines of `info`

@@ -12,11 +12,10 @@ use Rattle.odht_header.specs.Refusals.{first_slot, control_mismatch}
 use Rattle.odht_header.specs.declared.error.Error.{Error}
 use Rattle.odht_header.proofs.lemmas.FirstErrors.{first_slot-None, None-first_slot}
 use Rattle.odht_tool_core.specs.GroupNumbers.{capped, groups_to, groups_to_free}
-use Rattle.odht_tool_core.specs.InfoNumbers.{SizedParts, sized_format, least_key_len, agrees, occupied, group_numbers, miss_numbers, largest}
+use Rattle.odht_tool_core.specs.InfoNumbers.{SizedParts, sized_format, least_key_len, agrees, occupied, occupied_in, group_numbers, miss_numbers, largest}
 use Rattle.odht_tool_core.specs.ReadyShapes.{hash_of}
 use Rattle.odht_tool_core.specs.declared.shapes.Hash.{Hash}
-use Rattle.odht_tool_core.specs.declared.shapes.Hash.TheVariants.{Fx}
-use Rattle.odht_tool_core.proofs.Counting.{slots_more}
+use Rattle.odht_tool_core.proofs.Counting.{range_more, slots_more}
 use Rattle.odht_tool_core.proofs.Tallies.{largest-more}
 
 module _ (T : SizedParts) (h : Hash) where
@@ -66,11 +65,18 @@ module _ (T : SizedParts) (h : Hash) where
       omega (arith, a, b, c, d)
 
 -- how many slots are occupied, with one slot more
-pub count_free : (T : SizedParts) (n : ℕ) → counts_as_free (slice_index T.control n) ≡ true → length (occupied T (n + 1)) ≡ length (occupied T n)
-count_free T n e = ap length (occupied_more T Fx n false (ap not e) ∙ append-nil (occupied T n))
+module _ (T : SizedParts) (a n : ℕ) where
+  in_more : (t : Bool) → not (counts_as_free (slice_index T.control (a + n))) ≡ t → occupied_in T a (n + 1) ≡ occupied_in T a n ++ cond t ((a + n) ∷ []) []
+  in_more t e =
+      let held : ℕ → Bool = λ i. not (counts_as_free (slice_index T.control i)) in
+      ap (filter held) (range_more a n) ∙ filter-append held (range_with_len a n) ((a + n) ∷ [])
+      ∙ ap (λ b. occupied_in T a n ++ cond b ((a + n) ∷ []) []) e
 
-pub count_more : (T : SizedParts) (n : ℕ) → counts_as_free (slice_index T.control n) ≡ false → length (occupied T (n + 1)) ≡ length (occupied T n) + 1
-count_more T n e = ap length (occupied_more T Fx n true (ap not e)) ∙ length-append (occupied T n) (n ∷ [])
+  pub count_free : counts_as_free (slice_index T.control (a + n)) ≡ true → length (occupied_in T a (n + 1)) ≡ length (occupied_in T a n)
+  count_free e = ap length (in_more false (ap not e) ∙ append-nil (occupied_in T a n))
+
+  pub count_more : counts_as_free (slice_index T.control (a + n)) ≡ false → length (occupied_in T a (n + 1)) ≡ length (occupied_in T a n) + 1
+  count_more e = ap length (in_more true (ap not e)) ∙ length-append (occupied_in T a n) ((a + n) ∷ [])
 
 -- the longest search for an absent key, from one home more
 pub misses_more : (T : SizedParts) (o : Option ℕ) (n : ℕ) → largest (miss_numbers T o (n + 1)) ≡ max (largest (miss_numbers T o n)) (capped o (groups_to_free T.control n))

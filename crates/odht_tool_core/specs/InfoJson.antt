@@ -2,13 +2,16 @@
 --     counts_array cs l    the first l of the counts cs
 --     hash_or_null h       the name of the hash function, or null where there is none
 --     longest_hit h l      the longest search for a present key, where there is a hash function
---     info_object name n   the object of the file of this name, on a line
---     named_text o name n  the lines of `info`, after a line of the file's name where it is not the only one, o
---     info_as j o name n   the object; without j these lines
+--     at_fields at         the field of the byte at which the table stands in the file, or null where that is not told
+--     info_object at name n   the object of the file of this name, on a line
+--     named_text o at name n  the lines of `info`, after a line of the file's name where it is not the only one, o, and one of
+--                          the byte at which the table stands in it
+--     info_as j o at name n   the object; without j these lines
 -- A number of groups that is above the bound is one more than the bound.
-use Rattle.std.specs.Prelude.{ℕ, Bool, min, ◌==◌, List, [], ◌∷◌, ◌++◌, flat_map, slice_index, codes, decimal, Option, Some, None, if◌then◌else◌}
+use Rattle.std.specs.Prelude.{ℕ, Bool, min, ◌==◌, List, [], ◌∷◌, ◌++◌, length, flat_map, slice_index, codes, decimal, Option, Some, None, if◌then◌else◌}
 use Rattle.std.specs.List.{range_with_len}
-use Rattle.odht_tool_core.specs.InfoTexts.{hash_name, info_text}
+use Rattle.odht_tool_core.specs.Advice.{advice_or_null}
+use Rattle.odht_tool_core.specs.InfoTexts.{at_line, hash_name, info_text}
 use Rattle.odht_tool_core.specs.Json.{json_object, json_string, number_field, string_field, number_or_null}
 use Rattle.odht_tool_core.specs.declared.numbers.Numbers.{Numbers}
 use Rattle.odht_tool_core.specs.declared.shapes.Hash.{Hash}
@@ -31,6 +34,9 @@ abbrev pub longest_hit : Option Hash → ℕ → Option ℕ
 longest_hit None l = None
 longest_hit (Some h) l = Some l
 
+abbrev pub at_fields : Option ℕ → List (List ℕ × List ℕ)
+at_fields at = (codes "at", number_or_null at) ∷ []
+
 abbrev pub length_fields : Numbers → List (List ℕ × List ℕ)
 length_fields n =
     number_field (codes "key_bytes") n.key_size
@@ -48,6 +54,12 @@ count_fields n =
     ∷ number_field (codes "maximum_load_percent") n.max_load
     ∷ []
 
+abbrev pub hash_fields : Numbers → List (List ℕ × List ℕ)
+hash_fields n =
+    (codes "along_slots", counts_array n.stretches.items (length n.stretches.items))
+    ∷ (codes "hash", hash_or_null n.hash)
+    ∷ []
+
 abbrev pub group_fields : Numbers → List (List ℕ × List ℕ)
 group_fields n =
     (codes "bound", number_or_null n.bound)
@@ -56,16 +68,22 @@ group_fields n =
     ∷ number_field (codes "longest_miss") n.longest_miss
     ∷ []
 
-abbrev pub info_object : List ℕ → Numbers → List ℕ
-info_object name n =
-    json_object (string_field (codes "file") name ∷ (length_fields n ++ (count_fields n ++ ((codes "hash", hash_or_null n.hash) ∷ group_fields n))))
+abbrev pub advice_fields : Numbers → List (List ℕ × List ℕ)
+advice_fields n = (codes "may_help", advice_or_null n) ∷ []
+
+abbrev pub info_object : Option ℕ → List ℕ → Numbers → List ℕ
+info_object at name n =
+    json_object (string_field (codes "file") name ∷ (at_fields at ++ (length_fields n ++ (count_fields n ++ (hash_fields n ++ (group_fields n ++ advice_fields n))))))
     ++ (10 ∷ [])
 
 abbrev pub file_line : List ℕ → List ℕ
 file_line name = codes "file          " ++ (name ++ (10 ∷ []))
 
-abbrev pub named_text : Bool → List ℕ → Numbers → List ℕ
-named_text is_one name n = if is_one then info_text n else file_line name ++ info_text n
+abbrev pub place_text : Bool → Option ℕ → List ℕ → List ℕ
+place_text is_one at name = if is_one then at_line at else file_line name ++ at_line at
 
-abbrev pub info_as : Bool → Bool → List ℕ → Numbers → List ℕ
-info_as is_json is_one name n = if is_json then info_object name n else named_text is_one name n
+abbrev pub named_text : Bool → Option ℕ → List ℕ → Numbers → List ℕ
+named_text is_one at name n = place_text is_one at name ++ info_text at name n
+
+abbrev pub info_as : Bool → Bool → Option ℕ → List ℕ → Numbers → List ℕ
+info_as is_json is_one at name n = if is_json then info_object at name n else named_text is_one at name n

@@ -8,10 +8,13 @@
 --     least_key_len h      how many bytes the hash function h needs at least
 --     agrees T h           keys are long enough for h, and no control byte below 128 differs from the tag of its key
 --     found_hash T         the first of fx and unhash that agrees
---     occupied T n         those of the first n slots that do not count as free, in slot order
+--     occupied_in T a n    those of the n slots from the slot a on that do not count as free, in slot order
+--     occupied T n         those of the first n slots
 --     group_numbers T h o n    of each of these, how many groups a search for its key reads, by the bound o
 --     found_groups T o     the same of all slots, by the hash function that agrees; nothing where none does
 --     longest_miss T o     how many groups the longest search for an absent key reads at most, by the bound o
+--     stretch_len s        how many slots a stretch has: a 64th of s slots, but at least one
+--     stretch_counts T     how many slots of each stretch are occupied; the stretches have all slots, in slot order
 --     tallies xs           how often each of the numbers 1 to 63 is in xs, and how many of xs are 64 or more
 --     largest xs           the largest of xs, or 0
 --     nearest_percent f    the percentage that the load factor f is nearest to
@@ -79,8 +82,11 @@ abbrev pub found_hash : SizedParts → Option Hash
 found_hash T = find (agrees T) (Fx ∷ Unhash ∷ [])
 
 -- ---- the histogram
+abbrev pub occupied_in : SizedParts → ℕ → ℕ → List ℕ
+occupied_in T a n = filter (λ i. not (counts_as_free (slice_index T.control i))) (range_with_len a n)
+
 abbrev pub occupied : SizedParts → ℕ → List ℕ
-occupied T n = filter (λ i. not (counts_as_free (slice_index T.control i))) (range_with_len 0 n)
+occupied T n = occupied_in T 0 n
 
 abbrev pub group_numbers : SizedParts → Hash → Option ℕ → ℕ → List ℕ
 group_numbers T h o n =
@@ -105,6 +111,16 @@ pub record IsHistogram (xs : List ℕ) (h : Histogram) : Type 0 where
   pub counts : h.counts.items ≡ tallies xs
   pub longest : h.longest ≡ largest xs
 
+-- ---- how full the table is along its slots
+abbrev pub stretch_len : ℕ → ℕ
+stretch_len s = max 1 (s / 64)
+
+abbrev pub stretch_count : SizedParts → ℕ → ℕ
+stretch_count T p = length (occupied_in T (p * stretch_len T.slots) (stretch_len T.slots))
+
+abbrev pub stretch_counts : SizedParts → List ℕ
+stretch_counts T = map (stretch_count T) (range_with_len 0 (min T.slots 64))
+
 -- ---- all numbers
 abbrev pub nearest_percent : ℕ → ℕ
 nearest_percent f = (f * 100 + 32767) / 65535
@@ -119,6 +135,7 @@ pub record AreNumbers (B : List ℕ) (o : Option ℕ) (n : Numbers) : Type 0 whe
   pub maximum : n.max_item_count ≡ max_items (header_slots B) (header_factor B)
   pub load : n.load ≡ header_count B * 100 / header_slots B
   pub max_load : n.max_load ≡ nearest_percent (header_factor B)
+  pub stretches : n.stretches.items ≡ stretch_counts (sized_parts B)
   pub hash : n.hash ≡ found_hash (sized_parts B)
   pub bound : n.bound ≡ o
   pub histogram : IsHistogram (found_groups (sized_parts B) o) n.histogram

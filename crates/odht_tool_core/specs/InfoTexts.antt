@@ -2,6 +2,10 @@
 --     number_line l x e    the line of the label l and the number x, with e behind it
 --     lengths_text n       the lines of the sizes of keys, values and header, and of all bytes
 --     sizes_text n         the lines that do not depend on the hash function
+--     stretch_sign l c     the sign of a stretch of l slots of which c are occupied: `.` where none is, `9` where all are,
+--                          else, from `1` on, one more than how many whole eighths of them are
+--     stretches_line l cs  the line of these signs
+--     at_line at           the line of the byte at which the table stands in the file, where that is told
 --     aligned w x          the digits of x, after as many spaces as make them w characters
 --     bar c m              the bar of the count c, where m is the largest: forty `#` times c over m, at least one, but none
 --                          where c is 0
@@ -12,14 +16,15 @@
 --     groups_line l o x    the line of the label l and the number of groups x; where it is above the bound o, that it is
 --     groups_text h o cs l the lines of the hash function h, or of none, of the histogram, and of the longest search for a
 --                          present key, by the bound o
---     info_text n          all lines
+--     info_text at name n  all lines, of the file of this name
 --     IsInfoDone t B o old new r   `info` of the bytes B by the bound o, which took the writer from the bytes old to new and
 --                          returned r, wrote the text t of the numbers of B; only opening, memory or the writer may have
 --                          kept it from that
-use Rattle.std.specs.Prelude.{◌≡◌, ℕ, ◌+◌, ◌-◌, ◌*◌, ◌/◌, min, max, ◌&&◌, ◌==◌, nat_lt, List, [], ◌∷◌, ◌++◌, length, replicate, flat_map, slice_index, codes, decimal, Option, Some, None, Result, Ok, Err, if◌then◌else◌}
+use Rattle.std.specs.Prelude.{◌≡◌, ℕ, ◌+◌, ◌-◌, ◌*◌, ◌/◌, min, max, ◌&&◌, ◌==◌, nat_lt, List, [], ◌∷◌, ◌++◌, length, map, replicate, flat_map, slice_index, codes, decimal, Option, Some, None, Result, Ok, Err, if◌then◌else◌}
 use Rattle.std.specs.Io.KnownBytes.{Appends, Keeps}
 use Rattle.std.specs.List.{range_with_len}
-use Rattle.odht_tool_core.specs.InfoNumbers.{largest, info_refusal, AreNumbers, IsInfoFailure}
+use Rattle.odht_tool_core.specs.Advice.{advice_text}
+use Rattle.odht_tool_core.specs.InfoNumbers.{largest, stretch_len, info_refusal, AreNumbers, IsInfoFailure}
 use Rattle.odht_tool_core.specs.declared.failure.Failure.{Failure}
 use Rattle.odht_tool_core.specs.declared.failure.Failure.TheVariants.{Output}
 use Rattle.odht_tool_core.specs.declared.numbers.Numbers.{Numbers}
@@ -46,6 +51,13 @@ sizes_text n =
     ++ number_line (codes "maximum       ") n.max_item_count []
     ++ number_line (codes "load          ") n.load (codes " percent")
     ++ number_line (codes "maximum load  ") n.max_load (codes " percent")
+
+-- ---- how full the table is along its slots
+abbrev pub stretch_sign : ℕ → ℕ → ℕ
+stretch_sign len count = if count == 0 then 46 else 49 + min 8 (count * 8 / len)
+
+abbrev pub stretches_line : ℕ → List ℕ → List ℕ
+stretches_line len counts = codes "along slots   " ++ (map (stretch_sign len) counts ++ (10 ∷ []))
 
 -- ---- the histogram
 unfoldable pub aligned : ℕ → ℕ → List ℕ
@@ -82,11 +94,17 @@ groups_text (Some h) o cs l =
     ++ tallies_text cs l
     ++ groups_line (codes "longest hit   ") o l
 
-abbrev pub info_text : Numbers → List ℕ
-info_text n =
+abbrev pub at_line : Option ℕ → List ℕ
+at_line None = []
+at_line (Some at) = number_line (codes "at byte       ") at []
+
+abbrev pub info_text : Option ℕ → List ℕ → Numbers → List ℕ
+info_text at name n =
     sizes_text n
+    ++ stretches_line (stretch_len n.slot_count) n.stretches.items
     ++ groups_text n.hash n.bound n.histogram.counts.items n.histogram.longest
     ++ groups_line (codes "longest miss  ") n.bound n.longest_miss
+    ++ advice_text at name n
 
 abbrev pub IsInfoDone : (Numbers → List ℕ) → List ℕ → Option ℕ → Option (List ℕ) → Option (List ℕ) → Result Status Failure → Type 0
 IsInfoDone t B o old new (Ok status) = (status ≡ Done) × ((n : Numbers) × AreNumbers B o n × Appends old new (t n))

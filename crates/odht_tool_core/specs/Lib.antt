@@ -21,6 +21,8 @@ pub mod Endings
 pub mod Slots
 -- what `info` reports
 pub mod InfoNumbers
+-- what may help where searches are long
+pub mod Advice
 -- its text
 pub mod InfoTexts
 -- the table that begins with some bytes
@@ -53,6 +55,8 @@ pub mod ReadAs
 pub mod PlainTexts
 -- texts of stored bytes
 pub mod StoredTexts
+-- those of bytes of a length that is known at run time alone
+pub mod SizedTexts
 -- texts that are no key or no value
 pub mod Misreads
 -- texts of JSON
@@ -73,3 +77,5 @@ pub mod Progress
 pub mod DuplicateWords
 -- lines of a key and a value, and what is said of others
 pub mod PairLines
+-- words that ask for a text of the program
+pub mod Asking

@@ -2,7 +2,6 @@
 --     IsWanted w word      the word is what is wanted, w: nothing, a number, with a sign or without, hexadecimal digits, or a plain text
 --     number_wanted u i f  what is wanted of numbers in the form f: i of those with a sign, u of others
 --     bytes_wanted n f     what is wanted of n bytes in the form f
---     hex_wanted n         what is wanted of n bytes in hexadecimal digits: nothing of no bytes
 --     typed_wanted f p     what is wanted of keys or values of the type p, in the form f
 --     wanted_text w        this in words
 --     place_text n         the number of a line of standard input, where there is one
@@ -13,7 +12,7 @@
 --     part_of d f line     the part of a line in which the fault f is: what comes before its first byte d, what comes after
 --                          it, or all
 --     wanted_by f w v      what is wanted there, where w is wanted of keys and v of values
-use Rattle.std.specs.Prelude.{◌≡◌, ℕ, ◌+◌, ◌*◌, ◌^◌, ◌==◌, List, [], ◌++◌, codes, decimal, take, drop, Option, Some, None, if◌then◌else◌}
+use Rattle.std.specs.Prelude.{◌≡◌, ℕ, ◌+◌, ◌*◌, ◌^◌, ◌==◌, List, [], ◌++◌, codes, decimal, take, drop, Option, Some, None}
 use Rattle.std.specs.List.{position_or_len}
 use Rattle.odht_tool_core.specs.PlainTexts.{IsPlainText}
 use Rattle.odht_tool_core.specs.Shown.{shown_text}
@@ -22,7 +21,7 @@ use Rattle.odht_tool_core.specs.Texts.{IsNumberWord, IsHexWord}
 use Rattle.odht_tool_core.specs.declared.failure.LineFault.{LineFault}
 use Rattle.odht_tool_core.specs.declared.failure.LineFault.TheVariants.{NoTab, Key, Value}
 use Rattle.odht_tool_core.specs.declared.forms.Form.{Form}
-use Rattle.odht_tool_core.specs.declared.forms.Form.TheVariants.{Own, Signed, BigEndian, Plain, Hex}
+use Rattle.odht_tool_core.specs.declared.forms.Form.TheVariants.{Own, Signed, BigEndian, Plain, Of}
 use Rattle.odht_tool_core.specs.declared.misread.Wanted.{Wanted}
 use Rattle.odht_tool_core.specs.declared.misread.Wanted.TheVariants.{Nothing, U32, U64, I32, I64, Bytes, Text}
 use Rattle.odht_tool_core.specs.declared.shapes.Part.{Part}
@@ -42,17 +41,14 @@ number_wanted u i Own = u
 number_wanted u i Signed = i
 number_wanted u i BigEndian = u
 number_wanted u i Plain = u
-number_wanted u i (Hex n) = u
+number_wanted u i (Of p v) = u
 
 abbrev pub bytes_wanted : ℕ → Form → Wanted
 bytes_wanted n Own = Bytes n
 bytes_wanted n Signed = Bytes n
 bytes_wanted n BigEndian = Bytes n
 bytes_wanted n Plain = Text n
-bytes_wanted n (Hex k) = Bytes n
-
-abbrev pub hex_wanted : ℕ → Wanted
-hex_wanted n = if n == 0 then Nothing else Bytes n
+bytes_wanted n (Of p v) = Bytes n
 
 abbrev pub typed_wanted : Form → Part → Wanted
 typed_wanted f NoPart = Nothing

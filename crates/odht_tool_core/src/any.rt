@@ -1,8 +1,12 @@
-//! The shape of a table of any sizes: a ready one, or the lengths of keys and values and the hash function.
-ghost use Rattle.std.specs.Prelude.{◌≡◌, IfOk, IfSome};
+//! The shape of a table of any sizes: a ready one, or the types of keys and values and the hash function.
+ghost use Rattle.std.specs.Prelude.{◌≡◌, ◌≤◌, IfOk, IfSome};
 ghost use Rattle.odht_tool_core.specs.AnyShapes.{HasLongKeys, any_of_kinds, any_of_sizes, other_of};
-ghost use Rattle.odht_tool_core.specs.AnyShapes.{any_form, any_hash, any_key, any_value, named_any};
-ghost use Rattle.odht_tool_core.specs.AnyShapes.{read_any};
+ghost use Rattle.odht_tool_core.specs.AnyShapes.{any_hash, any_key, any_value, kind_of_size};
+ghost use Rattle.odht_tool_core.specs.AnyShapes.{named_any, read_any, with_kinds, with_ready_forms};
+ghost use Rattle.odht_tool_core.specs.InfoNumbers.{least_key_len};
+ghost use Rattle.odht_tool_core.specs.ReadAs.{form_for};
+ghost use Rattle.odht_tool_core.specs.ReadyShapes.{typed_len};
+ghost use Rattle.odht_tool_core.specs.ShapeList.{key_part, value_part};
 
 use crate::early::check_first;
 use crate::failure::Failure;
@@ -12,13 +16,13 @@ use crate::shapes::{Hash, Part, Shape};
 use crate::stored::least_key_size;
 use odht_header::header::Header;
 
-/// Keys and values of so many bytes, which are written in hexadecimal digits, and the hash function.
+/// Keys and values of these types, which no ready shape has, and the hash function.
 #[derive(Clone, Copy)]
 pub struct OtherShape {
-    /// The length of a key, in bytes.
-    pub key_len: u8,
-    /// The length of a value, in bytes.
-    pub value_len: u8,
+    /// The type of keys: bytes, where nothing else is said.
+    pub key: Part,
+    /// That of values.
+    pub value: Part,
     /// The hash function.
     pub hash: Hash,
 }
@@ -39,7 +43,7 @@ impl AnyShape {
     {
         match self {
             AnyShape::Ready(shape) => shape.key(),
-            AnyShape::Other(other) => Part::Bytes(other.key_len),
+            AnyShape::Other(other) => other.key,
         }
     }
 
@@ -59,14 +63,13 @@ impl AnyShape {
     {
         match self {
             AnyShape::Ready(shape) => shape.value(),
-            AnyShape::Other(other) => Part::Bytes(other.value_len),
+            AnyShape::Other(other) => other.value,
         }
     }
 
     /// The shape of keys and values that are said to be these, and of the hash function, where one is given: the first
-    /// ready one of their types; else, of bytes in hexadecimal digits, another one, of `fx` where none is given. None
-    /// where a ready shape of other types has as many bytes, since a file is read as that, or the hash function needs
-    /// longer keys.
+    /// ready one of their types; else another one, of `fx` where none is given. None where a ready shape of other types
+    /// has as many bytes, since a file is read as that, or the hash function needs longer keys.
     pub(crate) fn of_kinds(key: Kind, value: Kind, hash: Option<Hash>) -> Option<AnyShape>
         ensures shape { result ≡ any_of_kinds key value hash }
         ensures long { IfSome result HasLongKeys }
@@ -74,54 +77,33 @@ impl AnyShape {
         if let Some(shape) = Shape::of_parts(key.part, value.part, hash) {
             return Some(AnyShape::Ready(shape));
         }
-        if !key.is_hex() || !value.is_hex() {
-            return None;
-        }
-        match AnyShape::of_sizes(key.part.size(), value.part.size(), hash) {
+        match AnyShape::of_sizes(key.part, value.part, hash) {
             Ok(AnyShape::Other(other)) => Some(AnyShape::Other(other)),
             _ => None,
         }
     }
 
-    // The form of keys or values of this type of which this is said, if anything is. Only a ready shape has others than
-    // its own.
-    fn form_for(self, kind: Option<Kind>, part: Part) -> Option<Form>
-        ensures { result ≡ any_form self kind part }
-    {
-        let form = form_for(kind, part);
-        match self {
-            AnyShape::Ready(_) => form,
-            AnyShape::Other(_) => match form {
-                Some(Form::Own) => Some(Form::Own),
-                _ => None,
-            },
-        }
-    }
-
-    // The first ready shape of these lengths and of the hash function, where one is given; else another.
-    fn of_sizes(key_len: u8, value_len: u8, hash: Option<Hash>) -> Result<AnyShape, Failure>
-        ensures shape { result ≡ any_of_sizes key_len value_len hash }
+    // The first ready shape of the lengths of these types and of the hash function, where one is given; else another.
+    fn of_sizes(key: Part, value: Part, hash: Option<Hash>) -> Result<AnyShape, Failure>
+        ensures shape { result ≡ any_of_sizes key value hash }
         ensures long { IfOk result HasLongKeys }
     {
-        match Shape::of_sizes(key_len, value_len, hash) {
+        match Shape::of_sizes(key.size(), value.size(), hash) {
             Some(shape) => Ok(AnyShape::Ready(shape)),
-            None => AnyShape::of_lengths(key_len, value_len, hash.unwrap_or(Hash::Fx)),
+            None => AnyShape::of_types(key, value, hash.unwrap_or(Hash::Fx)),
         }
     }
 
-    // That of these lengths which is no ready one. `ShortKeys` where the hash function needs longer keys.
-    fn of_lengths(key_len: u8, value_len: u8, hash: Hash) -> Result<AnyShape, Failure>
-        ensures shape { result ≡ other_of key_len value_len hash }
+    // That of these types which is no ready one. `ShortKeys` where the hash function needs longer keys.
+    fn of_types(key: Part, value: Part, hash: Hash) -> Result<AnyShape, Failure>
+        ensures shape { result ≡ other_of key value hash }
         ensures long { IfOk result HasLongKeys }
     {
-        if (key_len as usize) < least_key_size(hash) {
-            return Err(Failure::ShortKeys { key_size: key_len });
+        let key_size = key.size();
+        if (key_size as usize) < least_key_size(hash) {
+            return Err(Failure::ShortKeys { key_size });
         }
-        Ok(AnyShape::Other(OtherShape {
-            key_len,
-            value_len,
-            hash,
-        }))
+        Ok(AnyShape::Other(OtherShape { key, value, hash }))
     }
 }
 
@@ -137,12 +119,13 @@ pub fn named_any(bytes: &[u8], hash: Option<Hash>) -> Result<AnyShape, Failure>
         return Ok(AnyShape::Ready(Shape::U64ToU32));
     }
     let header = Header::of(bytes);
-    AnyShape::of_sizes(header.key_size(), header.value_size(), hash)
+    let key = Part::Bytes(header.key_size());
+    AnyShape::of_sizes(key, Part::Bytes(header.value_size()), hash)
 }
 
 /// The shape that the bytes of a file are read as, as `found_any` finds it, and the forms of its keys and values: those
-/// that are said, or its own. `OtherKey` or `OtherValue` where what is said is of another type, or a text that only
-/// ready shapes have.
+/// that are said, or its own. Where it is no ready shape, its types are those that are said, if they have its lengths.
+/// `OtherKey` or `OtherValue` where what is said is of another type, or of another length.
 pub fn read_any(
     bytes: &[u8],
     hash: Option<Hash>,
@@ -151,12 +134,64 @@ pub fn read_any(
     ensures forms { result ≡ read_any bytes.now hash kinds }
     ensures long { IfOk result (λ x. HasLongKeys x.0) }
 {
-    let shape = found_any(bytes, hash)?;
-    let Some(key) = shape.form_for(kinds.key, shape.key()) else {
+    match found_any(bytes, hash)? {
+        AnyShape::Ready(shape) => read_ready(shape, kinds),
+        AnyShape::Other(shape) => read_other(shape, kinds),
+    }
+}
+
+// A ready shape and its forms, of which this is said.
+fn read_ready(shape: Shape, kinds: Kinds) -> Result<(AnyShape, GivenForms), Failure>
+    ensures forms { result ≡ with_ready_forms shape
+        (form_for kinds.key (key_part shape)) (form_for kinds.value (value_part shape)) }
+    ensures long { IfOk result (λ x. HasLongKeys x.0) }
+{
+    let Some(key) = form_for(kinds.key, shape.key()) else {
         return Err(Failure::OtherKey(shape.key()));
     };
-    let Some(value) = shape.form_for(kinds.value, shape.value()) else {
+    let Some(value) = form_for(kinds.value, shape.value()) else {
         return Err(Failure::OtherValue(shape.value()));
     };
-    Ok((shape, GivenForms { key, value }))
+    Ok((AnyShape::Ready(shape), GivenForms { key, value }))
+}
+
+// Another shape, with the types that are said, and its forms.
+fn read_other(shape: OtherShape, kinds: Kinds) -> Result<(AnyShape, GivenForms), Failure>
+    requires { least_key_len shape.hash ≤ typed_len shape.key }
+    ensures forms { result ≡ with_kinds shape
+        (kind_of_size kinds.key shape.key) (kind_of_size kinds.value shape.value) }
+    ensures long { IfOk result (λ x. HasLongKeys x.0) }
+{
+    let Some(key) = kind_of_size(kinds.key, shape.key) else {
+        return Err(Failure::OtherKey(shape.key));
+    };
+    let Some(value) = kind_of_size(kinds.value, shape.value) else {
+        return Err(Failure::OtherValue(shape.value));
+    };
+    let shape = AnyShape::Other(OtherShape {
+        key: key.part,
+        value: value.part,
+        hash: shape.hash,
+    });
+    let forms = GivenForms {
+        key: key.form,
+        value: value.form,
+    };
+    Ok((shape, forms))
+}
+
+// What stored bytes of this type are read as, where `kind` is said of them, or nothing. None where that has another
+// length.
+fn kind_of_size(kind: Option<Kind>, part: Part) -> Option<Kind>
+    ensures kind { result ≡ kind_of_size kind part }
+    ensures len { IfSome result (λ k. typed_len k.part ≡ typed_len part) }
+{
+    match kind {
+        None => Some(Kind {
+            part,
+            form: Form::Own,
+        }),
+        Some(kind) if kind.part.size() == part.size() => Some(kind),
+        Some(_) => None,
+    }
 }

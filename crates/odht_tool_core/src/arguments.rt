@@ -1,4 +1,5 @@
 //! The arguments that the program is called with.
+ghost use Rattle.std.specs.Prelude.{◌≡◌, bytes_eq, codes};
 
 use crate::any::AnyShape;
 use crate::forms::{GivenForms, Kinds};
@@ -8,6 +9,7 @@ use crate::status::Status;
 use odht_base::load::Percent;
 use std::alloc::Global;
 
+mod asking;
 mod delimiters;
 mod draft;
 mod duplicates;
@@ -218,7 +220,9 @@ pub enum Request {
 }
 
 /// Whether the name of a file stands for standard input, or of one that is made for standard output.
-pub fn is_stream(file: &str) -> bool {
+pub fn is_stream(file: &str) -> bool
+    ensures { result ≡ bytes_eq file.now (codes "-") }
+{
     file == "-"
 }
 
@@ -251,11 +255,20 @@ fn parse_help(command: Option<String>, more: Option<String>) -> Result<Request, 
     let Some(command) = command else {
         return Ok(Request::Help(None));
     };
-    let Some(topic) = Topic::named(command.as_str()) else {
+    let topic = Topic::named(command.as_str());
+    if topic.is_none() && !is_help(command.as_str()) {
         return Err(Misuse::UnknownCommand(command));
-    };
+    }
     match more {
-        None => Ok(Request::Help(Some(topic))),
+        None => Ok(Request::Help(topic)),
         Some(word) => Err(Misuse::InHelp(word)),
+    }
+}
+
+// Whether a word in the place of a command asks for the help text of all.
+fn is_help(word: &str) -> bool {
+    match word {
+        "help" | "-h" | "--help" => true,
+        _ => false,
     }
 }

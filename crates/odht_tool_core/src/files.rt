@@ -1,6 +1,6 @@
 //! Whole files: read at once, and written as a new file, which then replaces the old one.
 use crate::failure::Failure;
-use crate::targets::{Kept, Target};
+use crate::targets::{Kept, Target, beside};
 use std::alloc::Global;
 use std::fs::{self, OpenFile, OpenOptions};
 use std::io::{self, BufRead, Read, Write};
@@ -69,10 +69,9 @@ pub fn replace_file<R: Files + AllocGlobal>(
 where
     R::File: AsFd,
 {
-    let alloc: Global = rt.alloc();
     let target = target.again(rt)?;
     let path = target.path();
-    let beside = format!(in alloc; "{path}.new")?;
+    let beside = beside(rt.alloc(), path)?;
     let file = match create(rt, beside.as_str(), target.kept().is_some()) {
         Ok(file) => file,
         Err(error) if error.kind() == io::ErrorKind::AlreadyExists => {

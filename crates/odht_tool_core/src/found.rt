@@ -7,7 +7,7 @@ ghost use Rattle.odht_tool_core.specs.AnyShapes.{HasLongKeys, fitting_any, found
 
 use crate::any::{AnyShape, OtherShape, named_any};
 use crate::failure::Failure;
-use crate::shapes::{Hash, SHAPES, Shape};
+use crate::shapes::{Hash, Part, SHAPES, Shape};
 use crate::stored::StoredTable;
 use odht_header::header::Header;
 
@@ -56,8 +56,8 @@ fn fitting_any(bytes: &[u8], table: &StoredTable<'_>) -> Result<AnyShape, Failur
     }
     match table.hash() {
         Some(hash) => Ok(AnyShape::Other(OtherShape {
-            key_len,
-            value_len,
+            key: Part::Bytes(key_len),
+            value: Part::Bytes(value_len),
             hash,
         })),
         None => Err(Failure::NoHash {

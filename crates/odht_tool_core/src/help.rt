@@ -118,20 +118,25 @@ understood.
 // begin texts: made of commands.txt by tools/commands; `make manual` makes it anew
 const INFO: &str = "\
 odht info FILE.. [--whole] [--json] [--at OFFSET]
-    Prints sizes, item and slot count, load factors, the hash function that the
-    control bytes agree with, how many items are found by reading one group of
-    control bytes, two, and so on, and how many groups the longest search reads for
-    a key that is there (hit) and for one that is not (miss). Above 128 groups it
-    does not count further, so that no file takes long; with --whole it does. Where
-    there are more files, the name of each comes first. The file may have any key
-    and value sizes. Only its header and its length are checked. With --at the table
-    begins at that byte of the file; bytes after its end are not read.
-    --json         an object of JSON for each file: file, key_bytes, value_bytes,
-                   header_bytes, all_bytes, items, slots, maximum, load_percent,
-                   maximum_load_percent, hash (fx, unhash or null), bound (of
-                   groups; null with --whole), histogram (how many items by one
-                   group, by two, and so on; the 64th has all above), longest_hit
-                   (null without a hash function), longest_miss. A number of groups
+    Prints sizes, item and slot count, load factors, how full the table is along its
+    slots, the hash function that the control bytes agree with, how many items are
+    found by reading one group of control bytes, two, and so on, how many groups the
+    longest search reads for a key that is there (hit) and for one that is not
+    (miss), and, where that is above 24, what may help. Above 128 groups it does not
+    count further, so that no file takes long; with --whole it does. Along its slots
+    there is a sign for each of at most 64 stretches of equal length: . where no
+    slot is occupied, 9 where all are, else one more than how many whole eighths
+    are. Where there are more files, the name of each comes first. The file may have
+    any key and value sizes. Only its header and its length are checked. With --at
+    the table begins at that byte of the file; bytes after its end are not read.
+    --json         an object of JSON for each file: file, at (null without --at),
+                   key_bytes, value_bytes, header_bytes, all_bytes, items, slots,
+                   maximum, load_percent, maximum_load_percent, along_slots (how
+                   many slots of each stretch are occupied), hash (fx, unhash or
+                   null), bound (of groups; null with --whole), histogram (how many
+                   items by one group, by two, and so on; the 64th has all above),
+                   longest_hit (null without a hash function), longest_miss,
+                   may_help (options of `odht rebuild`, or null). A number of groups
                    that is above the bound is one more than it
 ";
 
@@ -146,14 +151,19 @@ odht check FILE.. [--whole] [--json] [--hash fx|unhash] [--at OFFSET]
     --json         an object of JSON for each file: file, valid (true or false),
                    bound (of groups; null with --whole), rule (the first that it
                    breaks, or null)
+    --at           the table begins at this byte of the file; bytes after its end
+                   are not read
 ";
 
 const COUNT: &str = "\
 odht count FILE.. [--whole] [--hash fx|unhash] [--at OFFSET]
     Prints how many items the table in the file has, after the file's name and a tab
-    where there are more files. Each is checked before, as by `odht check`; where
-    one is not valid the others are still counted, and the status is 1. The hash
-    function is the one that all control bytes fit, unless --hash names it.
+    where there are more files. Each is checked before, as by `odht check`; --whole
+    is as there. Where one is not valid the others are still counted, and the status
+    is 1. The hash function is the one that all control bytes fit, unless --hash
+    names it.
+    --at           the table begins at this byte of the file; bytes after its end
+                   are not read
 ";
 
 const GET: &str = "\
@@ -164,10 +174,12 @@ odht get FILE KEY.. [--json] [--key SHAPE] [--value SHAPE]
     are the lines of standard input, but for an empty last one that is no key. The
     hash function, unless --hash names it, is the one that the first slots leave,
     and of - the one that all control bytes fit. Keys and values have the texts of
-    the ready shape, unless --key and --value name others, as in `odht build`; where
-    no ready shape has these sizes they are hexadecimal digits.
+    the ready shape, or of other sizes hexadecimal digits, unless --key and --value
+    name others of these sizes, as in `odht build`.
     --json         an object of JSON for each key: key and value, strings as those
                    of `odht dump`; value is null where the key is absent
+    --at           the table begins at this byte of the file; bytes after its end
+                   are not read
 ";
 
 const DUMP: &str = "\
@@ -177,20 +189,24 @@ odht dump FILE [--slots] [--json] [--key SHAPE] [--value SHAPE]
     the slot, the control byte and the number of groups that a search for the key
     looks at stand before them, with tabs too. The hash function is the one that
     all control bytes fit, unless --hash names it. Keys and values have the texts
-    of the ready shape, unless --key and --value name others, as in `odht build`;
-    where no ready shape has these sizes they are hexadecimal digits.
+    of the ready shape, or of other sizes hexadecimal digits, unless --key and
+    --value name others of these sizes, as in `odht build`.
     --json         an object of JSON on each line: key and value, strings of these
                    texts, numbers too; before them with --slots slot, control and
                    groups, which are numbers. A text:N that is no UTF-8 is, as
                    key_hex or value_hex, the hexadecimal digits of its bytes
+    --at           the table begins at this byte of the file; bytes after its end
+                   are not read
 ";
 
 const KEYS: &str = "\
 odht keys FILE [--key SHAPE] [--hash fx|unhash] [--at OFFSET]
     Writes each key on a line, in slot order. The hash function is the one that all
     control bytes fit, unless --hash names it. Keys have the texts of the ready
-    shape, unless --key names others, as in `odht build`; where no ready shape has
-    these sizes they are hexadecimal digits.
+    shape, or of other sizes hexadecimal digits, unless --key names others of these
+    sizes, as in `odht build`.
+    --at           the table begins at this byte of the file; bytes after its end
+                   are not read
 ";
 
 const FIND: &str = "\
@@ -216,6 +232,8 @@ odht order FILE [--whole] [--key SHAPE] [--value SHAPE]
     there. The hash function is the one that all control bytes fit, unless --hash
     names it; --key and --value name texts other than those of the ready shape, as
     in `odht build`.
+    --at           the table begins at this byte of the file; bytes after its end
+                   are not read
 ";
 
 const DIFF: &str = "\
@@ -224,15 +242,17 @@ odht diff FILE OTHER [--whole] [--key SHAPE] [--value SHAPE]
     Writes a line for each pair of FILE whose key is not in OTHER, in slot order: a
     hyphen, KEY and VALUE, with tabs between; where OTHER has another value: ~, KEY,
     VALUE and that value. Then +, KEY and VALUE for each pair of OTHER whose key is
-    not in FILE, in its slot order. Where no pair differs the one line is `same bytes`
-    or `same pairs, other bytes`. Status 0: the pairs are the same; 1: they differ;
-    2: the command failed. Both files are checked before, as by `odht check`. Their
-    slot counts, load factors and hash functions may differ; their key and value
-    sizes may not. Keys and values have the texts of FILE, as in `odht dump`.
+    not in FILE, in its slot order. Where no pair differs the one line is `same
+    bytes` or `same pairs, other bytes`. Status 0: the pairs are the same; 1: they
+    differ; 2: the command failed. Both files are checked before, as by `odht
+    check`; --whole is as there. Their slot counts, load factors and hash functions
+    may differ; their key and value sizes may not. The hash function of each is the
+    one that all its control bytes fit, unless --hash names that of both. Keys and
+    values have the texts of FILE, as in `odht dump`; --key and --value name others.
 ";
 
 const BUILD: &str = "\
-odht build FILE --key SHAPE --value SHAPE [--duplicates WORD]
+odht build FILE --key SHAPE --value SHAPE [--duplicates last|first|error]
                 [--delimiter C] [--check-only] [--hash fx|unhash]
                 [--percent P] [--capacity N] [--progress] [--break-links]
     Makes a table of the lines of standard input, KEY, a tab and VALUE, and stores
@@ -240,9 +260,9 @@ odht build FILE --key SHAPE --value SHAPE [--duplicates WORD]
     with - as FILE it goes to standard output. The last line of a key wins, unless
     --duplicates says otherwise; an empty last line that is no pair is left out.
     Owner, group, permissions and symbolic links of an older file are kept; one with
-    hard links is not replaced without --break-links. With hexN or none for both,
-    keys and values may have other sizes than the ready shapes; the hash function is
-    fx then, or --hash.
+    hard links is not replaced without --break-links. Keys and values may have other
+    sizes than the ready shapes, of any SHAPE; the hash function is fx then, or
+    --hash.
     SHAPE          u32, u64, none (no bytes), or hexN: N bytes as 2 N digits;
                    i32 and i64 with a sign; u32be and u64be, the highest byte first;
                    text:N, a text of at most N bytes, with zeros behind it
@@ -253,7 +273,7 @@ odht build FILE --key SHAPE --value SHAPE [--duplicates WORD]
     --check-only   reads all lines, and makes no file: FILE is not looked at
     --percent      the load factor, 1 to 100, else 87
     --capacity     the number of items for which room is made at first, else 12
-    --progress     a line on standard error each second
+    --progress     a line on standard error each second, and a last one of all
     --break-links  replaces this name of a file; its other names keep the old one
 ";
 
@@ -266,10 +286,11 @@ odht put FILE [--key SHAPE] [--value SHAPE] [--whole] [--hash fx|unhash]
     that is no pair is left out. The file is checked before, as by `odht check`;
     --whole is as there. The hash function is the one that all control bytes fit,
     unless --hash names it; --key and --value name texts other than those of the
-    ready shape, as in `odht build`; where no ready shape has these sizes they are
-    hexadecimal digits. Owner, group, permissions and symbolic links of the file are
-    kept; one with hard links is not replaced without --break-links, with which its
-    other names keep the old file.
+    ready shape, or of other sizes than hexadecimal digits, as in `odht build`.
+    Owner, group, permissions and symbolic links of the file are kept; one with hard
+    links is not replaced without --break-links, with which its other names keep the
+    old file.
+    --progress     a line on standard error each second, and a last one of all
 ";
 
 const DELETE: &str = "\
@@ -284,10 +305,11 @@ odht delete FILE KEY.. [--key SHAPE] [--whole] [--hash fx|unhash]
     Where a word or a line is no key nothing is written. The file is checked before,
     as by `odht check`; --whole is as there. The hash function is the one that all
     control bytes fit, unless --hash names it; --key names another text than that of
-    the ready shape, as in `odht build`; where no ready shape has these sizes keys
-    are hexadecimal digits. Owner, group, permissions and symbolic links of the file
-    are kept; one with hard links is not replaced without --break-links, with which
-    its other names keep the old file.
+    the ready shape, or of other sizes than hexadecimal digits, as in `odht build`.
+    Owner, group, permissions and symbolic links of the file are kept; one with hard
+    links is not replaced without --break-links, with which its other names keep the
+    old file.
+    --progress     a line on standard error each second, and a last one of all
 ";
 
 const REBUILD: &str = "\
@@ -302,28 +324,29 @@ odht rebuild FILE [--percent P] [--whole] [--hash fx|unhash] [--progress]
     file are kept; one with hard links is not replaced without --break-links.
     --percent      the load factor of the new table, 1 to 100, else 87
     --hash         the hash function of the new table, else that of the file
-    --progress     a line on standard error each second
+    --progress     a line on standard error each second, and a last one of all
     --break-links  replaces this name of a file; its other names keep the old one
 ";
 
 const MERGE: &str = "\
-odht merge FILE INPUT.. [--duplicates WORD] [--key SHAPE] [--value SHAPE]
-                        [--whole] [--hash fx|unhash] [--percent P]
-                        [--progress] [--break-links]
+odht merge FILE INPUT.. [--duplicates last|first|error] [--key SHAPE]
+                        [--value SHAPE] [--whole] [--hash fx|unhash]
+                        [--percent P] [--progress] [--break-links]
     Makes a new table for as many items as all INPUT have, inserts their pairs, file
     after file and each in slot order, and stores it as FILE, in the place of an
     older one, which stays where something fails; with - as FILE it goes to standard
     output. FILE may be an INPUT too. All have the key and value sizes of the first,
     whose hash function the new table has. Each is checked before, as by `odht
     check`; --whole is as there. The hash function is the one that all control bytes
-    fit, unless --hash names that of all files. Owner, group, permissions and symbolic
-    links of FILE are kept; one with hard links is not replaced without --break-links.
+    fit, unless --hash names that of all files. Owner, group, permissions and
+    symbolic links of FILE are kept; one with hard links is not replaced without
+    --break-links.
     --duplicates   which file's pair of a key counts: last, first, or error: a key
                    that an earlier file has is a failure; else last
     --key, --value the types and texts of the first INPUT, as in `odht build`; this
                    failure has the text of --key
     --percent      the load factor of the new table, 1 to 100, else 87
-    --progress     a line on standard error each second
+    --progress     a line on standard error each second, and a last one of all
     --break-links  replaces this name of a file; its other names keep the old one
 ";
 // end texts

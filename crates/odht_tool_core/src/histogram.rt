@@ -1,6 +1,6 @@
 //! How many items are found by reading one group, two groups, and so on.
 ghost use Rattle.std.specs.Prelude.{◌≡◌, ◌≤◌, ◌<◌, ◌^◌, ℕ, List, [], ◌∷◌, ◌++◌, IfOk};
-ghost use Rattle.std.specs.Prelude.{OnOk, length};
+ghost use Rattle.std.specs.Prelude.{OnOk, length, min};
 ghost use Rattle.std.specs.Io.KnownBytes.{Appends};
 ghost use Rattle.odht_tool_core.specs.InfoNumbers.{IsHistogram, largest};
 ghost use Rattle.odht_tool_core.specs.InfoTexts.{bar, longer_mark, tally_line, tallies_text};
@@ -68,35 +68,7 @@ impl Histogram {
         ensures { OnOk result (Appends (W.contents output.old) (W.contents output.new)
             (counts_array self.now.counts.items self.now.longest)) }
     {
-        output.write_all(b"[")?;
-        self.write_counts(output)?;
-        output.write_all(b"]")
-    }
-
-    // Writes the counts, with a comma before each but the first.
-    fn write_counts<W: Write>(&self, output: &mut W) -> io::Result<()>
-        requires { length self.now.counts.items ≡ 64 }
-        ensures { OnOk result (Appends (W.contents output.old) (W.contents output.new)
-            (counts_text self.now.counts.items self.now.longest)) }
-    {
-        for index in 0..self.longest.min(MOST) {
-            self.write_count(index, output)?;
-        }
-        Ok(())
-    }
-
-    // Writes a count, with a comma before it but before the first.
-    fn write_count<W: Write>(&self, index: usize, output: &mut W) -> io::Result<()>
-        requires { index < length self.now.counts.items }
-        ensures { OnOk result (Appends (W.contents output.old) (W.contents output.new)
-            (count_item self.now.counts.items index)) }
-    {
-        let count = self.counts[index];
-        if index == 0 {
-            write!(output, "{count}")
-        } else {
-            write!(output, ",{count}")
-        }
+        write_array(self.counts.as_slice(), self.longest, output)
     }
 
     // Writes the line of a count.
@@ -113,6 +85,47 @@ impl Histogram {
         write!(output, "{groups:>8}{more}  {count:>12}  ")?;
         write_bar(count, most, output)?;
         output.write_all(b"\n")
+    }
+}
+
+/// Writes an array of JSON of the first `shown` counts, at most 64.
+pub(crate) fn write_array<W: Write>(
+    counts: &[usize],
+    shown: usize,
+    output: &mut W,
+) -> io::Result<()>
+    requires { min shown 64 ≤ length counts.now }
+    ensures { OnOk result (Appends (W.contents output.old) (W.contents output.new)
+        (counts_array counts.now shown)) }
+{
+    output.write_all(b"[")?;
+    write_counts(counts, shown, output)?;
+    output.write_all(b"]")
+}
+
+// Writes the counts, with a comma before each but the first.
+fn write_counts<W: Write>(counts: &[usize], shown: usize, output: &mut W) -> io::Result<()>
+    requires { min shown 64 ≤ length counts.now }
+    ensures { OnOk result (Appends (W.contents output.old) (W.contents output.new)
+        (counts_text counts.now shown)) }
+{
+    for index in 0..shown.min(MOST) {
+        write_count(counts, index, output)?;
+    }
+    Ok(())
+}
+
+// Writes a count, with a comma before it but before the first.
+fn write_count<W: Write>(counts: &[usize], index: usize, output: &mut W) -> io::Result<()>
+    requires { index < length counts.now }
+    ensures { OnOk result (Appends (W.contents output.old) (W.contents output.new)
+        (count_item counts.now index)) }
+{
+    let count = counts[index];
+    if index == 0 {
+        write!(output, "{count}")
+    } else {
+        write!(output, ",{count}")
     }
 }
 

@@ -1,86 +1,115 @@
 //! `odht info`: what a table file of any shape holds.
-ghost use Rattle.std.specs.Prelude.{◌≡◌, ◌++◌, OnOk, length};
+ghost use Rattle.std.specs.Prelude.{◌≡◌, OnOk, length};
 ghost use Rattle.std.specs.Io.KnownBytes.{Appends};
-ghost use Rattle.odht_tool_core.specs.InfoJson.{file_line, info_as};
+ghost use Rattle.odht_tool_core.specs.InfoJson.{info_as, place_text};
 ghost use Rattle.odht_tool_core.specs.InfoTexts.{number_line, lengths_text, sizes_text, hash_name};
-ghost use Rattle.odht_tool_core.specs.InfoTexts.{groups_line, groups_text, info_text, IsInfoDone};
+ghost use Rattle.odht_tool_core.specs.InfoTexts.{at_line, groups_line, groups_text, info_text};
+ghost use Rattle.odht_tool_core.specs.InfoTexts.{IsInfoDone};
 
+use crate::advice::write_advice;
 use crate::failure::Failure;
 use crate::histogram::Histogram;
 use crate::info_json::write_object;
 use crate::numbers::{Numbers, numbers_of};
 use crate::shapes::Hash;
 use crate::status::Status;
+use crate::stretches::write_stretches;
 use odht_header::header::HEADER_SIZE;
 use std::alloc::Global;
 use std::io::{self, Write};
 
-/// `odht info` of the bytes of the file of this name: writes sizes, counts, load factors, and how many groups a
-/// search reads for the items and for absent keys, up to the bound, after a line of its name where it is not the only
-/// one; with `is_json` as an object of JSON.
+/// `odht info` of the bytes of the file of this name, or of the table at a byte of it: writes that byte, sizes, counts,
+/// load factors, how full the table is along its slots, how many groups a search reads for the items and for absent keys,
+/// up to the bound, and what may help where that is many; after a line of the name where it is not the only one; with
+/// `is_json` as an object of JSON.
 pub fn info_file<O: Write>(
     alloc: Global,
     file: &str,
     is_one: bool,
+    at: Option<usize>,
     bytes: &[u8],
     bound: Option<usize>,
     is_json: bool,
     output: &mut O,
 ) -> Result<Status, Failure>
-    ensures { IsInfoDone (info_as is_json is_one file.now) bytes.now bound
+    ensures { IsInfoDone (info_as is_json is_one at file.now) bytes.now bound
         (O.contents output.old) (O.contents output.new) result }
 {
     let numbers = numbers_of(alloc, bytes, bound)?;
-    match write_as(file, is_one, &numbers, is_json, output) {
+    match write_as(file, is_one, at, &numbers, is_json, output) {
         Ok(()) => Ok(Status::Done),
         Err(error) => Err(Failure::Output(error)),
     }
 }
 
-// The lines, with the name of the file where it is not the only one, or the object.
+// The lines, after those of where the table is, or the object.
 fn write_as<O: Write>(
     file: &str,
     is_one: bool,
+    at: Option<usize>,
     numbers: &Numbers,
     is_json: bool,
     output: &mut O,
 ) -> io::Result<()>
     requires { length numbers.now.histogram.counts.items ≡ 64 }
     ensures { OnOk result (Appends (O.contents output.old) (O.contents output.new)
-        (info_as is_json is_one file.now numbers.now)) }
+        (info_as is_json is_one at file.now numbers.now)) }
 {
     if is_json {
-        write_object(file, numbers, output)
-    } else if is_one {
-        write_all(numbers, output)
-    } else {
-        write_named(file, numbers, output)
+        return write_object(file, at, numbers, output);
+    }
+    write_place(file, is_one, at, output)?;
+    write_all(file, at, numbers, output)
+}
+
+// The lines of the file's name, where it is not the only one, and of the byte at which the table stands in it.
+fn write_place<O: Write>(
+    file: &str,
+    is_one: bool,
+    at: Option<usize>,
+    output: &mut O,
+) -> io::Result<()>
+    ensures { OnOk result (Appends (O.contents output.old) (O.contents output.new)
+        (place_text is_one at file.now)) }
+{
+    if is_one {
+        return write_at(at, output);
+    }
+    writeln!(output, "file          {file}")?;
+    write_at(at, output)
+}
+
+// The line of the byte at which the table stands in the file, where that is told.
+fn write_at<O: Write>(at: Option<usize>, output: &mut O) -> io::Result<()>
+    ensures { OnOk result
+        (Appends (O.contents output.old) (O.contents output.new) (at_line at)) }
+{
+    match at {
+        Some(at) => write_number("at byte       ", at as u128, "", output),
+        None => Ok(()),
     }
 }
 
-// The lines, after one of the file's name.
-fn write_named<O: Write>(file: &str, numbers: &Numbers, output: &mut O) -> io::Result<()>
+fn write_all<O: Write>(
+    file: &str,
+    at: Option<usize>,
+    numbers: &Numbers,
+    output: &mut O,
+) -> io::Result<()>
     requires { length numbers.now.histogram.counts.items ≡ 64 }
     ensures { OnOk result (Appends (O.contents output.old) (O.contents output.new)
-        (file_line file.now ++ info_text numbers.now)) }
-{
-    writeln!(output, "file          {file}")?;
-    write_all(numbers, output)
-}
-
-fn write_all<O: Write>(numbers: &Numbers, output: &mut O) -> io::Result<()>
-    requires { length numbers.now.histogram.counts.items ≡ 64 }
-    ensures { OnOk result
-        (Appends (O.contents output.old) (O.contents output.new) (info_text numbers.now)) }
+        (info_text at file.now numbers.now)) }
 {
     write_sizes(numbers, output)?;
+    write_stretches(numbers.slot_count, numbers.stretches.as_slice(), output)?;
     write_hash(numbers, output)?;
     write_longest(
         "longest miss  ",
         numbers.longest_miss,
         numbers.bound,
         output,
-    )
+    )?;
+    write_advice(file, at, numbers, output)
 }
 
 // The lines of the hash function, where there is one with the histogram.

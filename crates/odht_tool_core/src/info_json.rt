@@ -1,10 +1,13 @@
 //! `odht info --json`: the numbers of a table file as an object of JSON.
-ghost use Rattle.std.specs.Prelude.{◌≡◌, [], ◌∷◌, OnOk, codes, length};
+ghost use Rattle.std.specs.Prelude.{◌≡◌, ◌∷◌, OnOk, codes, length};
 ghost use Rattle.std.specs.Io.KnownBytes.{Appends};
-ghost use Rattle.odht_tool_core.specs.InfoJson.{group_fields, hash_or_null, info_object, longest_hit};
-ghost use Rattle.odht_tool_core.specs.InfoJson.{count_fields, length_fields};
-ghost use Rattle.odht_tool_core.specs.Json.{more_fields};
+ghost use Rattle.odht_tool_core.specs.InfoJson.{at_fields, advice_fields, count_fields, group_fields};
+ghost use Rattle.odht_tool_core.specs.InfoJson.{hash_fields, info_object, length_fields, longest_hit};
+ghost use Rattle.odht_tool_core.specs.InfoJson.{hash_or_null};
+ghost use Rattle.odht_tool_core.specs.Json.{json_field, more_fields};
 
+use crate::advice;
+use crate::histogram::write_array;
 use crate::info::name_of;
 use crate::json::{
     write_file_field, write_number_field, write_optional_field, write_string_field,
@@ -18,18 +21,21 @@ use std::io::{self, Write};
 /// Writes the object of the numbers of the file of this name, on a line.
 pub(crate) fn write_object<O: Write>(
     file: &str,
+    at: Option<usize>,
     numbers: &Numbers,
     output: &mut O,
 ) -> io::Result<()>
     requires { length numbers.now.histogram.counts.items ≡ 64 }
     ensures { OnOk result (Appends (O.contents output.old) (O.contents output.new)
-        (info_object file.now numbers.now)) }
+        (info_object at file.now numbers.now)) }
 {
     write_file_field(file, output)?;
+    write_optional_field("at", at, output)?;
     write_lengths(numbers, output)?;
     write_counts(numbers, output)?;
-    write_hash(numbers.hash, output)?;
+    write_hash(numbers, output)?;
     write_groups(numbers, output)?;
+    advice::write_field(numbers, output)?;
     output.write_all(b"}\n")
 }
 
@@ -56,10 +62,21 @@ fn write_counts<O: Write>(numbers: &Numbers, output: &mut O) -> io::Result<()>
     write_number_field("maximum_load_percent", numbers.max_load as u128, output)
 }
 
-// The field of the hash function.
-fn write_hash<O: Write>(hash: Option<Hash>, output: &mut O) -> io::Result<()>
+// The fields of how full the table is along its slots, and of the hash function.
+fn write_hash<O: Write>(numbers: &Numbers, output: &mut O) -> io::Result<()>
     ensures { OnOk result (Appends (O.contents output.old) (O.contents output.new)
-        (more_fields ((codes "hash", hash_or_null hash) ∷ []))) }
+        (more_fields (hash_fields numbers.now))) }
+{
+    let counts = numbers.stretches.as_slice();
+    output.write_all(b",\"along_slots\":")?;
+    write_array(counts, counts.len(), output)?;
+    write_hash_field(numbers.hash, output)
+}
+
+// The field of the hash function.
+fn write_hash_field<O: Write>(hash: Option<Hash>, output: &mut O) -> io::Result<()>
+    ensures { let field = json_field (codes "hash", hash_or_null hash)
+        in OnOk result (Appends (O.contents output.old) (O.contents output.new) (44 ∷ field)) }
 {
     match hash {
         Some(hash) => write_string_field("hash", name_of(hash), output),

@@ -2,6 +2,7 @@
 //! lines, keys and values as text, files, and the numbers of a table of any sizes.
 #![tactic(auto)]
 
+mod advice;
 pub mod answers;
 pub mod any;
 pub mod arguments;
@@ -41,6 +42,7 @@ pub mod sized_slots;
 pub mod slots;
 pub mod status;
 mod stored;
+mod stretches;
 pub mod targets;
 pub mod text;
 pub mod typed;

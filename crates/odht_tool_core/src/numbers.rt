@@ -31,6 +31,8 @@ pub struct Numbers {
     /// The percentage that the header's load factor is nearest to: that which it was made from, if it was made from
     /// one.
     pub max_load: u32,
+    /// How many slots of each stretch are occupied, in slot order: at most 64 stretches, of equal length.
+    pub stretches: Vec<usize>,
     /// The hash function that all control bytes agree with, if there is one.
     pub hash: Option<Hash>,
     /// The bound of the numbers of groups, where there is one: larger ones are counted as one more than it.
@@ -50,6 +52,7 @@ pub fn numbers_of(alloc: Global, bytes: &[u8], bound: Option<usize>) -> Result<N
     let table = StoredTable::open(bytes).map_err(Failure::Refused)?;
     let hash = table.hash();
     let histogram = histogram_of(alloc, &table, hash, bound)?;
+    let stretches = table.stretches(alloc)?;
     let header = Header::of(bytes);
     let (item_count, slot_count) = (header.item_count(), header.slot_count());
     let factor = header.max_load_factor();
@@ -62,6 +65,7 @@ pub fn numbers_of(alloc: Global, bytes: &[u8], bound: Option<usize>) -> Result<N
         max_item_count: max_item_count_for(slot_count, factor),
         load: percent_of(item_count, slot_count),
         max_load: nearest_percent(factor),
+        stretches,
         hash,
         bound,
         histogram,

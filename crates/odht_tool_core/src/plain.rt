@@ -1,5 +1,5 @@
 //! Bytes as plain text, without NUL, tab and line end: they are stored with zeros behind the text.
-ghost use Rattle.std.specs.Prelude.{◌≡◌, ◌↔◌, ◌-◌, length};
+ghost use Rattle.std.specs.Prelude.{◌≡◌, ◌↔◌, ◌-◌, length, replicate};
 ghost use Rattle.std.specs.Prelude.{IfSome, IsSome, IsTrue, OnOk};
 ghost use Rattle.std.specs.List.{AllPass, suffix_len};
 ghost use Rattle.std.specs.Io.KnownBytes.{Appends};
@@ -13,12 +13,27 @@ pub(crate) fn parse_plain<const N: usize>(word: &[u8]) -> Option<[u8; N]>
     ensures value { IfSome result (PadsText word.now) }
     ensures some { IsSome result ↔ IsPlainText N word.now }
 {
-    if word.len() > N || !are_plain(word) {
-        return None;
-    }
     let mut bytes = [0; N];
+    if read_plain(word, &mut bytes) {
+        Some(bytes)
+    } else {
+        None
+    }
+}
+
+/// Whether the word is a plain text of at most so many bytes as there are in `bytes`, all zeros; these then become the
+/// text and zeros behind it, else they are not changed.
+pub(crate) fn read_plain(word: &[u8], bytes: &mut [u8]) -> bool
+    requires { bytes.old ≡ replicate (length bytes.old) 0 }
+    ensures value { IsTrue result → PadsText word.now bytes.new }
+    ensures word { IsTrue result ↔ IsPlainText (length bytes.old) word.now }
+    ensures len { length bytes.new ≡ length bytes.old }
+{
+    if word.len() > bytes.len() || !are_plain(word) {
+        return false;
+    }
     bytes[..word.len()].copy_from_slice(word);
-    Some(bytes)
+    true
 }
 
 // Whether each byte may be in a plain text.

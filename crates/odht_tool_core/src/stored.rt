@@ -9,6 +9,7 @@ ghost use Rattle.odht_header.specs.Refusals.{checked, control_mismatch, length_r
 ghost use Rattle.odht_tool_core.specs.InfoNumbers.{sized_format, format_by, sized_parts};
 ghost use Rattle.odht_tool_core.specs.InfoNumbers.{info_refusal, rest_refusal, least_key_len};
 ghost use Rattle.odht_tool_core.specs.InfoNumbers.{agrees, found_hash, group_numbers, IsHistogram, occupied};
+ghost use Rattle.odht_tool_core.specs.InfoNumbers.{occupied_in, stretch_counts};
 ghost use Rattle.odht_tool_core.specs.InfoNumbers.{longest_miss};
 ghost use Rattle.odht_tool_core.specs.Finds.{has_mirror};
 ghost use Rattle.odht_tool_core.specs.Fronts.{stated_len};
@@ -18,6 +19,7 @@ use crate::early::check_first;
 use crate::groups::{groups_to, groups_to_free};
 use crate::histogram::Histogram;
 use crate::shapes::Hash;
+use crate::stretches::{STRETCHES, stretch_len};
 use odht_base::hash::{FxHashFn, HashFn, UnHashFn};
 use odht_base::swisstable_group_query::is_empty_or_deleted;
 use odht_header::error::Error;
@@ -121,13 +123,36 @@ impl<'a> StoredTable<'a> {
     pub fn count(&self) -> usize
         ensures { result ≡ length (occupied self.now self.now.slots) }
     {
+        self.count_in(0, self.slot_count)
+    }
+
+    // How many of the `len` slots from `first` on are occupied.
+    fn count_in(&self, first: usize, len: usize) -> usize
+        requires { first + len ≤ self.now.slots }
+        ensures { result ≡ length (occupied_in self.now first len) }
+    {
+        let control = self.control;
         let mut count = 0_usize;
-        for slot in 0..self.slot_count {
-            if self.is_occupied(slot) {
+        for index in 0..len {
+            let is_free = is_empty_or_deleted(control[first + index]);
+            if !is_free {
                 count += 1;
             }
         }
         count
+    }
+
+    /// How many slots of each stretch are occupied.
+    pub fn stretches(&self, alloc: Global) -> Result<Vec<usize>, AllocError>
+        ensures { IfOk result (λ counts. counts.items ≡ stretch_counts self.now) }
+    {
+        let len = stretch_len(self.slot_count);
+        let most = self.slot_count.min(STRETCHES);
+        let mut counts = Vec::with_capacity(alloc, most)?;
+        for stretch in 0..most {
+            counts.push(self.count_in(stretch * len, len))?;
+        }
+        Ok(counts)
     }
 
     /// Whether the mirror is the first sixteen control bytes.

@@ -32,8 +32,9 @@ impl Target {
     /// Follows the links of the name. No file is opened.
     ///
     /// It fails with [`Failure::Obstacle`] where what is there is not a regular file, where its owner may not write it,
-    /// and where it has other names, unless `breaks_links`; with [`Failure::Write`] where the system does not follow
-    /// the links, or the file has no name where they end; and without memory.
+    /// and where it has other names, unless `breaks_links`; with [`Failure::Beside`] where a file has the name that the
+    /// new one has until it is stored; with [`Failure::Write`] where the system does not follow the links, or the file
+    /// has no name where they end; and without memory.
     pub fn find<R: Files + AllocGlobal>(
         rt: &R,
         path: &str,
@@ -47,18 +48,34 @@ impl Target {
         }
         let path = end_of_links(rt, path).map_err(Failure::of_writing)?;
         let here = if_there(fs::symlink_metadata(rt, path.as_str())).map_err(Failure::Write)?;
-        if is_same(&there, &here) {
-            let kept = there.as_ref().map(Kept::of);
-            Ok(Target {
-                path,
-                kept,
-                breaks_links,
-            })
-        } else {
+        if !is_same(&there, &here) {
             let error = io::Error::other(
                 "no name of the file is known, or it was replaced just now",
             );
-            Err(Failure::Write(error))
+            return Err(Failure::Write(error));
+        }
+        check_beside(rt, path.as_str())?;
+        let kept = there.as_ref().map(Kept::of);
+        Ok(Target {
+            path,
+            kept,
+            breaks_links,
+        })
+    }
+
+    /// The same of a file that need not be there. [`Failure::Write`] too where its folder is not.
+    pub fn find_place<R: Files + AllocGlobal>(
+        rt: &R,
+        path: &str,
+        breaks_links: bool,
+    ) -> Result<Target, Failure> {
+        let target = Target::find(rt, path, breaks_links)?;
+        match target.path().rsplit_once('/') {
+            Some((folder, _)) if !folder.is_empty() => {
+                fs::metadata(rt, folder).map_err(Failure::Write)?;
+                Ok(target)
+            }
+            _ => Ok(target),
         }
     }
 
@@ -100,6 +117,21 @@ impl Kept {
         let (keeps_owner, keeps_group) = (new.uid() == self.owner, new.gid() == self.group);
         let mode = kept_mode(self.mode, keeps_owner, keeps_group);
         file.set_permissions(Permissions::from_mode(mode))
+    }
+}
+
+/// The name that the new file has until it is stored.
+pub(crate) fn beside(alloc: Global, path: &str) -> Result<String, Failure> {
+    Ok(format!(in alloc; "{path}.new")?)
+}
+
+// A failure where a file has this name.
+fn check_beside<R: Files + AllocGlobal>(rt: &R, path: &str) -> Result<(), Failure> {
+    let beside = beside(rt.alloc(), path)?;
+    match if_there(fs::symlink_metadata(rt, beside.as_str())) {
+        Ok(None) => Ok(()),
+        Ok(Some(_)) => Err(Failure::Beside(beside)),
+        Err(error) => Err(Failure::Write(error)),
     }
 }
 

@@ -1,7 +1,7 @@
 //! `odht`, the program for table files: the proved source with its contracts taken out, compiled by rustc. It is not
 //! the machine code that was proved, and `odht --version` says so.
 //!
-//! `odht_tool_core` and `odht_tool` are erased as the crates below them are; those are the files of the crate `odht`.
+//! `odht_tool` and the crates `odht_tool_*` are erased as those below them are, which are the files of the crate `odht`.
 
 #![deny(unsafe_code, unsafe_op_in_unsafe_fn)]
 
@@ -41,7 +41,10 @@ mod proved {
 #[forbid(unsafe_code)]
 mod erased {
     pub mod core;
+    pub mod reads;
+    pub mod tables;
     pub mod tool;
+    pub mod writes;
 }
 
 fn main() -> std::process::ExitCode {

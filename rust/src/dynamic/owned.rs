@@ -127,6 +127,31 @@ impl<H: HashFn> DynTableOwned<H> {
         Ok(former.map(ShortBytes))
     }
 
+    /// Makes room for so many more items: so many new keys are inserted before the table grows. Where it has the room
+    /// nothing changes, and no memory is asked for. Otherwise its pairs are placed again, in the fewest slots that are
+    /// enough, at the same load factor.
+    ///
+    /// Where it moves, one pass over the slots; each item is hashed once.
+    ///
+    /// ```
+    /// use odht::dynamic::{DynError, DynTableOwned, Layout};
+    /// use odht::{Error, FxHashFn};
+    ///
+    /// let mut table = DynTableOwned::<FxHashFn>::new(Layout { key_len: 3, value_len: 1 })?;
+    /// table.reserve(100)?;
+    /// assert_eq!(table.raw_bytes().len(), 32 + 128 * 4 + 128 + 16);
+    /// assert_eq!(table.reserve(usize::MAX), Err(DynError::Rejected(Error::Capacity)));
+    /// # Ok::<(), DynError>(())
+    /// ```
+    ///
+    /// # Errors
+    ///
+    /// `Rejected` with [`Error::Capacity`](crate::Error::Capacity) where no slot count is enough, or the length is above
+    /// `usize::MAX`, and with [`Error::Memory`](crate::Error::Memory) where memory is refused. Nothing has changed then.
+    pub fn reserve(&mut self, additional: usize) -> Result<(), DynError> {
+        self.0.reserve(additional)
+    }
+
     /// The table as one that does not grow, with the calls that look at it.
     ///
     /// ```

@@ -20,3 +20,4 @@ mod hash_table;
 mod hash_table_owned;
 mod iter;
 pub mod lookups;
+mod reserve;

@@ -1,11 +1,12 @@
 -- Worked examples: what the owned table of lengths that are known at run time alone returns.
-use Rattle.std.proofs.Common.{◌≡◌, ℕ, List, refl, Option, Result, Ok, Err}
+use Rattle.std.proofs.Common.{◌≡◌, ℕ, List, refl, Option, Result, Ok, Err, inl, inr}
 use Rattle.std.specs.Prelude.{OnErr}
 use Rattle.std.specs.Result.{result_map_both}
 use Rattle.odht_header.specs.declared.error.Error.{Error}
 use Rattle.odht_header.specs.declared.error.Error.TheVariants.{Full, Memory}
 use Rattle.odht.specs.Dynamic.{DynStore, dyn_store}
-use Rattle.odht.specs.DynOwned.{IsDynWith, IsRejecting, IsDynInsertOwned}
+use Rattle.odht.specs.DynOwned.{IsDynWith, IsRejecting, IsDynInsertOwned, IsDynReserve}
+use Rattle.odht.specs.NewTables.{IsCapacityOrMemory}
 use Rattle.odht.specs.declared.dynamic.DynError.TheVariants.{WrongKeyLength, Rejected}
 
 -- a table of keys of two bytes and values of one has these lengths, whatever is said of its bytes
@@ -34,3 +35,12 @@ full_refused t h k v B was = go was.answer was.is was.holds.only_memory
     go : (r : Result (Option (List ℕ)) Error) → Err (Rejected Full) ≡ result_map_both (λ x. x) Rejected r → OnErr r (r ≡ Err Memory) → ⊥
     go (Ok o) is only = cc
     go (Err e) is only = cc
+
+-- nor is room for more
+pub no_room_refused : (t : DynStore (List ℕ)) (h : List ℕ → ℕ) (n : ℕ) (B : List ℕ) → IsDynReserve t h n (Err (Rejected Full)) B → ⊥
+no_room_refused t h n B was = go was.answer was.is was.holds.only
+  where
+    go : (r : Result Unit Error) → Err (Rejected Full) ≡ result_map_both (λ x. x) Rejected r → OnErr r (IsCapacityOrMemory r) → ⊥
+    go (Ok o) is only = cc
+    go (Err e) is (inl only) = cc
+    go (Err e) is (inr only) = cc

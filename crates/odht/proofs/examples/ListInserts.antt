@@ -19,6 +19,8 @@ use Rattle.odht_raw.specs.Frame.{InsertFrame, entries_in}
 use Rattle.odht_header.specs.declared.error.Error.{Error}
 use Rattle.odht_header.specs.declared.error.Error.TheVariants.{Full}
 use Rattle.std.specs.Result.{result_map_both}
+use Rattle.odht.specs.LastValues.{IsCollected}
+use Rattle.odht.specs.Rebuilds.{IsBuilt}
 use Rattle.odht.specs.Lists.{encoded_all, HasSizeOf, IsAfterInserts, IsRefusedAt, IsStoppedAt, IsFreshAfterInserts}
 use Rattle.odht_header.proofs.examples.Apart.{unequal_lists, some_unequal_lists}
 use Rattle.odht.proofs.examples.SmallTables.{number_coding, no_pairs, one_pair, other_pair, full_of_none, one_of_32, bytes_of, one_pair_image, one_of_32_image}
@@ -185,3 +187,29 @@ larger_start h = unequal_lists _ _ refl (the_list _ h)
 pub no_fresh_image : IsFreshAfterInserts number_coding 87 ((1, 2) ∷ []) [] → ⊥
 unfolding opened
 no_fresh_image h = unequal_lists _ _ refl (the_list _ h)
+
+-- ---- what is collected, and what is built anew
+pub collected : IsCollected number_coding 87 ((1, 2) ∷ []) (bytes_of (one_pair 2))
+unfolding opened
+collected = record { inserted = a_fresh_list; last_values = record { table = one_pair 2; image = one_pair_image.0; maps = λ k. go (bytes_eq k (le_bytes 8 1)) } }
+  where
+    go : (b : Bool) → option_map (λ (p : Pair). p.value) (if b then Some (pair64 1 2) else None) ≡ option_map (λ (p : Pair). p.value) (if b then Some (pair64 1 2) else None)
+    go b = refl
+
+-- not in a larger table
+pub collected_wide : IsCollected number_coding 87 ((1, 2) ∷ []) (bytes_of (one_of_32 87 2)) → ⊥
+collected_wide h = larger_start h.inserted
+
+-- a table for up to 13 items has sixteen slots
+pub built : IsBuilt number_coding ((1, 2) ∷ []) 13 87 (bytes_of (one_pair 2))
+unfolding opened a_list
+built = record { start = no_pairs; new = refl; inserted = a_list }
+
+-- without the item it is not built
+pub built_empty : IsBuilt number_coding ((1, 2) ∷ []) 13 87 (bytes_of no_pairs) → ⊥
+unfolding opened
+built_empty h =
+    let start : no_pairs ≡ h.start = some_same no_pairs h.start h.new in
+    let runs : run (insert_owned my_config) no_pairs (pair64 1 2 ∷ []) ≡ Some h.inserted.table =
+    ap (λ T. run (insert_owned my_config) T (pair64 1 2 ∷ [])) start ∙ h.inserted.runs in
+    unequal_lists _ _ refl (h.inserted.image.bytes ∙ ap bytes_of (sym (some_same (one_pair 2) h.inserted.table runs)))

@@ -3,12 +3,13 @@ use Rattle.std.proofs.Common.{◌≡◌, ◌∙◌, ◌^◌, Bool, true, false, 
 use Rattle.odht_base.specs.Map.{map_of}
 use Rattle.odht_base.specs.Numbers.{le_bytes}
 use Rattle.odht_base.specs.Table.{Pair}
+use Rattle.odht_base.proofs.lemmas.Least.{slots_for-IsLeastSlots}
 use Rattle.odht_base.proofs.lemmas.Options.{some_same}
 use Rattle.odht_base.proofs.examples.Configs.{my_config, pair64}
 use Rattle.odht_header.proofs.examples.Apart.{unequal_lists}
 use Rattle.odht_header.proofs.examples.Opened.{opened}
 use Rattle.odht_header.specs.declared.error.Error.TheVariants.{Capacity, Memory}
-use Rattle.odht.specs.Reserves.{LacksRoom, has_room_for, moved, reserved, IsMovedImage, IsReserved, IsMove, IsReserve}
+use Rattle.odht.specs.Reserves.{LacksRoom, has_room_for, moved, reserved, IsMovedImage, IsReserved, IsMove, IsMoveFor, IsReserve}
 use Rattle.odht.proofs.examples.SmallTables.{number_coding, one_pair, one_of_32, bytes_of, one_pair_image, wide_image, only_one_pair}
 
 -- with one pair twelve more have room, and thirteen have not
@@ -65,6 +66,24 @@ too_small h = unequal_lists _ _ refl (h.image.bytes ∙ ap bytes_of (sym (some_s
 pub not_moved : IsMovedImage my_config (one_pair 2) 32 (bytes_of (one_pair 2)) → ⊥
 unfolding opened
 not_moved h = unequal_lists _ _ refl (h.2.bytes ∙ ap bytes_of (sym (some_same (one_of_32 87 2) h.0 h.1)))
+
+-- nothing moves with the room; for thirteen more there are 32 slots, whose table has 464 bytes
+pub sizes_stay : IsMoveFor my_config (one_pair 2) 12 (Ok None)
+unfolding opened
+sizes_stay = lit≤ tt
+
+pub sizes_for_more : IsMoveFor my_config (one_pair 2) 13 (Ok (Some (32, 464)))
+unfolding opened
+sizes_for_more = (lit< tt, record { slots = refl; least = slots_for-IsLeastSlots _ _ 32 refl; long = refl; fits = lit< tt })
+
+-- no table moves that has the room, and none fails for which some table is large enough
+pub sizes_early : IsMoveFor my_config (one_pair 2) 12 (Ok (Some (32, 464))) → ⊥
+unfolding opened
+sizes_early h = omega (arith, h.0)
+
+pub sizes_large : IsMoveFor my_config (one_pair 2) 13 (Err Capacity) → ⊥
+unfolding opened
+sizes_large h = let long = h.1 32 refl in omega (arith, long)
 
 -- ---- with the result of the call
 -- the pair has moved, and there is room

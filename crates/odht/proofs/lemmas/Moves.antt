@@ -1,5 +1,5 @@
 -- The pairs of a table, placed in slot order into other slots, and the table that has room for more.
-use Rattle.std.proofs.Common.{◌≡◌, ◌≤◌, ◌+◌, ◌*◌, ◌^◌, ◌∙◌, ◌++◌, ℕ, sym, ap, subst, refl, List, Some, arith, append-nil, IsPermutation, cond}
+use Rattle.std.proofs.Common.{◌≡◌, ◌≤◌, ◌+◌, ◌*◌, ◌^◌, ◌∙◌, ◌++◌, ℕ, sym, ap, subst, refl, List, Some, arith, append-nil, IsPermutation, cond, Ok, Err}
 use Rattle.std.proofs.lemmas.Bool.{le-leb, lt-leb}
 use Rattle.std.specs.Prelude.{option_and_then}
 use Rattle.std.specs.Option.{option_or}
@@ -22,8 +22,12 @@ use Rattle.odht_base.proofs.lemmas.InsertRuns.{run-keeps, factor-run, map_of-run
 use Rattle.odht_base.proofs.lemmas.Least.{slots_for-IsLeastSlots}
 use Rattle.odht_base.proofs.lemmas.Options.{option_or-none_right}
 use Rattle.odht_base.proofs.lemmas.SlotCounts.{slots_pos, few_slots}
+use Rattle.odht_header.specs.Coding.{Coding}
+use Rattle.odht_header.specs.Layouts.{IsLayout}
 use Rattle.odht_header.specs.Refusals.{IsTooLarge}
-use Rattle.odht.specs.Reserves.{moved, reserved, LacksRoom, IsMovedImage, IsReserved}
+use Rattle.odht_header.specs.declared.error.Error.TheVariants.{Capacity, Memory}
+use Rattle.odht.specs.Reserves.{moved, reserved, LacksRoom, IsMovedImage, IsReserve, IsReserved}
+use Rattle.odht.proofs.lemmas.NewRefusals.{not_both, not_ok}
 use Rattle.odht.proofs.lemmas.ViewInserts.{factor_header}
 
 -- Q is a valid table of s slots with the pairs of P
@@ -113,6 +117,33 @@ pub reserved-room : (P : Table) (n s : ℕ) → slots_for (count P + n) P.factor
 reserved-room P n s slots =
     let holds : count P + n ≤ max_items s P.factor = max_items-holds (count P + n) s P.factor (slots_for-IsLeastSlots _ _ s slots).holds in
     omega (arith, holds)
+
+-- ---- room for more, with the result of the call
+module _ {K V : Type 0} (c : Coding K V) (P : Table) (ok : IsValid c.format P) (n : ℕ) (B : List ℕ) where
+  -- a table with the room stays
+  pub reserve-stays : IsImage c.format P B → count P + n ≤ max_items (slot_count P) P.factor → IsReserve c P n (Ok tt) B
+  reserve-stays is enough = record { ok = reserved-stays c.format P ok n B is enough; capacity = (λ e. absurd (not_ok _ refl e), λ h. absurd (omega (arith, h.0, enough))); lacking = tt }
+
+  module _ (lacks : LacksRoom P n) where
+    -- no table is that large
+    pub reserve-large : IsTooLarge c.format (count P + n) P.factor → IsReserve c P n (Err Capacity) B
+    reserve-large large = record { ok = tt; capacity = (λ e. (lacks, large), λ h. refl); lacking = lacks }
+
+    module _ (s len : ℕ) (there : IsLayout c.format (count P + n) P.factor s len) where
+      small : LacksRoom P n × IsTooLarge c.format (count P + n) P.factor → ⊥
+      small h = omega (arith, h.1 s there.slots, there.long, there.fits)
+
+      -- there is no memory for it
+      pub reserve-no_memory : IsReserve c P n (Err Memory) B
+      reserve-no_memory = record { ok = tt; capacity = (λ e. absurd (not_both _ e refl), λ h. absurd (small h)); lacking = lacks }
+
+      -- the pairs have moved
+      pub reserve-moves : (count P ≤ max_items s P.factor → IsMovedImage c.format P s B) → IsReserve c P n (Ok tt) B
+      reserve-moves moved = record {
+        ok = reserved-moves c.format P ok n s B lacks there.slots (moved (reserved-room P n s there.slots));
+        capacity = (λ e. absurd (not_ok _ refl e), λ h. absurd (small h));
+        lacking = tt;
+      }
 
 -- ---- a table that is emptied
 -- the slot count of the header is that of the table

@@ -19,7 +19,7 @@ use Rattle.odht_base.proofs.lemmas.TableInserts.{insert_view-IsInsert, insert_vi
 use Rattle.odht_header.specs.Coding.{Coding, encoded, value_for}
 use Rattle.odht_header.specs.declared.error.Error.{Error}
 use Rattle.odht_header.specs.declared.error.Error.TheVariants.{Full}
-use Rattle.odht_raw.specs.Frame.{HasNoFreeSlot, IsAbsent, IsMissing, InsertFrame, IsFramed}
+use Rattle.odht_raw.specs.Frame.{EachCountsAsOccupied, IsAbsent, IsMissing, InsertFrame, IsFramed}
 use Rattle.odht_raw.specs.Runs.{IsOnePlaced}
 use Rattle.odht_raw.proofs.lemmas.Steps.{missing-absent, has_free_slot}
 use Rattle.odht.specs.Inserts.{IsInserted}
@@ -62,11 +62,11 @@ module _ (F : Format) (P : Table) (B : List ℕ) (is : IsImage F P B) where
       (subst (λ n. IsMissing F (record { slots = n; bytes = entries_of F B }) (controls_of F B) k) (sym slots_read) absent)
 
   -- some slot counts as free
-  free_here : IsFormat F → HasNoFreeSlot (controls_of F B) (header_slots B) → ⊥
+  free_here : IsFormat F → EachCountsAsOccupied (controls_of F B) (header_slots B) → ⊥
   free_here f none =
       let below = max_items-lt (slot_count P) P.factor (slots_pos (slot_count P) is.valid.placed.slots) is.valid.factor_high in
       has_free_slot F P (entries_of F B) (controls_of F B) f parts_here (slot_count P) long (omega (arith, below, is.valid.room))
-      (subst (HasNoFreeSlot (controls_of F B)) (sym slots_read) none)
+      (subst (EachCountsAsOccupied (controls_of F B)) (sym slots_read) none)
 
 -- ---- an insert that is accepted
 -- the first of the inserts of one pair

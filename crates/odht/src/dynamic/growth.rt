@@ -10,8 +10,9 @@ ghost use Rattle.odht_base.specs.Valid.{IsPartsOf};
 ghost use Rattle.odht_raw.specs.PartLengths.{ArePartLengths};
 ghost use Rattle.odht_raw.specs.PartsPlacings.{IsNewTo};
 ghost use Rattle.odht_raw.specs.Sized.{HasLengthsOf};
-ghost use Rattle.odht.specs.Dynamic.{dyn_format};
+ghost use Rattle.odht.specs.Dynamic.{dyn_coding, dyn_format};
 ghost use Rattle.odht.specs.Growths.{grown_len, table_len, IsGrownFrom, IsWritten};
+ghost use Rattle.odht.specs.Reserves.{IsMove};
 ghost use Rattle.odht.specs.Tables.{OfTable};
 
 use super::DynTable;
@@ -53,13 +54,27 @@ impl<H: HashFn, D: ByteStore> DynTable<H, D> {
         };
         let item_count = header.item_count();
         let factor = header.max_load_factor();
-        write_table::<H>(out, layout, slot_count, item_count, factor, self.iter());
+        write_walked::<H>(out, layout, slot_count, item_count, factor, self.iter());
+    }
+
+    /// Writes the pairs of this table, placed in slot order into so many slots, to `out`, whatever its bytes were. `out`
+    /// has the length for them.
+    pub(super) fn move_into(&self, slot_count: usize, out: &mut [u8])
+        requires slots { IsSlotCount slot_count }
+        requires len { length out.old ≡ image_len (dyn_format self.now H.hash) slot_count }
+        ensures { IsMove (dyn_coding self.now H.hash) (D.bytes self.now.store) slot_count out.new }
+    {
+        let layout = self.layout();
+        let header = Header::of(self.raw_bytes());
+        let items = header.item_count();
+        let factor = header.max_load_factor();
+        write_walked::<H>(out, layout, slot_count, items, factor, self.iter());
     }
 }
 
 // Writes the table of so many slots with the pairs of the walk. The new header gets `item_count`, whatever the walk
 // gives.
-fn write_table<H: HashFn>(
+fn write_walked<H: HashFn>(
     bytes: &mut [u8],
     layout: Layout,
     slot_count: usize,

@@ -3,19 +3,17 @@ ghost use Rattle.odht.specs.Tables.{InTable};
 ghost use Rattle.std.specs.Prelude.{◌≡◌, IfOk, OnErr};
 ghost use Rattle.odht_base.specs.Image.{image_len};
 ghost use Rattle.odht_base.specs.Load.{IsSlotCount};
-ghost use Rattle.odht.specs.Growths.{IsRoomFor};
 ghost use Rattle.odht.specs.Reserves.{IsMove, IsReserve};
 ghost use Rattle.odht.specs.NewTables.{IsCapacityOrMemory};
 
 use super::HashTableOwned;
-use crate::bytes::{ByteStore, OwnedBytes};
+use crate::bytes::OwnedBytes;
 use crate::config::{Coded, Config};
 use crate::error::Error;
-use crate::growth::write_walked;
+use crate::growth::write_moved;
 use crate::hash_table::HashTable;
-use crate::load::max_item_count_for;
-use crate::memory_layout::layout_for;
-use crate::raw_table::RawIter;
+use crate::layout::Layout;
+use crate::reserve::sizes_for_more;
 
 impl<C: Config> HashTableOwned<C> {
     /// Makes room for `additional` more items: so many new keys can be inserted before the table grows. Where it has
@@ -31,21 +29,13 @@ impl<C: Config> HashTableOwned<C> {
         ensures in_table { InTable ⟦<C as Coded>⟧.coding self.old
             (λ c P. IsReserve c P additional result self.new) }
         // On failure.
-        ensures memory { OnErr result (IsCapacityOrMemory result) }
+        ensures capacity_or_memory { OnErr result (IsCapacityOrMemory result) }
         ensures refused { OnErr result (self.new ≡ self.old) }
     {
         let header = self.table.allocation.header();
-        let item_count = header.item_count();
-        let factor = header.max_load_factor();
-        let most = max_item_count_for(header.slot_count(), factor);
-        if additional <= most.saturating_sub(item_count) {
+        let sizes = sizes_for_more::<C::H>(Layout::of::<C>(), &header, additional)?;
+        let Some((slot_count, len)) = sizes else {
             return Ok(());
-        }
-        let Some(wanted) = item_count.checked_add(additional) else {
-            return Err(Error::Capacity);
-        };
-        let Some((slot_count, len)) = layout_for::<C>(wanted, factor) else {
-            return Err(Error::Capacity);
         };
         let Ok(moved) = self.moved(slot_count, len) else {
             return Err(Error::Memory);
@@ -68,18 +58,4 @@ impl<C: Config> HashTableOwned<C> {
         write_moved(&self.table, slot_count, bytes.as_mut_slice());
         Ok(HashTable::from_raw_bytes_unchecked(OwnedBytes::new(bytes)))
     }
-}
-
-// Writes the pairs of a table, placed in slot order into so many slots, into bytes whose entries are zeros.
-fn write_moved<C: Config, D: ByteStore>(table: &HashTable<C, D>, slot_count: usize, out: &mut [u8])
-    requires slots { IsSlotCount slot_count }
-    requires room { IsRoomFor ⟦<C as Coded>⟧.coding slot_count out.old }
-    ensures { IsMove ⟦<C as Coded>⟧.coding (D.bytes table.now) slot_count out.new }
-{
-    let header = table.allocation.header();
-    let item_count = header.item_count();
-    let factor = header.max_load_factor();
-    let (control, entries) = table.allocation.data_slices();
-    let walk = RawIter::new(control, entries);
-    write_walked::<C>(out, slot_count, item_count, factor, walk);
 }

@@ -57,7 +57,7 @@ impl GroupQuery {
     pub fn any_empty(&self) -> bool
         ensures { result ≡ is_some self.now.free }
     {
-        !self.free.is_empty()
+        Group::any_empty(self)
     }
 
     /// The least index of a byte of 128 or more, whether or not matches were dropped.
@@ -65,7 +65,7 @@ impl GroupQuery {
     pub fn first_empty(&self) -> Option<usize>
         ensures { result ≡ self.now.free }
     {
-        self.free.first()
+        Group::first_empty(self)
     }
 }
 
@@ -92,12 +92,12 @@ impl Group for GroupQuery {
 
     #[inline]
     fn any_empty(&self) -> bool {
-        self.any_empty()
+        !self.free.is_empty()
     }
 
     #[inline]
     fn first_empty(&self) -> Option<usize> {
-        self.first_empty()
+        self.free.first()
     }
 
     #[inline]

@@ -1,8 +1,10 @@
 -- Worked examples: layouts, and calls with them.
-use Rattle.std.proofs.Common.{◌≡◌, ℕ, List, ap, refl, lit≤, arith, Some, None}
-use Rattle.odht_header.specs.Coding.{Coding}
+use Rattle.std.proofs.Common.{◌≡◌, ℕ, List, Option, ap, refl, subst, sym, lit≤, arith, Some, None}
+use Rattle.odht_base.specs.Table.{Table}
+use Rattle.odht_base.specs.Valid.{IsImage}
+use Rattle.odht_header.specs.Coding.{Coding, HasStored, value_for}
 use Rattle.odht_calls.specs.declared.any.AnyLayout.{AnyLayout}
-use Rattle.odht_calls.specs.Layouts.{IsLayout, IsFoundBy, SizedAnswers, AnyAnswers, LayoutAnswers}
+use Rattle.odht_calls.specs.Layouts.{IsLayout, IsFoundBy, ViewContainsAnswers, SizedAnswers, AnyAnswers, LayoutAnswers}
 use Rattle.odht_calls.proofs.lemmas.Layouts.{by_none}
 
 abbrev layout : ℕ → ℕ → ℕ → AnyLayout
@@ -29,6 +31,19 @@ found_by = (refl, refl)
 -- and not the other way round
 pub absent_as_found_refused : IsFoundBy {V = ℕ} None 0 → ⊥
 absent_as_found_refused h = absurd (omega (arith, h))
+
+-- ---- ViewContainsAnswers
+-- a key that is stored, and that the table of valid bytes has, is answered with ODHT_OK
+pub found_in_view : (c : Coding ℕ ℕ) (B : List ℕ) (k v : ℕ) → HasStored c B k v → ((P : Table) → IsImage c.format P B → value_for c P k ≡ Some v) → ViewContainsAnswers c B k 0
+found_in_view c B k v stored has = record { on_valid = λ P is. subst (λ o. IsFoundBy o 0) (sym (has P is)) refl; on_any = (Some v, refl, stored) }
+
+-- and no key is answered with another status than ODHT_OK and ODHT_ABSENT
+pub other_status_in_view_refused : (c : Coding ℕ ℕ) (B : List ℕ) (k : ℕ) → ViewContainsAnswers c B k 35 → ⊥
+other_status_in_view_refused c B k h = go h.on_any.0 h.on_any.1
+  where
+    go : (o : Option ℕ) → IsFoundBy o 35 → ⊥
+    go None e = absurd (omega (arith, e))
+    go (Some v) e = absurd (omega (arith, e))
 
 -- ---- SizedAnswers, AnyAnswers
 -- so many bytes are as many as the layout says

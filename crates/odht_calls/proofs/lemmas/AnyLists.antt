@@ -28,12 +28,12 @@ use Rattle.odht.proofs.lemmas.Lookups.{slice_get-set_same, slice_get-set_other}
 use Rattle.odht.proofs.lemmas.ViewInserts.{if_inserted, if_former, framed-full, full-framed, framed-only_full}
 use Rattle.odht_calls.specs.Lookups.{flag_of, with_found}
 use Rattle.odht_calls.specs.Pieces.{pieces}
-use Rattle.odht_calls.specs.Reads.{IsGotAt, GetAllAnswers}
+use Rattle.odht_calls.specs.Reads.{IsGotAt}
 use Rattle.odht_calls.specs.Statuses.{AreAsLong, done}
+use Rattle.odht_calls.specs.Views.{ViewGetAllAnswers}
 use Rattle.odht_calls.proofs.lemmas.Arrays.{set-next_of}
 use Rattle.odht_calls.proofs.lemmas.Layouts.{stored_len}
 use Rattle.odht_calls.proofs.lemmas.Pieces.{length-pieces}
-use Rattle.odht_calls.proofs.lemmas.Refused.{not_none}
 
 -- ---- lookups of the first i keys, into values that were vs: the values and flags are vs' and fs' then
 pub record AreGotUpTo {K V : Type 0} (c : Coding K V) (B : List ℕ) (keys : List K) (vs : List V) (i : ℕ) (vs' : List V) (fs' : List ℕ) : Type 0 where
@@ -79,16 +79,15 @@ module _ {K V : Type 0} (c : Coding K V) (B : List ℕ) (keys : List K) (vs : Li
   }
 
   -- those of all keys are the answer
-  pub all_got : (fs : List ℕ) (vs' : List V) (fs' : List ℕ) → IsAccepted c.format B → AreAsLong (length keys) (length vs) (length fs)
-      → AreGotUpTo c B keys vs (length keys) vs' fs' → GetAllAnswers c B keys vs fs done vs' fs'
-  all_got fs vs' fs' accepted equal all = record {
+  pub all_got : (fs : List ℕ) (vs' : List V) (fs' : List ℕ) → AreAsLong (length keys) (length vs) (length fs)
+      → AreGotUpTo c B keys vs (length keys) vs' fs' → ViewGetAllAnswers c B keys vs fs done vs' fs'
+  all_got fs vs' fs' equal all = record {
     lengths = λ other. absurd (other equal);
-    refused = λ e long is. not_none _ e is accepted;
-    accepted = λ long is. refl;
+    looked_up = λ long. refl;
     on_valid = λ P i k long is at. (
         let here = all.answers i k (slice_get_within keys i k at) at in
         subst (λ o. IsGotAt o (slice_get vs i) (slice_get fs' i) (slice_get vs' i)) (here.2.on_valid P is) here.1);
-    on_any = λ i k long is at. (
+    on_any = λ i k long at. (
         let here = all.answers i k (slice_get_within keys i k at) at in
         (here.0, here.1, here.2.on_any));
   }

@@ -15,7 +15,7 @@ use Rattle.odht_raw.proofs.lemmas.Accepted.{accepted_len}
 use Rattle.odht_raw.specs.Sized.{bytes_coding}
 use Rattle.odht.specs.Dynamic.{DynStore, dyn_format}
 use Rattle.odht_calls.specs.declared.any.AnyLayout.{AnyLayout}
-use Rattle.odht_calls.specs.Layouts.{AnyAnswers, bad_layout, hash_of, least_of}
+use Rattle.odht_calls.specs.Layouts.{AnyAnswers, IsLayout, any_coding, bad_layout, hash_of, least_of}
 
 -- the coding of the lengths of l with a hash function
 abbrev by_hash : AnyLayout → (List ℕ → ℕ) → Coding (List ℕ) (List ℕ)
@@ -58,6 +58,24 @@ module _ (l : AnyLayout) (s : ℕ) (Same : Type 0) (A : Coding (List ℕ) (List 
     layout = λ other. (status, same);
     answers = λ ok. absurd (no_hash l.hash l.key_len a b ok.hash ok.key);
   }
+
+-- bytes that fit the lengths of a layout fit them with the hash function that is picked
+module _ (l : AnyLayout) (B : List ℕ) where
+  pub accepted_fx : (l.hash ≡ 0) × (0 ≤ l.key_len) → (IsLayout l → IsAccepted (any_coding l).format B) → IsAccepted (by_hash l fx).format B
+  accepted_fx is fit =
+      subst (λ h. IsAccepted (by_hash l (hash_of h)).format B) is.0 (fit (record { hash = omega (arith, is.0); key = subst (λ h. least_of h ≤ l.key_len) (sym is.0) is.1 }))
+
+  pub accepted_un : (l.hash ≡ 1) × (4 ≤ l.key_len) → (IsLayout l → IsAccepted (any_coding l).format B) → IsAccepted (by_hash l un).format B
+  accepted_un is fit =
+      subst (λ h. IsAccepted (by_hash l h).format B) (is_un l.hash is.0) (fit (record { hash = omega (arith, is.0); key = subst (λ n. n ≤ l.key_len) (sym (least_un l.hash is.0)) is.1 }))
+
+-- and those that stay accepted with it stay so
+module _ (l : AnyLayout) (B C : List ℕ) where
+  pub stays_fx : l.hash ≡ 0 → (IsAccepted (by_hash l fx).format B → IsAccepted (by_hash l fx).format C) → IsAccepted (any_coding l).format B → IsAccepted (any_coding l).format C
+  stays_fx is stays = subst (λ h. IsAccepted (by_hash l (hash_of h)).format B → IsAccepted (by_hash l (hash_of h)).format C) (sym is) stays
+
+  pub stays_un : l.hash ≡ 1 → (IsAccepted (by_hash l un).format B → IsAccepted (by_hash l un).format C) → IsAccepted (any_coding l).format B → IsAccepted (any_coding l).format C
+  stays_un is stays = subst (λ h. IsAccepted (by_hash l h).format B → IsAccepted (by_hash l h).format C) (sym (is_un l.hash is)) stays
 
 -- what holds of the table that was opened holds of the bytes and the lengths
 pub opened : {D : Type 0} (t : DynStore D) (key_len value_len : ℕ) (h : List ℕ → ℕ) (T B : List ℕ) → t.key_len ≡ key_len → t.value_len ≡ value_len → T ≡ B

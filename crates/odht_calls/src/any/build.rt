@@ -1,4 +1,5 @@
-//! A table of any lengths that is built from pairs, in the caller's bytes.
+//! Tables of any lengths that are built from pairs: in the caller's bytes, or in memory of their own and then copied to
+//! the caller's.
 ghost use Rattle.std.specs.Prelude.{◌≡◌, ◌≤◌, None, length};
 ghost use Rattle.std.specs.List.{zip};
 ghost use Rattle.odht_base.specs.Format.{format_of};
@@ -8,17 +9,21 @@ ghost use Rattle.odht_raw.specs.Sized.{bytes_coding};
 ghost use Rattle.odht.specs.Lists.{IsFreshAfterInserts};
 ghost use Rattle.odht_calls.specs.Pieces.{pieces, ArePieces, PiecesBuildAnswers};
 ghost use Rattle.odht_calls.specs.Pieces.{SizedBuildAnswers, AnyBuildAnswers};
+ghost use Rattle.odht_calls.specs.Pieces.{PiecesBuildGrowingAnswers, SizedBuildGrowingAnswers};
+ghost use Rattle.odht_calls.specs.Pieces.{AnyBuildGrowingAnswers};
 
 use super::lists::insert_pieces;
-use super::pieces::are_pieces;
+use super::pieces::{are_pieces, piece};
 use super::write::init_by;
 use super::{AnyLayout, by_hash};
-use crate::status::{BAD_LENGTHS, BAD_PERCENT, CAPACITY, OK, TOO_SMALL};
+use crate::build::hand_out;
+use crate::status::{BAD_LENGTHS, BAD_PERCENT, CAPACITY, MEMORY, OK, TOO_SMALL};
 use odht::bytes::Borrowed;
-use odht::dynamic::DynTable;
+use odht::dynamic::{DynTable, DynTableOwned};
 use odht::hash::HashFn;
 use odht::layout::Layout;
 use odht::load::Percent;
+use std::alloc::Global;
 
 // Makes an empty table in the bytes, whatever they hold, and inserts the pairs in order: there is room for each.
 fn insert_into_new<H: HashFn>(
@@ -124,4 +129,74 @@ pub fn build(
 {
     let percent = max_load_factor_percent;
     by_hash!(layout, build_by(count, keys, values, percent, out, len))
+}
+
+// The build of `count` pairs in memory of its own.
+fn grow_pieces<H: HashFn>(
+    alloc: Global,
+    layout: Layout,
+    count: usize,
+    keys: &[u8],
+    values: &[u8],
+    out: &mut [u8],
+    len: &mut usize,
+) -> u32
+    requires hashes { H.MIN_LEN ≤ layout.key_len }
+    requires arrays { ArePieces layout.key_len layout.value_len count keys.now values.now }
+    ensures { PiecesBuildGrowingAnswers (format_of layout.key_len layout.value_len H.hash) count
+        keys.now values.now out.old len.old result out.new len.new }
+{
+    // Sixteen slots are never too many, so the only error is that there is no memory.
+    let mut table = match DynTableOwned::<H>::with_capacity(alloc, layout, 12, 87) {
+        Ok(table) => table,
+        Err(_refused) => return MEMORY,
+    };
+    for index in 0..count {
+        let key = piece(keys, layout.key_len, index);
+        let value = piece(values, layout.value_len, index);
+        if let Err(_refused) = table.insert(key, value) {
+            return MEMORY;
+        }
+    }
+    hand_out(table.raw_bytes(), out, len)
+}
+
+fn build_growing_by<H: HashFn>(
+    layout: Layout,
+    alloc: Global,
+    count: usize,
+    keys: &[u8],
+    values: &[u8],
+    out: &mut [u8],
+    len: &mut usize,
+) -> u32
+    requires { H.MIN_LEN ≤ layout.key_len }
+    ensures { SizedBuildGrowingAnswers (format_of layout.key_len layout.value_len H.hash) count
+        keys.now values.now out.old len.old result out.new len.new }
+{
+    if !are_pieces(layout, count, keys, values) {
+        return BAD_LENGTHS;
+    }
+    grow_pieces::<H>(alloc, layout, count, keys, values, out, len)
+}
+
+/// Builds a table of `count` pairs in memory of its own, which starts with sixteen slots at 87 percent of slots and
+/// grows, and copies it to the front of `out`. BAD_LENGTHS and MEMORY leave `out` and `len` unchanged, TOO_SMALL leaves
+/// `out` unchanged.
+pub fn build_growing(
+    alloc: Global,
+    layout: AnyLayout,
+    count: usize,
+    keys: &[u8],
+    values: &[u8],
+    out: &mut [u8],
+    len: &mut usize,
+) -> u32
+    ensures { AnyBuildGrowingAnswers layout count keys.now values.now out.old len.old result
+        out.new len.new }
+{
+    by_hash!(
+        layout,
+        build_growing_by(alloc, count, keys, values, out, len)
+    )
 }

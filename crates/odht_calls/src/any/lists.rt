@@ -1,13 +1,16 @@
 //! The calls for many keys of a table of any lengths: lookups, and inserts in turn.
 ghost use Rattle.std.specs.Prelude.{◌≡◌, ◌≤◌, length};
 ghost use Rattle.odht_base.specs.Format.{format_of};
+ghost use Rattle.odht_raw.specs.Frame.{IsAccepted};
+ghost use Rattle.odht_calls.specs.Layouts.{any_coding};
 ghost use Rattle.odht_calls.specs.Pieces.{ArePieces, PiecesGetAllAnswers, SizedGetAllAnswers};
 ghost use Rattle.odht_calls.specs.Pieces.{AnyGetAllAnswers};
 ghost use Rattle.odht_calls.specs.Pieces.{PiecesInsertAllAnswers, SizedInsertAllAnswers};
 ghost use Rattle.odht_calls.specs.Pieces.{AnyInsertAllAnswers};
 
-use super::pieces::{are_pieces, piece, put_answer};
+use super::pieces::{are_pieces, piece};
 use super::read::view;
+use super::view::look_up;
 use super::{AnyLayout, by_hash};
 use crate::status::{BAD_LENGTHS, OK, status_of};
 use odht::hash::HashFn;
@@ -29,15 +32,10 @@ fn get_pieces<H: HashFn>(
     ensures { PiecesGetAllAnswers (format_of layout.key_len layout.value_len H.hash) bytes.now
         count keys.now values.old found.old result values.new found.new }
 {
-    let table = match view::<H>(layout, bytes) {
-        Ok(table) => table,
-        Err(refused) => return status_of(&refused),
-    };
-    for index in 0..count {
-        let answer = table.get(piece(keys, layout.key_len, index));
-        put_answer(values, found, layout.value_len, index, answer);
+    if let Err(refused) = view::<H>(layout, bytes) {
+        return status_of(&refused);
     }
-    OK
+    look_up::<H>(layout, bytes, count, keys, values, found)
 }
 
 fn get_all_by<H: HashFn>(
@@ -86,8 +84,10 @@ pub(crate) fn insert_pieces<H: HashFn>(
 ) -> u32
     requires hashes { H.MIN_LEN ≤ layout.key_len }
     requires arrays { ArePieces layout.key_len layout.value_len count keys.now values.now }
-    ensures { PiecesInsertAllAnswers (format_of layout.key_len layout.value_len H.hash) bytes.old
-        count keys.now values.now accepted.old result bytes.new accepted.new }
+    ensures answers { PiecesInsertAllAnswers (format_of layout.key_len layout.value_len H.hash)
+        bytes.old count keys.now values.now accepted.old result bytes.new accepted.new }
+    ensures accepted { let F = format_of layout.key_len layout.value_len H.hash
+        in IsAccepted F bytes.old → IsAccepted F bytes.new }
 {
     if let Err(refused) = view::<H>(layout, bytes) {
         return status_of(&refused);
@@ -113,8 +113,10 @@ fn insert_all_by<H: HashFn>(
     accepted: &mut usize,
 ) -> u32
     requires { H.MIN_LEN ≤ layout.key_len }
-    ensures { SizedInsertAllAnswers (format_of layout.key_len layout.value_len H.hash) bytes.old
-        count keys.now values.now accepted.old result bytes.new accepted.new }
+    ensures answers { SizedInsertAllAnswers (format_of layout.key_len layout.value_len H.hash)
+        bytes.old count keys.now values.now accepted.old result bytes.new accepted.new }
+    ensures accepted { let F = format_of layout.key_len layout.value_len H.hash
+        in IsAccepted F bytes.old → IsAccepted F bytes.new }
 {
     if !are_pieces(layout, count, keys, values) {
         return BAD_LENGTHS;
@@ -133,8 +135,10 @@ pub fn insert_all(
     values: &[u8],
     accepted: &mut usize,
 ) -> u32
-    ensures { AnyInsertAllAnswers layout bytes.old
+    ensures answers { AnyInsertAllAnswers layout bytes.old
         count keys.now values.now accepted.old result bytes.new accepted.new }
+    ensures accepted { let F = (any_coding layout).format
+        in IsAccepted F bytes.old → IsAccepted F bytes.new }
 {
     by_hash!(layout, insert_all_by(bytes, count, keys, values, accepted))
 }

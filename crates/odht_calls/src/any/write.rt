@@ -2,7 +2,8 @@
 ghost use Rattle.std.specs.Prelude.{◌≡◌, ◌≤◌, length};
 ghost use Rattle.odht_base.specs.Format.{format_of};
 ghost use Rattle.odht_raw.specs.Sized.{bytes_coding};
-ghost use Rattle.odht_calls.specs.Layouts.{AnyAnswers, SizedAnswers};
+ghost use Rattle.odht_raw.specs.Frame.{IsAccepted};
+ghost use Rattle.odht_calls.specs.Layouts.{AnyAnswers, SizedAnswers, any_coding};
 ghost use Rattle.odht_calls.specs.Writes.{BytesNeededAnswers, InitAnswers, InsertAnswers};
 ghost use Rattle.odht_calls.specs.Grows.{GrowAnswers};
 
@@ -106,11 +107,13 @@ fn insert_by<H: HashFn>(
     former: &mut [u8],
 ) -> u32
     requires { H.MIN_LEN ≤ layout.key_len }
-    ensures { let c = bytes_coding (format_of layout.key_len layout.value_len H.hash)
+    ensures answers { let c = bytes_coding (format_of layout.key_len layout.value_len H.hash)
         in let Long = (length key.now ≡ layout.key_len) × (length value.now ≡ layout.value_len)
         × (length former.old ≡ layout.value_len)
         in SizedAnswers Long result ((bytes.new ≡ bytes.old) × (former.new ≡ former.old))
         (InsertAnswers c bytes.old key.now value.now former.old result bytes.new former.new) }
+    ensures accepted { let F = format_of layout.key_len layout.value_len H.hash
+        in IsAccepted F bytes.old → IsAccepted F bytes.new }
 {
     let value_len = layout.value_len as usize;
     if key.len() != layout.key_len as usize
@@ -141,11 +144,13 @@ pub fn insert(
     value: &[u8],
     former: &mut [u8],
 ) -> u32
-    ensures { let Long = (length key.now ≡ layout.key_len) × (length value.now ≡ layout.value_len)
-        × (length former.old ≡ layout.value_len)
+    ensures answers { let Long = (length key.now ≡ layout.key_len)
+        × (length value.now ≡ layout.value_len) × (length former.old ≡ layout.value_len)
         in let Same = (bytes.new ≡ bytes.old) × (former.new ≡ former.old)
         in AnyAnswers layout result Same (λ c. SizedAnswers Long result Same
         (InsertAnswers c bytes.old key.now value.now former.old result bytes.new former.new)) }
+    ensures accepted { let F = (any_coding layout).format
+        in IsAccepted F bytes.old → IsAccepted F bytes.new }
 {
     by_hash!(layout, insert_by(bytes, key, value, former))
 }

@@ -9,7 +9,7 @@ use Rattle.odht_base.specs.Table.{Pair}
 use Rattle.odht_base.specs.Writes.{with_value, with_pair, with_count}
 use Rattle.odht_base.proofs.examples.Configs.{test_config, direct_config, pair32}
 use Rattle.odht_raw.proofs.examples.Missing.{held_at_home}
-use Rattle.odht_raw.specs.Frame.{InsertFrame, PartsFrame, IsAbsent, entries_in, CountsAsFree, CountsAsOccupied, HasNoFree, HasNoFreeSlot}
+use Rattle.odht_raw.specs.Frame.{InsertFrame, PartsFrame, IsAbsent, entries_in, CountsAsFree, CountsAsOccupied, HasNoFree, EachCountsAsOccupied}
 use Rattle.odht_header.specs.Refusals.{lists_differ}
 use Rattle.odht_header.specs.declared.error.Error.{Error}
 use Rattle.odht_header.specs.declared.error.Error.TheVariants.{Full, TooShort}
@@ -349,11 +349,11 @@ pub none_of_five_free : HasNoFree slot_five_free 5
 none_of_five_free i low = first_bytes i low (counts_as_free (slice_index slot_five_free i)) refl
 
 -- no slot is free where all control bytes are 0
-pub no_free_slots : HasNoFreeSlot occupied_controls 16
+pub no_free_slots : EachCountsAsOccupied occupied_controls 16
 no_free_slots i low = inl (none_free i low)
 
 -- slot 5 of sixteen is free
-pub one_free_slot_refused : HasNoFreeSlot slot_five_free 16 → ⊥
+pub one_free_slot_refused : EachCountsAsOccupied slot_five_free 16 → ⊥
 one_free_slot_refused h = free_slot_not_occupied (h 5 (lit< tt))
 
 -- slot 16 of 32 has no mirror: free by its own byte it does not count as occupied

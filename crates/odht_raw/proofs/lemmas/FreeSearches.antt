@@ -18,7 +18,7 @@ use Rattle.odht_base.proofs.lemmas.Orders.{probe_slot-lt}
 use Rattle.odht_base.proofs.lemmas.Pairs.{has_key-None}
 use Rattle.odht_base.proofs.lemmas.Parts.{slice_index-mirror, counts_as_free-control_byte}
 use Rattle.odht_raw.specs.SearchResults.{answer}
-use Rattle.odht_raw.specs.Frame.{CountsAsFree, CountsAsOccupied, HasNoFree, HasNoFreeSlot}
+use Rattle.odht_raw.specs.Frame.{CountsAsFree, CountsAsOccupied, HasNoFree, EachCountsAsOccupied}
 use Rattle.odht_raw.specs.FreeSlots.{IsFirstFree, IsFirstFreeByte}
 use Rattle.odht_raw.specs.SearchSteps.{slot_of, Passed}
 use Rattle.odht_raw.specs.declared.raw_table.search_result.Search.TheVariants.{Free, Neither}
@@ -139,7 +139,7 @@ module _ (F : Format) (P : Table) (k es ctrl : List ℕ) (f : IsFormat F) (h : I
         rw (e, free) refl
 
     -- and nowhere where each slot counts as occupied
-    pub no_free-answer : HasNoFreeSlot ctrl s → Neither ≡ answer F P.cells k
+    pub no_free-answer : EachCountsAsOccupied ctrl s → Neither ≡ answer F P.cells k
     no_free-answer none =
         let few = h.placed.slots.least in
         let count = slots_are F f P es ctrl h s len in

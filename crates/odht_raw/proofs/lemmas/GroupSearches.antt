@@ -15,7 +15,7 @@ use Rattle.odht_base.specs.Valid.{IsPartsOf}
 use Rattle.odht_base.proofs.lemmas.ByteRanges.{length-bytes_at}
 use Rattle.odht_base.proofs.lemmas.Orders.{probe_slot-lt, probe_slot-onto, position-order_none}
 use Rattle.odht_base.proofs.lemmas.Parts.{slice_index-controls, slice_index-mirror}
-use Rattle.odht_raw.specs.ControlBytes.{OfSlot, CountsAsFree, CountsAsOccupied, HasNoFree, HasNoFreeSlot, order_slot, IsOther, Differs, GoesOn, GoesOnTo, IsMissing}
+use Rattle.odht_raw.specs.ControlBytes.{OfSlot, CountsAsFree, CountsAsOccupied, HasNoFree, EachCountsAsOccupied, order_slot, IsOther, Differs, GoesOn, GoesOnTo, IsMissing}
 use Rattle.odht_raw.specs.SearchEnds.{Among, IsOtherAmong, GoesOnAmong, IsEnd, IsEndAmong, IsAfter}
 use Rattle.odht_raw.specs.Parts.{EntryBytes}
 use Rattle.odht_raw.specs.SearchSteps.{slot_of, Passed, IsGroupAt, EndsWithin}
@@ -77,7 +77,7 @@ occupied-more ctrl bs b s start p len few aligned is read none before q l = elim
 ]
 
 -- so does each slot after the last group
-pub occupied-all : (ctrl : List ℕ) (b s : ℕ) → IsSlotCount s → OccupiedBefore ctrl b s s → HasNoFreeSlot ctrl s
+pub occupied-all : (ctrl : List ℕ) (b s : ℕ) → IsSlotCount s → OccupiedBefore ctrl b s s → EachCountsAsOccupied ctrl s
 occupied-all ctrl b s count before i l = let q = probe_slot-onto b s i count l in subst (CountsAsOccupied ctrl) q.2 (before q.0 q.1)
 
 -- ---- a placed table
@@ -130,7 +130,7 @@ occupied-on F E ctrl k i (inl on) = inl on.0
 occupied-on F E ctrl k i (inr on) = inr (on.0, on.1.0)
 
 -- where the search goes on from each position, each slot counts as occupied
-pub no_free-on : (F : Format) (E : EntryBytes) (ctrl k : List ℕ) → IsSlotCount E.slots → GoesOnTo F E ctrl k E.slots → HasNoFreeSlot ctrl E.slots
+pub no_free-on : (F : Format) (E : EntryBytes) (ctrl k : List ℕ) → IsSlotCount E.slots → GoesOnTo F E ctrl k E.slots → EachCountsAsOccupied ctrl E.slots
 no_free-on F E ctrl k count on = occupied-all ctrl (home F k E.slots) E.slots count (λ q l. occupied-on F E ctrl k _ (on q l))
 
 module _ (F : Format) (E : EntryBytes) (ctrl k : List ℕ) (start p : ℕ) (len : length ctrl ≡ E.slots + 16) (few : 16 ≤ E.slots) (aligned : p % 16 ≡ 0) (within : p + 16 ≤ E.slots) (is : start ≡ order_slot F E k p) where

@@ -20,7 +20,7 @@ use Rattle.odht_base.proofs.lemmas.PartsOf.{slot_within}
 use Rattle.odht_base.proofs.lemmas.InsertRuns.{factor-run}
 use Rattle.odht_base.proofs.lemmas.Writes.{with_count-append, with_value-append, with_pair-append}
 use Rattle.odht_header.specs.Coding.{Coding, encoded}
-use Rattle.odht_raw.specs.Frame.{IsAccepted, header_maximum, InsertFrame, PartsFrame, IsAbsent, HasNoFreeSlot, CountsAsFree, IsMissing}
+use Rattle.odht_raw.specs.Frame.{IsAccepted, header_maximum, InsertFrame, PartsFrame, IsAbsent, EachCountsAsOccupied, CountsAsFree, IsMissing}
 use Rattle.odht_raw.specs.Parts.{stored_in}
 use Rattle.odht_raw.specs.Steps.{StepFrame}
 use Rattle.odht_raw.specs.Runs.{IsFramedRun, IsPartsRun, ArePartsOfRun, IsAllPlaced, count_after}
@@ -99,7 +99,7 @@ module _ (F : Format) (H : List ℕ) (h : length H ≡ 32) (small : header_maxim
       let slots = joined-slots H n es ctrl h in
       let same : length ctrl - 16 ≡ header_slots (joined H n es ctrl) = omega (arith, mirrored, slots) in
       let controls = joined-controls F H n es ctrl h long in
-      InsertFrame.no_slot (subst (λ c. HasNoFreeSlot c (header_slots (joined H n es ctrl))) (sym controls) (subst (HasNoFreeSlot ctrl) same none)) (absent_joined p.key n es ctrl long mirrored missing)
+      InsertFrame.no_slot (subst (λ c. EachCountsAsOccupied c (header_slots (joined H n es ctrl))) (sym controls) (subst (EachCountsAsOccupied ctrl) same none)) (absent_joined p.key n es ctrl long mirrored missing)
   frame_joined p n es ctrl a es' ctrl' fits room long mirrored (PartsFrame.overwrote i low key) =
       let B = joined H n es ctrl in
       let pair = fits (Some (slot_value F es i)) refl in

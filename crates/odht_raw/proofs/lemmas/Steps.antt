@@ -17,7 +17,7 @@ use Rattle.odht_base.proofs.lemmas.Orders.{probe_slot-lt}
 use Rattle.odht_base.proofs.lemmas.Pairs.{value_in-Some}
 use Rattle.odht_base.proofs.lemmas.Parts.{slice_index-controls, slice_index-mirror}
 use Rattle.odht_base.proofs.lemmas.Places.{place-None}
-use Rattle.odht_raw.specs.ControlBytes.{CountsAsFree, GoesOn, HasNoFreeSlot, IsMissing, order_slot}
+use Rattle.odht_raw.specs.ControlBytes.{CountsAsFree, GoesOn, EachCountsAsOccupied, IsMissing, order_slot}
 use Rattle.odht_raw.specs.Frame.{PartsFrame, IsPartsFramed}
 use Rattle.odht_raw.specs.Parts.{stored_in}
 use Rattle.odht_raw.specs.PartsInserts.{AnswersFormer, IsPartsInsert, IsInsertChange}
@@ -79,14 +79,14 @@ module _ (F : Format) (P : Table) (es ctrl : List ℕ) (f : IsFormat F) (h : IsP
           absurd (apart at.0 at.1 at.2 at.3 (subst (λ (x : List ℕ). IsReached F P x at.0) (sym at.3) (h.placed.reached at.0 at.1 at.2)))
 
   -- such a key has no place where each slot counts as occupied
-  pub missing-no_place : (p : Pair) → HasNoFreeSlot ctrl (length ctrl - 16) → IsMissing F (stored_in es ctrl) ctrl p.key → place F P p ≡ None
+  pub missing-no_place : (p : Pair) → EachCountsAsOccupied ctrl (length ctrl - 16) → IsMissing F (stored_in es ctrl) ctrl p.key → place F P p ≡ None
   missing-no_place p none missing =
       let same : length ctrl - 16 ≡ s = omega (arith, long) in
       (answer-Neither F P p.key h.placed
-      (no_free-answer F P p.key es ctrl f h s long (missing-absent p.key missing) (subst (HasNoFreeSlot ctrl) same none))).places p refl
+      (no_free-answer F P p.key es ctrl f h s long (missing-absent p.key missing) (subst (EachCountsAsOccupied ctrl) same none))).places p refl
 
   -- where there are fewer pairs than slots, some slot counts as free
-  pub has_free_slot : count P < slot_count P → HasNoFreeSlot ctrl (length ctrl - 16) → ⊥
+  pub has_free_slot : count P < slot_count P → EachCountsAsOccupied ctrl (length ctrl - 16) → ⊥
   has_free_slot below none =
       let free = free_cell P.cells below in
       true≢false (sym free.2 ∙ is_occupied_slot F P [] es ctrl f h s long free.0 free.1 (none free.0 (omega (arith, free.1, slots))))

@@ -66,8 +66,8 @@ pub(crate) fn insert_ahead<K: ByteArray, V: ByteArray, H: HashFn>(
         in IsStepWhere (λ P. EndsIfFree F P p.key slot) F V.of_bytes room
         (entries.old, control.old) p result (entries.new, control.new) }
 {
-    let end = expected_end::<K, V, H>(control, entries, &key, hash, slot, room);
     let slots = control.len() - REFERENCE_GROUP_SIZE;
+    let end = expected_end::<K, V, H>(control, entries, slots, &key, hash, slot, room);
     insert_at::<K, V, H>(
         control,
         entries,
@@ -85,6 +85,7 @@ pub(crate) fn insert_ahead<K: ByteArray, V: ByteArray, H: HashFn>(
 fn expected_end<K: ByteArray, V: ByteArray, H: HashFn>(
     control: &[EntryMetadata],
     entries: &[u8],
+    slots: usize,
     key: &K,
     hash: u32,
     slot: usize,
@@ -92,6 +93,7 @@ fn expected_end<K: ByteArray, V: ByteArray, H: HashFn>(
 ) -> Search
     requires lengths { ArePartLengths H.MIN_LEN K.LEN V.LEN (length entries.now)
         (length control.now) }
+    requires slots { slots ≡ length control.now - 16 }
     requires hash { hash ≡ H.hash (K.bytes key.now) }
     ensures placed { let F = format_of K.LEN V.LEN H.hash
         in (P : Table)
@@ -101,7 +103,6 @@ fn expected_end<K: ByteArray, V: ByteArray, H: HashFn>(
     ensures end { IsStepEnd (format_of K.LEN V.LEN H.hash) room entries.now control.now
         (K.bytes key.now) result }
 {
-    let slots = control.len() - REFERENCE_GROUP_SIZE;
     if room > 0 && slot < slots && is_empty_or_deleted(control[slot]) {
         return Search::Free(slot);
     }

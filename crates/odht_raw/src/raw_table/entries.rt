@@ -3,6 +3,7 @@ ghost use Rattle.std.specs.Prelude.{◌≡◌, ◌↔◌, ◌+◌, ◌*◌, ◌<
 ghost use Rattle.odht_base.specs.Decoded.{slot_entry, slot_key, slot_value};
 ghost use Rattle.odht_raw.specs.Parts.{entry_format};
 
+use super::SlotKeys;
 use crate::bytes::{ByteArray, is_same_bytes};
 use std::marker::{Model, PhantomData};
 
@@ -134,26 +135,7 @@ impl<'a, K: ByteArray, V: ByteArray> Entries<'a, K, V> {
         &bytes[at..at + K::LEN]
     }
 
-    /// Whether the key of a slot is `key`. The value is not read.
-    ///
-    /// A short key is loaded whole, and compared as its length allows; a longer one is compared where it is. The whole
-    /// entry is cut out of the bytes, as `get` cuts it: where its value is read next, that is the same cut, and is made
-    /// once.
-    #[inline(always)]
-    pub(crate) fn has_key(&self, slot: usize, key: &K) -> bool
-        requires { slot < self.now.slots }
-        ensures { IsTrue result
-            ↔ (slot_key (entry_format K.LEN V.LEN) self.now.bytes slot ≡ K.bytes key.now) }
-    {
-        let entry = self.bytes_of(slot);
-        let front = &entry[..K::LEN];
-        if K::LEN > SHORT {
-            return is_same_bytes(front, key.as_slice());
-        }
-        K::from_slice(front).equals(key)
-    }
-
-    // Whether the keys of two slots are equal. No value is read.
+    // Whether the keys of two slots are equal. No value is read, and no long key is copied.
     #[inline]
     pub(crate) fn have_same_key(&self, slot: usize, other: usize) -> bool
         requires slot { slot < self.now.slots }
@@ -161,7 +143,38 @@ impl<'a, K: ByteArray, V: ByteArray> Entries<'a, K, V> {
         ensures { let key = slot_key (entry_format K.LEN V.LEN) self.now.bytes
             in IsTrue result ↔ (key slot ≡ key other) }
     {
-        let key = K::from_slice(self.key_bytes_of(other));
-        self.has_key(slot, &key)
+        let key = self.key_bytes_of(other);
+        if K::LEN > SHORT {
+            return is_same_bytes(self.key_bytes_of(slot), key);
+        }
+        self.is_at(slot, &K::from_slice(key))
+    }
+}
+
+impl<'a, K: ByteArray, V: ByteArray> SlotKeys for Entries<'a, K, V> {
+    type Key = K;
+
+    ghost format = { λ e. entry_format K.LEN V.LEN };
+
+    ghost entries = { λ e. e };
+
+    ghost key_bytes = { λ k. K.bytes k };
+
+    #[inline(always)]
+    fn slots(&self) -> usize {
+        self.slots
+    }
+
+    // A short key is loaded whole, and compared as its length allows; a longer one is compared where it is. The whole
+    // entry is cut out of the bytes, as `get` cuts it: where its value is read next, that is the same cut, and is made
+    // once.
+    #[inline(always)]
+    fn is_at(&self, slot: usize, key: &K) -> bool {
+        let entry = self.bytes_of(slot);
+        let front = &entry[..K::LEN];
+        if K::LEN > SHORT {
+            return is_same_bytes(front, key.as_slice());
+        }
+        K::from_slice(front).equals(key)
     }
 }

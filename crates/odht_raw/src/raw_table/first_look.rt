@@ -6,7 +6,7 @@ ghost use Rattle.odht_raw.specs.FirstLooks.{first_look_of};
 ghost use Rattle.odht_raw.specs.Finds.{IsFind};
 
 use super::group_search::late_search;
-use super::{RawTable, tag_of};
+use super::{RawTable, SlotKeys, tag_of};
 use crate::bytes::ByteArray;
 use crate::hash::HashFn;
 use crate::swisstable_group_query::{Group, REFERENCE_GROUP_SIZE, lanes};
@@ -62,7 +62,7 @@ impl<'a, K: ByteArray, V: ByteArray, H: HashFn> RawTable<'a, K, V, H> {
         let FirstLook { hash, mut group } = look;
         'matches: while let Some(index) = group.first_match() {
             let slot = (home + index) & mask;
-            if self.entries.has_key(slot, key) {
+            if self.entries.is_at(slot, key) {
                 return Some(self.entries.get(slot).value);
             }
             group.drop_match();

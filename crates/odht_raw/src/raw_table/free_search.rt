@@ -1,7 +1,7 @@
 //! The search for the first slot of a probe order that counts as free.
 ghost use Rattle.std.specs.Prelude.{◌≡◌, ◌+◌, ◌-◌, ◌<◌, length, MatchOption};
 ghost use Rattle.odht_base.specs.Load.{IsSlotCount};
-ghost use Rattle.odht_raw.specs.Frame.{HasNoFree, HasNoFreeSlot};
+ghost use Rattle.odht_raw.specs.Frame.{HasNoFree, EachCountsAsOccupied};
 ghost use Rattle.odht_raw.specs.FreeSlots.{IsFirstFree, IsFirstFreeByte};
 
 use super::{EntryMetadata, GroupProbe, is_empty_or_deleted, tag_of};
@@ -16,7 +16,7 @@ use crate::swisstable_group_query::{Group, REFERENCE_GROUP_SIZE};
 pub(super) fn first_free<Q: Group>(control: &[EntryMetadata], hash: u32) -> Option<usize>
     requires { IsSlotCount (length control.now - 16) }
     ensures { let slots = length control.now - 16
-        in MatchOption result (HasNoFreeSlot control.now slots)
+        in MatchOption result (EachCountsAsOccupied control.now slots)
         (IsFirstFree control.now hash slots) }
 {
     let mask = control.len() - REFERENCE_GROUP_SIZE - 1;
@@ -38,7 +38,7 @@ fn first_free_by_groups<Q: Group>(
 ) -> Option<usize>
     requires slots { IsSlotCount (mask + 1) }
     requires control { length control.now ≡ mask + 1 + 16 }
-    ensures { MatchOption result (HasNoFreeSlot control.now (mask + 1))
+    ensures { MatchOption result (EachCountsAsOccupied control.now (mask + 1))
         (IsFirstFree control.now hash (mask + 1)) }
 {
     let tag = tag_of(hash);

@@ -14,19 +14,20 @@ use crate::bytes::ByteArray;
 use crate::hash::HashFn;
 use crate::swisstable_group_query::{Group, GroupQuery, REFERENCE_GROUP_SIZE};
 
-/// Searches for the key group by group along its probe order, and stops at the first slot that is free or holds it.
+/// Searches for the key group by group along its probe order. All of this holds for every group search; the rules are
+/// those of docs/FORMAT.md, "Search".
 ///
-/// On the parts of a placed table the result is the slot where a search slot by slot ends, which is where a pair with
-/// the key is placed, and exactly the groups up to this slot are read.
+/// On the parts of a placed table the result is the first slot that is free or holds the key, which is where a pair with
+/// the key is placed, and the scan's count rises by the groups up to it.
 ///
-/// On any parts the key may be found behind a free byte of the same group. `Found(i)`: the entry of i has the key, and
-/// each slot of an earlier group counts as occupied. `Free(i)`: i counts as free, and each slot before it as occupied.
-/// `Neither`: each slot counts as occupied. In each case each earlier slot has, by its control byte or by its mirror,
-/// another tag than this key, or another key. Earlier means earlier in the probe order; a slot counts as free or as
-/// occupied by one of its two bytes, so that one below 16 whose bytes differ may count as both. No more groups are read
-/// than there are.
+/// On any parts the count rises by no more than there are groups, and the result is one of
+/// - `Found(i)`: the entry of `i` has the key. Each slot of an earlier group counts as occupied; a free byte of the same
+///   group may come before it.
+/// - `Free(i)`: `i` counts as free, and each slot before it as occupied.
+/// - `Neither`: each slot counts as occupied.
 ///
-/// All this holds for every group search. The rules are those of docs/FORMAT.md, "Search".
+/// Each slot before it, or of `Neither` each slot, has another tag than the key or another key. "Before" is in the probe
+/// order. A slot below 16 has two control bytes, and counts as what either of them says, so it may count as both.
 #[inline(always)]
 pub fn search<K: ByteArray, V: ByteArray, H: HashFn, Q: Group>(
     scan: &mut Scan<'_>,

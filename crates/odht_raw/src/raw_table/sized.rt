@@ -226,8 +226,8 @@ impl<'a, H: HashFn> SizedTable<'a, H> {
 
     /// The value stored with the key, searched for group by group along the probe order (docs/FORMAT.md, "Search").
     ///
-    /// On the parts of a table whose keys are all reached it is the map's result. On any parts it is a value that is
-    /// stored with an equal key. `find_counted` says how many groups that takes.
+    /// On the parts of a placed table it is the map's result. On any parts it is a value that is stored with an equal
+    /// key. `find_counted` says how many groups that takes.
     #[inline(always)]
     pub fn find(&self, key: &[u8]) -> Option<&'a [u8]>
         requires { length key.now ≡ self.now.key_len }
@@ -238,9 +238,8 @@ impl<'a, H: HashFn> SizedTable<'a, H> {
         value
     }
 
-    /// `find`, and how many groups were read: on the parts of a table whose keys are all reached those up to the first
-    /// slot that is free or holds the key, and on any parts at most all groups. How they are counted: docs/FORMAT.md,
-    /// "Search".
+    /// `find`, and how many groups were read: on the parts of a placed table those up to the first slot that is free
+    /// or holds the key, and on any parts at most all groups. How they are counted: docs/FORMAT.md, "Search".
     #[inline(always)]
     pub fn find_counted(&self, key: &[u8]) -> (Option<&'a [u8]>, usize)
         requires { length key.now ≡ self.now.key_len }

@@ -13,7 +13,7 @@ ghost use Rattle.odht_raw.specs.Checks.{cells_of, decoded_count, IsFitting, AreP
 ghost use Rattle.odht_raw.specs.Sized.{sized_format};
 
 use super::check::SlotSummary;
-use super::{FREE, ProbeSeq, SizedTable, tag_of};
+use super::{FREE, GroupProbe, SizedTable, tag_of};
 use crate::error::Error;
 use crate::hash::HashFn;
 use crate::swisstable_group_query::lanes::GroupQuery;
@@ -98,19 +98,18 @@ impl<'a, H: HashFn> SizedTable<'a, H> {
             (search_end F (cells_of F self.now.parts) (slot_key F self.now.parts.entries.bytes slot)) }
     {
         let slots = self.len();
-        let mask = slots - 1;
         let tag = tag_of(hash);
-        let mut probe = ProbeSeq::<REFERENCE_GROUP_SIZE>::new(hash as usize, mask);
+        let mut probe = GroupProbe::new(self.controls(), slots, hash as usize);
         'groups: loop {
-            let start = probe.index();
-            let before = (slot + slots - start) & mask;
+            let start = probe.start();
+            let before = (slot + slots - start) & (slots - 1);
             if before < REFERENCE_GROUP_SIZE {
                 return self.are_passed(start, before, slot, tag);
             }
             if !self.are_passed(start, REFERENCE_GROUP_SIZE, slot, tag) {
                 return false;
             }
-            probe.advance(mask);
+            probe.advance();
         }
     }
 

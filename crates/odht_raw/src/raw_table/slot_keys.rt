@@ -2,10 +2,7 @@
 ghost use Rattle.std.specs.Prelude.{◌≡◌, ◌↔◌, ◌<◌, ℕ, List, IsTrue};
 ghost use Rattle.odht_base.specs.Decoded.{slot_key};
 ghost use Rattle.odht_base.specs.Format.{Format};
-ghost use Rattle.odht_raw.specs.Parts.{EntryBytes, entry_format};
-
-use super::Entries;
-use crate::bytes::ByteArray;
+ghost use Rattle.odht_raw.specs.Parts.{EntryBytes};
 
 /// What holds the keys of the slots. A search compares keys by it, and asks it nothing else.
 ///
@@ -30,24 +27,4 @@ pub(crate) trait SlotKeys {
         requires { slot < (entries self.now).slots }
         ensures { IsTrue result
             ↔ (slot_key (format self.now) (entries self.now).bytes slot ≡ key_bytes key.now) };
-}
-
-impl<'a, K: ByteArray, V: ByteArray> SlotKeys for Entries<'a, K, V> {
-    type Key = K;
-
-    ghost format = { λ e. entry_format K.LEN V.LEN };
-
-    ghost entries = { λ e. e };
-
-    ghost key_bytes = { λ k. K.bytes k };
-
-    #[inline(always)]
-    fn slots(&self) -> usize {
-        self.len()
-    }
-
-    #[inline(always)]
-    fn is_at(&self, slot: usize, key: &K) -> bool {
-        self.has_key(slot, key)
-    }
 }

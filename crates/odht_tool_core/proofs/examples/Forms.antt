@@ -8,17 +8,15 @@ use Rattle.std.specs.Int.{w32, w64}
 use Rattle.odht_header.proofs.examples.Apart.{unequal_lists}
 use Rattle.odht_header.proofs.examples.Opened.{opened}
 use Rattle.odht_tool_core.specs.AnyShapes.{read_any}
-use Rattle.odht_tool_core.specs.Forms.{count_of, form_len, number_text}
-use Rattle.odht_tool_core.specs.Misreads.{hex_wanted}
+use Rattle.odht_tool_core.specs.Forms.{count_of, number_text}
 use Rattle.odht_tool_core.specs.ReadAs.{form_for}
 use Rattle.odht_tool_core.specs.Signed.{signed_text, signed_value}
 use Rattle.odht_tool_core.specs.declared.failure.Failure.TheVariants.{OtherKey, OtherValue}
 use Rattle.odht_tool_core.specs.declared.any.AnyShape.TheVariants.{Ready}
 use Rattle.odht_tool_core.specs.declared.forms.Form.{Form}
-use Rattle.odht_tool_core.specs.declared.forms.Form.TheVariants.{Own, Signed, BigEndian, Hex}
+use Rattle.odht_tool_core.specs.declared.forms.Form.TheVariants.{Own, Signed, BigEndian}
 use Rattle.odht_tool_core.specs.declared.forms.Kind.{Kind}
 use Rattle.odht_tool_core.specs.declared.forms.Kinds.{Kinds}
-use Rattle.odht_tool_core.specs.declared.misread.Wanted.TheVariants.{Nothing as WantedNothing, Bytes as WantedBytes}
 use Rattle.odht_tool_core.specs.declared.shapes.Hash.TheVariants.{Unhash}
 use Rattle.odht_tool_core.specs.declared.shapes.Part.{Part}
 use Rattle.odht_tool_core.specs.declared.shapes.Part.TheVariants.{Nothing, U32, U64, Bytes}
@@ -95,8 +93,3 @@ pub read : (read_any one_bytes (Some Unhash) unsaid ≡ Ok (Ready DirectU32ToU32
     × (read_any one_bytes (Some Unhash) (said (kind U64 Own) (kind U64 Own)) ≡ Err (OtherKey U32))
 unfolding opened
 read = (refl, refl, refl, refl, refl)
-
--- ---- bytes of a length that is known at run time alone
--- what is wanted of none is nothing
-pub sized : (form_len (Hex 12) ≡ 12) × (form_len Own ≡ 0) × (hex_wanted 12 ≡ WantedBytes 12) × (hex_wanted 0 ≡ WantedNothing)
-sized = (refl, refl, refl, refl)

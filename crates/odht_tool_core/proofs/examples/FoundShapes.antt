@@ -23,7 +23,7 @@ abbrev pub other_bytes : List ℕ
 other_bytes = overwritten_at one_bytes 5 (6 ∷ 2 ∷ [])
 
 abbrev pub other : ℕ → ℕ → Hash → OtherShape
-other k v h = record { key_len = k; value_len = v; hash = h }
+other k v h = record { key = Bytes k; value = Bytes v; hash = h }
 
 -- where it is rejected under fx the hint is unhash, and under unhash there is none
 pub hints : (hinted_hash one_bytes Fx ≡ Some Unhash)
@@ -63,13 +63,13 @@ pub short_keys : (named_any (overwritten_at one_bytes 5 (3 ∷ [])) (Some Unhash
 unfolding opened
 short_keys = (refl, refl)
 
--- of what is said a ready shape is taken where there is one, else bytes of these lengths under the hash function that is
--- named, or fx; so that the file is read in the same texts, no bytes in the place of numbers, no texts, and no short keys
+-- of what is said a ready shape is taken where there is one, else another of these types under the hash function that is
+-- named, or fx; none where a ready shape has these lengths, and no short keys
 pub said_shapes : (any_of_kinds (kind U32 Own) (kind U32 Signed) None ≡ Some (Ready U32ToU32))
     × (any_of_kinds (kind (Bytes 12) Own) (kind (Bytes 5) Own) None ≡ Some (Other (other 12 5 Fx)))
-    × (any_of_kinds (kind (Bytes 12) Own) (kind Nothing Own) (Some Unhash) ≡ Some (Other (other 12 0 Unhash)))
+    × (any_of_kinds (kind (Bytes 12) Own) (kind Nothing Own) (Some Unhash) ≡ Some (Other (record { key = Bytes 12; value = Nothing; hash = Unhash })))
     × (any_of_kinds (kind (Bytes 4) Own) (kind (Bytes 4) Own) None ≡ None)
-    × (any_of_kinds (kind (Bytes 12) Own) (kind U32 Own) None ≡ None)
-    × (any_of_kinds (kind (Bytes 12) Plain) (kind (Bytes 5) Own) None ≡ None)
+    × (any_of_kinds (kind (Bytes 10) Plain) (kind U32 Signed) None ≡ Some (Other (record { key = Bytes 10; value = U32; hash = Fx })))
+    × (any_of_kinds (kind (Bytes 4) Plain) (kind U32 Own) None ≡ None)
     × (any_of_kinds (kind (Bytes 3) Own) (kind (Bytes 5) Own) (Some Unhash) ≡ None)
 said_shapes = (refl, refl, refl, refl, refl, refl, refl)

@@ -1,14 +1,17 @@
 -- Worked examples: what `info` writes.
-use Rattle.std.proofs.Common.{◌≡◌, refl, [], ◌∷◌, ◌++◌, Some, None, Ok, Err, replicate, ap₂}
+use Rattle.std.proofs.Common.{◌≡◌, ◌∙◌, false, true, refl, [], ◌∷◌, ◌++◌, Some, None, Ok, Err, map, set, replicate, ap, ap₂}
 use Rattle.std.specs.Prelude.{codes}
 use Rattle.std.specs.Fmt.{digits}
 use Rattle.odht_header.specs.declared.error.Error.TheVariants.{TooShort}
 use Rattle.odht_header.proofs.examples.Apart.{unequal_lists}
 use Rattle.odht_header.proofs.examples.Opened.{opened}
+use Rattle.odht_tool_core.specs.Advice.{advice, line_of, needs_whole, rebuilt_name, string_of}
+use Rattle.odht_tool_core.specs.InfoJson.{place_text}
 use Rattle.odht_tool_core.specs.InfoNumbers.{tallies, largest, IsHistogram}
-use Rattle.odht_tool_core.specs.InfoTexts.{number_line, aligned, bar, longer_mark, tallies_text, groups_line, groups_text, info_text, IsInfoDone}
+use Rattle.odht_tool_core.specs.InfoTexts.{number_line, at_line, stretch_sign, stretches_line, aligned, bar, longer_mark, tallies_text, groups_line, groups_text, info_text, IsInfoDone}
+use Rattle.odht_tool_core.specs.declared.advice.Advice.TheVariants.{LowerLoad, OtherHash}
 use Rattle.odht_tool_core.specs.declared.failure.Failure.TheVariants.{Refused, Memory}
-use Rattle.odht_tool_core.specs.declared.histogram.Histogram.{Histogram}
+use Rattle.odht_tool_core.specs.declared.numbers.Numbers.{Numbers}
 use Rattle.odht_tool_core.specs.declared.shapes.Hash.TheVariants.{Fx, Unhash}
 use Rattle.odht_tool_core.specs.declared.status.Status.TheVariants.{Done, NotDone}
 use Rattle.odht_tool_core.proofs.examples.Shapes.{one_bytes}
@@ -50,8 +53,21 @@ pub bounds : (groups_line (codes "longest miss  ") (Some 128) 128 ≡ codes "lon
 unfolding digits
 bounds = (refl, refl, refl)
 
+-- the byte at which the table stands, where that is told
+pub places : (at_line None ≡ []) × (at_line (Some 0) ≡ codes "at byte       0\n") × (at_line (Some 4096) ≡ codes "at byte       4096\n")
+    × (place_text true (Some 2) (codes "a") ≡ codes "at byte       2\n") × (place_text false (Some 2) (codes "a") ≡ codes "file          a\nat byte       2\n")
+unfolding digits
+places = (refl, refl, refl, refl, refl)
+
+-- of 64 slots: none is occupied, one, the first whole eighth, all but one, and all; the one slot of a stretch is occupied
+pub stretch_signs : (map (stretch_sign 64) (0 ∷ 1 ∷ 7 ∷ 8 ∷ 63 ∷ 64 ∷ []) ≡ codes ".11289") × (map (stretch_sign 1) (0 ∷ 1 ∷ []) ≡ codes ".9")
+stretch_signs = (refl, refl)
+
+pub stretches : stretches_line 2 (0 ∷ 1 ∷ 2 ∷ []) ≡ codes "along slots   .59\n"
+stretches = refl
+
 -- all lines of a table
-pub whole : (h : Histogram) → IsHistogram (1 ∷ []) h → info_text (record {
+pub whole : (n : Numbers) → IsHistogram (1 ∷ []) n.histogram → n.stretches.items ≡ set (replicate 16 0) 5 1 → info_text None (codes "a") (record n {
   key_size = 4;
   value_size = 4;
   len = 192;
@@ -62,33 +78,65 @@ pub whole : (h : Histogram) → IsHistogram (1 ∷ []) h → info_text (record {
   max_load = 7;
   hash = Some Unhash;
   bound = Some 128;
-  histogram = h;
   longest_miss = 1;
-}) ≡ codes "key bytes     4\nvalue bytes   4\nheader bytes  32\nall bytes     192\nitems         1\nslots         16\nmaximum       1\nload          6 percent\nmaximum load  7 percent\nhash          unhash\n  groups         items\n       1             1  ########################################\nlongest hit   1 groups\nlongest miss  1 groups\n"
+}) ≡ codes "key bytes     4\nvalue bytes   4\nheader bytes  32\nall bytes     192\nitems         1\nslots         16\nmaximum       1\nload          6 percent\nmaximum load  7 percent\nalong slots   .....9..........\nhash          unhash\n  groups         items\n       1             1  ########################################\nlongest hit   1 groups\nlongest miss  1 groups\n"
 unfolding tallies largest digits aligned bar
-whole h is = ap₂ (λ cs l. codes "key bytes     4\nvalue bytes   4\nheader bytes  32\nall bytes     192\nitems         1\nslots         16\nmaximum       1\nload          6 percent\nmaximum load  7 percent\n" ++ groups_text (Some Unhash) (Some 128) cs l ++ codes "longest miss  1 groups\n") is.counts is.longest
+whole n is along =
+    let front = codes "key bytes     4\nvalue bytes   4\nheader bytes  32\nall bytes     192\nitems         1\nslots         16\nmaximum       1\nload          6 percent\nmaximum load  7 percent\n" in
+    let miss = codes "longest miss  1 groups\n" in
+    ap (λ counts. front ++ stretches_line 1 counts ++ groups_text (Some Unhash) (Some 128) n.histogram.counts.items n.histogram.longest ++ miss ++ []) along
+    ∙ ap₂ (λ cs l. codes "key bytes     4\nvalue bytes   4\nheader bytes  32\nall bytes     192\nitems         1\nslots         16\nmaximum       1\nload          6 percent\nmaximum load  7 percent\nalong slots   .....9..........\n" ++ groups_text (Some Unhash) (Some 128) cs l ++ miss ++ []) is.counts is.longest
+
+-- ---- what may help
+-- nothing up to 24 groups, or where no hash function agrees
+pub no_help : (n : Numbers) → (advice (record n { longest_miss = 24 }) ≡ None) × (advice (record n { longest_miss = 25; hash = None }) ≡ None)
+no_help n = (refl, refl)
+
+-- a lower load above 50 percent, else the other hash function, but unhash for keys of less than four bytes
+pub some_help : (n : Numbers)
+    → (advice (record n { longest_miss = 25; hash = Some Fx; load = 51; key_size = 8 }) ≡ Some LowerLoad)
+    × (advice (record n { longest_miss = 25; hash = Some Fx; load = 50; key_size = 4 }) ≡ Some (OtherHash Unhash))
+    × (advice (record n { longest_miss = 25; hash = Some Fx; load = 50; key_size = 3 }) ≡ None)
+    × (advice (record n { longest_miss = 25; hash = Some Unhash; load = 50; key_size = 4 }) ≡ Some (OtherHash Fx))
+some_help n = (refl, refl, refl, refl)
+
+-- its line; from more than 128 groups on with `--whole`, and with FILE for a table inside a file, or on standard input
+pub helps : (line_of None (codes "a") true ≡ [])
+    × (line_of (Some LowerLoad) (codes "a") false ≡ codes "may help      a lower load: odht rebuild a --percent 50\n")
+    × (line_of (Some (OtherHash Unhash)) (codes "a") true ≡ codes "may help      the other hash function: odht rebuild a --hash unhash --whole\n")
+    × (rebuilt_name None (codes "a") ≡ codes "a")
+    × (rebuilt_name (Some 2) (codes "a") ≡ codes "FILE")
+    × (rebuilt_name None (codes "-") ≡ codes "FILE")
+helps = (refl, refl, refl, refl, refl, refl)
+
+pub whole_help : (n : Numbers) → (needs_whole (record n { longest_miss = 128 }) ≡ false) × (needs_whole (record n { longest_miss = 129 }) ≡ true)
+whole_help n = (refl, refl)
+
+-- and its string
+pub help_strings : (string_of None true ≡ codes "null") × (string_of (Some (OtherHash Fx)) false ≡ codes "\"--hash fx\"") × (string_of (Some LowerLoad) true ≡ codes "\"--percent 50 --whole\"")
+help_strings = (refl, refl, refl)
 
 -- ---- what a call did
 -- bytes that do not open: their error, and nothing is written
-pub refused : IsInfoDone info_text (79 ∷ 68 ∷ []) None (Some (codes "a")) (Some (codes "a")) (Err (Refused (TooShort 2)))
+pub refused : IsInfoDone (info_text None (codes "a")) (79 ∷ 68 ∷ []) None (Some (codes "a")) (Some (codes "a")) (Err (Refused (TooShort 2)))
 unfolding opened
 refused = (refl, refl)
 
-pub refused_late : IsInfoDone info_text (79 ∷ 68 ∷ []) None (Some (codes "a")) (Some (codes "ab")) (Err (Refused (TooShort 2))) → ⊥
+pub refused_late : IsInfoDone (info_text None (codes "a")) (79 ∷ 68 ∷ []) None (Some (codes "a")) (Some (codes "ab")) (Err (Refused (TooShort 2))) → ⊥
 refused_late h = unequal_lists (codes "ab") (codes "a") refl h.1
 
-pub not_refused : IsInfoDone info_text (79 ∷ 68 ∷ []) None (Some (codes "a")) (Some (codes "ab")) (Ok Done) → ⊥
+pub not_refused : IsInfoDone (info_text None (codes "a")) (79 ∷ 68 ∷ []) None (Some (codes "a")) (Some (codes "ab")) (Ok Done) → ⊥
 unfolding opened
 not_refused h = cc (h.1.1.opens)
 
 -- out of memory: nothing is written
-pub no_memory : IsInfoDone info_text one_bytes None (Some (codes "a")) (Some (codes "a")) (Err Memory)
+pub no_memory : IsInfoDone (info_text None (codes "a")) one_bytes None (Some (codes "a")) (Some (codes "a")) (Err Memory)
 unfolding opened
 no_memory = (refl, refl)
 
 -- a text is written, and the status is `Done`
-pub silent : IsInfoDone info_text one_bytes None (Some []) (Some []) (Ok Done) → ⊥
+pub silent : IsInfoDone (info_text None (codes "a")) one_bytes None (Some []) (Some []) (Ok Done) → ⊥
 silent h = cc (h.1.2)
 
-pub other_status : IsInfoDone info_text one_bytes None None None (Ok NotDone) → ⊥
+pub other_status : IsInfoDone (info_text None (codes "a")) one_bytes None None None (Ok NotDone) → ⊥
 other_status h = cc

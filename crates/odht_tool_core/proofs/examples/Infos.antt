@@ -11,7 +11,7 @@ use Rattle.odht_header.specs.declared.error.Error.TheVariants.{TooShort, WrongSi
 use Rattle.odht_header.specs.declared.error.Part.TheVariants.{Header}
 use Rattle.odht_header.proofs.examples.Opened.{opened}
 use Rattle.odht_tool_core.specs.GroupNumbers.{groups_to, groups_to_free}
-use Rattle.odht_tool_core.specs.InfoNumbers.{SizedParts, sized_parts, info_refusal, rest_refusal, agrees, found_hash, occupied, group_numbers, found_groups, longest_miss, tallies, largest, nearest_percent, IsHistogram, AreNumbers, IsInfoFailure}
+use Rattle.odht_tool_core.specs.InfoNumbers.{SizedParts, sized_parts, info_refusal, rest_refusal, agrees, found_hash, occupied, occupied_in, group_numbers, found_groups, longest_miss, stretch_len, stretch_counts, tallies, largest, nearest_percent, IsHistogram, AreNumbers, IsInfoFailure}
 use Rattle.odht_tool_core.specs.declared.failure.Failure.TheVariants.{Refused, Memory, NoHash}
 use Rattle.odht_tool_core.specs.declared.histogram.Histogram.{Histogram}
 use Rattle.odht_tool_core.specs.declared.numbers.Numbers.{Numbers}
@@ -60,6 +60,11 @@ pub slots : (occupied one_parts 16 ≡ 5 ∷ []) × (occupied one_parts 5 ≡ []
 unfolding opened
 slots = (refl, refl, refl)
 
+-- the three slots from the fourth on have it, and those behind it do not
+pub some_slots : (occupied_in one_parts 4 3 ≡ 5 ∷ []) × (occupied_in one_parts 6 10 ≡ [])
+unfolding opened
+some_slots = (refl, refl)
+
 pub groups : (group_numbers one_parts Unhash None 16 ≡ 1 ∷ [])
     × (found_groups one_parts (Some 128) ≡ 1 ∷ [])
     × (found_groups (record one_parts { control = set one_parts.control 5 1 }) None ≡ [])
@@ -79,6 +84,18 @@ pub counts : (tallies (1 ∷ 3 ∷ 80 ∷ 1 ∷ 64 ∷ []) ≡ set (set (set (re
 unfolding tallies largest
 counts = (refl, refl, refl, refl)
 
+-- ---- how full the table is along its slots
+-- a stretch is a slot of a table of up to 64 slots, and a 64th of the slots of a larger one
+pub stretch_lengths : (stretch_len 16 ≡ 1) × (stretch_len 64 ≡ 1) × (stretch_len 128 ≡ 2) × (stretch_len 4096 ≡ 64)
+stretch_lengths = (refl, refl, refl, refl)
+
+-- the one item is in the sixth of sixteen stretches; of 128 slots those from 2 on, of which 2, 3 and 5 are occupied, are in
+-- the second stretch and in the third
+pub stretches : (stretch_counts one_parts ≡ set (replicate 16 0) 5 1)
+    × (stretch_counts (record one_parts { slots = 128; control = set (set (set (replicate 144 255) 2 7) 3 7) 5 7 }) ≡ set (set (replicate 64 0) 1 2) 2 1)
+unfolding opened
+stretches = (refl, refl)
+
 -- ---- load factors
 -- each percentage is the one that is nearest to the load factor made of it; half a percent above 87 is nearer to 88
 pub percentages : (map (λ p. nearest_percent (factor_of p)) (range_with_len 0 101) ≡ range_with_len 0 101) × (nearest_percent 57342 ≡ 87) × (nearest_percent 57344 ≡ 88)
@@ -86,7 +103,7 @@ percentages = (refl, refl, refl)
 
 -- ---- all numbers
 -- those of the table: 192 bytes, one item in sixteen slots, at most one of them occupied
-pub of_table : (h : Histogram) → IsHistogram (1 ∷ []) h → AreNumbers one_bytes (Some 128) (record {
+pub of_table : (n : Numbers) → IsHistogram (1 ∷ []) n.histogram → n.stretches.items ≡ set (replicate 16 0) 5 1 → AreNumbers one_bytes (Some 128) (record n {
   key_size = 4;
   value_size = 4;
   len = 192;
@@ -97,11 +114,10 @@ pub of_table : (h : Histogram) → IsHistogram (1 ∷ []) h → AreNumbers one_b
   max_load = 7;
   hash = Some Unhash;
   bound = Some 128;
-  histogram = h;
   longest_miss = 1;
 })
 unfolding opened largest groups_to groups_to_free
-of_table h is = record {
+of_table n is along = record {
   opens = refl;
   key_size = refl;
   value_size = refl;
@@ -111,6 +127,7 @@ of_table h is = record {
   maximum = refl;
   load = refl;
   max_load = refl;
+  stretches = along;
   hash = refl;
   bound = refl;
   histogram = is;
@@ -119,9 +136,9 @@ of_table h is = record {
 
 -- and no others
 pub of_table_alone : (n : Numbers) → AreNumbers one_bytes (Some 128) n → (n.key_size ≡ 4) × (n.value_size ≡ 4) × (n.len ≡ 192) × (n.item_count ≡ 1) × (n.slot_count ≡ 16)
-    × (n.max_item_count ≡ 1) × (n.load ≡ 6) × (n.max_load ≡ 7) × (n.hash ≡ Some Unhash) × IsHistogram (1 ∷ []) n.histogram × (n.longest_miss ≡ 1)
+    × (n.max_item_count ≡ 1) × (n.load ≡ 6) × (n.max_load ≡ 7) × (n.stretches.items ≡ set (replicate 16 0) 5 1) × (n.hash ≡ Some Unhash) × IsHistogram (1 ∷ []) n.histogram × (n.longest_miss ≡ 1)
 unfolding opened largest groups_to groups_to_free
-of_table_alone n is = (is.key_size, is.value_size, is.len, is.items, is.slots, is.maximum, is.load, is.max_load, is.hash, is.histogram, is.miss)
+of_table_alone n is = (is.key_size, is.value_size, is.len, is.items, is.slots, is.maximum, is.load, is.max_load, is.stretches, is.hash, is.histogram, is.miss)
 
 -- bytes that do not open have none
 pub of_two_bytes : (n : Numbers) → AreNumbers (79 ∷ 68 ∷ []) None n → ⊥

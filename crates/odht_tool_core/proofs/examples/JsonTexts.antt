@@ -1,18 +1,17 @@
 -- Worked examples: texts of JSON.
-use Rattle.std.proofs.Common.{◌≡◌, true, false, refl, [], ◌∷◌, ◌++◌, Some, None, ap₂}
+use Rattle.std.proofs.Common.{◌≡◌, ◌∙◌, ℕ, true, false, refl, List, [], ◌∷◌, ◌++◌, Some, None, length, set, replicate, ap, ap₂}
 use Rattle.std.specs.Prelude.{codes}
 use Rattle.std.specs.Fmt.{digits}
 use Rattle.std.specs.Char.{encode_utf8}
 use Rattle.std.specs.Str.{chars, is_utf8}
 use Rattle.odht_header.proofs.examples.Opened.{opened}
 use Rattle.odht_tool_core.specs.FindJson.{table_object}
-use Rattle.odht_tool_core.specs.InfoJson.{count_fields, counts_array, hash_or_null, info_as, length_fields, longest_hit}
+use Rattle.odht_tool_core.specs.InfoJson.{at_fields, count_fields, counts_array, hash_or_null, info_as, length_fields, longest_hit}
 use Rattle.odht_tool_core.specs.InfoNumbers.{tallies, largest, IsHistogram}
 use Rattle.odht_tool_core.specs.Json.{is_simple, json_object, json_string, number_field, number_or_null, pair_object, string_field, text_field, truth}
 use Rattle.odht_tool_core.specs.JsonAnswers.{absent_object, answer_in}
 use Rattle.odht_tool_core.specs.JsonSlots.{slot_object}
 use Rattle.odht_tool_core.specs.Texts.{hex_text}
-use Rattle.odht_tool_core.specs.declared.histogram.Histogram.{Histogram}
 use Rattle.odht_tool_core.specs.declared.numbers.Numbers.{Numbers}
 use Rattle.odht_tool_core.specs.declared.shapes.Hash.TheVariants.{Fx, Unhash}
 use Rattle.odht_tool_core.proofs.examples.Shapes.{one_bytes}
@@ -55,8 +54,8 @@ unfolding tallies digits
 counts = (refl, refl, refl, refl, refl, refl)
 
 -- all numbers of a table
-abbrev one : Histogram → Numbers
-one h = record {
+abbrev one : Numbers → Numbers
+one n = record n {
   key_size = 4;
   value_size = 4;
   len = 192;
@@ -67,15 +66,16 @@ one h = record {
   max_load = 7;
   hash = Some Unhash;
   bound = Some 128;
-  histogram = h;
   longest_miss = 1;
 }
 
-pub whole : (h : Histogram) → IsHistogram (1 ∷ []) h → info_as true true (codes "a") (one h) ≡ codes "{\"file\":\"a\",\"key_bytes\":4,\"value_bytes\":4,\"header_bytes\":32,\"all_bytes\":192,\"items\":1,\"slots\":16,\"maximum\":1,\"load_percent\":6,\"maximum_load_percent\":7,\"hash\":\"unhash\",\"bound\":128,\"histogram\":[1],\"longest_hit\":1,\"longest_miss\":1}\n"
+pub whole : (n : Numbers) → IsHistogram (1 ∷ []) n.histogram → n.stretches.items ≡ set (replicate 16 0) 5 1
+    → info_as true true (Some 2) (codes "a") (one n) ≡ codes "{\"file\":\"a\",\"at\":2,\"key_bytes\":4,\"value_bytes\":4,\"header_bytes\":32,\"all_bytes\":192,\"items\":1,\"slots\":16,\"maximum\":1,\"load_percent\":6,\"maximum_load_percent\":7,\"along_slots\":[0,0,0,0,0,1,0,0,0,0,0,0,0,0,0,0],\"hash\":\"unhash\",\"bound\":128,\"histogram\":[1],\"longest_hit\":1,\"longest_miss\":1,\"may_help\":null}\n"
 unfolding tallies largest digits
-whole h is =
-    let front = string_field (codes "file") (codes "a") ∷ (length_fields (one h) ++ count_fields (one h)) in
-    ap₂ (λ cs l. json_object (front ++ ((codes "hash", hash_or_null (Some Unhash)) ∷ (codes "bound", number_or_null (Some 128)) ∷ (codes "histogram", counts_array cs l) ∷ (codes "longest_hit", number_or_null (longest_hit (Some Unhash) l)) ∷ number_field (codes "longest_miss") 1 ∷ [])) ++ (10 ∷ [])) is.counts is.longest
+whole n is along =
+    let front = string_field (codes "file") (codes "a") ∷ (at_fields (Some 2) ++ (length_fields (one n) ++ count_fields (one n))) in
+    let all = λ (slots : List ℕ). λ (cs : List ℕ). λ (l : ℕ). json_object (front ++ ((codes "along_slots", counts_array slots (length slots)) ∷ (codes "hash", hash_or_null (Some Unhash)) ∷ (codes "bound", number_or_null (Some 128)) ∷ (codes "histogram", counts_array cs l) ∷ (codes "longest_hit", number_or_null (longest_hit (Some Unhash) l)) ∷ number_field (codes "longest_miss") 1 ∷ (codes "may_help", codes "null") ∷ [])) ++ (10 ∷ []) in
+    ap₂ (all n.stretches.items) is.counts is.longest ∙ ap (λ slots. all slots (tallies (1 ∷ [])) (largest (1 ∷ []))) along
 
 -- a table inside a file
 pub found : table_object 2 one_bytes (codes "valid") ≡ codes "{\"offset\":2,\"bytes\":192,\"key_bytes\":4,\"value_bytes\":4,\"items\":1,\"slots\":16,\"load_percent\":6,\"hash\":\"unhash\",\"check\":\"valid\"}"

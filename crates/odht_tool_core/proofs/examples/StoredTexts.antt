@@ -38,6 +38,6 @@ both = (refl, refl)
 
 -- those of a shape are those of its keys and values
 pub shapes : (texts_of (Ready U64ToU32) (record { key = Signed; value = Own }) ≡ record { key = U64; value = U32; forms = record { key = Signed; value = Own } })
-    × (texts_of (Other (record { key_len = 3; value_len = 0; hash = Fx })) (record { key = Own; value = Own })
+    × (texts_of (Other (record { key = Bytes 3; value = Bytes 0; hash = Fx })) (record { key = Own; value = Own })
     ≡ record { key = Bytes 3; value = Bytes 0; forms = record { key = Own; value = Own } })
 shapes = (refl, refl)

@@ -1,4 +1,5 @@
 //! Why the arguments cannot be parsed.
+use super::asking::Asking;
 use super::draft::name_and_value;
 use super::topics::{Setting, TOPICS, Topic};
 use crate::status::Status;
@@ -91,8 +92,8 @@ impl fmt::Display for Misuse {
             Misuse::NoCommand => write!(f, "a command is missing; try `odht --help`"),
             Misuse::UnknownCommand(word) => {
                 write!(f, "no command is named {word:?}")?;
-                match Topic::nearest(word.as_str()) {
-                    Some(topic) => write!(f, " (did you mean {topic}?); try `odht --help`"),
+                match nearest_name(word.as_str()) {
+                    Some(name) => write!(f, " (did you mean {name}?); try `odht --help`"),
                     None => write_commands(f),
                 }
             }
@@ -105,6 +106,14 @@ impl fmt::Display for Misuse {
                 write!(f, "; try `odht {topic} --help`")
             }
         }
+    }
+}
+
+// What was meant by a word that is no command, where one slip makes a command of it, or what asks for a text.
+fn nearest_name(word: &str) -> Option<&'static str> {
+    match Topic::nearest(word) {
+        Some(topic) => Some(topic.name()),
+        None => Some(Asking::nearest(word)?.meant()),
     }
 }
 

@@ -4,6 +4,7 @@
 
 use crate::host::prelude::*;
 
+mod advice;
 pub mod answers;
 pub mod any;
 pub mod arguments;
@@ -43,6 +44,7 @@ pub mod sized_slots;
 pub mod slots;
 pub mod status;
 mod stored;
+mod stretches;
 pub mod targets;
 pub mod text;
 pub mod typed;

@@ -6,11 +6,6 @@
 use crate::host::prelude::*;
 
 mod commands;
-mod inserts;
-mod lookups;
-mod positions;
-mod shapes;
-mod sized;
 
 use crate::erased::core::status::Status;
 use crate::host::env;
@@ -24,24 +19,19 @@ const BUFFER_SIZE: usize = 1 << 16;
 pub fn main(rt: HostRuntime) -> ExitCode {
     match run(&rt) {
         Ok(status) => ExitCode::from(status.code()),
+        // Where standard error cannot be written either, the exit status alone reports it.
+        Err(error) if error.kind() == ErrorKind::InvalidData => {
+            let _ = writeln!(rt.stderr(), "odht: a word is no UTF-8 text");
+            ExitCode::from(Status::Misused.code())
+        }
         Err(error) => {
-            // Where standard error cannot be written either, the exit status alone reports it.
             let _ = writeln!(rt.stderr(), "odht: {error}");
-            ExitCode::from(status_of(&error).code())
+            ExitCode::from(Status::NotDone.code())
         }
     }
 }
 
-// How the program ends by an error of the arguments, one of which is no text, or of memory.
-fn status_of(error: &io::Error) -> Status {
-    if error.kind() == ErrorKind::InvalidData {
-        Status::Misused
-    } else {
-        Status::NotDone
-    }
-}
-
-// Runs the command that the arguments name. An error is one of the arguments or of memory.
+// Runs the command that the arguments name. An error is one of memory, or `InvalidData`: an argument is no text.
 fn run(rt: &HostRuntime) -> io::Result<Status> {
     let alloc: Global = rt.alloc();
     let words: Vec<String> = env::args(rt)?.skip(1).try_collect(alloc)?;

@@ -41,7 +41,7 @@ impl<C: Config, D: ByteStore> HashTable<C, D> {
             unreachable!()
         };
         memory_layout::clear_entries::<C>(out, slot_count);
-        write_grown(self, slot_count, out);
+        write_moved(self, slot_count, out);
     }
 }
 
@@ -67,8 +67,9 @@ pub(crate) fn grown_sizes<H: HashFn>(
     layout.table_for(twice.max(1), factor)
 }
 
-/// Writes the grown table with so many slots into bytes whose entries are zeros.
-pub(crate) fn write_grown<C: Config, D: ByteStore>(
+/// Writes the pairs of a table, placed in slot order into so many slots, into bytes whose entries are zeros. The new
+/// header has the item count and the load factor of the table's.
+pub(crate) fn write_moved<C: Config, D: ByteStore>(
     table: &HashTable<C, D>,
     slot_count: usize,
     out: &mut [u8],
@@ -83,7 +84,7 @@ pub(crate) fn write_grown<C: Config, D: ByteStore>(
 
 // Writes the table of so many slots with the items of the walk into bytes whose entries are zeros. The new header gets
 // `item_count`, whatever the walk gives.
-pub(crate) fn write_walked<C: Config>(
+fn write_walked<C: Config>(
     bytes: &mut [u8],
     slot_count: usize,
     item_count: usize,
@@ -93,12 +94,12 @@ pub(crate) fn write_walked<C: Config>(
     memory_layout::write_empty::<C>(bytes, slot_count, item_count, max_load_factor);
     let (table, control) = bytes.split_at_mut(memory_layout::entry_at::<C>(slot_count));
     let (_header, entries) = table.split_at_mut(HEADER_SIZE);
-    insert_walk::<C::EncodedKey, C::EncodedValue, C::H>(control, entries, walk);
+    place_walk::<C::EncodedKey, C::EncodedValue, C::H>(control, entries, walk);
 }
 
 // Places the items of a walk in turn into the parts of a table, each as long as a slot is free. The clause is for keys
 // that are pairwise distinct and new to the table, as on valid bytes; other walks are taken too.
-fn insert_walk<K: ByteArray, V: ByteArray, H: HashFn>(
+fn place_walk<K: ByteArray, V: ByteArray, H: HashFn>(
     control: &mut [u8],
     entries: &mut [u8],
     walk: RawIter<'_, K, V>,

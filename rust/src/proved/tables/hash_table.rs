@@ -70,8 +70,8 @@ impl<C: Config, D: ByteStore> HashTable<C, D> {
         HashTable { allocation: Allocation::from_raw_bytes_unchecked(data) }
     }
 
-    /// The value of a key, or None. On valid bytes it is the value of the key's last insert; on any bytes it is one
-    /// that is stored with this very key. [`HashTable::get_counted`] says how many groups the search reads.
+    /// The value of a key, or None. On valid bytes it is the table's value for the key; on any bytes it is one that
+    /// some entry has beside this very key. [`HashTable::get_counted`] counts the groups of such a search.
     #[inline(always)]
     pub fn get(&self, key: &C::Key) -> Option<C::Value> {
         self.get_by::<GroupQuery>(key)
@@ -188,19 +188,19 @@ impl<C: Config, D: ByteStoreMut> HashTable<C, D> {
         Ok(())
     }
 
-    /// Gives the key this value, and returns its former one: on valid bytes that of its last insert.
+    /// Gives the key this value, and returns its former one: on valid bytes the table's value for the key.
     ///
-    /// `Full` where the search does not find the key and the header's count is the maximum item count or more, or where
-    /// it finds neither the key nor a free slot: then nothing changes. On valid bytes it comes exactly where the table
-    /// is at its maximum and the key is absent: a present key is always given its value. docs/FORMAT.md, "Insert" and
-    /// "At the maximum", has the rules.
+    /// The one error is `Full`, and then nothing changes. On valid bytes it comes exactly where the table is at its
+    /// maximum and the key is absent: a present key is always given its value. docs/FORMAT.md, "Insert" and "At the
+    /// maximum", has the rules.
     ///
-    /// On any bytes either one value that is stored with an equal key changes; or, where the header's count is below
-    /// its maximum, one entry, its tag and, below slot 16, the tag's mirror are written to a slot that counted as free,
-    /// and the count rises by one. No other byte changes. `Full` comes only where a search slot by slot can end without
-    /// the key, and the header's count is its maximum or more, or each slot counts as occupied.
+    /// On any bytes one of three things happens. One value changes that an entry of any slot has beside an equal key.
+    /// Or, where the header's count is below its maximum, one entry, its tag and, below slot 16, the tag's mirror are
+    /// written to a slot that counted as free, and the count rises by one. Or it is `Full`: only where a search slot
+    /// by slot can end without the key, and where besides the header's count is its maximum or more, or each slot
+    /// counts as occupied. No other byte changes.
     ///
-    /// The key is hashed once. [`HashTable::get_counted`] says how many groups the search reads.
+    /// The key is hashed once. [`HashTable::get_counted`] counts the groups of such a search.
     #[inline(always)]
     pub fn insert(&mut self, key: &C::Key, value: &C::Value) -> Result<Option<C::Value>, Error> {
         self.insert_by::<GroupQuery>(key, value)

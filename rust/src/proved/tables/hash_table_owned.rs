@@ -4,7 +4,7 @@
 use crate::proved::tables::bytes::OwnedBytes;
 use crate::proved::tables::config::Config;
 use crate::proved::tables::error::Error;
-use crate::proved::tables::growth::{grown_layout, write_grown};
+use crate::proved::tables::growth::{grown_layout, write_moved};
 use crate::proved::tables::hash_table::HashTable;
 use crate::proved::tables::iter::Iter;
 use crate::proved::tables::load::{slots_needed, Factor};
@@ -70,8 +70,8 @@ impl<C: Config> HashTableOwned<C> {
         Ok(table)
     }
 
-    /// The value of a key, or None: that of its last insert. [`HashTableOwned::get_counted`] says how many groups the
-    /// search reads.
+    /// The value of a key, or None: what its last insert gave it, or what the bytes have for it that were opened.
+    /// [`HashTableOwned::get_counted`] counts the groups of such a search.
     #[inline]
     pub fn get(&self, key: &C::Key) -> Option<C::Value> {
         self.table.get(key)
@@ -159,12 +159,13 @@ impl<C: Config> HashTableOwned<C> {
         Self::from_raw_bytes_unchecked(self.alloc, self.table.raw_bytes())
     }
 
-    /// Gives the key this value, and returns its former one: that of its last insert. At the maximum the table grows
-    /// for an absent key; a present key is given its value in place, which takes no memory. docs/FORMAT.md, "Insert"
-    /// and "Growth", has the rules.
+    /// Gives the key this value, and returns its former one, or None. At the maximum the table grows for an absent
+    /// key; a present key is given its value in place, which takes no memory. docs/FORMAT.md, "Insert" and "Growth",
+    /// has the rules.
     ///
-    /// `Memory` only at the maximum and for an absent key, where the allocator gives none, or the grown table would
-    /// need more than 2^63 slots, or more bytes than a `usize` counts. Then nothing changes.
+    /// The one error is `Memory`, only at the maximum and for an absent key; then nothing changes. It comes where the
+    /// allocator gives none, or the grown table would need more than 2^63 slots, or more bytes than a `usize` counts;
+    /// that it comes for no other reason, no clause says.
     ///
     /// The key is hashed once, and once more at a growth, which hashes and places each item again.
     #[inline(always)]
@@ -200,7 +201,7 @@ impl<C: Config> HashTableOwned<C> {
         let Ok(mut bytes) = crate::shim::zeroed_bytes(self.alloc, len) else {
             return Err(Error::Memory);
         };
-        write_grown(&self.table, slot_count, bytes.as_mut_slice());
+        write_moved(&self.table, slot_count, bytes.as_mut_slice());
         Ok(HashTable::from_raw_bytes_unchecked(OwnedBytes::new(bytes)))
     }
 }

@@ -51,11 +51,11 @@ returns g c =
     let f = c.args.max_load_factor.0 in
     let header = c.split_at_mut-header.result.0.now in
     let are = new g (goal.at.returns g c).After-split_at_mut-header in
-    let split = append_assoc header c.insert_walk.new.entries c.insert_walk.new.control in
+    let split = append_assoc header c.place_walk.new.entries c.place_walk.new.control in
     let long : length header ≡ 32 = ap length are.header ∙ length-header_bytes F s c.args.item_count f in
     record {
       placed = λ Q apart placed.
-          let left = c.insert_walk.ensures (empty s f) Q (record { apart = apart; new = λ i d l. map_of-empty s f _; placed = placed }) are.parts in
+          let left = c.place_walk.ensures (empty s f) Q (record { apart = apart; new = λ i d l. map_of-empty s f _; placed = placed }) are.parts in
           split ∙ (λ i. are.header i ++ (left.entries_are i ++ left.controls_are i));
-      header = ap (take 32) split ∙ take_at header (c.insert_walk.new.entries ++ c.insert_walk.new.control) 32 long ∙ are.header;
+      header = ap (take 32) split ∙ take_at header (c.place_walk.new.entries ++ c.place_walk.new.control) 32 long ∙ are.header;
     }

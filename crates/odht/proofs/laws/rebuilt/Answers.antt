@@ -8,6 +8,19 @@ use Rattle.odht.proofs.lemmas.NewRefusals.{passed_on, fails-later}
 use Rattle.odht.proofs.lemmas.Rebuilding.{rebuilt-IsImage}
 use Rattle.odht.proofs.laws.rebuilt.Goals as goal
 
+pub returns-clause-inserted : goal.returns-clause-inserted
+returns-clause-inserted g c =
+    let K = coding_of g.C.EncodedKey.ByteArray.LEN g.C.EncodedKey.ByteArray.bytes g.C.EncodedKey.ByteArray.of_bytes g.C.EncodedValue.ByteArray.LEN g.C.EncodedValue.ByteArray.bytes g.C.EncodedValue.ByteArray.of_bytes g.C.H.HashFn.hash g.C.Config.encode_key g.C.Config.encode_value g.C.Config.decode_key g.C.Config.decode_value in
+    let items = c.args.items.now in
+    let made = c.in_ok-rebuilt.ensures.ok in
+    let all = c.insert_all.ensures.all.0 (subst IsOk (sym c.in_ok-insert_all.was) refl) in
+    let taken : take c.insert_all.result.0 items ≡ items = take_all c.insert_all.result.0 items (omega (arith, all)) in
+    record {
+      start = made.table;
+      new = made.new;
+      inserted = subst (λ (xs : List (g.row.C-Key.Denot × g.row.C-Value.Denot)). IsAfterInserts K.format (insert_owned K.format) made.table (encoded_all K xs) c.insert_all.new.self) taken (c.insert_all.ensures.inserted made.table made.image);
+    }
+
 pub returns-clause-ok : goal.returns-clause-ok
 returns-clause-ok g c P is =
     let K = coding_of g.C.EncodedKey.ByteArray.LEN g.C.EncodedKey.ByteArray.bytes g.C.EncodedKey.ByteArray.of_bytes g.C.EncodedValue.ByteArray.LEN g.C.EncodedValue.ByteArray.bytes g.C.EncodedValue.ByteArray.of_bytes g.C.H.HashFn.hash g.C.Config.encode_key g.C.Config.encode_value g.C.Config.decode_key g.C.Config.decode_value in

@@ -28,8 +28,10 @@ impl<C: Config, M: ByteStoreMut> Allocation<C, M> {
         store.write_at(ITEM_COUNT_AT, &(item_count as u64).to_le_bytes());
     }
 
-    /// Writes the pair into the entry of a slot, and the tag into its control byte and, for a slot below 16, its
-    /// mirror. The item count stays. The clause `pair` says that key and value have the lengths of the format.
+    /// Writes the pair into the entry of a slot, and the tag, whatever it is, into its control byte and, for a slot
+    /// below 16, its mirror. No other byte changes, the item count neither: that the key's search ends at this slot,
+    /// and that the tag is the key's, is the caller's part. The clause `pair` says that key and value have the lengths
+    /// of the format.
     #[inline(always)]
     pub fn write_entry(
         &mut self,

@@ -5,6 +5,7 @@ use Rattle.odht_header.specs.declared.error.Error.{Error}
 use Rattle.odht_tool_core.specs.AnyShapes.{any_of_sizes}
 use Rattle.odht_tool_core.specs.ReadyShapes.{early_refusal}
 use Rattle.odht_tool_core.specs.declared.any.AnyShape.TheVariants.{Ready}
+use Rattle.odht_tool_core.specs.declared.shapes.Part.TheVariants.{Bytes}
 use Rattle.odht_tool_core.specs.declared.shapes.ready.Shape.TheVariants.{U64ToU32}
 use Rattle.odht_tool_core.proofs.any.named_any.Goals as goal
 
@@ -17,5 +18,5 @@ pub returns-then-is_err-clause-shape : goal.returns-then-is_err-clause-shape
 returns-then-is_err-clause-shape c =
     let B = c.args.bytes.now in
     let fails = sym (ap is_err c.check_first.ensures.first) ∙ sym c.is_err.ensures.value ∙ c.if-is_err.true in
-    ap (λ t. if t then Ok (Ready U64ToU32) else any_of_sizes (slice_index B 5) (slice_index B 6) c.args.hash)
+    ap (λ t. if t then Ok (Ready U64ToU32) else any_of_sizes (Bytes (slice_index B 5)) (Bytes (slice_index B 6)) c.args.hash)
     (sym (has_error (early_refusal B) fails))

@@ -12,6 +12,7 @@ returns-clause-ok c = record {
   maximum = search rules;
   load = search rules;
   max_load = search rules;
+  stretches = search rules;
   hash = search rules;
   bound = search rules;
   histogram = search rules;

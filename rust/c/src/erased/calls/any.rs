@@ -28,6 +28,7 @@ pub mod order;
 mod pieces;
 pub mod places;
 pub mod read;
+pub mod view;
 pub mod walk;
 pub mod write;
 

@@ -99,7 +99,7 @@ pub fn grown<C: Config>(
 }
 
 // Copies the table to the front of `out`, if it fits, and writes its length in bytes to `len`.
-fn hand_out(table: &[u8], out: &mut [u8], len: &mut usize) -> u32 {
+pub(crate) fn hand_out(table: &[u8], out: &mut [u8], len: &mut usize) -> u32 {
     *len = table.len();
     if out.len() < table.len() {
         return TOO_SMALL;

@@ -13,6 +13,9 @@ pub const LOAD_FACTOR_TOO_SMALL: u32 = 10;
 /// The bytes for a new table are more or fewer than it needs.
 pub const INIT_LENGTH: u32 = 17;
 
+/// The allocator gives no memory, or no table is large enough.
+pub(crate) const MEMORY: u32 = 19;
+
 /// No slot count is enough, or the length in bytes does not fit `usize`.
 pub const CAPACITY: u32 = 20;
 

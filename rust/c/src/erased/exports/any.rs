@@ -5,6 +5,9 @@
 //! hash function has the number of the layout, or keys are shorter than it needs; then nothing is written.
 
 use crate::erased::calls::any::{build, lists, order, places, read, walk, write, AnyLayout};
+use crate::shim::Global;
+
+pub(crate) mod views;
 
 /// Writes to `len` how many bytes a new table for so many items has: status 0. `BAD_PERCENT` where the load factor is
 /// not from 1 to 100 percent, `CAPACITY` where no slot count is enough or the length does not fit `usize`; then `len`
@@ -276,7 +279,8 @@ pub unsafe extern "C" fn odht_any_insert_order(
 
 /// Gives the key this value: status 0 where the key was new, `REPLACED` where it had a value, which is written to
 /// `former`. `FULL` at the maximum where the key is absent, `BAD_LENGTHS` where the key, the value or `former` has
-/// another length than the layout says, or an error of the header or length; then nothing changes.
+/// another length than the layout says, or an error of the header or length; then nothing changes. A view of the bytes
+/// remains usable, whatever the status.
 #[unsafe(no_mangle)]
 pub unsafe extern "C" fn odht_any_insert(
     layout: &AnyLayout,
@@ -298,7 +302,8 @@ pub unsafe extern "C" fn odht_any_insert(
 
 /// Inserts `count` pairs, whose keys and values lie one after the other, in order: status 0, or `FULL` at the first
 /// that does not fit; and writes to `accepted` how many were inserted. `BAD_LENGTHS` where `keys` or `values` have
-/// another length than so many of them, or an error of the header or length; then nothing changes.
+/// another length than so many of them, or an error of the header or length; then nothing changes. A view of the bytes
+/// remains usable, whatever the status.
 #[unsafe(no_mangle)]
 pub unsafe extern "C" fn odht_any_insert_all(
     layout: &AnyLayout,
@@ -360,4 +365,29 @@ pub unsafe extern "C" fn odht_any_build(
     let values = unsafe { crate::lists::list(values, values_len) };
     let out = unsafe { crate::lists::list_mut(out, out_len) };
     build::build(*layout, count, keys, values, max_load_factor_percent, out, len)
+}
+
+/// Builds a table of `count` pairs, whose keys and values lie one after the other, in memory of its own, copies it to
+/// the front of `out`, and writes its length in bytes to `len`: status 0. It begins with sixteen slots at 87 percent,
+/// and grows as the pairs are inserted; of equal keys the last value counts. `TOO_SMALL` where `out` is shorter than
+/// the table: then only `len` is written. `BAD_LENGTHS` where `keys` or `values` have another length than so many of
+/// them, `MEMORY` when an allocation fails or no table is large enough; then nothing is written. After the table `out`
+/// is unchanged. One insert for each pair, the growths, and one copy of the table.
+#[unsafe(no_mangle)]
+pub unsafe extern "C" fn odht_any_build_growing(
+    layout: &AnyLayout,
+    count: usize,
+    keys: *const u8,
+    keys_len: usize,
+    values: *const u8,
+    values_len: usize,
+    out: *mut u8,
+    out_len: usize,
+    len: &mut usize,
+) -> u32 {
+    let alloc = Global;
+    let keys = unsafe { crate::lists::list(keys, keys_len) };
+    let values = unsafe { crate::lists::list(values, values_len) };
+    let out = unsafe { crate::lists::list_mut(out, out_len) };
+    build::build_growing(alloc, *layout, count, keys, values, out, len)
 }

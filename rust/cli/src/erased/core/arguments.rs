@@ -10,6 +10,7 @@ use crate::host::prelude::*;
 use crate::proved::base::load::Percent;
 use crate::shim::Global;
 
+mod asking;
 mod delimiters;
 mod draft;
 mod duplicates;
@@ -214,11 +215,20 @@ fn parse_help(command: Option<String>, more: Option<String>) -> Result<Request, 
     let Some(command) = command else {
         return Ok(Request::Help(None));
     };
-    let Some(topic) = Topic::named(command.as_str()) else {
+    let topic = Topic::named(command.as_str());
+    if topic.is_none() && !is_help(command.as_str()) {
         return Err(Misuse::UnknownCommand(command));
-    };
+    }
     match more {
-        None => Ok(Request::Help(Some(topic))),
+        None => Ok(Request::Help(topic)),
         Some(word) => Err(Misuse::InHelp(word)),
+    }
+}
+
+// Whether a word in the place of a command asks for the help text of all.
+fn is_help(word: &str) -> bool {
+    match word {
+        "help" | "-h" | "--help" => true,
+        _ => false,
     }
 }

@@ -1,7 +1,7 @@
 // Made by `make rust` of crates/odht_tool_core/src/files.rt.
 //! Whole files: read at once, and written as a new file, which then replaces the old one.
 use crate::erased::core::failure::Failure;
-use crate::erased::core::targets::{Kept, Target};
+use crate::erased::core::targets::{beside, Kept, Target};
 use crate::host::fs::{self, OpenFile, OpenOptions};
 use crate::host::os::unix::fs::OpenOptionsExt;
 use crate::host::prelude::*;
@@ -71,10 +71,9 @@ pub fn replace_file<R: Files + AllocGlobal>(
 where
     R::File: AsFd,
 {
-    let alloc: Global = rt.alloc();
     let target = target.again(rt)?;
     let path = target.path();
-    let beside = crate::host::texts::formatted(alloc, format_args!("{path}.new"))?;
+    let beside = beside(rt.alloc(), path)?;
     let file = match create(rt, beside.as_str(), target.kept().is_some()) {
         Ok(file) => file,
         Err(error) if error.kind() == io::ErrorKind::AlreadyExists => {

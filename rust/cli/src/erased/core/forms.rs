@@ -1,6 +1,7 @@
 // Made by `make rust` of crates/odht_tool_core/src/forms.rt.
 //! The forms of keys and values: other texts than those that their shape has for them.
 
+use crate::erased::core::any::OtherShape;
 use crate::erased::core::shapes::Part;
 use crate::host::prelude::*;
 
@@ -15,16 +16,62 @@ pub enum Form {
     BigEndian,
     /// Bytes that are a plain text, with zeros behind it.
     Plain,
-    /// So many bytes in hexadecimal digits, where their type does not say how many.
-    Hex(u8),
+    /// Stored bytes that do not say their type: they are of this one, and written in this way.
+    Of(Part, Way),
+}
+
+/// How what is of a type is written and read.
+#[derive(Clone, Copy)]
+pub enum Way {
+    /// As its type has it.
+    Own,
+    /// As a number with a sign.
+    Signed,
+    /// As a number whose stored bytes begin with the highest one.
+    BigEndian,
+    /// As a plain text.
+    Plain,
+}
+
+impl Way {
+    // The form of what is of a type.
+    fn form(self) -> Form {
+        match self {
+            Way::Own => Form::Own,
+            Way::Signed => Form::Signed,
+            Way::BigEndian => Form::BigEndian,
+            Way::Plain => Form::Plain,
+        }
+    }
 }
 
 impl Form {
-    /// How many bytes it is of; none where that is for their type to say.
-    pub fn len(self) -> u8 {
+    /// The form of stored bytes that are of this type, and are written as this form has it.
+    pub fn of(self, part: Part) -> Form {
+        Form::Of(part, self.way())
+    }
+
+    /// The type that stored bytes are of. Nothing where it is for them to say.
+    pub(crate) fn part(self) -> Part {
         match self {
-            Form::Hex(len) => len,
-            _ => 0,
+            Form::Of(part, _) => part,
+            _ => Part::Nothing,
+        }
+    }
+
+    /// The form of what is of that type.
+    pub(crate) fn inner(self) -> Form {
+        self.way().form()
+    }
+
+    // How what is of a type is written.
+    fn way(self) -> Way {
+        match self {
+            Form::Own => Way::Own,
+            Form::Signed => Way::Signed,
+            Form::BigEndian => Way::BigEndian,
+            Form::Plain => Way::Plain,
+            Form::Of(_, way) => way,
         }
     }
 }
@@ -107,31 +154,12 @@ impl Forms for LineForms {
     }
 }
 
-/// The forms of bytes in hexadecimal digits, of these lengths.
-#[derive(Clone, Copy)]
-pub struct HexForms {
-    /// That of keys.
-    pub key_len: u8,
-    /// That of values.
-    pub value_len: u8,
-}
-
-impl Forms for HexForms {
-    fn key(self) -> Form {
-        Form::Hex(self.key_len)
-    }
-
-    fn value(self) -> Form {
-        Form::Hex(self.value_len)
-    }
-
-    #[inline(always)]
-    fn delimiter(self) -> u8 {
-        b'\t'
-    }
-}
-
 impl GivenForms {
+    /// The forms of stored bytes of another shape, whose keys and values are written in these.
+    pub fn of(self, shape: OtherShape) -> GivenForms {
+        GivenForms { key: self.key.of(shape.key), value: self.value.of(shape.value) }
+    }
+
     /// Whether both are the shape's own.
     pub fn are_own(self) -> bool {
         match (self.key, self.value) {
@@ -149,14 +177,6 @@ pub struct Kind {
 }
 
 impl Kind {
-    /// Whether it is bytes, or nothing, in hexadecimal digits.
-    pub(crate) fn is_hex(self) -> bool {
-        match (self.part, self.form) {
-            (Part::Nothing | Part::Bytes(_), Form::Own) => true,
-            _ => false,
-        }
-    }
-
     /// The kind of this name: that of a type (`Part::named`), `i32` or `i64`, `u32be` or `u64be`, or `text:` and a
     /// number of bytes from 1 to 255.
     pub(crate) fn named(name: &str) -> Option<Kind> {

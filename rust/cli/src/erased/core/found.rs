@@ -3,7 +3,7 @@
 
 use crate::erased::core::any::{named_any, AnyShape, OtherShape};
 use crate::erased::core::failure::Failure;
-use crate::erased::core::shapes::{Hash, Shape, SHAPES};
+use crate::erased::core::shapes::{Hash, Part, Shape, SHAPES};
 use crate::erased::core::stored::StoredTable;
 use crate::host::prelude::*;
 use crate::proved::header::header::Header;
@@ -36,7 +36,11 @@ fn fitting_any(bytes: &[u8], table: &StoredTable<'_>) -> Result<AnyShape, Failur
         return Ok(AnyShape::Ready(shape));
     }
     match table.hash() {
-        Some(hash) => Ok(AnyShape::Other(OtherShape { key_len, value_len, hash })),
+        Some(hash) => Ok(AnyShape::Other(OtherShape {
+            key: Part::Bytes(key_len),
+            value: Part::Bytes(value_len),
+            hash,
+        })),
         None => Err(Failure::NoHash { key_size: key_len, value_size: value_len }),
     }
 }

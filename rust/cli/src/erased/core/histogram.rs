@@ -43,27 +43,7 @@ impl Histogram {
     /// Writes an array of JSON: for each number of groups up to the largest the count. The last of 64 counts is that
     /// of all larger numbers too.
     pub fn write_array<W: Write>(&self, output: &mut W) -> io::Result<()> {
-        output.write_all(b"[")?;
-        self.write_counts(output)?;
-        output.write_all(b"]")
-    }
-
-    // Writes the counts, with a comma before each but the first.
-    fn write_counts<W: Write>(&self, output: &mut W) -> io::Result<()> {
-        for index in 0..self.longest.min(MOST) {
-            self.write_count(index, output)?;
-        }
-        Ok(())
-    }
-
-    // Writes a count, with a comma before it but before the first.
-    fn write_count<W: Write>(&self, index: usize, output: &mut W) -> io::Result<()> {
-        let count = self.counts[index];
-        if index == 0 {
-            write!(output, "{count}")
-        } else {
-            write!(output, ",{count}")
-        }
+        write_array(self.counts.as_slice(), self.longest, output)
     }
 
     // Writes the line of a count.
@@ -74,6 +54,35 @@ impl Histogram {
         write!(output, "{groups:>8}{more}  {count:>12}  ")?;
         write_bar(count, most, output)?;
         output.write_all(b"\n")
+    }
+}
+
+/// Writes an array of JSON of the first `shown` counts, at most 64.
+pub(crate) fn write_array<W: Write>(
+    counts: &[usize],
+    shown: usize,
+    output: &mut W,
+) -> io::Result<()> {
+    output.write_all(b"[")?;
+    write_counts(counts, shown, output)?;
+    output.write_all(b"]")
+}
+
+// Writes the counts, with a comma before each but the first.
+fn write_counts<W: Write>(counts: &[usize], shown: usize, output: &mut W) -> io::Result<()> {
+    for index in 0..shown.min(MOST) {
+        write_count(counts, index, output)?;
+    }
+    Ok(())
+}
+
+// Writes a count, with a comma before it but before the first.
+fn write_count<W: Write>(counts: &[usize], index: usize, output: &mut W) -> io::Result<()> {
+    let count = counts[index];
+    if index == 0 {
+        write!(output, "{count}")
+    } else {
+        write!(output, ",{count}")
     }
 }
 

@@ -1,63 +1,89 @@
 // Made by `make rust` of crates/odht_tool_core/src/info.rt.
 //! `odht info`: what a table file of any shape holds.
 
+use crate::erased::core::advice::write_advice;
 use crate::erased::core::failure::Failure;
 use crate::erased::core::histogram::Histogram;
 use crate::erased::core::info_json::write_object;
 use crate::erased::core::numbers::{numbers_of, Numbers};
 use crate::erased::core::shapes::Hash;
 use crate::erased::core::status::Status;
+use crate::erased::core::stretches::write_stretches;
 use crate::host::prelude::*;
 use crate::proved::header::header::HEADER_SIZE;
 use crate::shim::Global;
 use std::io::{self, Write};
 
-/// `odht info` of the bytes of the file of this name: writes sizes, counts, load factors, and how many groups a
-/// search reads for the items and for absent keys, up to the bound, after a line of its name where it is not the only
-/// one; with `is_json` as an object of JSON.
+/// `odht info` of the bytes of the file of this name, or of the table at a byte of it: writes that byte, sizes, counts,
+/// load factors, how full the table is along its slots, how many groups a search reads for the items and for absent keys,
+/// up to the bound, and what may help where that is many; after a line of the name where it is not the only one; with
+/// `is_json` as an object of JSON.
 pub fn info_file<O: Write>(
     alloc: Global,
     file: &str,
     is_one: bool,
+    at: Option<usize>,
     bytes: &[u8],
     bound: Option<usize>,
     is_json: bool,
     output: &mut O,
 ) -> Result<Status, Failure> {
     let numbers = numbers_of(alloc, bytes, bound)?;
-    match write_as(file, is_one, &numbers, is_json, output) {
+    match write_as(file, is_one, at, &numbers, is_json, output) {
         Ok(()) => Ok(Status::Done),
         Err(error) => Err(Failure::Output(error)),
     }
 }
 
-// The lines, with the name of the file where it is not the only one, or the object.
+// The lines, after those of where the table is, or the object.
 fn write_as<O: Write>(
     file: &str,
     is_one: bool,
+    at: Option<usize>,
     numbers: &Numbers,
     is_json: bool,
     output: &mut O,
 ) -> io::Result<()> {
     if is_json {
-        write_object(file, numbers, output)
-    } else if is_one {
-        write_all(numbers, output)
-    } else {
-        write_named(file, numbers, output)
+        return write_object(file, at, numbers, output);
+    }
+    write_place(file, is_one, at, output)?;
+    write_all(file, at, numbers, output)
+}
+
+// The lines of the file's name, where it is not the only one, and of the byte at which the table stands in it.
+fn write_place<O: Write>(
+    file: &str,
+    is_one: bool,
+    at: Option<usize>,
+    output: &mut O,
+) -> io::Result<()> {
+    if is_one {
+        return write_at(at, output);
+    }
+    writeln!(output, "file          {file}")?;
+    write_at(at, output)
+}
+
+// The line of the byte at which the table stands in the file, where that is told.
+fn write_at<O: Write>(at: Option<usize>, output: &mut O) -> io::Result<()> {
+    match at {
+        Some(at) => write_number("at byte       ", at as u128, "", output),
+        None => Ok(()),
     }
 }
 
-// The lines, after one of the file's name.
-fn write_named<O: Write>(file: &str, numbers: &Numbers, output: &mut O) -> io::Result<()> {
-    writeln!(output, "file          {file}")?;
-    write_all(numbers, output)
-}
-
-fn write_all<O: Write>(numbers: &Numbers, output: &mut O) -> io::Result<()> {
+fn write_all<O: Write>(
+    file: &str,
+    at: Option<usize>,
+    numbers: &Numbers,
+    output: &mut O,
+) -> io::Result<()> {
     write_sizes(numbers, output)?;
+    write_stretches(numbers.slot_count, numbers.stretches.as_slice(), output)?;
     write_hash(numbers, output)?;
-    write_longest("longest miss  ", numbers.longest_miss, numbers.bound, output)
+    write_longest("longest miss  ", numbers.longest_miss, numbers.bound, output)?;
+    write_advice(file, at, numbers, output)
 }
 
 // The lines of the hash function, where there is one with the histogram.

@@ -1,6 +1,8 @@
 // Made by `make rust` of crates/odht_tool_core/src/info_json.rt.
 //! `odht info --json`: the numbers of a table file as an object of JSON.
 
+use crate::erased::core::advice;
+use crate::erased::core::histogram::write_array;
 use crate::erased::core::info::name_of;
 use crate::erased::core::json::{
     write_file_field, write_number_field, write_optional_field, write_string_field,
@@ -15,14 +17,17 @@ use std::io::{self, Write};
 /// Writes the object of the numbers of the file of this name, on a line.
 pub(crate) fn write_object<O: Write>(
     file: &str,
+    at: Option<usize>,
     numbers: &Numbers,
     output: &mut O,
 ) -> io::Result<()> {
     write_file_field(file, output)?;
+    write_optional_field("at", at, output)?;
     write_lengths(numbers, output)?;
     write_counts(numbers, output)?;
-    write_hash(numbers.hash, output)?;
+    write_hash(numbers, output)?;
     write_groups(numbers, output)?;
+    advice::write_field(numbers, output)?;
     output.write_all(b"}\n")
 }
 
@@ -43,8 +48,16 @@ fn write_counts<O: Write>(numbers: &Numbers, output: &mut O) -> io::Result<()> {
     write_number_field("maximum_load_percent", numbers.max_load as u128, output)
 }
 
+// The fields of how full the table is along its slots, and of the hash function.
+fn write_hash<O: Write>(numbers: &Numbers, output: &mut O) -> io::Result<()> {
+    let counts = numbers.stretches.as_slice();
+    output.write_all(b",\"along_slots\":")?;
+    write_array(counts, counts.len(), output)?;
+    write_hash_field(numbers.hash, output)
+}
+
 // The field of the hash function.
-fn write_hash<O: Write>(hash: Option<Hash>, output: &mut O) -> io::Result<()> {
+fn write_hash_field<O: Write>(hash: Option<Hash>, output: &mut O) -> io::Result<()> {
     match hash {
         Some(hash) => write_string_field("hash", name_of(hash), output),
         None => write_word_field("hash", "null", output),

@@ -6,12 +6,22 @@ use std::io::{self, Write};
 
 /// The bytes of the word, and zeros behind them. None where it is longer, or has a byte that no plain text has.
 pub(crate) fn parse_plain<const N: usize>(word: &[u8]) -> Option<[u8; N]> {
-    if word.len() > N || !are_plain(word) {
-        return None;
-    }
     let mut bytes = [0; N];
+    if read_plain(word, &mut bytes) {
+        Some(bytes)
+    } else {
+        None
+    }
+}
+
+/// Whether the word is a plain text of at most so many bytes as there are in `bytes`, all zeros; these then become the
+/// text and zeros behind it, else they are not changed.
+pub(crate) fn read_plain(word: &[u8], bytes: &mut [u8]) -> bool {
+    if word.len() > bytes.len() || !are_plain(word) {
+        return false;
+    }
     bytes[..word.len()].copy_from_slice(word);
-    Some(bytes)
+    true
 }
 
 // Whether each byte may be in a plain text.

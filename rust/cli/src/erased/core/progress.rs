@@ -49,7 +49,7 @@ pub struct Progress {
 }
 
 impl Progress {
-    /// A line each second from now on, where they are requested. Without a clock there are none.
+    /// A line each second from now on, and a last one, where they are requested. Without a clock there are none.
     pub fn new<R: Clock>(rt: &R, watch: Watch) -> Progress {
         let begun = if watch.is_asked { Instant::now(rt).ok() } else { None };
         Progress { begun, since: begun, drawn: watch.drawn }
@@ -79,6 +79,36 @@ impl Progress {
             Some(seconds) => write_copied(pair_count, seconds, errors),
             None => Ok(()),
         }
+    }
+
+    /// Writes a last line, of all that was taken, where lines are requested.
+    pub fn end<R: Clock, E: Write>(self, rt: &R, taken: Taken, errors: &mut E) -> io::Result<()> {
+        match self.seconds(rt)? {
+            Some(seconds) => write_taken(taken, seconds, self.drawn, errors),
+            None => Ok(()),
+        }
+    }
+
+    /// The same of pairs that were copied from a table.
+    pub fn end_pairs<R: Clock, E: Write>(
+        self,
+        rt: &R,
+        pair_count: u64,
+        errors: &mut E,
+    ) -> io::Result<()> {
+        match self.seconds(rt)? {
+            Some(seconds) => write_copied(pair_count, seconds, errors),
+            None => Ok(()),
+        }
+    }
+
+    // The seconds since the start, where lines are requested.
+    fn seconds<R: Clock>(self, rt: &R) -> io::Result<Option<u64>> {
+        let Some(begun) = self.begun else {
+            return Ok(None);
+        };
+        let now = Instant::now(rt)?;
+        Ok(Some(now.duration_since(begun).as_secs()))
     }
 
     // The seconds since the start, where a line is due. The next one is then due a second later.

@@ -1,41 +1,96 @@
 // Made by `make rust` of crates/odht_tool_core/src/sized_bytes.rt.
-//! Keys and values of a length that is known at run time alone, as text: two hexadecimal digits for each byte.
+//! Keys and values of a length that is known at run time alone, as text: by the type that the form says they are of.
 
 use crate::erased::core::forms::Form;
 use crate::erased::core::hexadecimal::{no_plain_bytes, read_digits};
 use crate::erased::core::misread::Wanted;
+use crate::erased::core::plain::read_plain;
+use crate::erased::core::shapes::Part;
 use crate::erased::core::text::{write_bytes, Text};
+use crate::erased::core::typed::{plain_bytes, write_stored};
 use crate::host::prelude::*;
 use crate::proved::raw::raw_table::ShortBytes;
 use std::io::{self, Write};
 
-/// The form says how many bytes there are.
+/// The form says their type. Bytes of another length than it has are written in hexadecimal digits.
 impl Text for ShortBytes {
     fn wanted(form: Form) -> Wanted {
-        match form.len() {
-            0 => Wanted::Nothing,
-            len => Wanted::Bytes(len as usize),
+        let part = form.part();
+        if part.size() == 0 {
+            Wanted::Nothing
+        } else {
+            wanted_of(part, form.inner())
         }
     }
 
     fn parse(word: &[u8], form: Form) -> Option<ShortBytes> {
-        parse_sized(word, form.len())
+        parse_stored(word, form.part(), form.inner())
     }
 
-    fn plain_bytes(&self, _form: Form) -> Option<&[u8]> {
-        no_plain_bytes(self.as_slice())
+    fn plain_bytes(&self, form: Form) -> Option<&[u8]> {
+        let (part, bytes) = (form.part(), self.as_slice());
+        if bytes.len() == part.size() as usize {
+            plain_bytes(part, form.inner(), bytes)
+        } else {
+            no_plain_bytes(bytes)
+        }
     }
 
-    fn write<W: Write>(&self, _form: Form, output: &mut W) -> io::Result<()> {
-        write_bytes(self.as_slice(), output)
+    fn write<W: Write>(&self, form: Form, output: &mut W) -> io::Result<()> {
+        let (part, bytes) = (form.part(), self.as_slice());
+        if bytes.len() == part.size() as usize {
+            write_stored(part, form.inner(), bytes, output)
+        } else {
+            write_bytes(bytes, output)
+        }
     }
 }
 
-// So many bytes with these hexadecimal digits, two for each byte, letters in either case.
-fn parse_sized(word: &[u8], len: u8) -> Option<ShortBytes> {
+// What the texts of this type are in this form.
+fn wanted_of(part: Part, form: Form) -> Wanted {
+    match part {
+        Part::Nothing => Wanted::Nothing,
+        Part::U32 => <u32 as Text>::wanted(form),
+        Part::U64 => <u64 as Text>::wanted(form),
+        Part::Bytes(len) => match form {
+            Form::Plain => Wanted::Text(len as usize),
+            _ => Wanted::Bytes(len as usize),
+        },
+    }
+}
+
+// The stored bytes of what is of this type, and of which the word is the text in this form.
+fn parse_stored(word: &[u8], part: Part, form: Form) -> Option<ShortBytes> {
+    match part {
+        Part::Nothing => {
+            <()>::parse(word, form)?;
+            Some(ShortBytes::of(b""))
+        }
+        Part::U32 => Some(bytes_of_u32(<u32 as Text>::parse(word, form)?)),
+        Part::U64 => Some(bytes_of_u64(<u64 as Text>::parse(word, form)?)),
+        Part::Bytes(len) => parse_sized(word, len, form),
+    }
+}
+
+// The stored bytes of a number, the lowest first.
+fn bytes_of_u32(number: u32) -> ShortBytes {
+    ShortBytes::of(&number.to_le_bytes())
+}
+
+// The same of a number of 64 bits.
+fn bytes_of_u64(number: u64) -> ShortBytes {
+    ShortBytes::of(&number.to_le_bytes())
+}
+
+// The bytes, so many, of which the word is the text in this form.
+fn parse_sized(word: &[u8], len: u8, form: Form) -> Option<ShortBytes> {
     let mut bytes = [0; 255];
     let bytes = &mut bytes[..len as usize];
-    if read_digits(word, bytes) {
+    let is_read = match form {
+        Form::Plain => read_plain(word, bytes),
+        _ => read_digits(word, bytes),
+    };
+    if is_read {
         Some(ShortBytes::of(bytes))
     } else {
         None

@@ -5,6 +5,7 @@ use crate::erased::core::early::check_first;
 use crate::erased::core::groups::{groups_to, groups_to_free};
 use crate::erased::core::histogram::Histogram;
 use crate::erased::core::shapes::Hash;
+use crate::erased::core::stretches::{stretch_len, STRETCHES};
 use crate::host::prelude::*;
 use crate::proved::base::hash::{FxHashFn, HashFn, UnHashFn};
 use crate::proved::base::swisstable_group_query::is_empty_or_deleted;
@@ -73,13 +74,31 @@ impl<'a> StoredTable<'a> {
 
     /// How many slots are occupied.
     pub fn count(&self) -> usize {
+        self.count_in(0, self.slot_count)
+    }
+
+    // How many of the `len` slots from `first` on are occupied.
+    fn count_in(&self, first: usize, len: usize) -> usize {
+        let control = self.control;
         let mut count = 0_usize;
-        for slot in 0..self.slot_count {
-            if self.is_occupied(slot) {
+        for index in 0..len {
+            let is_free = is_empty_or_deleted(control[first + index]);
+            if !is_free {
                 count += 1;
             }
         }
         count
+    }
+
+    /// How many slots of each stretch are occupied.
+    pub fn stretches(&self, alloc: Global) -> Result<Vec<usize>, AllocError> {
+        let len = stretch_len(self.slot_count);
+        let most = self.slot_count.min(STRETCHES);
+        let mut counts = crate::shim::with_capacity(alloc, most)?;
+        for stretch in 0..most {
+            counts.try_push(self.count_in(stretch * len, len))?;
+        }
+        Ok(counts)
     }
 
     /// Whether the mirror is the first sixteen control bytes.

@@ -33,13 +33,13 @@ impl GroupQuery {
     /// Whether the group has a byte of 128 or more.
     #[inline]
     pub fn any_empty(&self) -> bool {
-        !self.free.is_empty()
+        Group::any_empty(self)
     }
 
     /// The least index of a byte of 128 or more, whether or not matches were dropped.
     #[inline]
     pub fn first_empty(&self) -> Option<usize> {
-        self.free.first()
+        Group::first_empty(self)
     }
 }
 
@@ -54,12 +54,12 @@ impl Group for GroupQuery {
 
     #[inline]
     fn any_empty(&self) -> bool {
-        self.any_empty()
+        !self.free.is_empty()
     }
 
     #[inline]
     fn first_empty(&self) -> Option<usize> {
-        self.first_empty()
+        self.free.first()
     }
 
     #[inline]

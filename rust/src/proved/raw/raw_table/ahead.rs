@@ -45,8 +45,8 @@ pub(crate) fn insert_ahead<K: ByteArray, V: ByteArray, H: HashFn>(
     slot: usize,
     room: usize,
 ) -> Result<Option<V>, Error> {
-    let end = expected_end::<K, V, H>(control, entries, &key, hash, slot, room);
     let slots = control.len() - REFERENCE_GROUP_SIZE;
+    let end = expected_end::<K, V, H>(control, entries, slots, &key, hash, slot, room);
     insert_at::<K, V, H>(control, entries, slots, key, value, (end, tag_of(hash)), room)
 }
 
@@ -56,12 +56,12 @@ pub(crate) fn insert_ahead<K: ByteArray, V: ByteArray, H: HashFn>(
 fn expected_end<K: ByteArray, V: ByteArray, H: HashFn>(
     control: &[EntryMetadata],
     entries: &[u8],
+    slots: usize,
     key: &K,
     hash: u32,
     slot: usize,
     room: usize,
 ) -> Search {
-    let slots = control.len() - REFERENCE_GROUP_SIZE;
     if room > 0 && slot < slots && is_empty_or_deleted(index!(control[slot])) {
         return Search::Free(slot);
     }

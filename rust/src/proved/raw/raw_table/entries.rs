@@ -1,6 +1,7 @@
 // Made by `make rust` of crates/odht_raw/src/raw_table/entries.rt.
 //! The entries of a table, read from their bytes.
 
+use super::SlotKeys;
 use crate::proved::raw::bytes::{is_same_bytes, ByteArray};
 use std::marker::PhantomData;
 
@@ -78,25 +79,35 @@ impl<'a, K: ByteArray, V: ByteArray> Entries<'a, K, V> {
         &index!(bytes[at..at + K::LEN])
     }
 
-    /// Whether the key of a slot is `key`. The value is not read.
-    ///
-    /// A short key is loaded whole, and compared as its length allows; a longer one is compared where it is. The whole
-    /// entry is cut out of the bytes, as `get` cuts it: where its value is read next, that is the same cut, and is made
-    /// once.
+    // Whether the keys of two slots are equal. No value is read, and no long key is copied.
+    #[inline]
+    pub(crate) fn have_same_key(&self, slot: usize, other: usize) -> bool {
+        let key = self.key_bytes_of(other);
+        if K::LEN > SHORT {
+            return is_same_bytes(self.key_bytes_of(slot), key);
+        }
+        self.is_at(slot, &K::from_slice(key))
+    }
+}
+
+impl<'a, K: ByteArray, V: ByteArray> SlotKeys for Entries<'a, K, V> {
+    type Key = K;
+
     #[inline(always)]
-    pub(crate) fn has_key(&self, slot: usize, key: &K) -> bool {
+    fn slots(&self) -> usize {
+        self.slots
+    }
+
+    // A short key is loaded whole, and compared as its length allows; a longer one is compared where it is. The whole
+    // entry is cut out of the bytes, as `get` cuts it: where its value is read next, that is the same cut, and is made
+    // once.
+    #[inline(always)]
+    fn is_at(&self, slot: usize, key: &K) -> bool {
         let entry = self.bytes_of(slot);
         let front = &index!(entry[..K::LEN]);
         if K::LEN > SHORT {
             return is_same_bytes(front, key.as_slice());
         }
         K::from_slice(front).equals(key)
-    }
-
-    // Whether the keys of two slots are equal. No value is read.
-    #[inline]
-    pub(crate) fn have_same_key(&self, slot: usize, other: usize) -> bool {
-        let key = K::from_slice(self.key_bytes_of(other));
-        self.has_key(slot, &key)
     }
 }

@@ -3,7 +3,7 @@
 //! then their memory accesses overlap.
 
 use super::group_search::late_search;
-use super::{tag_of, RawTable};
+use super::{tag_of, RawTable, SlotKeys};
 use crate::proved::raw::bytes::ByteArray;
 use crate::proved::raw::hash::HashFn;
 use crate::proved::raw::swisstable_group_query::{lanes, Group, REFERENCE_GROUP_SIZE};
@@ -40,7 +40,7 @@ impl<'a, K: ByteArray, V: ByteArray, H: HashFn> RawTable<'a, K, V, H> {
         let FirstLook { hash, mut group } = look;
         while let Some(index) = group.first_match() {
             let slot = (home + index) & mask;
-            if self.entries.has_key(slot, key) {
+            if self.entries.is_at(slot, key) {
                 return Some(self.entries.get(slot).value);
             }
             group.drop_match();

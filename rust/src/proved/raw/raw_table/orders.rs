@@ -8,10 +8,10 @@ use crate::proved::raw::bytes::ByteArray;
 use crate::proved::raw::hash::HashFn;
 
 impl<'a, K: ByteArray, V: ByteArray, H: HashFn> RawTable<'a, K, V, H> {
-    /// Whether some list of inserts, growths included, makes the table (`IsMade`). Where one does, `out` lists its
-    /// occupied slots so that their pairs, inserted in this order into an empty table of as many slots and the same
-    /// load factor, make exactly this table. Otherwise the numbers in `out` have no meaning. The parts are those of a
-    /// valid table, and `out` has as many items as the table has pairs.
+    /// Whether some list of inserts, growths included, makes the table of these parts (`IsMade`); they have no load
+    /// factor, and the result is the same for each. Where one does, `out` lists the occupied slots in an order in
+    /// which their pairs, placed in turn into an empty table of as many slots, give these parts. Otherwise the numbers
+    /// in `out` have no meaning. The parts are those of a valid table, and `out` has as many items as that has pairs.
     ///
     /// A pass goes through the waiting slots in slot order, and places each whose earlier slots in the probe order of
     /// its key are all placed. Passes are made until no slot waits, or a pass places none: at most one pass more than

@@ -3,7 +3,7 @@
 //! groups. They are the reference of the tests; no call of the library uses them.
 
 use super::insert::insert_at;
-use super::{is_empty_or_deleted, tag_of, Entries, EntryMetadata, Search};
+use super::{is_empty_or_deleted, tag_of, Entries, EntryMetadata, Search, SlotKeys};
 use crate::proved::raw::bytes::ByteArray;
 use crate::proved::raw::error::Error;
 use crate::proved::raw::hash::HashFn;
@@ -11,8 +11,7 @@ use crate::proved::raw::swisstable_group_query::REFERENCE_GROUP_SIZE;
 
 /// The value stored with the key, searched for slot by slot along the probe order.
 ///
-/// On the parts of a table whose keys are all reached it is the map's result. On any parts it is a value that is stored
-/// with an equal key.
+/// On the parts of a placed table it is the map's result. On any parts it is a value that is stored with an equal key.
 pub fn plain_find<K: ByteArray, V: ByteArray, H: HashFn>(
     control: &[EntryMetadata],
     entries: &Entries<'_, K, V>,
@@ -30,11 +29,11 @@ pub fn plain_find<K: ByteArray, V: ByteArray, H: HashFn>(
 /// entry, tag, and for a slot below 16 the mirror. Returns the former value. There is no maximum here: the item count
 /// is not in the parts.
 ///
-/// On the parts of a table whose keys are all reached it leaves the parts of the table with the pair placed, and
-/// returns `Full`, with nothing changed, exactly where each slot is occupied and none has the key. On any parts either
-/// one value stored with an equal key is overwritten, or one entry is written with its tag into a slot that counted as
-/// free, and no other byte changes; `Full` is returned only where each slot counts as occupied and a search slot by
-/// slot can end without the key.
+/// On the parts of a placed table it leaves the parts of the table with the pair placed, and returns `Full`, with
+/// nothing changed, exactly where each slot is occupied and none has the key. On any parts either one value stored
+/// with an equal key is overwritten, or one entry is written with its tag into a slot that counted as free, and no
+/// other byte changes; `Full` is returned only where each slot counts as occupied and a search slot by slot can end
+/// without the key.
 pub fn plain_insert<K: ByteArray, V: ByteArray, H: HashFn>(
     control: &mut [EntryMetadata],
     entries: &mut [u8],
@@ -63,7 +62,7 @@ fn plain_search<K: ByteArray, V: ByteArray, H: HashFn>(
         if is_empty_or_deleted(control[slot]) {
             return Search::Free(slot);
         }
-        if entries.has_key(slot, key) {
+        if entries.is_at(slot, key) {
             return Search::Found(slot);
         }
     }

@@ -3,7 +3,7 @@
 //! key ends at its slot.
 
 use super::check::SlotSummary;
-use super::{tag_of, ProbeSeq, SizedTable, FREE};
+use super::{tag_of, GroupProbe, SizedTable, FREE};
 use crate::proved::raw::error::Error;
 use crate::proved::raw::hash::HashFn;
 use crate::proved::raw::swisstable_group_query::lanes::GroupQuery;
@@ -58,19 +58,18 @@ impl<'a, H: HashFn> SizedTable<'a, H> {
     #[inline]
     fn is_reached(&self, slot: usize, hash: u32) -> bool {
         let slots = self.len();
-        let mask = slots - 1;
         let tag = tag_of(hash);
-        let mut probe = ProbeSeq::<REFERENCE_GROUP_SIZE>::new(hash as usize, mask);
+        let mut probe = GroupProbe::new(self.controls(), slots, hash as usize);
         loop {
-            let start = probe.index();
-            let before = (slot + slots - start) & mask;
+            let start = probe.start();
+            let before = (slot + slots - start) & (slots - 1);
             if before < REFERENCE_GROUP_SIZE {
                 return self.are_passed(start, before, slot, tag);
             }
             if !self.are_passed(start, REFERENCE_GROUP_SIZE, slot, tag) {
                 return false;
             }
-            probe.advance(mask);
+            probe.advance();
         }
     }
 

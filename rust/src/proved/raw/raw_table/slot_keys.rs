@@ -1,9 +1,6 @@
 // Made by `make rust` of crates/odht_raw/src/raw_table/slot_keys.rt.
 //! What a search asks of what holds the keys of the slots.
 
-use super::Entries;
-use crate::proved::raw::bytes::ByteArray;
-
 /// What holds the keys of the slots. A search compares keys by it, and asks it nothing else.
 ///
 /// In a contract it is a format of the lengths of keys and values, where the hash does not matter, and the bytes of the
@@ -17,18 +14,4 @@ pub(crate) trait SlotKeys {
 
     /// Whether the key of a slot is `key`.
     fn is_at(&self, slot: usize, key: &Self::Key) -> bool;
-}
-
-impl<'a, K: ByteArray, V: ByteArray> SlotKeys for Entries<'a, K, V> {
-    type Key = K;
-
-    #[inline(always)]
-    fn slots(&self) -> usize {
-        self.len()
-    }
-
-    #[inline(always)]
-    fn is_at(&self, slot: usize, key: &K) -> bool {
-        self.has_key(slot, key)
-    }
 }

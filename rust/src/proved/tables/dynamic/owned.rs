@@ -10,6 +10,7 @@ use crate::shim::Global;
 use alloc::vec::Vec;
 
 mod inserts;
+mod reserve;
 mod stores;
 
 /// A table in memory of its own, of keys and values of lengths that were given when it was made. It grows where an
@@ -80,8 +81,8 @@ impl<H: HashFn> DynTableOwned<H> {
         &self.table
     }
 
-    /// The value of a key, or None: that of its last insert. A key of another length has no value.
-    /// [`DynTableOwned::get_counted`] says how many groups the search reads.
+    /// The value of a key, or None: what its last insert gave it, or what the bytes have for it that were opened. A
+    /// key of another length has no value. [`DynTableOwned::get_counted`] counts the groups of such a search.
     #[inline]
     pub fn get(&self, key: &[u8]) -> Option<&[u8]> {
         self.table.get(key)

@@ -2,14 +2,13 @@
 //! Room for items that are still to come.
 
 use super::HashTableOwned;
-use crate::proved::tables::bytes::{ByteStore, OwnedBytes};
+use crate::proved::tables::bytes::OwnedBytes;
 use crate::proved::tables::config::Config;
 use crate::proved::tables::error::Error;
-use crate::proved::tables::growth::write_walked;
+use crate::proved::tables::growth::write_moved;
 use crate::proved::tables::hash_table::HashTable;
-use crate::proved::tables::load::max_item_count_for;
-use crate::proved::tables::memory_layout::layout_for;
-use crate::proved::tables::raw_table::RawIter;
+use crate::proved::tables::layout::Layout;
+use crate::proved::tables::reserve::sizes_for_more;
 
 impl<C: Config> HashTableOwned<C> {
     /// Makes room for `additional` more items: so many new keys can be inserted before the table grows. Where it has
@@ -23,17 +22,9 @@ impl<C: Config> HashTableOwned<C> {
     /// Where it moves, one pass over the slots; each item is hashed once. No key is compared.
     pub fn reserve(&mut self, additional: usize) -> Result<(), Error> {
         let header = self.table.allocation.header();
-        let item_count = header.item_count();
-        let factor = header.max_load_factor();
-        let most = max_item_count_for(header.slot_count(), factor);
-        if additional <= most.saturating_sub(item_count) {
+        let sizes = sizes_for_more::<C::H>(Layout::of::<C>(), &header, additional)?;
+        let Some((slot_count, len)) = sizes else {
             return Ok(());
-        }
-        let Some(wanted) = item_count.checked_add(additional) else {
-            return Err(Error::Capacity);
-        };
-        let Some((slot_count, len)) = layout_for::<C>(wanted, factor) else {
-            return Err(Error::Capacity);
         };
         let Ok(moved) = self.moved(slot_count, len) else {
             return Err(Error::Memory);
@@ -51,18 +42,4 @@ impl<C: Config> HashTableOwned<C> {
         write_moved(&self.table, slot_count, bytes.as_mut_slice());
         Ok(HashTable::from_raw_bytes_unchecked(OwnedBytes::new(bytes)))
     }
-}
-
-// Writes the pairs of a table, placed in slot order into so many slots, into bytes whose entries are zeros.
-fn write_moved<C: Config, D: ByteStore>(
-    table: &HashTable<C, D>,
-    slot_count: usize,
-    out: &mut [u8],
-) {
-    let header = table.allocation.header();
-    let item_count = header.item_count();
-    let factor = header.max_load_factor();
-    let (control, entries) = table.allocation.data_slices();
-    let walk = RawIter::new(control, entries);
-    write_walked::<C>(out, slot_count, item_count, factor, walk);
 }

@@ -13,7 +13,7 @@ use Rattle.odht.proofs.lemmas.GrownBytes.{asked_len, grown_header, headed_accept
 use Rattle.odht.proofs.lemmas.Growths.{grown_placed, grown_image}
 use Rattle.odht.proofs.lemmas.ViewInserts.{count_header, factor_header}
 use Rattle.odht.proofs.dynamic.DynTable.grow_into.Given.{Over}
-use Rattle.odht.proofs.dynamic.DynTable.grow_into.Goals.{In-Some, After-write_table}
+use Rattle.odht.proofs.dynamic.DynTable.grow_into.Goals.{In-Some, After-write_walked}
 use Rattle.odht.proofs.dynamic.DynTable.grow_into.Goals as goal
 
 -- how large the grown table is
@@ -37,28 +37,28 @@ module _ (g : Over) (c : In-Some g) where
   slots : grown_slots_of B ≡ Some c.in-Some.slot_count
   slots = ap grown_slots_of (sym header) ∙ layout.slots
 
-pub write_table-requires-clause-len : goal.write_table-requires-clause-len
-write_table-requires-clause-len g c =
-    let at = (goal.at.write_table-requires-clause-len g c).In-Some in
+pub write_walked-requires-clause-len : goal.write_walked-requires-clause-len
+write_walked-requires-clause-len g c =
+    let at = (goal.at.write_walked-requires-clause-len g c).In-Some in
     long g at ∙ sym (λ i. image_len (format_of (c.layout-layout.ensures.key i) (c.layout-layout.ensures.value i) g.H.HashFn.hash) c.in-Some.slot_count)
 
 -- what is written
-written : (g : Over) (c : After-write_table g) → IsWritten (dyn_format c.args.self.now g.H.HashFn.hash) c.in-Some.slot_count c.item_count-item_count.result c.max_load_factor-factor.result.0 c.iter.result c.write_table.new.bytes
-written g c = rw (c.layout-layout.ensures.key, c.layout-layout.ensures.value) at c.write_table.ensures
+written : (g : Over) (c : After-write_walked g) → IsWritten (dyn_format c.args.self.now g.H.HashFn.hash) c.in-Some.slot_count c.item_count-item_count.result c.max_load_factor-factor.result.0 c.iter.result c.write_walked.new.bytes
+written g c = rw (c.layout-layout.ensures.key, c.layout-layout.ensures.value) at c.write_walked.ensures
 
 -- the written bytes are those of the grown table, and their header has the item count and the load factor of the old one
 pub returns : goal.returns
 returns g c =
     let at = (goal.at.returns g c).In-Some in
-    let done = written g (goal.at.returns g c).After-write_table in
+    let done = written g (goal.at.returns g c).After-write_walked in
     let G : Format = dyn_format c.args.self.now g.H.HashFn.hash in
     let s : ℕ = c.in-Some.slot_count in
     let n : ℕ = c.item_count-item_count.result in
     let f : ℕ = c.max_load_factor-factor.result.0 in
-    let T : List ℕ = c.write_table.new.bytes in
+    let T : List ℕ = c.write_walked.new.bytes in
     let few = c.max_load_factor-factor.type_inv.1.1.0.1 in
     record {
-      accepted = headed_accepted G T s n f done.header (layout g at).least.is_count (omega (arith, c.write_table.auto.bytes, long g at));
+      accepted = headed_accepted G T s n f done.header (layout g at).least.is_count (omega (arith, c.write_walked.auto.bytes, long g at));
       count = headed_count G T s n f done.header c.item_count-item_count.type_inv ∙ c.item_count-item_count.ensures ∙ ap header_count (header g at);
       factor = headed_factor G T s n f done.header few ∙ c.max_load_factor-factor.ensures ∙ ap header_factor (header g at);
       on_valid = λ P is. (

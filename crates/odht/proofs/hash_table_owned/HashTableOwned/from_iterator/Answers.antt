@@ -4,7 +4,7 @@ use Rattle.std.specs.Prelude.{OnOk}
 use Rattle.odht_base.specs.Load.{factor_of, slots_for}
 use Rattle.odht_header.specs.Coding.{coding_of}
 use Rattle.odht.specs.Inserts.{IsFresh}
-use Rattle.odht.specs.LastValues.{HasLastValues}
+use Rattle.odht.specs.LastValues.{HasLastValues, IsCollected}
 use Rattle.odht.specs.Lists.{IsFreshAfterInserts}
 use Rattle.odht.proofs.lemmas.NewRefusals.{not_both, passed_on, either, on_err}
 use Rattle.odht.proofs.hash_table_owned.HashTableOwned.from_iterator.Goals as goal
@@ -18,19 +18,11 @@ returns-clause-ok g c =
     let slice : c.as_slice.result.now ≡ ran.0 = c.as_slice.ensures.value ∙ ran.2.0 in
     let long : c.len.result ≡ length c.as_slice.result.now = c.len.ensures ∙ ran.2.1 ∙ ap length (sym slice) in
     let made : IsFresh K.format (length c.as_slice.result.now) p c.in_ok-table.table = subst (λ n. IsFresh K.format n p c.in_ok-table.table) long c.in_ok-table.ensures.ok in
-    let all : IsFreshAfterInserts K p c.as_slice.result.now c.insert_all.new.self =
-    subst (λ r. OnOk r (IsFreshAfterInserts K p c.as_slice.result.now c.insert_all.new.self)) c.in_ok-insert_all.was (c.insert_all.ensures.fresh p made) in
-    (ran.0, (after.0, (ran.1.0, ran.1.1, after.1)), subst (λ (xs : List (g.row.C-Key.Denot × g.row.C-Value.Denot)). IsFreshAfterInserts K p xs c.insert_all.new.self) slice all)
-
-pub returns-clause-last_values : goal.returns-clause-last_values
-returns-clause-last_values g c =
-    let K = coding_of g.C.EncodedKey.ByteArray.LEN g.C.EncodedKey.ByteArray.bytes g.C.EncodedKey.ByteArray.of_bytes g.C.EncodedValue.ByteArray.LEN g.C.EncodedValue.ByteArray.bytes g.C.EncodedValue.ByteArray.of_bytes g.C.H.HashFn.hash g.C.Config.encode_key g.C.Config.encode_value g.C.Config.decode_key g.C.Config.decode_value in
-    let ran = c.in_ok-items.ensures.ran in
-    let after = ran.1.2 tt in
-    let slice : c.as_slice.result.now ≡ ran.0 = c.as_slice.ensures.value ∙ ran.2.0 in
-    let all : HasLastValues K c.as_slice.result.now c.insert_all.new.self =
-    subst (λ r. OnOk r (HasLastValues K c.as_slice.result.now c.insert_all.new.self)) c.in_ok-insert_all.was (c.insert_all.ensures.last_values c.len.result c.args.max_load_factor_percent c.in_ok-table.ensures.ok) in
-    (ran.0, (after.0, (ran.1.0, ran.1.1, after.1)), subst (λ (xs : List (g.row.C-Key.Denot × g.row.C-Value.Denot)). HasLastValues K xs c.insert_all.new.self) slice all)
+    let all : IsCollected K p c.as_slice.result.now c.insert_all.new.self = record {
+      inserted = subst (λ r. OnOk r (IsFreshAfterInserts K p c.as_slice.result.now c.insert_all.new.self)) c.in_ok-insert_all.was (c.insert_all.ensures.fresh p made);
+      last_values = subst (λ r. OnOk r (HasLastValues K c.as_slice.result.now c.insert_all.new.self)) c.in_ok-insert_all.was (c.insert_all.ensures.last_values c.len.result p c.in_ok-table.ensures.ok);
+    } in
+    (ran.0, (after.0, (ran.1.0, ran.1.1, after.1)), subst (λ (xs : List (g.row.C-Key.Denot × g.row.C-Value.Denot)). IsCollected K p xs c.insert_all.new.self) slice all)
 
 pub collect-requires-clause-can : goal.collect-requires-clause-can
 collect-requires-clause-can g c = c.requires.can
@@ -44,23 +36,12 @@ with_capacity-requires-clause-percent g c κs within = c.requires.percent
 pub returns-in_err-items-clause-ok : goal.returns-in_err-items-clause-ok
 returns-in_err-items-clause-ok g c = IfOk-from_err c.from_residual.result _ c.from_residual.ensures.0
 
-pub returns-in_err-items-clause-last_values : goal.returns-in_err-items-clause-last_values
-returns-in_err-items-clause-last_values g c = IfOk-from_err c.from_residual.result _ c.from_residual.ensures.0
-
 pub returns-in_err-table-clause-ok : goal.returns-in_err-table-clause-ok
 returns-in_err-table-clause-ok g c =
     IfOk-from_err c.from_residual-in_err-table.result _ c.from_residual-in_err-table.ensures.0
 
-pub returns-in_err-table-clause-last_values : goal.returns-in_err-table-clause-last_values
-returns-in_err-table-clause-last_values g c =
-    IfOk-from_err c.from_residual-in_err-table.result _ c.from_residual-in_err-table.ensures.0
-
 pub returns-in_err-insert_all-clause-ok : goal.returns-in_err-insert_all-clause-ok
 returns-in_err-insert_all-clause-ok g c =
-    IfOk-from_err c.from_residual-in_err-insert_all.result _ c.from_residual-in_err-insert_all.ensures.0
-
-pub returns-in_err-insert_all-clause-last_values : goal.returns-in_err-insert_all-clause-last_values
-returns-in_err-insert_all-clause-last_values g c =
     IfOk-from_err c.from_residual-in_err-insert_all.result _ c.from_residual-in_err-insert_all.ensures.0
 
 pub returns-in_err-items-clause-capacity : goal.returns-in_err-items-clause-capacity
@@ -68,8 +49,8 @@ returns-in_err-items-clause-capacity g c e =
     let h = err_from_is_err_and c.from_residual.result c.from_residual.ensures.1 in
     absurd (not_both c.from_residual.result e (h.1 ∙ ap Err h.2))
 
-pub returns-in_err-items-clause-memory : goal.returns-in_err-items-clause-memory
-returns-in_err-items-clause-memory g c =
+pub returns-in_err-items-clause-capacity_or_memory : goal.returns-in_err-items-clause-capacity_or_memory
+returns-in_err-items-clause-capacity_or_memory g c =
     let h = err_from_is_err_and c.from_residual.result c.from_residual.ensures.1 in
     on_err c.from_residual.result (inr (h.1 ∙ ap Err h.2))
 
@@ -83,8 +64,8 @@ returns-in_err-table-clause-capacity g c e =
     let f = factor_of c.args.max_load_factor_percent in
     (ran.0, (after.0, (ran.1.0, ran.1.1, after.1)), λ s fits. large s (ap (λ n. slots_for n f) long ∙ fits))
 
-pub returns-in_err-table-clause-memory : goal.returns-in_err-table-clause-memory
-returns-in_err-table-clause-memory g c =
+pub returns-in_err-table-clause-capacity_or_memory : goal.returns-in_err-table-clause-capacity_or_memory
+returns-in_err-table-clause-capacity_or_memory g c =
     let r = c.from_residual-in_err-table.result in
     let h = err_from_is_err_and r c.from_residual-in_err-table.ensures.1 in
     either r (h.1 ∙ ap Err h.2) c.in_err-table.was c.with_capacity.ensures.err.memory
@@ -96,8 +77,8 @@ returns-in_err-insert_all-clause-capacity g c e =
     let was = c.in_err-insert_all.was in
     absurd (not_both r e (passed_on r c.insert_all.result.1 h.1 h.2 was (IfErr-at_err _ was c.insert_all.ensures.memory)))
 
-pub returns-in_err-insert_all-clause-memory : goal.returns-in_err-insert_all-clause-memory
-returns-in_err-insert_all-clause-memory g c =
+pub returns-in_err-insert_all-clause-capacity_or_memory : goal.returns-in_err-insert_all-clause-capacity_or_memory
+returns-in_err-insert_all-clause-capacity_or_memory g c =
     let r = c.from_residual-in_err-insert_all.result in
     let h = err_from_is_err_and r c.from_residual-in_err-insert_all.ensures.1 in
     let was = c.in_err-insert_all.was in

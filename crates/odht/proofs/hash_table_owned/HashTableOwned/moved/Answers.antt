@@ -28,7 +28,7 @@ pub from_raw_bytes_unchecked-requires-after_bounds :
     goal.from_raw_bytes_unchecked-requires-after_bounds
 from_raw_bytes_unchecked-requires-after_bounds g c κs within =
     let F : Format = format_of g.C.EncodedKey.ByteArray.LEN g.C.EncodedValue.ByteArray.LEN g.C.H.HashFn.hash in
-    subst (IsAccepted F) (sym (all g c)) c.write_moved.ensures.accepted
+    subst (IsAccepted F) (sym (all g c)) c.write_moved.ensures.moved.accepted
 
 pub returns-clause-ok : goal.returns-clause-ok
 returns-clause-ok g c =
@@ -36,7 +36,7 @@ returns-clause-ok g c =
     let same = c.from_raw_bytes_unchecked.ensures ∙ all g (goal.at.returns-clause-ok g c).After-new in
     record {
       on_valid = λ P is room.
-          let q = c.write_moved.ensures.on_valid P (record { valid = is.valid; bytes = c.self.view_is ∙ is.bytes }) room in
+          let q = c.write_moved.ensures.moved.on_valid P (record { valid = is.valid; bytes = c.self.view_is ∙ is.bytes }) room in
           (q.0, q.1, record { valid = q.2.valid; bytes = same ∙ q.2.bytes });
-      accepted = subst (IsAccepted F) (sym same) c.write_moved.ensures.accepted;
+      accepted = subst (IsAccepted F) (sym same) c.write_moved.ensures.moved.accepted;
     }

@@ -1,16 +1,6 @@
-use Rattle.std.proofs.Common.{◌≡◌, ◌∙◌, ◌+◌, ◌<◌, sym, subst, arith, length}
-use Rattle.std.specs.Option.{option_copied}
-use Rattle.odht_base.specs.Format.{format_of}
-use Rattle.odht_raw.specs.Sized.{bytes_coding}
-use Rattle.odht.specs.Gets.{IsGet}
-use Rattle.odht_calls.specs.Lookups.{with_found}
-use Rattle.odht_calls.specs.Pieces.{pieces}
-use Rattle.odht_calls.proofs.lemmas.AnyLists.{AreGotUpTo, none_got, one_more_got, all_got, answer_len}
-use Rattle.odht_calls.proofs.lemmas.Layouts.{opened}
-use Rattle.odht_calls.proofs.lemmas.Pieces.{ends_within, length-pieces}
-use Rattle.odht_calls.proofs.lemmas.Refused.{refused_get_all}
-use Rattle.odht_calls.proofs.any.lists.get_pieces.Given.{Over}
-use Rattle.odht_calls.proofs.any.lists.get_pieces.Goals.{After-get-answer}
+use Rattle.std.proofs.Common.{◌∙◌, sym}
+use Rattle.odht_calls.proofs.lemmas.Pieces.{length-pieces}
+use Rattle.odht_calls.proofs.lemmas.Refused.{refused_get_all, not_none}
 use Rattle.odht_calls.proofs.any.lists.get_pieces.Goals as goal
 
 pub returns-in-Err : goal.returns-in-Err
@@ -19,55 +9,13 @@ returns-in-Err g c =
     refused_get_all _ _ c.in-Err.refused _ c.in-Err.ensures.err c.status_of.ensures _ _ _
     (length-pieces c.args.layout.value_len c.args.count c.args.values.now ∙ sym keys, c.requires.found ∙ sym keys)
 
-pub loop-index-init : goal.loop-index-init
-loop-index-init g c =
-    none_got (bytes_coding (format_of c.args.layout.key_len c.args.layout.value_len g.H.HashFn.hash)) c.args.bytes.now
-    (pieces c.args.layout.key_len c.args.count c.args.keys.now) (pieces c.args.layout.value_len c.args.count c.args.values.now) c.args.found.now
-
-pub piece-requires : goal.piece-requires
-piece-requires g c =
-    ends_within c.loop-index.index c.args.count c.args.layout.key_len (length c.args.keys.now) c.loop-index-test.true c.requires.arrays.keys
-
--- what the lookup answers, of the bytes
-got_here : (g : Over) (c : After-get-answer g) → IsGet (bytes_coding (format_of c.args.layout.key_len c.args.layout.value_len g.H.HashFn.hash)) c.args.bytes.now c.piece.result.now (option_copied c.get-answer.result)
-got_here g c =
-    opened c.in-Ok.table c.args.layout.key_len c.args.layout.value_len g.H.HashFn.hash _ c.args.bytes.now c.in-Ok.ensures.ok.0 c.in-Ok.ensures.ok.1 c.in-Ok.ensures.ok.2
-    (λ F B. IsGet (bytes_coding F) B c.piece.result.now (option_copied c.get-answer.result)) c.get-answer.ensures
-
-pub put_answer-requires-clause-room : goal.put_answer-requires-clause-room
-put_answer-requires-clause-room g c =
-    ends_within c.loop-index.index c.args.count c.args.layout.value_len (length c.loop-index.values) c.loop-index-test.true (c.loop-index.auto.values ∙ c.requires.arrays.values)
-
-pub put_answer-requires-clause-flags : goal.put_answer-requires-clause-flags
-put_answer-requires-clause-flags g c = omega (arith, c.loop-index-test.true, c.loop-index.auto.found, c.requires.found)
-
-pub put_answer-requires-clause-len : goal.put_answer-requires-clause-len
-put_answer-requires-clause-len g c =
-    let at = (goal.at.put_answer-requires-clause-len g c).After-get-answer in
-    answer_len (format_of c.args.layout.key_len c.args.layout.value_len g.H.HashFn.hash) c.args.bytes.now (sym c.in-Ok.ensures.err) c.piece.result.now c.get-answer.result (got_here g at).on_any
-
-pub loop-index-preserved : goal.loop-index-preserved
-loop-index-preserved g c =
-    let at = (goal.at.loop-index-preserved g c).After-get-answer in
-    let kl = c.args.layout.key_len in
-    let vl = c.args.layout.value_len in
-    let n = c.args.count in
-    let i = c.loop-index.index in
-    let K = bytes_coding (format_of kl vl g.H.HashFn.hash) in
-    let low : i < n = c.loop-index-test.true in
-    let o = option_copied c.get-answer.result in
-    let values : pieces vl n c.put_answer.new.values ≡ with_found (pieces vl n c.loop-index.values) i o =
-    c.put_answer.ensures.values n low (omega (arith, c.loop-index.auto.values, c.requires.arrays.values)) in
-    subst (λ x. AreGotUpTo K c.args.bytes.now (pieces kl n c.args.keys.now) (pieces vl n c.args.values.now) (i + 1) x c.put_answer.new.found) (sym values)
-    (subst (AreGotUpTo K c.args.bytes.now (pieces kl n c.args.keys.now) (pieces vl n c.args.values.now) (i + 1) (with_found (pieces vl n c.loop-index.values) i o)) (sym c.put_answer.ensures.found)
-    (one_more_got K c.args.bytes.now (pieces kl n c.args.keys.now) (pieces vl n c.args.values.now) i (pieces vl n c.loop-index.values) c.loop-index.found c.piece.result.now o c.loop-index.invariant
-    (omega (arith, low, length-pieces vl n c.loop-index.values)) (omega (arith, low, c.loop-index.auto.found, c.requires.found)) (c.piece.ensures.value n low) (got_here g at)))
-
 pub returns : goal.returns
 returns g c =
-    let keys = length-pieces c.args.layout.key_len c.args.count c.args.keys.now in
-    let last : c.loop-index.index ≡ length (pieces c.args.layout.key_len c.args.count c.args.keys.now) = omega (arith, c.loop-index-test.false, c.loop-index.auto.index-end, keys) in
-    all_got (bytes_coding (format_of c.args.layout.key_len c.args.layout.value_len g.H.HashFn.hash)) c.args.bytes.now (pieces c.args.layout.key_len c.args.count c.args.keys.now) (pieces c.args.layout.value_len c.args.count c.args.values.now)
-    c.args.found.now _ _ (sym c.in-Ok.ensures.err) (length-pieces c.args.layout.value_len c.args.count c.args.values.now ∙ sym keys, c.requires.found ∙ sym keys)
-    (subst (λ i. AreGotUpTo (bytes_coding (format_of c.args.layout.key_len c.args.layout.value_len g.H.HashFn.hash)) c.args.bytes.now (pieces c.args.layout.key_len c.args.count c.args.keys.now)
-    (pieces c.args.layout.value_len c.args.count c.args.values.now) i (pieces c.args.layout.value_len c.args.count c.loop-index.values) c.loop-index.found) last c.loop-index.invariant)
+    let viewed = c.look_up.ensures in
+    record {
+      lengths = viewed.lengths;
+      refused = λ e long is. not_none _ e is (sym c.in_default.ensures.err);
+      accepted = λ long none. viewed.looked_up long;
+      on_valid = viewed.on_valid;
+      on_any = λ i key long none. viewed.on_any i key long;
+    }

@@ -20,8 +20,8 @@ use Rattle.odht_calls.proofs.any.lists.insert_pieces.Given.{Over}
 use Rattle.odht_calls.proofs.any.lists.insert_pieces.Goals.{After-insert_sized}
 use Rattle.odht_calls.proofs.any.lists.insert_pieces.Goals as goal
 
-pub returns-in-Err : goal.returns-in-Err
-returns-in-Err g c =
+pub returns-in-Err-clause-answers : goal.returns-in-Err-clause-answers
+returns-in-Err-clause-answers g c =
     refused_insert_all _ _ c.in-Err.refused _ c.in-Err.ensures.err c.status_of.ensures _ _ _
     (length-pieces c.args.layout.value_len c.args.count c.args.values.now ∙ sym (length-pieces c.args.layout.key_len c.args.count c.args.keys.now))
 
@@ -81,9 +81,9 @@ loop-index-preserved g c =
     (take c.loop-index.index (zip (keys g at) (values g at))) (k g at) (v g at) o c.loop-index.invariant c.piece-key.ensures.len c.piece-value.ensures.len
     (record { answer = Ok o; is = refl; insert = one }) refl c.insert_sized.ensures.accepted)
 
-pub returns-in-Err-insert_sized : goal.returns-in-Err-insert_sized
-returns-in-Err-insert_sized g c =
-    let at = (goal.at.returns-in-Err-insert_sized g c).After-insert_sized in
+pub returns-in-Err-insert_sized-clause-answers : goal.returns-in-Err-insert_sized-clause-answers
+returns-in-Err-insert_sized-clause-answers g c =
+    let at = (goal.at.returns-in-Err-insert_sized-clause-answers g c).After-insert_sized in
     let K = bytes_coding (F g at) in
     let C = c.loop-index.bytes in
     let D = c.insert_sized.new.bytes in
@@ -103,8 +103,8 @@ returns-in-Err-insert_sized g c =
       framed = subst (λ (x : Result (Option (List ℕ)) Error). IsFramed K C (k g at) (v g at) x C) full (subst (IsFramed K C (k g at) (v g at) r) stays framed);
     })
 
-pub returns : goal.returns
-returns g c =
+pub returns-clause-answers : goal.returns-clause-answers
+returns-clause-answers g c =
     let F : Format = format_of c.args.layout.key_len c.args.layout.value_len g.H.HashFn.hash in
     let K = bytes_coding F in
     let keys = pieces c.args.layout.key_len c.args.count c.args.keys.now in

@@ -11,8 +11,8 @@ use Rattle.odht_calls.proofs.lemmas.Inserted.{accepted_insert, full_insert}
 use Rattle.odht_calls.proofs.lemmas.Refused.{refused_insert}
 use Rattle.odht_calls.proofs.any.write.insert_by.Goals as goal
 
-pub returns-in-Err : goal.returns-in-Err
-returns-in-Err g c = record {
+pub returns-in-Err-clause-answers : goal.returns-in-Err-clause-answers
+returns-in-Err-clause-answers g c = record {
   lengths = λ other. absurd (other (c.if-key-layout.false, c.if-value-value_len.false, c.if-former-value_len.false));
   answers = λ long. refused_insert _ _ c.in-Err.refused _ c.in-Err.ensures.err c.status_of.ensures _ _ _;
 }
@@ -24,8 +24,8 @@ copy_from_slice-requires g c =
     let long = former_len F c.args.bytes.now (sym c.in_default.ensures.err) c.args.key.now c.args.value.now c.in-Ok-Some.old c.insert_sized.new.bytes framed in
     c.if-former-value_len.false ∙ sym (ap length c.as_slice.ensures ∙ long)
 
-pub returns-in-Ok-Some : goal.returns-in-Ok-Some
-returns-in-Ok-Some g c =
+pub returns-in-Ok-Some-clause-answers : goal.returns-in-Ok-Some-clause-answers
+returns-in-Ok-Some-clause-answers g c =
     let K = bytes_coding (format_of c.args.layout.key_len c.args.layout.value_len g.H.HashFn.hash) in
     record {
       lengths = λ other. absurd (other (c.if-key-layout.false, c.if-value-value_len.false, c.if-former-value_len.false));
@@ -34,8 +34,8 @@ returns-in-Ok-Some g c =
           (λ P is. (c.in-Ok-Some.ensures.placed P is).0) (λ P is. one_inserted K P c.args.bytes.now _ _ _ _ is (c.in-Ok-Some.ensures.placed P is)) c.in-Ok-Some.ensures.framed;
     }
 
-pub returns-in-Ok-None : goal.returns-in-Ok-None
-returns-in-Ok-None g c =
+pub returns-in-Ok-None-clause-answers : goal.returns-in-Ok-None-clause-answers
+returns-in-Ok-None-clause-answers g c =
     let K = bytes_coding (format_of c.args.layout.key_len c.args.layout.value_len g.H.HashFn.hash) in
     record {
       lengths = λ other. absurd (other (c.if-key-layout.false, c.if-value-value_len.false, c.if-former-value_len.false));
@@ -44,8 +44,8 @@ returns-in-Ok-None g c =
           (λ P is. (c.in-Ok-None.ensures.placed P is).0) (λ P is. one_inserted K P c.args.bytes.now _ _ _ _ is (c.in-Ok-None.ensures.placed P is)) c.in-Ok-None.ensures.framed;
     }
 
-pub returns-in-Err-insert_sized : goal.returns-in-Err-insert_sized
-returns-in-Err-insert_sized g c =
+pub returns-in-Err-insert_sized-clause-answers : goal.returns-in-Err-insert_sized-clause-answers
+returns-in-Err-insert_sized-clause-answers g c =
     let F : Format = format_of c.args.layout.key_len c.args.layout.value_len g.H.HashFn.hash in
     let K = bytes_coding F in
     let key : c.args.layout.key_len ≤ 255 = search rules in

@@ -82,9 +82,9 @@ overflow_add-slot g c =
     let index = match-lt (format g) (T g at) (k g at) (count g at) (mirrored g at) (small g at) c.in-Some.index (next g at c.in-Some.index (sym c.in-Some.is ∙ c.first_match.ensures)) in
     omega (arith, at_home g at, few, low, index)
 
-pub returns-then-has_key : goal.returns-then-has_key
-returns-then-has_key g c =
-    let at = (goal.at.returns-then-has_key g c).After-first_match in
+pub returns-then-is_at : goal.returns-then-is_at
+returns-then-is_at g c =
+    let at = (goal.at.returns-then-is_at g c).After-first_match in
     let F = format g in
     let T = c.args.self.now in
     let f = g.V.ByteArray.of_bytes in
@@ -92,7 +92,7 @@ returns-then-has_key g c =
     let slot : ℕ = bit_and (bit_and c.look.inside.hash (c.len-mask.result - 1) + i) (c.len-mask.result - 1) in
     let here : ℕ = (home F (k g at) T.entries.slots + i) % T.entries.slots in
     let read = ap (λ (t : TableParts). slot_key F t.entries.bytes slot) c.self.view_is ∙ ap (slot_key F T.entries.bytes) (masked g at i) in
-    let key = sym read ∙ c.has_key.ensures.0 c.if-has_key.true in
+    let key = sym read ∙ c.is_at.ensures.0 c.if-is_at.true in
     let value = c.get.ensures.value ∙ ap (λ (t : TableParts). f (slot_value F t.entries.bytes slot)) c.self.view_is ∙ ap (λ n. f (slot_value F T.entries.bytes n)) (masked g at i) in
     record {
       on_placed = λ P h.
@@ -112,7 +112,7 @@ matches-preserved g c =
     record {
       same = c.drop_match.ensures.free ∙ c.matches.invariant.same;
       taken = taken-next _ _ _ _ i c.matches.invariant.taken (sym c.in-Some.is ∙ c.first_match.ensures) c.drop_match.ensures.rest
-          (λ e. true≢false (sym (c.has_key.ensures.1 (read ∙ e)) ∙ c.if-has_key.false));
+          (λ e. true≢false (sym (c.is_at.ensures.1 (read ∙ e)) ∙ c.if-is_at.false));
     }
 
 pub returns-then-any_empty : goal.returns-then-any_empty

@@ -14,14 +14,14 @@ returns-then-is_empty_or_deleted-clause-on_placed g c P h =
     let f = IsFormat-format_of _ _ _ _ c.requires.lengths.pair.key c.requires.lengths.pair.value c.requires.lengths.pair.hashes g.met.H.HashFn.fits in
     free_end _ P _ _ _ f h _ _ _ _ c.requires.hash (omega arith) c.loop-position-test.true c.slot_at-slot.ensures.value (c.loop-position.invariant.passed P h) (sym c.is_empty_or_deleted.ensures ∙ c.if-is_empty_or_deleted.true)
 
-pub returns-then-has_key-clause-slot : goal.returns-then-has_key-clause-slot
-returns-then-has_key-clause-slot g c = (omega arith, c.has_key.ensures.0 c.if-has_key.true)
+pub returns-then-is_at-clause-slot : goal.returns-then-is_at-clause-slot
+returns-then-is_at-clause-slot g c = (omega arith, c.is_at.ensures.0 c.if-is_at.true)
 
-pub returns-then-has_key-clause-on_placed : goal.returns-then-has_key-clause-on_placed
-returns-then-has_key-clause-on_placed g c P h =
+pub returns-then-is_at-clause-on_placed : goal.returns-then-is_at-clause-on_placed
+returns-then-is_at-clause-on_placed g c P h =
     let f = IsFormat-format_of _ _ _ _ c.requires.lengths.pair.key c.requires.lengths.pair.value c.requires.lengths.pair.hashes g.met.H.HashFn.fits in
     key_end _ P _ _ _ f h _ _ _ _ c.requires.hash (omega arith) c.loop-position-test.true c.slot_at-slot.ensures.value (c.loop-position.invariant.passed P h) (sym c.is_empty_or_deleted.ensures ∙ c.if-is_empty_or_deleted.false)
-    (c.has_key.ensures.0 c.if-has_key.true)
+    (c.is_at.ensures.0 c.if-is_at.true)
 
 pub loop-position-preserved : goal.loop-position-preserved
 loop-position-preserved g c = record {
@@ -44,12 +44,12 @@ loop-position-preserved g c = record {
             let last : q ≡ c.loop-position.position = omega arith in
             let here = ap (λ n. slot_key F c.args.entries.now.bytes (probe_slot (c.args.hash % c.args.entries.now.slots) c.args.entries.now.slots n)) last in
             let same = ap (slot_key F c.args.entries.now.bytes) slot ∙ sym here ∙ e in
-            true≢false (sym (c.has_key.ensures.1 same) ∙ c.if-has_key.false)
+            true≢false (sym (c.is_at.ensures.1 same) ∙ c.if-is_at.false)
       ]);
   passed = λ P h. (
       let f = IsFormat-format_of _ _ _ _ c.requires.lengths.pair.key c.requires.lengths.pair.value c.requires.lengths.pair.hashes g.met.H.HashFn.fits in
       passed_on _ P _ _ _ f h _ _ _ _ c.requires.hash (omega arith) c.loop-position-test.true c.slot_at-slot.ensures.value (c.loop-position.invariant.passed P h) (sym c.is_empty_or_deleted.ensures ∙ c.if-is_empty_or_deleted.false)
-      (λ e. true≢false (sym (c.has_key.ensures.1 e) ∙ c.if-has_key.false)));
+      (λ e. true≢false (sym (c.is_at.ensures.1 e) ∙ c.if-is_at.false)));
 }
 
 pub returns-clause-slot : goal.returns-clause-slot

@@ -1,16 +1,19 @@
 // Made by `make rust` of crates/odht_calls/src/any/build.rt.
-//! A table of any lengths that is built from pairs, in the caller's bytes.
+//! Tables of any lengths that are built from pairs: in the caller's bytes, or in memory of their own and then copied to
+//! the caller's.
 
 use super::lists::insert_pieces;
-use super::pieces::are_pieces;
+use super::pieces::{are_pieces, piece};
 use super::write::init_by;
 use super::{by_hash, AnyLayout};
-use crate::erased::calls::status::{BAD_LENGTHS, BAD_PERCENT, CAPACITY, OK, TOO_SMALL};
+use crate::erased::calls::build::hand_out;
+use crate::erased::calls::status::{BAD_LENGTHS, BAD_PERCENT, CAPACITY, MEMORY, OK, TOO_SMALL};
 use crate::proved::tables::bytes::Borrowed;
-use crate::proved::tables::dynamic::DynTable;
+use crate::proved::tables::dynamic::{DynTable, DynTableOwned};
 use crate::proved::tables::hash::HashFn;
 use crate::proved::tables::layout::Layout;
 use crate::proved::tables::load::Percent;
+use crate::shim::Global;
 
 // Makes an empty table in the bytes, whatever they hold, and inserts the pairs in order: there is room for each.
 fn insert_into_new<H: HashFn>(
@@ -80,4 +83,59 @@ pub fn build(
 ) -> u32 {
     let percent = max_load_factor_percent;
     by_hash!(layout, build_by(count, keys, values, percent, out, len))
+}
+
+// The build of `count` pairs in memory of its own.
+fn grow_pieces<H: HashFn>(
+    alloc: Global,
+    layout: Layout,
+    count: usize,
+    keys: &[u8],
+    values: &[u8],
+    out: &mut [u8],
+    len: &mut usize,
+) -> u32 {
+    // Sixteen slots are never too many, so the only error is that there is no memory.
+    let mut table = match DynTableOwned::<H>::with_capacity(alloc, layout, 12, 87) {
+        Ok(table) => table,
+        Err(_refused) => return MEMORY,
+    };
+    for index in 0..count {
+        let key = piece(keys, layout.key_len, index);
+        let value = piece(values, layout.value_len, index);
+        if let Err(_refused) = table.insert(key, value) {
+            return MEMORY;
+        }
+    }
+    hand_out(table.raw_bytes(), out, len)
+}
+
+fn build_growing_by<H: HashFn>(
+    layout: Layout,
+    alloc: Global,
+    count: usize,
+    keys: &[u8],
+    values: &[u8],
+    out: &mut [u8],
+    len: &mut usize,
+) -> u32 {
+    if !are_pieces(layout, count, keys, values) {
+        return BAD_LENGTHS;
+    }
+    grow_pieces::<H>(alloc, layout, count, keys, values, out, len)
+}
+
+/// Builds a table of `count` pairs in memory of its own, which starts with sixteen slots at 87 percent of slots and
+/// grows, and copies it to the front of `out`. BAD_LENGTHS and MEMORY leave `out` and `len` unchanged, TOO_SMALL leaves
+/// `out` unchanged.
+pub fn build_growing(
+    alloc: Global,
+    layout: AnyLayout,
+    count: usize,
+    keys: &[u8],
+    values: &[u8],
+    out: &mut [u8],
+    len: &mut usize,
+) -> u32 {
+    by_hash!(layout, build_growing_by(alloc, count, keys, values, out, len))
 }

@@ -1,8 +1,9 @@
 // Made by `make rust` of crates/odht_calls/src/any/lists.rt.
 //! The calls for many keys of a table of any lengths: lookups, and inserts in turn.
 
-use super::pieces::{are_pieces, piece, put_answer};
+use super::pieces::{are_pieces, piece};
 use super::read::view;
+use super::view::look_up;
 use super::{by_hash, AnyLayout};
 use crate::erased::calls::status::{status_of, BAD_LENGTHS, OK};
 use crate::proved::tables::hash::HashFn;
@@ -18,15 +19,10 @@ fn get_pieces<H: HashFn>(
     values: &mut [u8],
     found: &mut [u8],
 ) -> u32 {
-    let table = match view::<H>(layout, bytes) {
-        Ok(table) => table,
-        Err(refused) => return status_of(&refused),
-    };
-    for index in 0..count {
-        let answer = table.get(piece(keys, layout.key_len, index));
-        put_answer(values, found, layout.value_len, index, answer);
+    if let Err(refused) = view::<H>(layout, bytes) {
+        return status_of(&refused);
     }
-    OK
+    look_up::<H>(layout, bytes, count, keys, values, found)
 }
 
 fn get_all_by<H: HashFn>(

@@ -1,0 +1,90 @@
+use Rattle.std.proofs.Common.{◌≡◌, ◌∙◌, ℕ, List, sym, ap, subst, refl, arith, length, take, Some, Err, Result, slice_get}
+use Rattle.std.specs.List.{zip}
+use Rattle.std.proofs.lemmas.List.{take_all}
+use Rattle.std.proofs.lemmas.Slice.Zip.{length-zip}
+use Rattle.odht_base.specs.Format.{format_of}
+use Rattle.odht_header.specs.declared.error.Error.{Error}
+use Rattle.odht_header.specs.declared.error.Error.TheVariants.{Memory}
+use Rattle.odht_raw.specs.Sized.{bytes_coding}
+use Rattle.odht.specs.Dynamic.{DynStore}
+use Rattle.odht.proofs.lemmas.DynLists.{take_next}
+use Rattle.odht_calls.specs.Builds.{IsGrownAfterInserts, IsHandedOut}
+use Rattle.odht_calls.specs.Pieces.{pieces}
+use Rattle.odht_calls.proofs.lemmas.GrownBuilds.{none_grown, one_more_grown}
+use Rattle.odht_calls.proofs.lemmas.HandedOut.{refused_growing, handed_growing}
+use Rattle.odht_calls.proofs.lemmas.Pieces.{ends_within, length-pieces, zip_at}
+use Rattle.odht_calls.proofs.any.build.grow_pieces.Goals as goal
+
+-- no memory
+abbrev failed : Result (Unit {0}) Error
+failed = Err Memory
+
+-- as many keys as values
+module _ (kl vl n : ℕ) (ks vs : List ℕ) where
+  equal : length (pieces vl n vs) ≡ length (pieces kl n ks)
+  equal = length-pieces vl n vs ∙ sym (length-pieces kl n ks)
+
+pub returns-in-Err : goal.returns-in-Err
+returns-in-Err g c =
+    let l = c.args.layout in
+    refused_growing (bytes_coding (format_of l.key_len l.value_len g.H.HashFn.hash)) _ _ (equal l.key_len l.value_len c.args.count c.args.keys.now c.args.values.now) _ _ _ failed Memory refl refl refl
+
+pub loop-index-init : goal.loop-index-init
+loop-index-init g c =
+    let made = c.in-Ok.ensures.ok in
+    record {
+      key_len = made.key_len;
+      value_len = made.value_len;
+      bytes = none_grown (bytes_coding (format_of c.args.layout.key_len c.args.layout.value_len g.H.HashFn.hash)) _ made.bytes;
+    }
+
+pub piece-key-requires : goal.piece-key-requires
+piece-key-requires g c =
+    ends_within c.loop-index.index c.args.count c.args.layout.key_len (length c.args.keys.now) c.loop-index-test.true c.requires.arrays.keys
+
+pub piece-value-requires : goal.piece-value-requires
+piece-value-requires g c =
+    ends_within c.loop-index.index c.args.count c.args.layout.value_len (length c.args.values.now) c.loop-index-test.true c.requires.arrays.values
+
+pub returns-in-Err-insert : goal.returns-in-Err-insert
+returns-in-Err-insert g c =
+    let l = c.args.layout in
+    refused_growing (bytes_coding (format_of l.key_len l.value_len g.H.HashFn.hash)) _ _ (equal l.key_len l.value_len c.args.count c.args.keys.now c.args.values.now) _ _ _ failed Memory refl refl refl
+
+pub loop-index-preserved : goal.loop-index-preserved
+loop-index-preserved g c =
+    let kl = c.args.layout.key_len in
+    let vl = c.args.layout.value_len in
+    let n = c.args.count in
+    let i = c.loop-index.index in
+    let k = c.piece-key.result.now in
+    let v = c.piece-value.result.now in
+    let keys = pieces kl n c.args.keys.now in
+    let values = pieces vl n c.args.values.now in
+    let was = c.loop-index.invariant in
+    let low = c.loop-index-test.true in
+    let here : slice_get (zip keys values) i ≡ Some (k, v) = zip_at keys values i k v (c.piece-key.ensures.value n low) (c.piece-value.ensures.value n low) in
+    let one = c.in_default.ensures.inserted (c.piece-key.ensures.len ∙ sym was.key_len) (c.piece-value.ensures.len ∙ sym was.value_len) in
+    let lengths = c.insert.ensures.lengths in
+    record {
+      key_len = ap (λ (t : DynStore (List ℕ)). t.key_len) lengths ∙ was.key_len;
+      value_len = ap (λ (t : DynStore (List ℕ)). t.value_len) lengths ∙ was.value_len;
+      bytes = subst (λ xs. IsGrownAfterInserts (bytes_coding (format_of kl vl g.H.HashFn.hash)) xs c.insert.new.self.store) (sym (take_next (zip keys values) i (k, v) here))
+          (one_more_grown kl vl g.H.HashFn.hash c.loop-index.table (take i (zip keys values)) k v _ _ was.key_len was.value_len was.bytes one);
+    }
+
+pub returns : goal.returns
+returns g c =
+    let kl = c.args.layout.key_len in
+    let vl = c.args.layout.value_len in
+    let n = c.args.count in
+    let keys = pieces kl n c.args.keys.now in
+    let values = pieces vl n c.args.values.now in
+    let K = bytes_coding (format_of kl vl g.H.HashFn.hash) in
+    let same = equal kl vl n c.args.keys.now c.args.values.now in
+    let many = length-pieces kl n c.args.keys.now in
+    let T = c.loop-index.table.store in
+    let long : length (zip keys values) ≡ n = omega (arith, length-zip keys values, many, same) in
+    let grown = subst (λ xs. IsGrownAfterInserts K xs T) (take_all c.loop-index.index (zip keys values) (omega (arith, long, c.loop-index-test.false, c.loop-index.auto.index-end))) c.loop-index.invariant.bytes in
+    let copied = subst (λ B. IsHandedOut (λ X. X ≡ B) c.args.out.now c.hand_out.result c.hand_out.new.out c.hand_out.new.len) c.raw_bytes.ensures.bytes c.hand_out.ensures.copied in
+    handed_growing K keys values same T c.args.out.now c.args.len.now c.hand_out.result c.hand_out.new.out c.hand_out.new.len grown copied c.hand_out.ensures.status

@@ -1,0 +1,79 @@
+-- Worked examples: bytes of a length that is known at run time alone, as text, and tables of such lengths.
+--     wide_bytes           bytes whose header states keys of six and values of eight bytes
+use Rattle.std.proofs.Common.{◌≡◌, ℕ, List, refl, [], ◌∷◌, Some, Ok, Err, arith}
+use Rattle.std.specs.Prelude.{codes}
+use Rattle.std.specs.Char.{is_ascii_hexdigit}
+use Rattle.std.specs.Fmt.{digits}
+use Rattle.std.proofs.lemmas.List.Sums.{AllPass-from_list_all}
+use Rattle.odht_base.specs.Bytes.{overwritten_at}
+use Rattle.odht_header.proofs.examples.Apart.{unequal_lists}
+use Rattle.odht_header.proofs.examples.Opened.{opened}
+use Rattle.odht_tool_core.specs.AnyShapes.{read_any}
+use Rattle.odht_tool_core.specs.Forms.{bytes_form}
+use Rattle.odht_tool_core.specs.SizedTexts.{IsSizedOf, StandsForSized, sized_text, sized_wanted}
+use Rattle.odht_tool_core.specs.declared.any.AnyShape.TheVariants.{Other}
+use Rattle.odht_tool_core.specs.declared.failure.Failure.TheVariants.{OtherKey, OtherValue}
+use Rattle.odht_tool_core.specs.declared.forms.Form.TheVariants.{Own, Signed, BigEndian, Plain}
+use Rattle.odht_tool_core.specs.declared.misread.Wanted.TheVariants.{Nothing as WantedNothing, Bytes as WantedBytes, Text as WantedText, I32 as WantedI32}
+use Rattle.odht_tool_core.specs.declared.shapes.Hash.TheVariants.{Unhash}
+use Rattle.odht_tool_core.specs.declared.shapes.Part.TheVariants.{U32, U64, Bytes}
+use Rattle.odht_tool_core.proofs.examples.Forms.{kind, said, unsaid}
+use Rattle.odht_tool_core.proofs.examples.FoundShapes.{other, other_bytes}
+use Rattle.odht_tool_core.proofs.examples.Shapes.{one_bytes}
+
+abbrev pub wide_bytes : List ℕ
+wide_bytes = overwritten_at one_bytes 5 (6 ∷ 8 ∷ [])
+
+-- what is wanted of none is nothing
+pub sized_wants : (sized_wanted (bytes_form Own (Bytes 12)) ≡ WantedBytes 12)
+    × (sized_wanted (bytes_form Plain (Bytes 12)) ≡ WantedText 12)
+    × (sized_wanted (bytes_form Signed U32) ≡ WantedI32)
+    × (sized_wanted (bytes_form Own (Bytes 0)) ≡ WantedNothing)
+    × (sized_wanted Own ≡ WantedNothing)
+sized_wants = (refl, refl, refl, refl, refl)
+
+-- a word has two digits, of either case, for each byte; no other byte's, and none is left over
+pub hexadecimal : IsSizedOf (bytes_form Own (Bytes 2)) (codes "0aFf") (10 ∷ 255 ∷ [])
+hexadecimal = ((refl, AllPass-from_list_all is_ascii_hexdigit (codes "0aFf") refl), (refl, refl))
+
+pub digits_of_another : IsSizedOf (bytes_form Own (Bytes 2)) (codes "0aff") (10 ∷ 254 ∷ []) → ⊥
+digits_of_another h = unequal_lists _ _ refl h.1.1
+
+pub digit_left_over : IsSizedOf (bytes_form Own (Bytes 1)) (codes "0af") (10 ∷ []) → ⊥
+digit_left_over h = omega (arith, h.0.0)
+
+-- a text has no zeros, a number has its sign or its highest byte first, and other bytes have digits
+pub sized_texts : (sized_text (bytes_form Plain (Bytes 3)) (97 ∷ 98 ∷ 0 ∷ []) ≡ codes "ab")
+    × (sized_text (bytes_form Own (Bytes 3)) (97 ∷ 98 ∷ 0 ∷ []) ≡ codes "616200")
+    × (sized_text (bytes_form Signed U32) (255 ∷ 255 ∷ 255 ∷ 255 ∷ []) ≡ codes "-1")
+    × (sized_text (bytes_form BigEndian U32) (0 ∷ 0 ∷ 1 ∷ 2 ∷ []) ≡ codes "258")
+    × (sized_text (bytes_form Own U32) (1 ∷ 2 ∷ 0 ∷ 0 ∷ []) ≡ codes "513")
+    × (sized_text (bytes_form Own U32) (1 ∷ 2 ∷ []) ≡ codes "0102")
+unfolding digits
+sized_texts = (refl, refl, refl, refl, refl, refl)
+
+-- a text is stored with zeros behind it, not with spaces, and in as many bytes as its type has
+pub padded : StandsForSized (bytes_form Plain (Bytes 3)) (codes "ab") (97 ∷ 98 ∷ 0 ∷ [])
+padded = (refl, refl)
+
+pub padded_by_spaces : StandsForSized (bytes_form Plain (Bytes 3)) (codes "ab") (97 ∷ 98 ∷ 32 ∷ []) → ⊥
+padded_by_spaces h = unequal_lists _ _ refl h.1
+
+pub padded_less : StandsForSized (bytes_form Plain (Bytes 3)) (codes "ab") (97 ∷ 98 ∷ []) → ⊥
+padded_less h = omega (arith, h.0)
+
+-- the highest byte of a number comes first where that is said
+pub high_first : StandsForSized (bytes_form BigEndian U32) (codes "258") (0 ∷ 0 ∷ 1 ∷ 2 ∷ [])
+high_first = (refl, refl)
+
+pub low_first : StandsForSized (bytes_form BigEndian U32) (codes "258") (2 ∷ 1 ∷ 0 ∷ 0 ∷ []) → ⊥
+low_first h = omega (arith, h.1)
+
+-- of a table that is no ready shape types of the same lengths are taken, and each for its own
+pub read_other : (read_any other_bytes (Some Unhash) unsaid ≡ Ok (Other (other 6 2 Unhash), record { key = Own; value = Own }))
+    × (read_any other_bytes (Some Unhash) (said (kind (Bytes 6) Plain) (kind (Bytes 2) Own)) ≡ Ok (Other (other 6 2 Unhash), record { key = Plain; value = Own }))
+    × (read_any wide_bytes (Some Unhash) (said (kind (Bytes 6) Plain) (kind U64 Signed)) ≡ Ok (Other (record { key = Bytes 6; value = U64; hash = Unhash }), record { key = Plain; value = Signed }))
+    × (read_any wide_bytes (Some Unhash) (said (kind (Bytes 5) Plain) (kind U64 Own)) ≡ Err (OtherKey (Bytes 6)))
+    × (read_any wide_bytes (Some Unhash) (said (kind (Bytes 6) Plain) (kind U32 Own)) ≡ Err (OtherValue (Bytes 8)))
+unfolding opened
+read_other = (refl, refl, refl, refl, refl)

@@ -1,0 +1,56 @@
+//! How full a table is along its slots, which are cut into at most 64 stretches of equal length.
+ghost use Rattle.std.specs.Prelude.{◌≡◌, ◌<◌, OnOk, map};
+ghost use Rattle.std.specs.Io.KnownBytes.{Appends};
+ghost use Rattle.odht_tool_core.specs.InfoNumbers.{stretch_len};
+ghost use Rattle.odht_tool_core.specs.InfoTexts.{stretch_sign, stretches_line};
+
+use std::io::{self, Write};
+
+/// How many stretches there are at most.
+pub(crate) const STRETCHES: usize = 64;
+
+/// How many slots a stretch has, of a table of so many.
+pub(crate) fn stretch_len(slot_count: usize) -> usize
+    ensures { result ≡ stretch_len slot_count }
+{
+    (slot_count / STRETCHES).max(1)
+}
+
+/// Writes the line of how many slots of each stretch are occupied, a sign for each.
+pub(crate) fn write_stretches<O: Write>(
+    slot_count: usize,
+    counts: &[usize],
+    output: &mut O,
+) -> io::Result<()>
+    ensures { OnOk result (Appends (O.contents output.old) (O.contents output.new)
+        (stretches_line (stretch_len slot_count) counts.now)) }
+{
+    output.write_all(b"along slots   ")?;
+    write_signs(stretch_len(slot_count), counts, output)?;
+    output.write_all(b"\n")
+}
+
+// Writes the signs of stretches of so many slots.
+fn write_signs<O: Write>(len: usize, counts: &[usize], output: &mut O) -> io::Result<()>
+    requires { 0 < len }
+    ensures { OnOk result (Appends (O.contents output.old) (O.contents output.new)
+        (map (stretch_sign len) counts.now)) }
+{
+    for count in counts {
+        output.write_all(&[sign_of(len, *count)])?;
+    }
+    Ok(())
+}
+
+// The sign of a stretch: `.` where no slot is occupied, `9` where all are, else, from `1` on, one more than how many whole
+// eighths of them are.
+fn sign_of(len: usize, count: usize) -> u8
+    requires { 0 < len }
+    ensures { result ≡ stretch_sign len count }
+{
+    if count == 0 {
+        return b'.';
+    }
+    let eighths = count as u128 * 8 / len as u128;
+    b'1' + eighths.min(8) as u8
+}

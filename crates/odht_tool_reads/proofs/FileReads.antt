@@ -1,0 +1,347 @@
+-- Lookups in a table that is read by position, and the hash function that its first slots leave.
+use Rattle.std.proofs.Common.{arith, refl, ◌≡◌, ◌∙◌, ℕ, ◌+◌, ◌*◌, ◌<◌, ◌≤◌, ◌&&◌, ◌==◌, Bool, true, false, not, List, [], ◌∷◌, length, drop, take, find, is_none, is_some, Option, Some, None, Ok, sym, ap, ap₂, subst, cond, slice_index, le-ltb, mul-le-mul_right, add-mul, zero-add, length-drop}
+use Rattle.std.specs.Prelude.{if◌then◌else◌}
+use Rattle.std.specs.Option.{option_or}
+use Rattle.std.proofs.lemmas.Bool.{and_parts, eqb-true, leb-true, false_from_ne_true, true≢false}
+use Rattle.std.proofs.lemmas.List.{get_or-drop}
+use Rattle.odht_base.specs.Bytes.{bytes_at}
+use Rattle.odht_base.specs.Decoded.{header_count, header_slots, entries_of, controls_of, counts_as_free, slot_key}
+use Rattle.odht_base.specs.Format.{Format, IsFormat, entry_len, format_of, tag}
+use Rattle.odht_base.specs.Numbers.{num}
+use Rattle.std.proofs.Math.Bool.{and-false}
+use Rattle.odht_base.specs.Valid.{IsValidBytes}
+use Rattle.odht_base.proofs.lemmas.ByteRanges.{bytes_at-bytes_at, index-bytes_at, length-bytes_at}
+use Rattle.odht_base.proofs.lemmas.PartsOf.{slot_within}
+use Rattle.odht_header.specs.Refusals.{opening_refusal, ◌gives◌, checked, differs, first_of, header_refusal, lists_differ, tag_refusal, version_refusal, wrong_size, first_slot, control_mismatch}
+use Rattle.odht_header.specs.declared.error.Error.{Error}
+use Rattle.odht_header.specs.declared.error.Error.TheVariants.{ControlMismatch, TooShort, WrongSizeOf, WrongTag, WrongVersion}
+use Rattle.odht_header.specs.declared.error.Part.TheVariants.{EntryMetadata}
+use Rattle.odht_header.proofs.lemmas.HeaderFits.{IsHeader-header_refusal}
+use Rattle.odht_header.proofs.lemmas.FirstErrors.{Ok-checked, option_or-None, gives_both-None, None-gives_both, differs-false, false-differs, not-true, first_slot-None}
+use Rattle.odht_tool_core.specs.InfoNumbers.{SizedParts, agrees, found_hash, info_refusal, sized_format, sized_parts, least_key_len}
+use Rattle.odht_tool_core.specs.AnyShapes.{any_of_sizes, fitting_any, found_any, named_any, other_by, other_of, ready_or}
+use Rattle.odht_tool_core.specs.ReadyShapes.{early_refusal, hash_of, is_shape_of, same_hash, typed_len}
+use Rattle.odht_tool_core.specs.ShapeList.{key_part, value_part, shape_hash, ready_shapes}
+use Rattle.odht_tool_core.specs.FoundShapes.{fits, other_hash}
+use Rattle.odht_tool_core.specs.declared.shapes.Hash.TheVariants.{Fx, Unhash}
+use Rattle.odht_tool_core.specs.declared.failure.Failure.TheVariants.{ShortKeys}
+use Rattle.odht_tool_core.proofs.Refusals.{two_stages}
+use Rattle.odht_raw.proofs.lemmas.Accepted.{IsAccepted-IsValidBytes, accepted_opening, accepted_len}
+use Rattle.odht_raw.proofs.lemmas.SoundBytes.{IsSound-late_refusal}
+use Rattle.odht_raw.proofs.lemmas.WholeChecks.{late_valid}
+use Rattle.odht_tool_core.specs.declared.any.AnyShape.TheVariants.{Ready, Other}
+use Rattle.odht_tool_core.specs.declared.shapes.ready.Shape.{Shape}
+use Rattle.odht_tool_core.specs.declared.shapes.Part.TheVariants.{Bytes}
+use Rattle.odht_tool_core.specs.declared.shapes.ready.Shape.TheVariants.{U32ToU32, DirectU32ToU32, U64ToU32, U64ToU64, U64Set, Bytes8ToU32, Bytes8ToU64, Bytes16ToU32, Bytes16ToU64, Bytes20ToU64, Bytes32ToU64, Bytes16ToBytes16, Bytes32ToBytes32, Bytes8Set, Bytes16Set, Bytes20Set, Bytes32Set}
+use Rattle.odht_tool_core.specs.declared.shapes.Hash.{Hash}
+use Rattle.odht_tool_core.proofs.SizedSlots.{all_agree}
+use Rattle.odht.specs.Files.{table_place}
+use Rattle.odht_raw.specs.declared.raw_table.read_search.ReadPlace.{ReadPlace}
+use Rattle.std.specs.Io.KnownBytes.{Keeps}
+use Rattle.std.specs.Prelude.{Result, Err, MatchResult}
+use Rattle.odht_tool_core.specs.AnyShapes.{any_formed, read_any}
+use Rattle.odht_tool_core.specs.declared.any.AnyShape.{AnyShape}
+use Rattle.odht_tool_core.specs.declared.failure.Failure.{Failure}
+use Rattle.odht_tool_core.specs.declared.forms.GivenForms.{GivenForms}
+use Rattle.odht_tool_core.specs.declared.forms.Kinds.{Kinds}
+use Rattle.odht_tool_core.specs.declared.status.Status.{Status}
+use Rattle.odht_tool_reads.specs.Gets.{AreFileWordsGot, words_of_any, words_of_forms}
+use Rattle.odht_tool_reads.proofs.Shaped.{with_shape_said}
+use Rattle.odht_tool_reads.specs.Positions.{ByPosition, IsAnsweredBy, IsTableIn, IsNamed, IsStartOf, slots_parts}
+use Rattle.odht_tool_reads.specs.declared.positions.Start.{Start}
+
+-- ---- the tags of slots
+-- slot i has the tag of its key, where it is occupied
+abbrev pub Fits : SizedParts → Hash → ℕ → Type 0
+Fits T h i = counts_as_free (slice_index T.control i) ≡ false → slice_index T.control i ≡ tag (sized_format T h) (slot_key (sized_format T h) T.entries i)
+
+none_here : (o : Option Error) → is_none o ≡ true → o ≡ None
+none_here None e = refl
+none_here (Some x) e = cc
+
+module _ (T : SizedParts) (h : Hash) where
+  abbrev mismatch : ℕ → Option Error
+  mismatch i = control_mismatch (sized_format T h) T.entries T.control i
+
+  fits_all : agrees T h ≡ true → (i : ℕ) → i < T.slots → Fits T h i
+  fits_all e i low f =
+      let none = first_slot-None mismatch T.slots (none_here (first_slot mismatch T.slots) (and_parts _ _ e).1) i low in
+      differs-false _ _ (gives_both-None _ _ (ControlMismatch i _ _) none (ap not f))
+
+  pub long_enough : agrees T h ≡ true → least_key_len h ≤ T.key_len
+  long_enough e = leb-true (least_key_len h) T.key_len (and_parts _ _ e).0
+
+  pub all_fit : least_key_len h ≤ T.key_len → ((i : ℕ) → i < T.slots → Fits T h i) → agrees T h ≡ true
+  all_fit long fit = all_agree T h long (λ i low. None-gives_both _ _ _ (λ f. false-differs _ _ (fit i low (not-true _ f))))
+
+-- sixteen slots of a table fit where all do
+module _ (T : List ℕ) (w s first : ℕ) (is : header_slots T ≡ s) (wide : slice_index T 5 + slice_index T 6 ≡ w) (low : first + 16 ≤ s) where
+  abbrev group : SizedParts
+  group = slots_parts (slice_index T 5) (slice_index T 6) (bytes_at T (32 + first * w) (16 * w)) (bytes_at T (32 + s * w + first) 16)
+
+  abbrev whole : SizedParts
+  whole = sized_parts T
+
+  control_same : (j : ℕ) → j < 16 → slice_index group.control j ≡ slice_index whole.control (first + j)
+  control_same j l =
+      index-bytes_at T (32 + s * w + first) 16 j l
+      ∙ ap (slice_index T) (omega arith)
+      ∙ sym (ap (λ n. slice_index (drop n T) (first + j)) (ap₂ (λ a b. 32 + a * b) is wide) ∙ get_or-drop (32 + s * w) T (first + j) 0)
+
+  entry_same : (j : ℕ) → j < 16 → bytes_at group.entries (j * w) w ≡ bytes_at whole.entries ((first + j) * w) w
+  entry_same j l =
+      bytes_at-bytes_at T (32 + first * w) (16 * w) (j * w) w (32 + first * w + j * w) (slot_within j 16 w l) refl
+      ∙ ap (λ n. bytes_at T n w) (omega (arith, add-mul first j w))
+      ∙ sym (ap (λ n. bytes_at (bytes_at T 32 n) ((first + j) * w) w) (ap₂ (λ a b. a * b) is wide)
+      ∙ bytes_at-bytes_at T 32 (s * w) ((first + j) * w) w (32 + (first + j) * w) (slot_within (first + j) s w (omega (arith, l, low))) refl)
+
+  pub group_disagrees : (h : Hash) → agrees group h ≡ false → agrees whole h ≡ false
+  group_disagrees h e =
+      false_from_ne_true _ (λ t.
+      let fit : (j : ℕ) → j < 16 → Fits group h j =
+      λ j l f.
+      control_same j l
+      ∙ fits_all whole h t (first + j) (omega (arith, l, low, is)) (ap counts_as_free (sym (control_same j l)) ∙ f)
+      ∙ ap (λ (n : ℕ). tag (sized_format whole h) (take (slice_index T 5) (bytes_at whole.entries ((first + j) * n) n))) wide
+      ∙ ap (λ b. tag (sized_format whole h) (take (slice_index T 5) b)) (sym (entry_same j l))
+      ∙ ap (λ (n : ℕ). tag (sized_format whole h) (take (slice_index T 5) (bytes_at group.entries (j * n) n))) (sym wide) in
+      true≢false (sym (all_fit group h (long_enough whole h t) fit) ∙ e))
+
+-- what is read of a table's start and of sixteen slots tells the same of the table
+pub left_alone : (B : List ℕ) (start : Start) (s k v first : ℕ) (h : Hash) → IsStartOf B start
+    → s ≡ header_slots start.header → k ≡ slice_index start.header 5 → v ≡ slice_index start.header 6 → 32 + s * (k + v) + s + 16 ≡ start.len → first + 16 ≤ s
+    → agrees (slots_parts k v (bytes_at B (start.at + 32 + first * (k + v)) (16 * (k + v))) (bytes_at B (start.at + 32 + s * (k + v) + first) 16)) h ≡ false
+    → agrees (sized_parts (bytes_at B start.at start.len)) h ≡ false
+left_alone B start s k v first h is slots key value long low e =
+    let T : List ℕ = bytes_at B start.at start.len in
+    let w : ℕ = k + v in
+    let front : bytes_at B start.at 32 ≡ bytes_at T 0 32 = sym (bytes_at-bytes_at B start.at start.len 0 32 start.at (omega (arith, long)) (omega arith)) in
+    let field : (i : ℕ) → i < 32 → slice_index start.header i ≡ slice_index T i =
+    λ i l. ap (λ b. slice_index b i) (is.header ∙ front) ∙ index-bytes_at T 0 32 i l ∙ ap (slice_index T) (zero-add i) in
+    let counted : header_slots T ≡ s =
+    sym (slots ∙ ap header_slots (is.header ∙ front) ∙ ap num (bytes_at-bytes_at T 0 32 16 8 16 (omega arith) refl)) in
+    let k_is : k ≡ slice_index T 5 = key ∙ field 5 (omega arith) in
+    let v_is : v ≡ slice_index T 6 = value ∙ field 6 (omega arith) in
+    let entries : bytes_at T (32 + first * w) (16 * w) ≡ bytes_at B (start.at + 32 + first * w) (16 * w) =
+    bytes_at-bytes_at B start.at start.len (32 + first * w) (16 * w) (start.at + 32 + first * w) (omega (arith, long, enough first s w low)) (omega arith) in
+    let control : bytes_at T (32 + s * w + first) 16 ≡ bytes_at B (start.at + 32 + s * w + first) 16 =
+    bytes_at-bytes_at B start.at start.len (32 + s * w + first) 16 (start.at + 32 + s * w + first) (omega (arith, long, low)) (omega arith) in
+    group_disagrees T w s first counted (ap₂ (λ a b. a + b) (sym k_is) (sym v_is)) low h
+    ((λ i. agrees (slots_parts (sym k_is i) (sym v_is i) (entries i) (control i)) h) ∙ e)
+  where
+    enough : (a b n : ℕ) → a + 16 ≤ b → a * n + 16 * n ≤ b * n
+    enough a b n l = omega (arith, add-mul a 16 n, mul-le-mul_right n l)
+
+-- the same of the place of its parts
+pub left_place : (B : List ℕ) (start : Start) (p : ReadPlace) (first : ℕ) (h : Hash) → IsStartOf B start
+    → p ≡ table_place start.at (header_slots start.header) (slice_index start.header 5) (slice_index start.header 6)
+    → 32 + p.slots * (p.layout.key_len + p.layout.value_len) + p.slots + 16 ≡ start.len → first + 16 ≤ p.slots
+    → agrees (slots_parts p.layout.key_len p.layout.value_len (bytes_at B (p.entries_at + first * (p.layout.key_len + p.layout.value_len)) (16 * (p.layout.key_len + p.layout.value_len))) (bytes_at B (p.control_at + first) 16)) h ≡ false
+    → agrees (sized_parts (bytes_at B start.at start.len)) h ≡ false
+left_place B start p first h is e =
+    subst
+    (λ (q : ReadPlace). 32 + q.slots * (q.layout.key_len + q.layout.value_len) + q.slots + 16 ≡ start.len → first + 16 ≤ q.slots
+    → agrees (slots_parts q.layout.key_len q.layout.value_len (bytes_at B (q.entries_at + first * (q.layout.key_len + q.layout.value_len)) (16 * (q.layout.key_len + q.layout.value_len))) (bytes_at B (q.control_at + first) 16)) h ≡ false
+    → agrees (sized_parts (bytes_at B start.at start.len)) h ≡ false)
+    (sym e)
+    (left_alone B start (header_slots start.header) (slice_index start.header 5) (slice_index start.header 6) first h is refl refl refl)
+
+-- how long a table is by its header
+pub start_length : (k v len : ℕ) (header : List ℕ) → Ok tt ≡ checked (header_refusal (format_of k v (λ b. 0)) len header) → len ≡ 32 + header_slots header * (k + v) + header_slots header + 16
+start_length k v len header e = (IsHeader-header_refusal (format_of k v (λ b. 0)) len header (Ok-checked _ e)).length_is
+
+-- ---- the shape
+module _ (T H : List ℕ) (long : 32 ≤ length T) (is : H ≡ bytes_at T 0 32) where
+  -- the header has the errors of all bytes that come first
+  late : (B : List ℕ) → 32 ≤ length B → early_refusal B ≡ first_of (tag_refusal B ∷ version_refusal B ∷ wrong_size B 4 EntryMetadata 1 ∷ [])
+  late B enough = ap (λ b. option_or (b gives TooShort (length B)) (first_of (tag_refusal B ∷ version_refusal B ∷ wrong_size B 4 EntryMetadata 1 ∷ []))) (le-ltb (length B) 32 enough)
+
+  field : (i : ℕ) → i < 32 → slice_index H i ≡ slice_index T i
+  field i l = ap (λ b. slice_index b i) is ∙ index-bytes_at T 0 32 i l ∙ ap (slice_index T) (zero-add i)
+
+  part : (at n : ℕ) → at + n ≤ 32 → bytes_at H at n ≡ bytes_at T at n
+  part at n l = ap (λ b. bytes_at b at n) is ∙ bytes_at-bytes_at T 0 32 at n at l (omega arith)
+
+  early_same : early_refusal H ≡ early_refusal T
+  early_same =
+      late H (omega (arith, ap length is, length-bytes_at T 0 32 (omega (arith, long))))
+      ∙ (λ i. first_of ((lists_differ (part 0 4 (omega arith) i) (79 ∷ 68 ∷ 72 ∷ 84 ∷ []) gives WrongTag (part 0 4 (omega arith) i))
+      ∷ (lists_differ (part 24 4 (omega arith) i) (0 ∷ 0 ∷ 0 ∷ 2 ∷ []) gives WrongVersion (part 24 4 (omega arith) i))
+      ∷ (differs (field 4 (omega arith) i) 1 gives WrongSizeOf EntryMetadata 1 (field 4 (omega arith) i)) ∷ []))
+      ∙ sym (late T long)
+
+  named_same : (g : Option Hash) → named_any H g ≡ named_any T g
+  named_same g = λ i. if is_some (early_same i) then Ok (Ready U64ToU32) else any_of_sizes (Bytes (field 5 (omega arith) i)) (Bytes (field 6 (omega arith) i)) g
+
+  no_items : (B : List ℕ) → header_count B ≡ 0 → found_any B None ≡ named_any B None
+  no_items B e = ap (λ b. if b then fitting_any (slice_index B 5) (slice_index B 6) (sized_parts B) else named_any B None) (ap (λ n. is_none (info_refusal B) && not (n == 0)) e ∙ and-false _)
+
+  -- and the shape of all bytes, where a hash function is named that is to be
+  pub found_same : (h g : Option Hash) → IsNamed T h g → found_any H g ≡ found_any T g
+  found_same (Some h) None named = cc
+  found_same (Some h) (Some g) named = named_same (Some g)
+  found_same None None none = no_items H (ap num (part 8 8 (omega arith)) ∙ none) ∙ named_same None ∙ sym (no_items T none)
+  found_same None (Some g) left = named_same (Some g)
+
+-- what is read first of a table
+pub started : (B : List ℕ) (start : Start) → IsStartOf B start → 32 ≤ start.len → start.header ≡ bytes_at (bytes_at B start.at start.len) 0 32
+started B start is long = is.header ∙ sym (bytes_at-bytes_at B start.at start.len 0 32 start.at (omega (arith, long)) (omega arith))
+
+pub started_long : (B : List ℕ) (start : Start) → IsStartOf B start → 32 ≤ start.len → 32 ≤ length (bytes_at B start.at start.len)
+started_long B start is long = omega (arith, long, length-bytes_at B start.at start.len is.held)
+
+-- and counts the same items
+pub counted : (B : List ℕ) (start : Start) → IsStartOf B start → 32 ≤ start.len → header_count start.header ≡ header_count (bytes_at B start.at start.len)
+counted B start is long = ap header_count (started B start is long) ∙ ap num (bytes_at-bytes_at (bytes_at B start.at start.len) 0 32 8 8 8 (omega arith) refl)
+
+-- where it counts no items, no hash function is to be named
+pub counted_none : (B : List ℕ) (start : Start) → IsStartOf B start → 32 ≤ start.len → header_count start.header ≡ 0 → header_count (bytes_at B start.at start.len) ≡ 0
+counted_none B start is long e = sym (counted B start is long) ∙ e
+
+-- with this shape the words are those of a named hash function
+pub named_words : (B : List ℕ) (start : Start) → IsStartOf B start → 32 ≤ start.len → (h name : Option Hash) (ks : Kinds) (j : Bool) (ws : List (List ℕ)) (old new : Option (List ℕ))
+    (x : AnyShape × GivenForms) → IsNamed (bytes_at B start.at start.len) h name → Ok x ≡ read_any start.header name ks
+    → (r : Result (Option Status) Failure) → ByPosition old new (λ r. words_of_any (x.1.key, x.1.value) j (bytes_at B start.at start.len) ws old new r x.0) r
+    → ByPosition old new (IsAnsweredBy (bytes_at B start.at start.len) h ks j ws old new) r
+named_words B start is long h name ks j ws old new x named found r said = go r said
+  where
+    answered : (r : Result Status Failure) → words_of_any (x.1.key, x.1.value) j (bytes_at B start.at start.len) ws old new r x.0 → IsAnsweredBy (bytes_at B start.at start.len) h ks j ws old new r
+    answered r w = record {
+      named = name;
+      is = named;
+      answered =
+          with_shape_said (read_any (bytes_at B start.at start.len) name ks) x (words_of_forms j (bytes_at B start.at start.len) ws old new r) (λ f. (r ≡ Err f) × Keeps old new)
+          (found ∙ ap (any_formed ks) (found_same (bytes_at B start.at start.len) start.header (started_long B start is long) (started B start is long) h name named)) w;
+    }
+
+    go : (r : Result (Option Status) Failure) → ByPosition old new (λ r. words_of_any (x.1.key, x.1.value) j (bytes_at B start.at start.len) ws old new r x.0) r
+        → ByPosition old new (IsAnsweredBy (bytes_at B start.at start.len) h ks j ws old new) r
+    go (Ok None) w = w
+    go (Ok (Some s)) w = answered (Ok s) w
+    go (Err f) w = answered (Err f) w
+
+-- ---- valid bytes
+-- a shape that fits is one of the hash function that is left
+find_same : {X : Type 0} (p q : X → Bool) → ((x : X) → p x ≡ q x) → (xs : List X) → find p xs ≡ find q xs
+find_same p q same xs = λ i. find (λ x. same x i) xs
+
+same_by : (P : SizedParts) (h g : Hash) → agrees P h ≡ true → agrees P (other_hash h) ≡ false → agrees P g ≡ same_hash g h
+same_by P Fx Fx fit unfit = fit
+same_by P Fx Unhash fit unfit = unfit
+same_by P Unhash Fx fit unfit = unfit
+same_by P Unhash Unhash fit unfit = fit
+
+three : (a b x y : Bool) → x ≡ y → ((a && b && true) && x) ≡ (a && b && y)
+three true true x y e = e
+three true false x y e = refl
+three false b x y e = refl
+
+left_shape : (P : SizedParts) (k v : ℕ) (h : Hash) → P.key_len ≡ k → agrees P h ≡ true → agrees P (other_hash h) ≡ false → fitting_any k v P ≡ any_of_sizes (Bytes k) (Bytes v) (Some h)
+left_shape P k v h is fit unfit =
+    ap₂ ready_or (other P k v h is fit unfit)
+    (find_same (fits k v P) (is_shape_of k v (Some h)) (λ (s : Shape). three (typed_len (key_part s) == k) (typed_len (value_part s) == v) _ _ (same_by P h (shape_hash s) fit unfit)) ready_shapes)
+  where
+    other : (P : SizedParts) (k v : ℕ) (h : Hash) → P.key_len ≡ k → agrees P h ≡ true → agrees P (other_hash h) ≡ false → other_by k v (found_hash P) ≡ other_of (Bytes k) (Bytes v) h
+    other P k v Fx is fit unfit =
+        ap (λ b. other_by k v (cond b (Some Fx) (find (agrees P) (Unhash ∷ [])))) fit
+        ∙ sym (ap (λ b. if b then Err (ShortKeys k) else Ok (Other (record { key = Bytes k; value = Bytes v; hash = Fx }))) (le-ltb k 0 (omega arith)))
+    other P k v Unhash is fit unfit =
+        ap (λ b. other_by k v (cond b (Some Fx) (find (agrees P) (Unhash ∷ [])))) unfit
+        ∙ ap (λ b. other_by k v (cond b (Some Unhash) None)) fit
+        ∙ sym (ap (λ b. if b then Err (ShortKeys k) else Ok (Other (record { key = Bytes k; value = Bytes v; hash = Unhash }))) (le-ltb k 4 (omega (arith, is, long_enough P Unhash fit))))
+
+-- all slots of valid bytes have the tags of their keys
+pub valid_agrees : (T : List ℕ) (k v : ℕ) (h : Hash) → IsFormat (format_of k v (hash_of h)) → least_key_len h ≤ k → IsValidBytes (format_of k v (hash_of h)) T → agrees (sized_parts T) h ≡ true
+valid_agrees T k v h f long valid =
+    let F : Format = format_of k v (hash_of h) in
+    let accepted = IsAccepted-IsValidBytes F T valid in
+    let sound = (IsSound-late_refusal F None T accepted (late_valid F None T f valid refl)).0 in
+    let header = accepted_opening F T accepted in
+    let key : slice_index T 5 ≡ k = header.header.key_len_is in
+    let value : slice_index T 6 ≡ v = header.header.value_len_is in
+    let size : length (controls_of F T) ≡ header_slots T + 16 = omega (arith, length-drop (32 + header_slots T * entry_len F) T, accepted_len F T accepted) in
+    subst (λ a. agrees (record { key_len = a; value_len = slice_index T 6; slots = header_slots T; entries = bytes_at T 32 (header_slots T * (a + slice_index T 6)); control = drop (32 + header_slots T * (a + slice_index T 6)) T }) h ≡ true) (sym key)
+    (subst (λ b. agrees (record { key_len = k; value_len = b; slots = header_slots T; entries = bytes_at T 32 (header_slots T * (k + b)); control = drop (32 + header_slots T * (k + b)) T }) h ≡ true) (sym value)
+    (all_fit (record { key_len = k; value_len = v; slots = header_slots T; entries = entries_of F T; control = controls_of F T }) h long (λ i low. (sound.slots_fit i (omega (arith, size, low))).occupied_tag)))
+
+-- a hash function that agrees is the one that is left
+left_same : (P : SizedParts) (h g : Hash) → agrees P g ≡ true → agrees P (other_hash h) ≡ false → g ≡ h
+left_same P Fx Fx fit unfit = refl
+left_same P Fx Unhash fit unfit = absurd (true≢false (sym fit ∙ unfit))
+left_same P Unhash Fx fit unfit = absurd (true≢false (sym fit ∙ unfit))
+left_same P Unhash Unhash fit unfit = refl
+
+-- so for valid bytes the shape is the same as by all slots
+module _ (T : List ℕ) (k v : ℕ) (g : Hash) (f : IsFormat (format_of k v (hash_of g))) (long : least_key_len g ≤ k) (valid : IsValidBytes (format_of k v (hash_of g)) T) where
+  opens : info_refusal T ≡ None
+  unfolding opening_refusal header_refusal
+  opens =
+      let F : Format = format_of k v (hash_of g) in
+      let accepted = IsAccepted-IsValidBytes F T valid in
+      let header = accepted_opening F T accepted in
+      subst (λ a. opening_refusal (format_of a (slice_index T 6) (hash_of Fx)) T ≡ None) (sym header.header.key_len_is)
+      (subst (λ b. opening_refusal (format_of k b (hash_of Fx)) T ≡ None) (sym header.header.value_len_is) accepted)
+
+  early : early_refusal T ≡ None
+  early = (option_or-None _ _ (sym (two_stages T) ∙ opens)).0
+
+  pub valid_found : (h name : Option Hash) → IsNamed T h name → found_any T name ≡ found_any T h
+  valid_found (Some h) name is = ap (found_any T) is
+  valid_found None None none = refl
+  valid_found None (Some h) left = go (header_count T == 0) refl
+    where
+      unfit : agrees (sized_parts T) (other_hash h) ≡ false
+      unfit = left.1 opens
+
+      same : g ≡ h
+      same = left_same (sized_parts T) h g (valid_agrees T k v g f long valid) unfit
+
+      fit : agrees (sized_parts T) h ≡ true
+      fit = subst (λ x. agrees (sized_parts T) x ≡ true) same (valid_agrees T k v g f long valid)
+
+      named : named_any T (Some h) ≡ any_of_sizes (Bytes (slice_index T 5)) (Bytes (slice_index T 6)) (Some h)
+      named = ap (λ o. if is_some o then Ok (Ready U64ToU32) else any_of_sizes (Bytes (slice_index T 5)) (Bytes (slice_index T 6)) (Some h)) early
+
+      go : (b : Bool) → (header_count T == 0) ≡ b → found_any T (Some h) ≡ found_any T None
+      go true e = absurd (left.0 (eqb-true _ _ e))
+      go false e =
+          named ∙ sym (left_shape (sized_parts T) (slice_index T 5) (slice_index T 6) h refl fit unfit)
+          ∙ sym (ap (λ b. if is_none (info_refusal T) && not b then fitting_any (slice_index T 5) (slice_index T 6) (sized_parts T) else named_any T None) e
+          ∙ ap (λ o. if is_none o && true then fitting_any (slice_index T 5) (slice_index T 6) (sized_parts T) else named_any T None) opens)
+
+-- ready shapes have keys that are long enough
+pub ready_long : (s : Shape) → least_key_len (shape_hash s) ≤ typed_len (key_part s)
+ready_long U32ToU32 = omega arith
+ready_long DirectU32ToU32 = omega arith
+ready_long U64ToU32 = omega arith
+ready_long U64ToU64 = omega arith
+ready_long U64Set = omega arith
+ready_long Bytes8ToU32 = omega arith
+ready_long Bytes8ToU64 = omega arith
+ready_long Bytes16ToU32 = omega arith
+ready_long Bytes16ToU64 = omega arith
+ready_long Bytes20ToU64 = omega arith
+ready_long Bytes32ToU64 = omega arith
+ready_long Bytes16ToBytes16 = omega arith
+ready_long Bytes32ToBytes32 = omega arith
+ready_long Bytes8Set = omega arith
+ready_long Bytes16Set = omega arith
+ready_long Bytes20Set = omega arith
+ready_long Bytes32Set = omega arith
+
+-- and so are the words
+pub valid_words : (T : List ℕ) (s : AnyShape) → IsTableIn T s → (h : Option Hash) (ks : Kinds) (j : Bool) (ws : List (List ℕ)) (old new : Option (List ℕ)) (r : Result (Option Status) Failure)
+    → ByPosition old new (IsAnsweredBy T h ks j ws old new) r → ByPosition old new (AreFileWordsGot T h ks j ws old new) r
+valid_words T s is h ks j ws old new r said = go r said
+  where
+    same : (s : AnyShape) → IsTableIn T s → (name : Option Hash) → IsNamed T h name → found_any T name ≡ found_any T h
+    same (Ready x) is name named = valid_found T (typed_len (key_part x)) (typed_len (value_part x)) (shape_hash x) is.format (ready_long x) is.valid h name named
+    same (Other o) is name named = valid_found T (typed_len o.key) (typed_len o.value) o.hash is.format is.long is.valid h name named
+
+    answered : (r : Result Status Failure) → IsAnsweredBy T h ks j ws old new r → AreFileWordsGot T h ks j ws old new r
+    answered r a = subst (λ f. MatchResult (any_formed ks f) (words_of_forms j T ws old new r) (λ x. (r ≡ Err x) × Keeps old new)) (same s is a.named a.is) a.answered
+
+    go : (r : Result (Option Status) Failure) → ByPosition old new (IsAnsweredBy T h ks j ws old new) r → ByPosition old new (AreFileWordsGot T h ks j ws old new) r
+    go (Ok None) w = w
+    go (Ok (Some x)) w = answered (Ok x) w
+    go (Err f) w = answered (Err f) w

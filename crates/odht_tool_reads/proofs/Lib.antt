@@ -1,0 +1,24 @@
+-- keys and their answers
+pub mod KeyAnswers
+-- answers of lists in two parts
+pub mod AnswerLists
+-- the lines that a loop has taken
+pub mod LinesTaken
+-- what a command does, from the shape of the bytes on
+pub mod Shaped
+-- bytes in which the whole check finds no error
+pub mod Passes
+-- how `count` ends
+pub mod Counts
+-- how `find` ends
+pub mod FindEnds
+-- the pairs of an insert order
+pub mod Ordered
+-- what ends as a text allows, also where memory may be short
+pub mod InMemory
+-- two tables that are compared
+pub mod Diffed
+-- tables that are read by position
+pub mod FileReads
+-- worked examples of the definitions
+pub mod examples

@@ -1,0 +1,234 @@
+-- The lines that a loop has taken of an input, and the answers that it has written.
+use Rattle.std.proofs.Common.{◌≡◌, ◌∙◌, ◌⊎◌, inl, inr, ℕ, ◌+◌, ◌-◌, ◌*◌, ◌^◌, ◌<◌, ◌≤◌, Bool, true, ◌&&◌, List, [], ◌∷◌, ◌++◌, Option, Some, None, IfSome, length, take, is_some, sym, ap, refl, subst, arith, length-append, take_all}
+use Rattle.std.specs.Prelude.{Err, string_bytes}
+use Rattle.std.specs.Io.KnownBytes.{Appends, Keeps, IsAtEnd}
+use Rattle.std.specs.List.{AllZip, list_all}
+use Rattle.std.specs.Str.Lines.{lines}
+use Rattle.std.proofs.KnownBytes.{Appends-nil}
+use Rattle.std.proofs.Math.Nat.{eq-or-lt_of_le}
+use Rattle.std.proofs.Math.Seq.{take-append_seam}
+use Rattle.std.proofs.lemmas.List.{append_assoc, append-nil}
+use Rattle.odht_header.specs.Coding.{Coding}
+use Rattle.odht_tool_reads.specs.GetLines.{lines_read, AreAllAnswered, AreFirstAnswered, IsLineFault, AreLinesAnswered}
+use Rattle.odht_tool_reads.specs.GetParts.{AreKeysAnswered, AreFaultAnswered, IsKeysFailure, IsFlushed, IsLineFailure}
+use Rattle.odht_tool_reads.specs.Gets.{AreAnswers, IsAnswered, answered_status}
+use Rattle.odht_tool_tables.specs.KeyTexts.{found_status}
+use Rattle.odht_tool_core.specs.InputLines.{AreLeft}
+use Rattle.odht_tool_core.specs.Misreads.{misread_text}
+use Rattle.odht_tool_core.specs.Texts.{answers_by}
+use Rattle.odht_tool_core.specs.declared.misread.Wanted.{Wanted}
+use Rattle.odht_tool_core.specs.declared.keys.NextKey.TheVariants.{Key as is_key}
+use Rattle.odht_tool_reads.specs.declared.lookups.TheConstants.{BATCH}
+use Rattle.odht_tool_core.specs.declared.failure.Failure.{Failure}
+use Rattle.odht_tool_core.specs.declared.failure.Failure.TheVariants.{Memory, Input, Misread, Output}
+use Rattle.odht_tool_core.specs.declared.failure.LineFault.TheVariants.{Key}
+use Rattle.odht_tool_tables.proofs.Lines.{AllZip-length}
+use Rattle.odht_tool_reads.proofs.AnswerLists.{IsFront, front_of, appended_kept, are_answers_append, written_append, found_append}
+use Rattle.odht_tool_reads.proofs.KeyAnswers.{no_answers}
+use Rattle.odht_tool_tables.proofs.Lines.{if_some, next_of, only_of, end_of}
+use Rattle.odht_tool_core.proofs.KeyWords.{AllZip-one_more}
+use Rattle.odht_tool_core.specs.Keys.{IsLeftOut, IsNextKey}
+
+-- the lines before the one of this number were read as these keys, and the input has the bytes of the others left
+pub record AreRead {K : Type 0} (R : List ℕ → K → Type 0) (bytes : List ℕ) (input : Option (List ℕ)) (number : ℕ) (keys : List K) : Type 0 where
+  pub words : List (List ℕ)
+  pub rest : List ℕ
+  pub left : input ≡ Some rest
+  pub place : lines bytes ≡ words ++ lines rest
+  pub counted : number ≡ length words + 1
+  pub texts : AllZip R words keys
+
+-- the lines before the one of this number were read as keys, of which `pending` are the last, and the answers to all before
+-- these, which are so many batches, were written; `all` says whether each of those has a value
+pub record AreTaken {K V : Type 0} (c : Coding K V) (l : K × Option V → List ℕ) (R : List ℕ → K → Type 0) (B : List ℕ) (input now old new : Option (List ℕ)) (number : ℕ) (pending : List K) (all : Bool) : Type 0 where
+  pub done : List K
+  pub batches : ℕ
+  pub whole : length done ≡ batches * BATCH
+  pub values : List (Option V)
+  pub answers : AreAnswers c B done values
+  pub written : Appends old new (answers_by l done values)
+  pub found : all ≡ list_all is_some values
+  pub read : IfSome input (λ bytes. AreRead R bytes now number (done ++ pending))
+
+-- fewer keys than a batch and one more are a batch at most
+pub batch_at_most : {K : Type 0} (keys more : List K) (key : K) → more ≡ keys ++ (key ∷ []) → length keys < BATCH → length more ≤ BATCH
+batch_at_most keys more key e few = omega (arith, ap length e ∙ length-append keys (key ∷ []), few)
+
+-- at first no line was
+pub none_taken : {K V : Type 0} (c : Coding K V) (l : K × Option V → List ℕ) (R : List ℕ → K → Type 0) (B : List ℕ) (input old : Option (List ℕ)) (pending : List K) → pending ≡ []
+    → AreTaken c l R B input input old old 1 pending true
+none_taken c l R B input old pending e = record {
+  done = [];
+  batches = 0;
+  whole = refl;
+  values = [];
+  answers = no_answers c B;
+  written = Appends-nil old;
+  found = refl;
+  read = at input input refl;
+}
+  where
+    at : (now o : Option (List ℕ)) → now ≡ o → IfSome o (λ bytes. AreRead R bytes now 1 ([] ++ pending))
+    at now None h = tt
+    at now (Some bytes) h = record { words = []; rest = bytes; left = h; place = refl; counted = refl; texts = subst (AllZip R []) (sym e) tt }
+
+module _ {K V : Type 0} (c : Coding K V) (l : K × Option V → List ℕ) (R : List ℕ → K → Type 0) (B : List ℕ) (input now old new : Option (List ℕ)) where
+  -- one line more is read as a key
+  pub one_taken : (number : ℕ) (pending : List K) (all : Bool) (then : Option (List ℕ)) (key : K) (more : List K) → AreTaken c l R B input now old new number pending all
+      → IsNextKey R now then (is_key key) → more ≡ pending ++ (key ∷ []) → AreTaken c l R B input then old new (number + 1) more all
+  one_taken number pending all then key more h next e = record {
+    done = h.done;
+    batches = h.batches;
+    whole = h.whole;
+    values = h.values;
+    answers = h.answers;
+    written = h.written;
+    found = h.found;
+    read = if_some input _ _ read h.read;
+  }
+    where
+      read : (bytes : List ℕ) → AreRead R bytes now number (h.done ++ pending) → AreRead R bytes then (number + 1) (h.done ++ more)
+      read bytes r =
+          let n = next_of now then r.rest next.0 r.left next.1 in
+          record {
+            words = r.words ++ (next.0 ∷ []);
+            rest = n.0;
+            left = n.1;
+            place = r.place ∙ ap (λ ls. r.words ++ ls) n.2 ∙ sym (append_assoc r.words (next.0 ∷ []) (lines n.0));
+            counted = ap (λ k. k + 1) (r.counted ∙ sym (length-append r.words (next.0 ∷ [])));
+            texts = subst (AllZip R (r.words ++ (next.0 ∷ []))) (append_assoc h.done pending (key ∷ []) ∙ ap (λ ks. h.done ++ ks) (sym e))
+                (AllZip-one_more R r.words (h.done ++ pending) next.0 key r.texts next.2);
+          }
+
+  module _ (number : ℕ) (pending : List K) (all : Bool) (last : Option (List ℕ)) (h : AreTaken c l R B input now old new number pending all) where
+    -- of the last keys those of a batch are answered, if there are so many, and fewer are left
+    pub batch_answered : (after : List K) (every : Bool) → length pending ≤ BATCH → IsFlushed c l B pending after new last all every
+        → AreTaken c l R B input now old last number after every × (length after < BATCH)
+    batch_answered after every most s = elim (eq-or-lt_of_le most) [
+      | inl full ↦ (flushed (h.batches + 1) (omega (arith, h.whole, long, full, none full)), omega (arith, none full))
+      | inr few ↦ (flushed h.batches (omega (arith, h.whole, few_done few)), omega (arith, long, few, few_done few))
+    ]
+      where
+        long : length pending ≡ length s.done + length after
+        long = ap length s.left ∙ length-append s.done after
+
+        none : length pending ≡ BATCH → length after ≡ 0
+        none full = ap length (s.full (omega (arith, full)))
+
+        few_done : length pending < BATCH → length s.done ≡ 0
+        few_done few = ap length (s.few few)
+
+        flushed : (batches : ℕ) → length h.done + length s.done ≡ batches * BATCH → AreTaken c l R B input now old last number after every
+        flushed batches whole = record {
+          done = h.done ++ s.done;
+          batches = batches;
+          whole = length-append h.done s.done ∙ whole;
+          values = h.values ++ s.values;
+          answers = are_answers_append c B h.done s.done h.values s.values h.answers s.answers;
+          written = written_append l h.done s.done h.values s.values old new last h.answers.each h.written s.written;
+          found = found_append h.values s.values all (list_all is_some s.values) every h.found refl s.found;
+          read = if_some input _ _ (λ bytes r. record {
+            words = r.words;
+            rest = r.rest;
+            left = r.left;
+            place = r.place;
+            counted = r.counted;
+            texts = subst (AllZip R r.words) (ap (λ ks. h.done ++ ks) s.left ∙ sym (append_assoc h.done s.done after)) r.texts;
+          }) h.read;
+        }
+
+    -- all keys are
+    all_answered : (every : Bool) (words : List (List ℕ)) → AllZip R words (h.done ++ pending) → AreKeysAnswered c l B pending new last every → IsAnswered c l R B words old last (found_status (every && all))
+    all_answered every words texts s = record {
+      keys = h.done ++ pending;
+      texts = texts;
+      values = h.values ++ s.values;
+      answers = are_answers_append c B h.done pending h.values s.values h.answers s.answers;
+      written = written_append l h.done pending h.values s.values old new last h.answers.each h.written s.written;
+      status = ap found_status (found_append h.values s.values all every (every && all) h.found s.found refl);
+    }
+
+    -- at the end of the input, or of the lines that are read, these are the answers to all that are read
+    limit : {n : ℕ} → number ≡ n + 1 → number ≡ 2 ^ 64 - 1 → 2 ^ 64 - 2 ≡ n
+    limit {n} p q = omega (arith, p, q)
+
+    pub lines_answered : (every : Bool) → ((IsAtEnd now ⊎ IsLeftOut R now) × (number ≤ 2 ^ 64 - 1)) ⊎ (number ≡ 2 ^ 64 - 1) → AreKeysAnswered c l B pending new last every
+        → IfSome input (λ bytes. AreAllAnswered c l R B bytes old last (found_status (every && all)))
+    lines_answered every end s = if_some input _ _ (λ bytes r. whole bytes r end) h.read
+      where
+        these : (bytes : List ℕ) (r : AreRead R bytes now number (h.done ++ pending)) (ws : List (List ℕ)) → lines_read ws ≡ r.words → IsAnswered c l R B (lines_read ws) old last (found_status (every && all))
+        these bytes r ws e = subst (λ ws. IsAnswered c l R B ws old last (found_status (every && all))) (sym e) (all_answered every r.words r.texts s)
+
+        few : (bytes : List ℕ) (r : AreRead R bytes now number (h.done ++ pending)) → number ≤ 2 ^ 64 - 1 → lines_read r.words ≡ r.words
+        few bytes r n = take_all (2 ^ 64 - 2) r.words (omega (arith, r.counted, n))
+
+        whole : (bytes : List ℕ) (r : AreRead R bytes now number (h.done ++ pending)) → ((IsAtEnd now ⊎ IsLeftOut R now) × (number ≤ 2 ^ 64 - 1)) ⊎ (number ≡ 2 ^ 64 - 1) → AreAllAnswered c l R B bytes old last (found_status (every && all))
+        whole bytes r (inl e) = record {
+          words = r.words;
+          place = elim e.0 [
+            | inl none ↦ inl (r.place ∙ ap (λ rest. r.words ++ lines rest) (end_of now r.rest r.left none) ∙ append-nil r.words)
+            | inr out ↦ inr (r.place ∙ ap (λ ls. r.words ++ ls) (only_of R now r.rest r.left out), out.1)
+          ];
+          answered = these bytes r r.words (few bytes r e.1);
+        }
+        whole bytes r (inr e) = record {
+          words = lines bytes;
+          place = inl refl;
+          answered = these bytes r (lines bytes) (ap (take (2 ^ 64 - 2)) r.place ∙ ap (λ n. take n (r.words ++ lines r.rest)) (limit r.counted e) ∙ take-append_seam r.words (lines r.rest));
+        }
+
+    -- where the next line is no key, these are the answers to all before it
+    line_fault : (p : Wanted) (text : List ℕ) → AreFaultAnswered c l R p B pending number now new last text
+        → IfSome input (λ bytes. IsLineFault c l R p B (lines bytes) text old last)
+    line_fault p text a = if_some input _ _ fault h.read
+      where
+        fault : (bytes : List ℕ) → AreRead R bytes now number (h.done ++ pending) → IsLineFault c l R p B (lines bytes) text old last
+        fault bytes r =
+            let n = next_of now a.then r.rest a.line r.left a.next in
+            record {
+              before = r.words;
+              word = a.line;
+              after = lines n.0;
+              place = r.place ∙ ap (λ ls. r.words ++ ls) n.2;
+              fault = a.fault;
+              more = λ e. subst AreLeft n.1 (a.more e);
+              told = a.told ∙ ap (λ k. misread_text (Some k) Key p a.line) r.counted;
+              status = found_status (a.every && all);
+              answered = all_answered a.every r.words r.texts a.answered;
+            }
+
+    -- where no more is said, answers to some first lines were written
+    first_answered : Keeps new last → IfSome input (λ bytes. AreFirstAnswered c l R B (lines bytes) old last)
+    first_answered k = if_some input _ _ (λ bytes r. some bytes r (front_of R r.words h.done pending r.texts)) h.read
+      where
+        some : (bytes : List ℕ) (r : AreRead R bytes now number (h.done ++ pending)) → IsFront R r.words h.done → AreFirstAnswered c l R B (lines bytes) old last
+        some bytes r w = record {
+          before = w.before;
+          after = w.after ++ lines r.rest;
+          place = r.place ∙ ap (λ ws. ws ++ lines r.rest) w.place ∙ append_assoc w.before w.after (lines r.rest);
+          batches = h.batches;
+          counted = AllZip-length R w.before h.done w.texts ∙ h.whole;
+          status = answered_status h.values;
+          answered = record {
+            keys = h.done;
+            texts = w.texts;
+            values = h.values;
+            answers = h.answers;
+            written = appended_kept old new last (answers_by l h.done h.values) h.written k;
+            status = refl;
+          };
+        }
+
+    -- so with a failure of the keys that are left
+    pub keys_failed : (p : Wanted) (failure : Failure) → IsKeysFailure new last failure → AreLinesAnswered c l R p B input old last (Err failure)
+    keys_failed p Memory k = first_answered k
+    keys_failed p (Output error) k = tt
+    keys_failed p _ k = absurd k
+
+    -- and with one of the next line
+    pub line_failed : (p : Wanted) (failure : Failure) → IsLineFailure c l R p B pending number now new last failure → AreLinesAnswered c l R p B input old last (Err failure)
+    line_failed p (Misread message) k = line_fault p (string_bytes message) k
+    line_failed p (Input error) k = first_answered k
+    line_failed p Memory k = first_answered k
+    line_failed p (Output error) k = tt
+    line_failed p _ k = absurd k

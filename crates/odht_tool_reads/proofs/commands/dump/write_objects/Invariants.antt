@@ -1,0 +1,16 @@
+use Rattle.std.proofs.Common.{◌≡◌, ◌++◌, All, map}
+use Rattle.std.specs.Io.KnownBytes.{Appends}
+use Rattle.odht_raw.specs.Sized.{HasLengthsOf}
+use Rattle.odht_tool_core.specs.Json.{pair_objects}
+use Rattle.odht_tool_core.specs.ReadyShapes.{typed_len}
+use Rattle.odht_tool_core.specs.StoredTexts.{bare_pairs, key_text, value_text}
+use Rattle.odht_tool_reads.proofs.commands.dump.write_objects.Given as goal
+
+-- the objects of the pairs so far are written, these and what is left are the walk, and they are as long as their types say
+abbrev pub invariant-loop-key : goal.invariant-loop-key
+invariant-loop-key g l =
+    record {
+      written : Appends (g.O.Write.contents l.initial.output) (g.O.Write.contents l.output) (pair_objects (key_text l.texts) (value_text l.texts) (bare_pairs (map (λ x. record { key = x.0.now; value = x.1.now }) l.yielded)));
+      lengths : All (HasLengthsOf (typed_len l.texts.key) (typed_len l.texts.value)) l.key-iterator;
+      pairs : l.fn.pairs ≡ map (λ x. record { key = x.0.now; value = x.1.now }) l.yielded ++ l.key-iterator;
+    }

@@ -1,0 +1,7 @@
+use Rattle.odht_tool_reads.proofs.commands.dump.write_values.Goals as goal
+
+pub returns-in-U32-Own : goal.returns-in-U32-Own
+returns-in-U32-Own g c = rw (c.in-U32-Own.is-0, c.in-U32-Own.is-1) c.write_pairs.ensures
+
+pub returns-in-U64-Own : goal.returns-in-U64-Own
+returns-in-U64-Own g c = rw (c.in-U64-Own.is-0, c.in-U64-Own.is-1) c.write_pairs-in-U64-Own.ensures

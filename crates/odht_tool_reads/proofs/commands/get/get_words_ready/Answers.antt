@@ -1,0 +1,10 @@
+use Rattle.std.proofs.Common.{map, sym, subst}
+use Rattle.std.specs.Prelude.{string_bytes}
+use Rattle.odht_tool_reads.specs.Gets.{words_of_shape}
+use Rattle.odht_tool_reads.proofs.Shaped.{own_pair}
+use Rattle.odht_tool_reads.proofs.commands.get.get_words_ready.Goals as goal
+
+pub returns-then-are_own : goal.returns-then-are_own
+returns-then-are_own g c =
+    let own = own_pair c.args.forms (c.are_own.ensures.key c.if-are_own.true) (c.are_own.ensures.value c.if-are_own.true) in
+    subst (λ fs. words_of_shape fs c.args.is_json c.args.bytes.now (map string_bytes c.args.words.now) (g.O.Write.contents c.args.output.now) (g.O.Write.contents c.get_words_of.new.output) c.get_words_of.result c.args.shape) (sym own) c.get_words_of.ensures

@@ -1,0 +1,56 @@
+-- Worked examples: what `get` writes and returns.
+use Rattle.std.proofs.Common.{◌≡◌, ℕ, false, refl, [], ◌∷◌, Some, None, Err}
+use Rattle.std.specs.Prelude.{codes}
+use Rattle.odht_header.specs.Refusals.{view_refusal}
+use Rattle.odht_header.proofs.examples.Apart.{unequal_lists}
+use Rattle.odht_header.proofs.examples.Opened.{opened}
+use Rattle.odht_tool_reads.specs.GetLines.{lines_of_any, lines_of_other}
+use Rattle.odht_tool_reads.specs.Gets.{answered_status, words_of_any, words_of_other, words_of_shape}
+use Rattle.odht_tool_core.specs.AnyShapes.{other_format}
+use Rattle.odht_tool_core.specs.ReadyShapes.{shape_format}
+use Rattle.odht_tool_core.specs.declared.any.AnyShape.TheVariants.{Ready, Other}
+use Rattle.odht_tool_core.specs.declared.forms.Form.TheVariants.{Own}
+use Rattle.odht_tool_core.specs.declared.failure.Failure.TheVariants.{Memory}
+use Rattle.odht_tool_core.specs.declared.shapes.Hash.TheVariants.{Unhash}
+use Rattle.odht_tool_core.specs.declared.shapes.ready.Shape.TheVariants.{DirectU32ToU32}
+use Rattle.odht_tool_core.specs.declared.status.Status.TheVariants.{Done, NotDone}
+use Rattle.odht_tool_core.proofs.examples.FoundShapes.{other, other_bytes}
+use Rattle.odht_tool_core.proofs.examples.Shapes.{one_bytes}
+
+-- the status is `NotDone` where a key is absent
+pub statuses : (answered_status {V = ℕ} (Some 7 ∷ Some 0 ∷ []) ≡ Done)
+    × (answered_status {V = ℕ} (Some 7 ∷ None ∷ []) ≡ NotDone)
+    × (answered_status {V = ℕ} [] ≡ Done)
+statuses = (refl, refl, refl)
+
+-- the bytes open
+pub no_refusal : view_refusal (shape_format DirectU32ToU32) one_bytes ≡ None
+unfolding opened
+no_refusal = refl
+
+-- so without memory nothing is written, and no error of opening is returned
+pub no_memory : words_of_shape (Own, Own) false one_bytes (codes "5" ∷ []) (Some (codes "a")) (Some (codes "a")) (Err Memory) DirectU32ToU32
+no_memory = (no_refusal, refl)
+
+pub written_without_memory : words_of_shape (Own, Own) false one_bytes (codes "5" ∷ []) (Some (codes "a")) (Some (codes "ab")) (Err Memory) DirectU32ToU32 → ⊥
+written_without_memory h = unequal_lists (codes "ab") (codes "a") refl h.1
+
+-- ---- of other sizes
+-- the bytes open as those of six and two
+pub other_opens : view_refusal (other_format (other 6 2 Unhash)) other_bytes ≡ None
+unfolding opened
+other_opens = refl
+
+-- so without memory nothing is written, for words as for lines
+pub other_without_memory : words_of_other (Own, Own) false other_bytes (codes "5" ∷ []) (Some (codes "a")) (Some (codes "a")) (Err Memory) (other 6 2 Unhash)
+    × words_of_any (Own, Own) false other_bytes (codes "5" ∷ []) (Some (codes "a")) (Some (codes "a")) (Err Memory) (Other (other 6 2 Unhash))
+    × lines_of_other (Own, Own) false other_bytes None (Some (codes "a")) (Some (codes "a")) (Err Memory) (other 6 2 Unhash)
+    × lines_of_any (Own, Own) false other_bytes None (Some (codes "a")) (Some (codes "a")) (Err Memory) (Other (other 6 2 Unhash))
+other_without_memory = ((other_opens, refl), (other_opens, refl), (other_opens, tt), (other_opens, tt))
+
+-- and of a ready shape it is what is said of this
+pub ready_without_memory : words_of_any (Own, Own) false one_bytes (codes "5" ∷ []) (Some (codes "a")) (Some (codes "a")) (Err Memory) (Ready DirectU32ToU32)
+ready_without_memory = no_memory
+
+pub other_written_without_memory : words_of_other (Own, Own) false other_bytes (codes "5" ∷ []) (Some (codes "a")) (Some (codes "ab")) (Err Memory) (other 6 2 Unhash) → ⊥
+other_written_without_memory h = unequal_lists (codes "ab") (codes "a") refl h.1

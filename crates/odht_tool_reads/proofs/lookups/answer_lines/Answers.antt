@@ -1,0 +1,142 @@
+use Rattle.std.proofs.Common.{rules, ◌≡◌, ◌∙◌, ◌+◌, ◌&&◌, [], ◌∷◌, ◌++◌, length, inl, inr, Ok, Err, refl, sym, ap, subst, arith}
+use Rattle.odht_tool_reads.specs.GetLines.{AreLinesAnswered}
+use Rattle.odht_tool_reads.specs.GetParts.{AreKeysAnswered, IsKeysFailure, IsFlushed, IsReadKey, IsLineFailure}
+use Rattle.odht_tool_tables.specs.KeyTexts.{found_status}
+use Rattle.odht_tool_core.specs.JsonAnswers.{answer_in}
+use Rattle.odht_tool_core.specs.Keys.{IsReadAs}
+use Rattle.odht_tool_reads.proofs.LinesTaken.{none_taken, one_taken, batch_at_most, batch_answered, lines_answered, line_failed, keys_failed}
+use Rattle.odht_tool_reads.proofs.lookups.answer_lines.Goals as goal
+use Rattle.odht_tool_reads.proofs.lookups.answer_lines.Goals.{else-loop-number-test, then-loop-number-test+in_ok-read+in-None, then-is_last_found, else-is_last_found}
+
+pub loop-number-init : goal.loop-number-init
+loop-number-init g c =
+    let C = g.T.Lookups.coding c.args.table.now in
+    let line = answer_in c.args.style.is_json (g.T.Key.Text.text (g.F.Forms.pair c.args.style.forms).0) (g.T.Value.Text.text (g.F.Forms.pair c.args.style.forms).1) in
+    let R = IsReadAs (g.T.Key.Text.is_word (g.F.Forms.pair c.args.style.forms).0) (g.T.Key.Text.stands_for (g.F.Forms.pair c.args.style.forms).0) in
+    let p = g.T.Key.Text.wants (g.F.Forms.pair c.args.style.forms).0 in
+    let B = g.T.Lookups.bytes c.args.table.now in
+    let input = g.I.Read.remaining c.args.input.now in
+    let old = g.O.Write.contents c.args.output.now in
+    (none_taken C line R B input old c.new-keys.result.items c.new-keys.ensures.items, omega (arith, ap length c.new-keys.ensures.items))
+
+pub returns-in_err-read : goal.returns-in_err-read
+returns-in_err-read g c =
+    let C = g.T.Lookups.coding c.args.table.now in
+    let line = answer_in c.args.style.is_json (g.T.Key.Text.text (g.F.Forms.pair c.args.style.forms).0) (g.T.Value.Text.text (g.F.Forms.pair c.args.style.forms).1) in
+    let R = IsReadAs (g.T.Key.Text.is_word (g.F.Forms.pair c.args.style.forms).0) (g.T.Key.Text.stands_for (g.F.Forms.pair c.args.style.forms).0) in
+    let p = g.T.Key.Text.wants (g.F.Forms.pair c.args.style.forms).0 in
+    let B = g.T.Lookups.bytes c.args.table.now in
+    let input = g.I.Read.remaining c.args.input.now in
+    let old = g.O.Write.contents c.args.output.now in
+    let now = g.I.Read.remaining c.loop-number.input in
+    let new = g.O.Write.contents c.loop-number.output in
+    let keys = c.loop-number.keys.items in
+    let all = c.loop-number.is_all_found in
+    let last = g.O.Write.contents c.read_key.new.output in
+    let x = c.in_err-read.field-0.0 in
+    let failed : c.from_residual.result ≡ Err x = search rules in
+    let why = subst (λ ks. IsLineFailure C line R p B ks c.loop-number.number now new last x) c.as_slice.ensures.value c.in_err-read.ensures.err in
+    subst (AreLinesAnswered C line R p B input old last) (sym failed)
+    (line_failed C line R B input now old new c.loop-number.number keys all last c.loop-number.invariant.0 p x why)
+
+pub returns-in_err-is_all_found-in-Some : goal.returns-in_err-is_all_found-in-Some
+returns-in_err-is_all_found-in-Some g c =
+    let C = g.T.Lookups.coding c.args.table.now in
+    let line = answer_in c.args.style.is_json (g.T.Key.Text.text (g.F.Forms.pair c.args.style.forms).0) (g.T.Value.Text.text (g.F.Forms.pair c.args.style.forms).1) in
+    let R = IsReadAs (g.T.Key.Text.is_word (g.F.Forms.pair c.args.style.forms).0) (g.T.Key.Text.stands_for (g.F.Forms.pair c.args.style.forms).0) in
+    let p = g.T.Key.Text.wants (g.F.Forms.pair c.args.style.forms).0 in
+    let B = g.T.Lookups.bytes c.args.table.now in
+    let input = g.I.Read.remaining c.args.input.now in
+    let old = g.O.Write.contents c.args.output.now in
+    let now = g.I.Read.remaining c.loop-number.input in
+    let new = g.O.Write.contents c.loop-number.output in
+    let keys = c.loop-number.keys.items in
+    let all = c.loop-number.is_all_found in
+    let then = g.I.Read.remaining c.read_key.new.input in
+    let last = g.O.Write.contents c.take_key.new.output in
+    let key = c.in-Some.key in
+    let next = subst (IsReadKey R now then) c.in-Some.is c.in_ok-read.ensures.key in
+    let taken = one_taken C line R B input now old new c.loop-number.number keys all then key (keys ++ (key ∷ [])) c.loop-number.invariant.0 next refl in
+    let x = c.in_err-is_all_found-in-Some.field-0.0 in
+    let failed : c.from_residual-in_err-is_all_found-in-Some.result ≡ Err x = search rules in
+    let why = subst (λ o. IsKeysFailure o last x) c.in_ok-read.ensures.kept c.in_err-is_all_found-in-Some.ensures.err in
+    subst (AreLinesAnswered C line R p B input old last) (sym failed)
+    (keys_failed C line R B input then old new (c.loop-number.number + 1) (keys ++ (key ∷ [])) all last taken p x why)
+
+pub loop-number-preserved : goal.loop-number-preserved
+loop-number-preserved g c =
+    let C = g.T.Lookups.coding c.args.table.now in
+    let line = answer_in c.args.style.is_json (g.T.Key.Text.text (g.F.Forms.pair c.args.style.forms).0) (g.T.Value.Text.text (g.F.Forms.pair c.args.style.forms).1) in
+    let R = IsReadAs (g.T.Key.Text.is_word (g.F.Forms.pair c.args.style.forms).0) (g.T.Key.Text.stands_for (g.F.Forms.pair c.args.style.forms).0) in
+    let p = g.T.Key.Text.wants (g.F.Forms.pair c.args.style.forms).0 in
+    let B = g.T.Lookups.bytes c.args.table.now in
+    let input = g.I.Read.remaining c.args.input.now in
+    let old = g.O.Write.contents c.args.output.now in
+    let now = g.I.Read.remaining c.loop-number.input in
+    let new = g.O.Write.contents c.loop-number.output in
+    let keys = c.loop-number.keys.items in
+    let all = c.loop-number.is_all_found in
+    let then = g.I.Read.remaining c.read_key.new.input in
+    let last = g.O.Write.contents c.take_key.new.output in
+    let key = c.in-Some.key in
+    let next = subst (IsReadKey R now then) c.in-Some.is c.in_ok-read.ensures.key in
+    let taken = one_taken C line R B input now old new c.loop-number.number keys all then key (keys ++ (key ∷ [])) c.loop-number.invariant.0 next refl in
+    let every = c.in_ok-is_all_found-in-Some.is_all_found in
+    let after = c.take_key.new.keys.items in
+    let flushed = subst (λ o. IsFlushed C line B (keys ++ (key ∷ [])) after o last all every) c.in_ok-read.ensures.kept c.in_ok-is_all_found-in-Some.ensures.ok in
+    batch_answered C line R B input then old new (c.loop-number.number + 1) (keys ++ (key ∷ [])) all last taken after every
+    (batch_at_most keys (keys ++ (key ∷ [])) key refl c.loop-number.invariant.1) flushed
+
+pub returns-in_err-is_last_found : goal.returns-in_err-is_last_found
+returns-in_err-is_last_found g c =
+    let C = g.T.Lookups.coding c.args.table.now in
+    let line = answer_in c.args.style.is_json (g.T.Key.Text.text (g.F.Forms.pair c.args.style.forms).0) (g.T.Value.Text.text (g.F.Forms.pair c.args.style.forms).1) in
+    let R = IsReadAs (g.T.Key.Text.is_word (g.F.Forms.pair c.args.style.forms).0) (g.T.Key.Text.stands_for (g.F.Forms.pair c.args.style.forms).0) in
+    let p = g.T.Key.Text.wants (g.F.Forms.pair c.args.style.forms).0 in
+    let B = g.T.Lookups.bytes c.args.table.now in
+    let input = g.I.Read.remaining c.args.input.now in
+    let old = g.O.Write.contents c.args.output.now in
+    let now = g.I.Read.remaining c.loop-number.input in
+    let new = g.O.Write.contents c.loop-number.output in
+    let keys = c.loop-number.keys.items in
+    let all = c.loop-number.is_all_found in
+    let last = g.O.Write.contents c.answer_keys.new.output in
+    let same : g.O.Write.contents c.loop-number-test.output ≡ new = elim c.loop-number-test.branch [
+      | else-loop-number-test w ↦ ap g.O.Write.contents w.output-is
+      | then-loop-number-test+in_ok-read+in-None w ↦ ap g.O.Write.contents w.output-is ∙ w.in_ok-read.ensures.kept
+    ] in
+    let x = c.in_err-is_last_found.field-0.0 in
+    let failed : c.from_residual-in_err-is_last_found.result ≡ Err x = search rules in
+    subst (AreLinesAnswered C line R p B input old last) (sym failed)
+    (keys_failed C line R B input now old new c.loop-number.number keys all last c.loop-number.invariant.0 p x (subst (λ o. IsKeysFailure o last x) same c.in_err-is_last_found.ensures.err))
+
+pub returns : goal.returns
+returns g c =
+    let C = g.T.Lookups.coding c.args.table.now in
+    let line = answer_in c.args.style.is_json (g.T.Key.Text.text (g.F.Forms.pair c.args.style.forms).0) (g.T.Value.Text.text (g.F.Forms.pair c.args.style.forms).1) in
+    let R = IsReadAs (g.T.Key.Text.is_word (g.F.Forms.pair c.args.style.forms).0) (g.T.Key.Text.stands_for (g.F.Forms.pair c.args.style.forms).0) in
+    let p = g.T.Key.Text.wants (g.F.Forms.pair c.args.style.forms).0 in
+    let B = g.T.Lookups.bytes c.args.table.now in
+    let input = g.I.Read.remaining c.args.input.now in
+    let old = g.O.Write.contents c.args.output.now in
+    let now = g.I.Read.remaining c.loop-number.input in
+    let new = g.O.Write.contents c.loop-number.output in
+    let keys = c.loop-number.keys.items in
+    let all = c.loop-number.is_all_found in
+    let last = g.O.Write.contents c.answer_keys.new.output in
+    let every = c.in_ok-is_last_found.is_last_found in
+    let same : g.O.Write.contents c.loop-number-test.output ≡ new = elim c.loop-number-test.branch [
+      | else-loop-number-test w ↦ ap g.O.Write.contents w.output-is
+      | then-loop-number-test+in_ok-read+in-None w ↦ ap g.O.Write.contents w.output-is ∙ w.in_ok-read.ensures.kept
+    ] in
+    let written = subst (λ ks. AreKeysAnswered C line B ks (g.O.Write.contents c.loop-number-test.output) last every) c.as_slice-2.ensures.value c.in_ok-is_last_found.ensures.ok in
+    let answered = subst (λ o. AreKeysAnswered C line B keys o last every) same written in
+    let both : c.if-is_last_found.of ≡ (every && all) = elim c.if-is_last_found.branch [
+      | then-is_last_found w ↦ w.of-is ∙ sym (ap (λ b. b && all) w.if-is_last_found.true)
+      | else-is_last_found w ↦ w.of-is ∙ w.if-is_last_found.false ∙ sym (ap (λ b. b && all) w.if-is_last_found.false)
+    ] in
+    let lines = lines_answered C line R B input now old new c.loop-number.number keys all last c.loop-number.invariant.0 every (elim c.loop-number-test.branch [
+      | else-loop-number-test w ↦ inr (omega (arith, c.loop-number.auto.number-end, w.loop-number-test.false))
+      | then-loop-number-test+in_ok-read+in-None w ↦ inl (subst (IsReadKey R now (g.I.Read.remaining w.read_key.new.input)) w.in-None.is w.in_ok-read.ensures.key, omega (arith, c.loop-number.auto.number-end))
+    ]) answered in
+    subst (λ status. AreLinesAnswered C line R p B input old last (Ok status)) (sym (c.of.ensures ∙ ap found_status both)) lines

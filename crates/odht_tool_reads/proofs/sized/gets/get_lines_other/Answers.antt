@@ -1,0 +1,36 @@
+use Rattle.std.proofs.Common.{ℕ, List, sym, subst}
+use Rattle.odht_base.specs.Format.{format_of}
+use Rattle.odht_raw.specs.Sized.{bytes_coding}
+use Rattle.odht_tool_reads.specs.GetLines.{AreLinesGot}
+use Rattle.odht_tool_core.specs.JsonAnswers.{answer_in}
+use Rattle.odht_tool_core.specs.ReadyShapes.{hash_of, typed_len}
+use Rattle.odht_tool_core.specs.SizedTexts.{IsSizedOf, sized_forms, sized_text, sized_wanted}
+use Rattle.odht_tool_core.specs.declared.forms.GivenForms.{GivenForms}
+use Rattle.odht_tool_core.specs.declared.shapes.Hash.{Hash}
+use Rattle.odht_tool_core.specs.declared.shapes.Hash.TheVariants.{Fx, Unhash}
+use Rattle.odht_tool_reads.proofs.sized.gets.get_lines_other.Goals as goal
+
+-- the lengths and the hash function are those of the shape
+pub returns-in-Fx : goal.returns-in-Fx
+returns-in-Fx g c =
+    let got = λ (k v : ℕ) (h : List ℕ → ℕ) (f : GivenForms). AreLinesGot (bytes_coding (format_of k v h)) (answer_in c.args.is_json (sized_text f.key) (sized_text f.value)) (IsSizedOf f.key) (sized_wanted f.key)
+    c.args.bytes.now (g.I.Read.remaining c.args.input.now) (g.O.Write.contents c.args.output.now) (g.O.Write.contents c.get_lines_sized.new.output) c.get_lines_sized.result in
+    let o = c.args.shape in
+    let fs = sized_forms o c.args.forms in
+    let made = c.layout_of-layout.result in
+    subst (λ (k : ℕ). got k (typed_len o.value) (hash_of o.hash) fs) c.layout_of-layout.ensures.key
+    (subst (λ (v : ℕ). got made.key_len v (hash_of o.hash) fs) c.layout_of-layout.ensures.value
+    (subst (λ (h : Hash). got made.key_len made.value_len (hash_of h) fs) (sym c.in-Fx.is)
+    (subst (λ (f : GivenForms). got made.key_len made.value_len (hash_of Fx) f) c.of-forms.ensures c.get_lines_sized.ensures)))
+
+pub returns-in-Unhash : goal.returns-in-Unhash
+returns-in-Unhash g c =
+    let got = λ (k v : ℕ) (h : List ℕ → ℕ) (f : GivenForms). AreLinesGot (bytes_coding (format_of k v h)) (answer_in c.args.is_json (sized_text f.key) (sized_text f.value)) (IsSizedOf f.key) (sized_wanted f.key)
+    c.args.bytes.now (g.I.Read.remaining c.args.input.now) (g.O.Write.contents c.args.output.now) (g.O.Write.contents c.get_lines_sized-in-Unhash.new.output) c.get_lines_sized-in-Unhash.result in
+    let o = c.args.shape in
+    let fs = sized_forms o c.args.forms in
+    let made = c.layout_of-layout.result in
+    subst (λ (k : ℕ). got k (typed_len o.value) (hash_of o.hash) fs) c.layout_of-layout.ensures.key
+    (subst (λ (v : ℕ). got made.key_len v (hash_of o.hash) fs) c.layout_of-layout.ensures.value
+    (subst (λ (h : Hash). got made.key_len made.value_len (hash_of h) fs) (sym c.in-Unhash.is)
+    (subst (λ (f : GivenForms). got made.key_len made.value_len (hash_of Unhash) f) c.of-forms.ensures c.get_lines_sized-in-Unhash.ensures)))

@@ -1,0 +1,47 @@
+-- What `find` writes and returns, of the bytes B of a file, where o is the bound of searches, or there is none.
+--     table_text B o at    the line of the table at the offset `at`
+--     tables_text B o ts   those of the tables at the offsets ts
+--     none_text file       the line on standard error where there is none
+--     AreTablesWritten B f old new s    the text f of all tables in B was written, which took the writer from the bytes old
+--                          to new, and the status s says whether there is one
+--     AreFound B f old new r   a call that took a writer from the bytes old to new and returned r did that; only the writer,
+--                          memory, or headers that overlap may have kept it from that
+use Rattle.std.specs.Prelude.{◌≡◌, ℕ, List, drop, length, ◌≤◌, nat_lt, flat_map, codes, ◌++◌, Option, None, Result, Ok, Err, if◌then◌else◌}
+use Rattle.std.specs.Io.KnownBytes.{Appends, Keeps}
+use Rattle.odht_tool_reads.specs.Outcomes.{check_word}
+use Rattle.odht_tool_core.specs.Finds.{AreTables, IsFindFailure, false_slots, row_text}
+use Rattle.odht_tool_core.specs.AnyShapes.{found_any}
+use Rattle.odht_tool_core.specs.Fronts.{table_front}
+use Rattle.odht_tool_core.specs.declared.failure.Failure.{Failure}
+use Rattle.odht_tool_core.specs.declared.failure.Failure.TheVariants.{Output}
+use Rattle.odht_tool_core.specs.declared.status.Status.{Status}
+use Rattle.odht_tool_core.specs.declared.status.Status.TheVariants.{Done, NotDone}
+
+abbrev pub table_text : List ℕ → Option ℕ → ℕ → List ℕ
+table_text B o at =
+    let T = table_front (drop at B) in
+    row_text at T (check_word o T (found_any T None))
+
+abbrev pub tables_text : List ℕ → Option ℕ → List ℕ → List ℕ
+tables_text B o ts = flat_map (table_text B o) ts
+
+abbrev pub none_text : List ℕ → List ℕ
+none_text file = codes "odht: " ++ (file ++ codes ": no table is in it\n")
+
+pub record AreTablesWritten (B : List ℕ) (f : List ℕ → List ℕ) (old new : Option (List ℕ)) (status : Status) : Type 0 where
+  pub tables : List ℕ
+  pub found : AreTables B 0 tables
+  pub honest : false_slots B 0 tables ≤ length B
+  pub written : Appends old new (f tables)
+  pub returned : status ≡ (if nat_lt 0 (length tables) then Done else NotDone)
+
+-- where the writer failed there were tables to write
+pub record AreTablesAsked (B : List ℕ) : Type 0 where
+  pub tables : List ℕ
+  pub found : AreTables B 0 tables
+  pub honest : false_slots B 0 tables ≤ length B
+
+abbrev pub AreFound : List ℕ → (List ℕ → List ℕ) → Option (List ℕ) → Option (List ℕ) → Result Status Failure → Type 0
+AreFound B f old new (Ok status) = AreTablesWritten B f old new status
+AreFound B f old new (Err (Output error)) = AreTablesAsked B
+AreFound B f old new (Err failure) = IsFindFailure B failure × Keeps old new

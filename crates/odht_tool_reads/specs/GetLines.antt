@@ -1,0 +1,111 @@
+-- What `get -` does with the bytes B of a file and the lines of an input. R says which line is a text of which key.
+--     lines_read ws        those of the lines ws of an input that are read: all, unless there are 2^64 - 1 or more
+--     AreFirstAnswered c l R B ws old new     the answers to some first lines of ws, as many as some batches have and all
+--                          of them texts of keys, were written, which took the writer from the bytes old to new; l is the
+--                          line of a key and its value
+--     IsLineFault c l R p B ws t old new      one of the lines ws is the first that is a text of no key, where p is wanted,
+--                          and no empty last one; the text t tells it with its number, counted from 1, and the answers to
+--                          those before it were written
+--     AreAllAnswered c l R B bytes old new status the answers to the lines of an input with these bytes were written,
+--                          but for an empty last one that is a text of no key
+--     AreLinesAnswered c l R p B input old new r  what is returned, r, and written once the table is opened, where the
+--                          input has these bytes, which may be known
+--     AreLinesGot c l R p B input old new r   the same of opening too
+--     lines_of_shape fs j B input old new r s the same of bytes of the shape s in the forms fs of keys and of values, with j
+--                          as objects of JSON
+--     lines_of_other fs j B input old new r o the same of bytes of the shape o, which is no ready one
+--     lines_of_any fs j B input old new r s   the same of any shape
+--     AreFileLinesGot B h ks j input old new r    the same of the bytes of a file, where the hash function h, or none, is
+--                          named, and ks is said of keys and values
+-- Nothing is said of answers where the bytes of the input are not known.
+use Rattle.std.specs.Prelude.{◌≡◌, ◌≢◌, ℕ, ◌+◌, ◌-◌, ◌*◌, ◌^◌, Bool, List, [], ◌∷◌, ◌++◌, length, take, Option, None, Some, IfSome, Result, Ok, Err, string_bytes, ⊤}
+use Rattle.std.specs.Io.KnownBytes.{Keeps}
+use Rattle.std.specs.Str.Lines.{lines}
+use Rattle.odht_header.specs.Coding.{Coding}
+use Rattle.odht_header.specs.Refusals.{view_refusal}
+use Rattle.odht_tool_reads.specs.Gets.{IsAnswered, by_shape}
+use Rattle.odht_tool_tables.specs.KeyTexts.{AreLinesOf, IsTextOf}
+use Rattle.odht_tool_core.specs.JsonAnswers.{answer_in}
+use Rattle.odht_tool_core.specs.Keys.{IsTextOfNone}
+use Rattle.odht_tool_core.specs.AnyShapes.{other_coding}
+use Rattle.odht_tool_core.specs.Misreads.{misread_text, typed_wanted}
+use Rattle.odht_tool_core.specs.ReadyShapes.{typed_text, shape_coding}
+use Rattle.odht_tool_core.specs.ShapeList.{key_part, value_part}
+use Rattle.odht_tool_core.specs.Forms.{bytes_form}
+use Rattle.odht_tool_core.specs.SizedTexts.{IsSizedOf, sized_text, sized_wanted}
+use Rattle.odht_tool_reads.specs.declared.lookups.TheConstants.{BATCH}
+use Rattle.odht_tool_core.specs.declared.any.AnyShape.{AnyShape}
+use Rattle.odht_tool_core.specs.declared.any.AnyShape.TheVariants.{Ready, Other}
+use Rattle.odht_tool_core.specs.declared.any.OtherShape.{OtherShape}
+use Rattle.odht_tool_core.specs.declared.failure.Failure.{Failure}
+use Rattle.odht_tool_core.specs.declared.failure.Failure.TheVariants.{Refused, Input, Misread, Output, Memory}
+use Rattle.odht_tool_core.specs.declared.failure.LineFault.TheVariants.{Key}
+use Rattle.odht_tool_core.specs.declared.forms.Form.{Form}
+use Rattle.odht_tool_core.specs.declared.forms.GivenForms.{GivenForms}
+use Rattle.odht_tool_core.specs.declared.forms.Kinds.{Kinds}
+use Rattle.odht_tool_core.specs.declared.misread.Wanted.{Wanted}
+use Rattle.odht_tool_core.specs.declared.shapes.Hash.{Hash}
+use Rattle.odht_tool_core.specs.declared.shapes.ready.Shape.{Shape}
+use Rattle.odht_tool_core.specs.declared.status.Status.{Status}
+
+abbrev pub lines_read : List (List ℕ) → List (List ℕ)
+lines_read ws = take (2 ^ 64 - 2) ws
+
+pub record AreAllAnswered {K V : Type 0} (c : Coding K V) (l : K × Option V → List ℕ) (R : List ℕ → K → Type 0) (B : List ℕ) (bytes : List ℕ) (old new : Option (List ℕ)) (status : Status) : Type 0 where
+  pub words : List (List ℕ)
+  pub place : AreLinesOf R bytes words
+  pub answered : IsAnswered c l R B (lines_read words) old new status
+
+pub record AreFirstAnswered {K V : Type 0} (c : Coding K V) (l : K × Option V → List ℕ) (R : List ℕ → K → Type 0) (B : List ℕ) (ws : List (List ℕ)) (old new : Option (List ℕ)) : Type 0 where
+  pub before : List (List ℕ)
+  pub after : List (List ℕ)
+  pub place : ws ≡ before ++ after
+  pub batches : ℕ
+  pub counted : length before ≡ batches * BATCH
+  pub status : Status
+  pub answered : IsAnswered c l R B before old new status
+
+pub record IsLineFault {K V : Type 0} (c : Coding K V) (l : K × Option V → List ℕ) (R : List ℕ → K → Type 0) (p : Wanted) (B : List ℕ) (ws : List (List ℕ)) (text : List ℕ) (old new : Option (List ℕ)) : Type 0 where
+  pub before : List (List ℕ)
+  pub word : List ℕ
+  pub after : List (List ℕ)
+  pub place : ws ≡ before ++ (word ∷ after)
+  pub fault : IsTextOfNone R word
+  pub more : word ≡ [] → after ≢ []
+  pub told : text ≡ misread_text (Some (length before + 1)) Key p word
+  pub status : Status
+  pub answered : IsAnswered c l R B before old new status
+
+module _ {K V : Type 0} (c : Coding K V) (l : K × Option V → List ℕ) (R : List ℕ → K → Type 0) (p : Wanted) (B : List ℕ) where
+  abbrev pub AreLinesAnswered : Option (List ℕ) → Option (List ℕ) → Option (List ℕ) → Result Status Failure → Type 0
+  AreLinesAnswered input old new (Ok status) = IfSome input (λ bytes. AreAllAnswered c l R B bytes old new status)
+  AreLinesAnswered input old new (Err (Misread message)) = IfSome input (λ bytes. IsLineFault c l R p B (lines bytes) (string_bytes message) old new)
+  AreLinesAnswered input old new (Err Memory) = IfSome input (λ bytes. AreFirstAnswered c l R B (lines bytes) old new)
+  AreLinesAnswered input old new (Err (Input error)) = IfSome input (λ bytes. AreFirstAnswered c l R B (lines bytes) old new)
+  AreLinesAnswered input old new (Err (Output error)) = ⊤
+  AreLinesAnswered input old new (Err _) = ⊥
+
+  abbrev pub AreLinesGot : Option (List ℕ) → Option (List ℕ) → Option (List ℕ) → Result Status Failure → Type 0
+  AreLinesGot input old new (Err (Refused error)) = (view_refusal c.format B ≡ Some error) × Keeps old new
+  AreLinesGot input old new r = (view_refusal c.format B ≡ None) × AreLinesAnswered input old new r
+
+-- ---- of a file
+abbrev pub lines_of_shape : Form × Form → Bool → List ℕ → Option (List ℕ) → Option (List ℕ) → Option (List ℕ) → Result Status Failure → Shape → Type 0
+lines_of_shape fs j B input old new r s =
+    let k = key_part s in
+    AreLinesGot (shape_coding s) (answer_in j (typed_text fs.0 k) (typed_text fs.1 (value_part s))) (IsTextOf fs.0 k) (typed_wanted fs.0 k) B input old new r
+
+abbrev pub lines_of_other : Form × Form → Bool → List ℕ → Option (List ℕ) → Option (List ℕ) → Option (List ℕ) → Result Status Failure → OtherShape → Type 0
+lines_of_other fs j B input old new r o =
+    let k = bytes_form fs.0 o.key in
+    AreLinesGot (other_coding o) (answer_in j (sized_text k) (sized_text (bytes_form fs.1 o.value))) (IsSizedOf k) (sized_wanted k) B input old new r
+
+abbrev pub lines_of_any : Form × Form → Bool → List ℕ → Option (List ℕ) → Option (List ℕ) → Option (List ℕ) → Result Status Failure → AnyShape → Type 0
+lines_of_any fs j B input old new r (Ready s) = lines_of_shape fs j B input old new r s
+lines_of_any fs j B input old new r (Other o) = lines_of_other fs j B input old new r o
+
+abbrev pub lines_of_forms : Bool → List ℕ → Option (List ℕ) → Option (List ℕ) → Option (List ℕ) → Result Status Failure → AnyShape × GivenForms → Type 0
+lines_of_forms j B input old new r x = lines_of_any (x.1.key, x.1.value) j B input old new r x.0
+
+abbrev pub AreFileLinesGot : List ℕ → Option Hash → Kinds → Bool → Option (List ℕ) → Option (List ℕ) → Option (List ℕ) → Result Status Failure → Type 0
+AreFileLinesGot B h ks j input old new r = by_shape B h ks old new r (lines_of_forms j B input old new r)

@@ -1,0 +1,71 @@
+-- The parts of `get`, of the bytes B of a file.
+--     AreKeysAnswered c l B ks old new all the answers to the keys ks were written, which took the writer from the
+--                          bytes old to new, and `all` says whether each has a value; l is the line of a key and its value
+--     IsKeysFailure old new f  no memory, and nothing was written, or the writer failed
+--     IsFlushed c l B before after old new was all   of the keys `before` those that are not left in `after` were
+--                          answered: all where they are a batch, and else none; `all` says whether each has a value, and
+--                          `was` holds
+--     IsReadKey R o o' k   k is the key of the next line of the bytes o, and o' are those after it; or there is no line, or
+--                          an empty last one that is a text of no key
+--     AreFaultAnswered c l R p B ks n o old new t   the next line of the bytes o, which is line n, is a text of no key,
+--                          where p is wanted, and no empty last one; the text t tells that, and the answers to the keys ks
+--                          were written
+--     IsLineFailure c l R p B ks n o old new f   f tells this fault of line n, with these answers; or no memory, or the
+--                          reader failed, and nothing was written; or the writer failed
+use Rattle.std.specs.Prelude.{◌≡◌, ⊤, ℕ, ◌<◌, ◌≤◌, Bool, ◌&&◌, List, [], ◌++◌, length, is_some, Option, Some, None, string_bytes}
+use Rattle.std.specs.Io.KnownBytes.{Appends, Keeps}
+use Rattle.std.specs.List.{list_all}
+use Rattle.odht_header.specs.Coding.{Coding}
+use Rattle.odht_tool_reads.specs.Gets.{AreAnswers}
+use Rattle.odht_tool_core.specs.InputLines.{AreLeft, IsNextLine}
+use Rattle.odht_tool_core.specs.Keys.{IsNextKey, IsTextOfNone}
+use Rattle.odht_tool_core.specs.Misreads.{misread_text}
+use Rattle.odht_tool_core.specs.Texts.{answers_by}
+use Rattle.odht_tool_reads.specs.declared.lookups.TheConstants.{BATCH}
+use Rattle.odht_tool_core.specs.declared.failure.Failure.{Failure}
+use Rattle.odht_tool_core.specs.declared.failure.Failure.TheVariants.{Input, Misread, Output, Memory}
+use Rattle.odht_tool_core.specs.declared.failure.LineFault.TheVariants.{Key}
+use Rattle.odht_tool_core.specs.declared.keys.NextKey.TheVariants.{Key as is_key, End}
+use Rattle.odht_tool_core.specs.declared.misread.Wanted.{Wanted}
+
+pub record AreKeysAnswered {K V : Type 0} (c : Coding K V) (l : K × Option V → List ℕ) (B : List ℕ) (ks : List K) (old new : Option (List ℕ)) (all : Bool) : Type 0 where
+  pub values : List (Option V)
+  pub answers : AreAnswers c B ks values
+  pub written : Appends old new (answers_by l ks values)
+  pub found : all ≡ list_all is_some values
+
+abbrev pub IsKeysFailure : Option (List ℕ) → Option (List ℕ) → Failure → Type 0
+IsKeysFailure old new Memory = Keeps old new
+IsKeysFailure old new (Output error) = ⊤
+IsKeysFailure old new _ = ⊥
+
+pub record IsFlushed {K V : Type 0} (c : Coding K V) (l : K × Option V → List ℕ) (B : List ℕ) (before after : List K) (old new : Option (List ℕ)) (was all : Bool) : Type 0 where
+  pub done : List K
+  pub left : before ≡ done ++ after
+  pub few : length before < BATCH → done ≡ []
+  pub full : BATCH ≤ length before → after ≡ []
+  pub values : List (Option V)
+  pub answers : AreAnswers c B done values
+  pub written : Appends old new (answers_by l done values)
+  pub found : all ≡ (list_all is_some values && was)
+
+abbrev pub IsReadKey : {K : Type 0} → (List ℕ → K → Type 0) → Option (List ℕ) → Option (List ℕ) → Option K → Type 0
+IsReadKey R old new (Some key) = IsNextKey R old new (is_key key)
+IsReadKey R old new None = IsNextKey R old new End
+
+module _ {K V : Type 0} (c : Coding K V) (l : K × Option V → List ℕ) (R : List ℕ → K → Type 0) (p : Wanted) (B : List ℕ) where
+  -- where the line after those of the keys `ks` is no key
+  pub record AreFaultAnswered (ks : List K) (number : ℕ) (bytes old new : Option (List ℕ)) (text : List ℕ) : Type 0 where
+    pub then : Option (List ℕ)
+    pub line : List ℕ
+    pub next : IsNextLine bytes then line
+    pub fault : IsTextOfNone R line
+    pub more : line ≡ [] → AreLeft then
+    pub told : text ≡ misread_text (Some number) Key p line
+    pub every : Bool
+    pub answered : AreKeysAnswered c l B ks old new every
+
+  abbrev pub IsLineFailure : List K → ℕ → Option (List ℕ) → Option (List ℕ) → Option (List ℕ) → Failure → Type 0
+  IsLineFailure ks number bytes old new (Misread message) = AreFaultAnswered ks number bytes old new (string_bytes message)
+  IsLineFailure ks number bytes old new (Input error) = Keeps old new
+  IsLineFailure ks number bytes old new failure = IsKeysFailure old new failure

@@ -1,0 +1,21 @@
+-- Definitions for the contracts of the commands that read tables.
+-- what a command writes and returns: `check` and `dump`
+pub mod Outcomes
+-- what a command writes and returns: `get`
+pub mod Gets
+-- its parts
+pub mod GetParts
+-- of the lines of an input
+pub mod GetLines
+-- the same of a file that is read by position
+pub mod Positions
+-- what a command writes and returns: `find`
+pub mod FindLines
+-- what `keys` and `count` do
+pub mod Listings
+-- what `order` does
+pub mod Orders
+-- what `check` and `find` write with --json
+pub mod JsonTexts
+-- what `diff` does
+pub mod Diffs

@@ -1,0 +1,63 @@
+-- What `keys` and `count` do with the bytes B of a file.
+--     keys_text f ps       a line of the key of each of the pairs ps, where f is the text of its stored bytes
+--     listed F t B         of `keys` for bytes of the format F in the texts t: the keys that the slots hold, in slot order
+--     keys_outcome B h ks  of `keys`, where the hash function h, or none, is named, and ks is said of keys
+--     counted F o B        how many items the header states, where the check of the bytes as those of the format F, by the
+--                          bound o, finds no error; else the first error
+--     count_outcome label B h o    of `count`, where the label stands before the number
+use Rattle.std.specs.Prelude.{ℕ, List, [], ◌∷◌, ◌++◌, decimal, flat_map, Option, Some, None, Result, Ok, Err}
+use Rattle.odht_base.specs.Decoded.{decoded_pairs, header_count}
+use Rattle.odht_base.specs.Format.{Format}
+use Rattle.odht_base.specs.Table.{Pair}
+use Rattle.odht_header.specs.Refusals.{view_refusal, check_refusal_by}
+use Rattle.odht_header.specs.declared.error.Error.{Error}
+use Rattle.odht_tool_reads.specs.Outcomes.{by_shape}
+use Rattle.odht_tool_core.specs.Endings.{Outcome, opened_outcome}
+use Rattle.odht_tool_core.specs.Endings.Outcome.{writes, fails}
+use Rattle.odht_tool_core.specs.AnyShapes.{any_format, found_any, read_any}
+use Rattle.odht_tool_core.specs.StoredTexts.{key_text, texts_of}
+use Rattle.odht_tool_core.specs.declared.any.AnyShape.{AnyShape}
+use Rattle.odht_tool_core.specs.declared.failure.Failure.{Failure}
+use Rattle.odht_tool_core.specs.declared.failure.Failure.TheVariants.{Refused}
+use Rattle.odht_tool_core.specs.declared.forms.GivenForms.{GivenForms}
+use Rattle.odht_tool_core.specs.declared.forms.Kinds.{Kinds}
+use Rattle.odht_tool_core.specs.declared.shapes.Hash.{Hash}
+use Rattle.odht_tool_core.specs.declared.status.Status.TheVariants.{Done}
+use Rattle.odht_tool_core.specs.declared.typed.Texts.{Texts}
+
+-- ---- keys
+abbrev pub key_line : (List ℕ → List ℕ) → Pair → List ℕ
+key_line f p = f p.key ++ (10 ∷ [])
+
+abbrev pub keys_text : (List ℕ → List ℕ) → List Pair → List ℕ
+keys_text f ps = flat_map (key_line f) ps
+
+abbrev pub listed : Format → Texts → List ℕ → Outcome
+listed F t B = opened_outcome (view_refusal F B) (keys_text (key_text t) (decoded_pairs F B))
+
+abbrev pub keys_of_forms : List ℕ → AnyShape × GivenForms → Outcome
+keys_of_forms B x = listed (any_format x.0) (texts_of x.0 x.1) B
+
+abbrev pub keys_outcome : List ℕ → Option Hash → Kinds → Outcome
+keys_outcome B h ks = by_shape (read_any B h ks) (keys_of_forms B)
+
+-- ---- count
+abbrev pub count_by : Option Error → ℕ → Result ℕ Failure
+count_by None n = Ok n
+count_by (Some error) n = Err (Refused error)
+
+abbrev pub counted : Format → Option ℕ → List ℕ → Result ℕ Failure
+counted F o B = count_by (check_refusal_by F o B) (header_count B)
+
+abbrev pub count_line : List ℕ → ℕ → List ℕ
+count_line label n = label ++ (decimal n ++ (10 ∷ []))
+
+abbrev pub count_written : List ℕ → Result ℕ Failure → Outcome
+count_written label (Ok n) = writes (count_line label n) Done
+count_written label (Err failure) = fails failure
+
+abbrev pub count_of_any : List ℕ → List ℕ → Option ℕ → AnyShape → Outcome
+count_of_any label B o s = count_written label (counted (any_format s) o B)
+
+abbrev pub count_outcome : List ℕ → List ℕ → Option Hash → Option ℕ → Outcome
+count_outcome label B h o = by_shape (found_any B h) (count_of_any label B o)

@@ -1,0 +1,80 @@
+-- What `get` does where it reads a file by position.
+--     ByPosition old new P r   r says that all bytes have to be read, and nothing was written; or P holds of what r returns
+--     IsTableAt gives h k v t T    the table t has keys of k and values of v bytes and the hash h, and is over the bytes T,
+--                              which are some of those that the reads of its source give, as `gives` says
+--     slots_parts k v es cs    the parts that sixteen slots have: their entries es, their control bytes cs, and the sizes
+--                              k and v of keys and values
+--     IsStartOf B s            s has the first 32 of those bytes of B that it says a table has
+--     len_by at n H            how many bytes the table has that is read: n, which is all, or where it begins at an
+--                              offset, as many as its header H says
+--     table_read B at          these of the bytes B, from that offset on, or from the first
+--     IsLeft T h               where header and length fit, some control byte of the table T excludes the hash function
+--                              that is not h
+--     IsNamed T h g            g is the hash function that is to be named for the table T, where h, or none, is named: h;
+--                              else none where the header counts no items; else one that is left
+--     IsAnsweredBy T h ks j ws old new r   r is what `get` returns of the bytes T, and writes, with j as objects of JSON,
+--                              where a hash function that is to be named for them is named
+--     IsTableIn T s            the bytes T are those of a valid table of the shape s
+use Rattle.std.specs.Prelude.{◌≡◌, ◌≢◌, ◌≤◌, ◌+◌, ℕ, List, length, Bool, false, Option, Some, None, unwrap_or, Result, Ok, Err}
+use Rattle.std.specs.Io.KnownBytes.{Keeps}
+use Rattle.odht_base.specs.Bytes.{bytes_at}
+use Rattle.odht_base.specs.Decoded.{header_count}
+use Rattle.odht.specs.Files.{FileStore, IsOver, file_bytes}
+use Rattle.odht_base.specs.Format.{IsFormat}
+use Rattle.odht_base.specs.Valid.{IsValidBytes}
+use Rattle.odht_tool_core.specs.AnyShapes.{HasLongKeys, any_format}
+use Rattle.odht_tool_core.specs.declared.any.AnyShape.{AnyShape}
+use Rattle.odht_tool_core.specs.FoundShapes.{other_hash}
+use Rattle.odht_tool_core.specs.Fronts.{stated_len}
+use Rattle.odht_tool_core.specs.InfoNumbers.{SizedParts, agrees, info_refusal, sized_parts}
+use Rattle.odht_tool_reads.specs.Gets.{AreFileWordsGot}
+use Rattle.odht_tool_core.specs.declared.forms.Kinds.{Kinds}
+use Rattle.odht_tool_core.specs.declared.failure.Failure.{Failure}
+use Rattle.odht_tool_core.specs.declared.shapes.Hash.{Hash}
+use Rattle.odht_tool_core.specs.declared.status.Status.{Status}
+use Rattle.odht_tool_reads.specs.declared.positions.Start.{Start}
+
+abbrev pub ByPosition : Option (List ℕ) → Option (List ℕ) → (Result Status Failure → Type 0) → Result (Option Status) Failure → Type 0
+ByPosition old new P (Ok None) = Keeps old new
+ByPosition old new P (Ok (Some status)) = P (Ok status)
+ByPosition old new P (Err failure) = P (Err failure)
+
+pub record IsTableAt {S : Type 0} (gives : S → List ℕ → Type 0) (h : List ℕ → ℕ) (k v : ℕ) (t : FileStore S) (T : List ℕ) : Type 0 where
+  pub bytes : List ℕ
+  pub given : gives t.source bytes
+  pub over : IsOver h t bytes
+  pub table : file_bytes t bytes ≡ T
+  pub key : t.key_len ≡ k
+  pub value : t.value_len ≡ v
+
+abbrev pub slots_parts : ℕ → ℕ → List ℕ → List ℕ → SizedParts
+slots_parts k v es cs = record { key_len = k; value_len = v; slots = 16; entries = es; control = cs }
+
+pub record IsStartOf (B : List ℕ) (s : Start) : Type 0 where
+  pub held : s.at + s.len ≤ length B
+  pub header : s.header ≡ bytes_at B s.at 32
+
+abbrev pub len_by : Option ℕ → ℕ → List ℕ → ℕ
+len_by None n H = n
+len_by (Some at) n H = stated_len H
+
+abbrev pub table_read : List ℕ → Option ℕ → List ℕ
+table_read B at = bytes_at B (unwrap_or at 0) (len_by at (length B) (bytes_at B (unwrap_or at 0) 32))
+
+abbrev pub IsLeft : List ℕ → Hash → Type 0
+IsLeft T h = info_refusal T ≡ None → agrees (sized_parts T) (other_hash h) ≡ false
+
+abbrev pub IsNamed : List ℕ → Option Hash → Option Hash → Type 0
+IsNamed T (Some h) g = g ≡ Some h
+IsNamed T None None = header_count T ≡ 0
+IsNamed T None (Some g) = (header_count T ≢ 0) × IsLeft T g
+
+pub record IsAnsweredBy (T : List ℕ) (h : Option Hash) (ks : Kinds) (j : Bool) (ws : List (List ℕ)) (old new : Option (List ℕ)) (r : Result Status Failure) : Type 0 where
+  pub named : Option Hash
+  pub is : IsNamed T h named
+  pub answered : AreFileWordsGot T named ks j ws old new r
+
+pub record IsTableIn (T : List ℕ) (s : AnyShape) : Type 0 where
+  pub format : IsFormat (any_format s)
+  pub long : HasLongKeys s
+  pub valid : IsValidBytes (any_format s) T

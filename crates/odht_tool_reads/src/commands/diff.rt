@@ -1,0 +1,92 @@
+//! `odht diff`: how the pairs of two table files differ.
+ghost use Rattle.std.specs.Prelude.{IsTrue};
+ghost use Rattle.odht_base.specs.Valid.{IsValidBytes};
+ghost use Rattle.odht_tool_core.specs.AnyShapes.{HasLongKeys, any_format};
+ghost use Rattle.odht_tool_core.specs.Endings.{IsDone};
+ghost use Rattle.odht_tool_reads.specs.Diffs.{diff_of};
+ghost use Rattle.odht_tool_tables.specs.Wholes.{have_same_sizes};
+
+use crate::sized::diffs::diff_lengths;
+use odht::{FxHashFn, UnHashFn};
+use odht_tool_core::any::AnyShape;
+use odht_tool_core::arguments::DiffOptions;
+use odht_tool_core::failure::Failure;
+use odht_tool_core::forms::{GivenForms, Kinds};
+use odht_tool_core::shapes::Hash;
+use odht_tool_core::status::Status;
+use odht_tool_core::typed::Texts;
+use odht_tool_tables::files::{finish_as, read_bytes};
+use odht_tool_tables::whole::{have_same_sizes, read_whole, sizes_of, write_sizes};
+use std::io::{BufRead, Write};
+use std::rt::Files;
+
+/// Compares a file with another one. A failure of the other is reported here.
+pub fn diff<R: Files + AllocGlobal, I: BufRead, O: Write, E: Write>(
+    rt: &R,
+    file: &str,
+    options: DiffOptions,
+    input: &mut I,
+    output: &mut O,
+    errors: &mut E,
+) -> Result<Status, Failure> {
+    let first = read_bytes(rt, file, input)?;
+    let first = first.as_slice();
+    let (shape, forms) = read_whole(first, options.hash, options.kinds, options.bound)?;
+    let other = options.other.as_str();
+    let second = match read_bytes(rt, other, input) {
+        Ok(second) => second,
+        Err(failure) => return Ok(finish_as(other, Err(failure), Status::Trouble, errors)),
+    };
+    let second = second.as_slice();
+    // Its keys and values are written in the texts of the first one.
+    let kinds = Kinds {
+        key: None,
+        value: None,
+    };
+    match read_whole(second, options.hash, kinds, options.bound) {
+        Ok((beside, _)) if have_same_sizes(shape, beside) => {
+            diff_tables(shape, forms, first, beside, second, output)
+        }
+        Ok((beside, _)) => {
+            // A line that cannot be written is no failure.
+            let _ = write_sizes(other, file, sizes_of(beside), sizes_of(shape), errors);
+            Ok(Status::Trouble)
+        }
+        Err(failure) => Ok(finish_as(other, Err(failure), Status::Trouble, errors)),
+    }
+}
+
+/// Compares the bytes of two files, which are valid tables of these shapes: writes a line for each pair that differs, in
+/// the texts of the first one, or, where none does, whether the bytes do.
+pub fn diff_tables<O: Write>(
+    shape: AnyShape,
+    forms: GivenForms,
+    first: &[u8],
+    beside: AnyShape,
+    second: &[u8],
+    output: &mut O,
+) -> Result<Status, Failure>
+    requires long { HasLongKeys shape }
+    requires valid { IsValidBytes (any_format shape) first.now }
+    requires long_beside { HasLongKeys beside }
+    requires valid_beside { IsValidBytes (any_format beside) second.now }
+    requires sizes { IsTrue (have_same_sizes shape beside) }
+    ensures { IsDone (diff_of shape forms first.now beside second.now)
+        (O.contents output.old) (O.contents output.new) result }
+{
+    let texts = Texts::of(shape, forms);
+    match (shape.hash(), beside.hash()) {
+        (Hash::Fx, Hash::Fx) => {
+            diff_lengths::<FxHashFn, FxHashFn, O>(texts, first, second, output)
+        }
+        (Hash::Fx, Hash::Unhash) => {
+            diff_lengths::<FxHashFn, UnHashFn, O>(texts, first, second, output)
+        }
+        (Hash::Unhash, Hash::Fx) => {
+            diff_lengths::<UnHashFn, FxHashFn, O>(texts, first, second, output)
+        }
+        (Hash::Unhash, Hash::Unhash) => {
+            diff_lengths::<UnHashFn, UnHashFn, O>(texts, first, second, output)
+        }
+    }
+}

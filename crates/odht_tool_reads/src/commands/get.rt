@@ -1,0 +1,207 @@
+//! `odht get`: lookups in a table file.
+ghost use Rattle.std.specs.Prelude.{◌≡◌, None, IfOk, IfErr, OnOk, map, string_bytes};
+ghost use Rattle.odht_header.specs.Refusals.{view_refusal};
+ghost use Rattle.odht_tool_core.specs.JsonAnswers.{answer_in};
+ghost use Rattle.odht_tool_core.specs.Keys.{IsReadAs};
+ghost use Rattle.odht_tool_reads.specs.GetLines.{AreLinesGot, AreFileLinesGot, lines_of_shape};
+ghost use Rattle.odht_tool_reads.specs.Gets.{AreWordsGot, AreFileWordsGot, words_of_shape};
+ghost use Rattle.odht_tool_tables.specs.Openings.{IsOpenFailure};
+
+use crate::lookups::{answer_lines, answer_words};
+use crate::shapes::for_shape;
+use crate::sized::gets::{get_lines_other, get_words_other};
+use odht::HashTable;
+use odht::bytes::Borrowed;
+use odht::config::{Coded, Config};
+use odht_tool_core::any::{AnyShape, read_any};
+use odht_tool_core::failure::Failure;
+use odht_tool_core::forms::{Forms, GivenForms, Kinds, OwnForms};
+use odht_tool_core::json::answers::AnswerStyle;
+use odht_tool_core::shapes::{Hash, Shape};
+use odht_tool_core::status::Status;
+use odht_tool_core::text::Text;
+use std::alloc::Global;
+use std::io::{BufRead, Write};
+
+/// `odht get` of the bytes of a file, for the words of the command line: writes a line for each
+/// key, with a tab and its value, or the key alone; or an object of JSON of both.
+pub fn get_file_words<O: Write>(
+    alloc: Global,
+    bytes: &[u8],
+    hash: Option<Hash>,
+    kinds: Kinds,
+    is_json: bool,
+    words: &[String],
+    output: &mut O,
+) -> Result<Status, Failure>
+    ensures { AreFileWordsGot bytes.now hash kinds is_json (map string_bytes words.now)
+        (O.contents output.old) (O.contents output.new) result }
+{
+    let found = read_any(bytes, hash, kinds)?;
+    let (shape, forms) = found;
+    match shape {
+        AnyShape::Ready(shape) => get_words_ready(
+            alloc, shape, forms, is_json, bytes, words, output,
+        ),
+        AnyShape::Other(shape) => get_words_other(
+            alloc, shape, forms, is_json, bytes, words, output,
+        ),
+    }
+}
+
+// The same of a ready shape, in these forms.
+fn get_words_ready<O: Write>(
+    alloc: Global,
+    shape: Shape,
+    forms: GivenForms,
+    is_json: bool,
+    bytes: &[u8],
+    words: &[String],
+    output: &mut O,
+) -> Result<Status, Failure>
+    ensures { words_of_shape (forms.key, forms.value) is_json bytes.now (map string_bytes words.now)
+        (O.contents output.old) (O.contents output.new) result shape }
+{
+    if forms.are_own() {
+        let own = AnswerStyle {
+            forms: OwnForms,
+            is_json,
+        };
+        get_words_of(alloc, shape, own, bytes, words, output)
+    } else {
+        let style = AnswerStyle { forms, is_json };
+        get_words_of(alloc, shape, style, bytes, words, output)
+    }
+}
+
+fn get_words_of<F: Forms, O: Write>(
+    alloc: Global,
+    shape: Shape,
+    style: AnswerStyle<F>,
+    bytes: &[u8],
+    words: &[String],
+    output: &mut O,
+) -> Result<Status, Failure>
+    ensures { words_of_shape (F.pair style.forms) style.is_json bytes.now
+        (map string_bytes words.now)
+        (O.contents output.old) (O.contents output.new) result shape }
+{
+    for_shape!(shape, get_words[F, O](alloc, bytes, style, words, output))
+}
+
+/// `odht get` of the bytes of a file, for the lines of an input.
+pub fn get_file_lines<I: BufRead, O: Write>(
+    alloc: Global,
+    bytes: &[u8],
+    hash: Option<Hash>,
+    kinds: Kinds,
+    is_json: bool,
+    input: &mut I,
+    output: &mut O,
+) -> Result<Status, Failure>
+    ensures { AreFileLinesGot bytes.now hash kinds is_json (I.remaining input.old)
+        (O.contents output.old) (O.contents output.new) result }
+{
+    let found = read_any(bytes, hash, kinds)?;
+    let (shape, forms) = found;
+    match shape {
+        AnyShape::Ready(shape) => get_lines_ready(
+            alloc, shape, forms, is_json, bytes, input, output,
+        ),
+        AnyShape::Other(shape) => get_lines_other(
+            alloc, shape, forms, is_json, bytes, input, output,
+        ),
+    }
+}
+
+// The same of a ready shape, in these forms.
+fn get_lines_ready<I: BufRead, O: Write>(
+    alloc: Global,
+    shape: Shape,
+    forms: GivenForms,
+    is_json: bool,
+    bytes: &[u8],
+    input: &mut I,
+    output: &mut O,
+) -> Result<Status, Failure>
+    ensures { lines_of_shape (forms.key, forms.value) is_json bytes.now (I.remaining input.old)
+        (O.contents output.old) (O.contents output.new) result shape }
+{
+    if forms.are_own() {
+        let own = AnswerStyle {
+            forms: OwnForms,
+            is_json,
+        };
+        get_lines_of(alloc, shape, own, bytes, input, output)
+    } else {
+        let style = AnswerStyle { forms, is_json };
+        get_lines_of(alloc, shape, style, bytes, input, output)
+    }
+}
+
+fn get_lines_of<F: Forms, I: BufRead, O: Write>(
+    alloc: Global,
+    shape: Shape,
+    style: AnswerStyle<F>,
+    bytes: &[u8],
+    input: &mut I,
+    output: &mut O,
+) -> Result<Status, Failure>
+    ensures { lines_of_shape (F.pair style.forms) style.is_json bytes.now (I.remaining input.old)
+        (O.contents output.old) (O.contents output.new) result shape }
+{
+    for_shape!(shape, get_lines[F, I, O](alloc, bytes, style, input, output))
+}
+
+// Looks up the keys of the words.
+fn get_words<C: Config, F: Forms, O: Write>(
+    alloc: Global,
+    bytes: &[u8],
+    style: AnswerStyle<F>,
+    words: &[String],
+    output: &mut O,
+) -> Result<Status, Failure>
+where
+    C::Key: Text,
+    C::Value: Text,
+    ensures { AreWordsGot ⟦<C as Coded>⟧.coding
+        (answer_in style.is_json (C.Key.text (F.pair style.forms).0)
+        (C.Value.text (F.pair style.forms).1))
+        (IsReadAs (C.Key.is_word (F.pair style.forms).0) (C.Key.stands_for (F.pair style.forms).0))
+        (C.Key.wants (F.pair style.forms).0) bytes.now (map string_bytes words.now)
+        (O.contents output.old) (O.contents output.new) result }
+{
+    let table = open::<C>(bytes)?;
+    answer_words(alloc, &table, style, words, output)
+}
+
+// Looks up the keys of the lines, a batch at a time.
+fn get_lines<C: Config, F: Forms, I: BufRead, O: Write>(
+    alloc: Global,
+    bytes: &[u8],
+    style: AnswerStyle<F>,
+    input: &mut I,
+    output: &mut O,
+) -> Result<Status, Failure>
+where
+    C::Key: Text,
+    C::Value: Text,
+    ensures { AreLinesGot ⟦<C as Coded>⟧.coding
+        (answer_in style.is_json (C.Key.text (F.pair style.forms).0)
+        (C.Value.text (F.pair style.forms).1))
+        (IsReadAs (C.Key.is_word (F.pair style.forms).0) (C.Key.stands_for (F.pair style.forms).0))
+        (C.Key.wants (F.pair style.forms).0) bytes.now (I.remaining input.old)
+        (O.contents output.old) (O.contents output.new) result }
+{
+    let table = open::<C>(bytes)?;
+    answer_lines(alloc, &table, style, input, output)
+}
+
+fn open<C: Config>(bytes: &[u8]) -> Result<HashTable<C, Borrowed<'_>>, Failure>
+    ensures ok { IfOk result (λ table. table.0.now ≡ bytes.now) }
+    ensures opened { OnOk result (view_refusal ⟦<C as Coded>⟧.coding.format bytes.now ≡ None) }
+    ensures err { IfErr result
+        (IsOpenFailure (view_refusal ⟦<C as Coded>⟧.coding.format bytes.now)) }
+{
+    HashTable::from_raw_bytes(Borrowed::new(bytes)).map_err(Failure::Refused)
+}

@@ -1,0 +1,8 @@
+//! `odht_tool_reads`: the commands of `odht_tool` that read tables and write none.
+#![tactic(auto)]
+
+pub mod commands;
+mod lookups;
+pub mod positions;
+mod shapes;
+mod sized;

@@ -1,0 +1,269 @@
+//! Keys that are looked up in a table, and what is written of them: the words of a command line, or lines, a batch at a
+//! time.
+ghost use Rattle.std.specs.Prelude.{◌≡◌, Ok, Some, None, [], ◌∷◌, ◌++◌, IfOk, IfErr, OnOk};
+ghost use Rattle.std.specs.Prelude.{map, string_bytes};
+ghost use Rattle.std.specs.List.{AllZip};
+ghost use Rattle.odht_header.specs.Refusals.{view_refusal};
+ghost use Rattle.odht_tool_core.specs.JsonAnswers.{answer_in};
+ghost use Rattle.odht_tool_core.specs.Keys.{IsReadAs, IsNextKey, IsNoKeyLine, TellsFault};
+ghost use Rattle.odht_tool_core.specs.Misreads.{misread_text};
+ghost use Rattle.odht_tool_reads.specs.GetLines.{AreLinesAnswered};
+ghost use Rattle.odht_tool_reads.specs.GetParts.{AreKeysAnswered, IsKeysFailure};
+ghost use Rattle.odht_tool_reads.specs.GetParts.{IsFlushed, IsReadKey, IsLineFailure};
+ghost use Rattle.odht_tool_reads.specs.Gets.{AreAnswers, AreWordsGot};
+
+use odht_tool_core::answers::are_found;
+use odht_tool_core::failure::{Failure, LineFault};
+use odht_tool_core::forms::Forms;
+use odht_tool_core::json::answers::{AnswerStyle, write_answers_in};
+use odht_tool_core::keys::{NextKey, next_key_as, parse_keys, push_key};
+use odht_tool_core::misread::Misread;
+use odht_tool_core::status::Status;
+use odht_tool_core::text::Text;
+use std::alloc::{AllocError, Global};
+use std::io::{self, BufRead, Write};
+
+mod tables;
+
+/// How many keys are looked up at once.
+const BATCH: usize = 1024;
+
+/// A table in which keys are looked up that have texts, as its values have.
+pub trait Lookups {
+    ghost use Rattle.std.specs.Prelude.{ℕ, List};
+    ghost use Rattle.odht_header.specs.Coding.{Coding};
+
+    /// A key.
+    type Key: Text;
+
+    /// A value.
+    type Value: Text;
+
+    ghost coding: { Self → Coding Self.Key Self.Value };
+
+    ghost bytes: { Self → List ℕ };
+
+    /// The value of each key.
+    fn look_up(
+        &self,
+        alloc: Global,
+        keys: &[Self::Key],
+    ) -> Result<Vec<Option<Self::Value>>, AllocError>
+        ensures { IfOk result
+            (λ values. AreAnswers (coding self.now) (bytes self.now) keys.now values.items) };
+}
+
+/// Looks up the keys of the words, and writes a line for each. The table was opened.
+pub fn answer_words<T: Lookups, F: Forms, O: Write>(
+    alloc: Global,
+    table: &T,
+    style: AnswerStyle<F>,
+    words: &[String],
+    output: &mut O,
+) -> Result<Status, Failure>
+    ensures { let c = T.coding table.now
+        in view_refusal c.format (T.bytes table.now) ≡ None
+        → AreWordsGot c
+        (answer_in style.is_json (T.Key.text (F.pair style.forms).0)
+        (T.Value.text (F.pair style.forms).1))
+        (IsReadAs (T.Key.is_word (F.pair style.forms).0) (T.Key.stands_for (F.pair style.forms).0))
+        (T.Key.wants (F.pair style.forms).0) (T.bytes table.now) (map string_bytes words.now)
+        (O.contents output.old) (O.contents output.new) result }
+{
+    let keys = keys_of_words::<T::Key, F>(alloc, words, style.forms)?;
+    let is_all_found = answer_keys(alloc, table, keys.as_slice(), style, output)?;
+    Ok(Status::of(is_all_found))
+}
+
+/// The keys of the words in the form of keys.
+pub fn keys_of_words<K: Text, F: Forms>(
+    alloc: Global,
+    words: &[String],
+    forms: F,
+) -> Result<Vec<K>, Failure>
+    ensures keys { IfOk result (λ keys. AllZip
+        (IsReadAs (K.is_word (F.pair forms).0) (K.stands_for (F.pair forms).0))
+        (map string_bytes words.now) keys.items) }
+    ensures fault { IfErr result (TellsFault
+        (IsReadAs (K.is_word (F.pair forms).0) (K.stands_for (F.pair forms).0))
+        (K.wants (F.pair forms).0) (map string_bytes words.now)) }
+{
+    parse_keys(alloc, words, forms.key())
+}
+
+/// Looks up the keys of the lines, a batch at a time, and writes a line for each.
+pub fn answer_lines<T: Lookups, F: Forms, I: BufRead, O: Write>(
+    alloc: Global,
+    table: &T,
+    style: AnswerStyle<F>,
+    input: &mut I,
+    output: &mut O,
+) -> Result<Status, Failure>
+    ensures { AreLinesAnswered (T.coding table.now)
+        (answer_in style.is_json (T.Key.text (F.pair style.forms).0)
+        (T.Value.text (F.pair style.forms).1))
+        (IsReadAs (T.Key.is_word (F.pair style.forms).0) (T.Key.stands_for (F.pair style.forms).0))
+        (T.Key.wants (F.pair style.forms).0) (T.bytes table.now) (I.remaining input.old)
+        (O.contents output.old) (O.contents output.new) result }
+{
+    let mut keys = Vec::new(alloc);
+    let mut line = Vec::new(alloc);
+    let mut is_all_found = true;
+    for number in 1..u64::MAX {
+        let read = read_key(
+            alloc,
+            table,
+            number,
+            input,
+            &mut line,
+            keys.as_slice(),
+            style,
+            output,
+        )?;
+        match read {
+            Some(key) => {
+                is_all_found = take_key(alloc, table, &mut keys, key, is_all_found, style, output)?;
+            }
+            None => break,
+        }
+    }
+    let is_last_found = answer_keys(alloc, table, keys.as_slice(), style, output)?;
+    Ok(Status::of(is_last_found && is_all_found))
+}
+
+// Reads the key of the line of this number, if there is such a line. Where it is no key, the keys before it are
+// answered first.
+fn read_key<T: Lookups, F: Forms, I: BufRead, O: Write>(
+    alloc: Global,
+    table: &T,
+    number: u64,
+    input: &mut I,
+    line: &mut Vec<u8>,
+    keys: &[T::Key],
+    style: AnswerStyle<F>,
+    output: &mut O,
+) -> Result<Option<T::Key>, Failure>
+    ensures key { IfOk result (IsReadKey
+        (IsReadAs (T.Key.is_word (F.pair style.forms).0) (T.Key.stands_for (F.pair style.forms).0))
+        (I.remaining input.old) (I.remaining input.new)) }
+    ensures kept { OnOk result (O.contents output.new ≡ O.contents output.old) }
+    ensures err { IfErr result (IsLineFailure (T.coding table.now)
+        (answer_in style.is_json (T.Key.text (F.pair style.forms).0)
+        (T.Value.text (F.pair style.forms).1))
+        (IsReadAs (T.Key.is_word (F.pair style.forms).0) (T.Key.stands_for (F.pair style.forms).0))
+        (T.Key.wants (F.pair style.forms).0) (T.bytes table.now) keys.now number
+        (I.remaining input.old) (O.contents output.old) (O.contents output.new)) }
+{
+    match key_of_line(input, line, style.forms) {
+        Ok(NextKey::Key(key)) => Ok(Some(key)),
+        Ok(NextKey::End) => Ok(None),
+        Ok(NextKey::NoKey) => {
+            let message = wrong_line::<T::Key, F>(alloc, number, line.as_slice(), style.forms)?;
+            answer_keys(alloc, table, keys, style, output)?;
+            Err(Failure::Misread(message))
+        }
+        Err(error) => Err(Failure::Input(error)),
+    }
+}
+
+// The key of the next line in the form of keys.
+#[inline(always)]
+fn key_of_line<K: Text, F: Forms, I: BufRead>(
+    input: &mut I,
+    line: &mut Vec<u8>,
+    forms: F,
+) -> io::Result<NextKey<K>>
+    ensures next { IfOk result (IsNextKey
+        (IsReadAs (K.is_word (F.pair forms).0) (K.stands_for (F.pair forms).0))
+        (I.remaining input.old) (I.remaining input.new)) }
+    ensures fault { result ≡ Ok NextKey.NoKey → IsNoKeyLine
+        (IsReadAs (K.is_word (F.pair forms).0) (K.stands_for (F.pair forms).0))
+        (I.remaining input.old) (I.remaining input.new) line.new.items }
+{
+    next_key_as(input, line, forms.key())
+}
+
+// What is said of a line that is no key.
+fn wrong_line<K: Text, F: Forms>(
+    alloc: Global,
+    number: u64,
+    line: &[u8],
+    forms: F,
+) -> Result<String, AllocError>
+    ensures { IfOk result (λ s. string_bytes s
+        ≡ misread_text (Some number) LineFault.Key (K.wants (F.pair forms).0) line.now) }
+{
+    let misread = Misread {
+        line: Some(number),
+        fault: LineFault::Key,
+        wanted: K::wanted(forms.key()),
+        text: line,
+    };
+    misread.message(alloc)
+}
+
+// Adds a key, and answers all where they are a batch. Returns whether each was found, and those before.
+fn take_key<T: Lookups, F: Forms, O: Write>(
+    alloc: Global,
+    table: &T,
+    keys: &mut Vec<T::Key>,
+    key: T::Key,
+    is_all_found: bool,
+    style: AnswerStyle<F>,
+    output: &mut O,
+) -> Result<bool, Failure>
+    ensures ok { IfOk result (IsFlushed (T.coding table.now)
+        (answer_in style.is_json (T.Key.text (F.pair style.forms).0)
+        (T.Value.text (F.pair style.forms).1))
+        (T.bytes table.now) (keys.old.items ++ key ∷ []) keys.new.items
+        (O.contents output.old) (O.contents output.new) is_all_found) }
+    ensures err { IfErr result (IsKeysFailure (O.contents output.old) (O.contents output.new)) }
+{
+    push_key(keys, key)?;
+    answer_batch(alloc, table, keys, is_all_found, style, output)
+}
+
+// Answers the keys where they are a batch, and drops them. Returns whether each was found, and
+// those before.
+fn answer_batch<T: Lookups, F: Forms, O: Write>(
+    alloc: Global,
+    table: &T,
+    keys: &mut Vec<T::Key>,
+    is_all_found: bool,
+    style: AnswerStyle<F>,
+    output: &mut O,
+) -> Result<bool, Failure>
+    ensures ok { IfOk result (IsFlushed (T.coding table.now)
+        (answer_in style.is_json (T.Key.text (F.pair style.forms).0)
+        (T.Value.text (F.pair style.forms).1))
+        (T.bytes table.now) keys.old.items keys.new.items
+        (O.contents output.old) (O.contents output.new) is_all_found) }
+    ensures err { IfErr result (IsKeysFailure (O.contents output.old) (O.contents output.new)) }
+{
+    if keys.len() < BATCH {
+        return Ok(is_all_found);
+    }
+    let is_found = answer_keys(alloc, table, keys.as_slice(), style, output)?;
+    keys.clear();
+    Ok(is_found && is_all_found)
+}
+
+// Looks the keys up, and writes a line for each. Returns whether each was found.
+fn answer_keys<T: Lookups, F: Forms, O: Write>(
+    alloc: Global,
+    table: &T,
+    keys: &[T::Key],
+    style: AnswerStyle<F>,
+    output: &mut O,
+) -> Result<bool, Failure>
+    ensures ok { IfOk result (AreKeysAnswered (T.coding table.now)
+        (answer_in style.is_json (T.Key.text (F.pair style.forms).0)
+        (T.Value.text (F.pair style.forms).1))
+        (T.bytes table.now) keys.now (O.contents output.old) (O.contents output.new)) }
+    ensures err { IfErr result (IsKeysFailure (O.contents output.old) (O.contents output.new)) }
+{
+    let values = table.look_up(alloc, keys)?;
+    let values = values.as_slice();
+    write_answers_in(keys, values, style, output).map_err(Failure::Output)?;
+    Ok(are_found(values))
+}

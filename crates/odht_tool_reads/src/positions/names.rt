@@ -1,0 +1,183 @@
+//! The hash function of a table that is read by position: the one that the first groups of slots leave.
+ghost use Rattle.std.specs.Prelude.{◌≡◌, ◌≤◌, ◌<◌, ◌+◌, ◌*◌, ◌^◌, ℕ, List, length, is_some};
+ghost use Rattle.std.specs.Prelude.{IfSome, slice_index};
+ghost use Rattle.odht_base.specs.Bytes.{bytes_at};
+ghost use Rattle.odht_base.specs.Decoded.{header_slots};
+ghost use Rattle.odht_raw.specs.Reads.{IsPlaceFitting};
+ghost use Rattle.odht.specs.Files.{table_place};
+ghost use Rattle.odht_header.specs.Refusals.{control_mismatch};
+ghost use Rattle.odht_tool_core.specs.InfoNumbers.{agrees, least_key_len, sized_format};
+ghost use Rattle.odht_tool_core.specs.ReadyShapes.{hash_of};
+ghost use Rattle.odht_tool_reads.specs.Positions.{IsLeft, IsNamed, IsStartOf, slots_parts};
+
+use super::Start;
+use odht::dynamic::Layout;
+use odht::hash::HashFn;
+use odht::memory_layout::{HEADER_SIZE, Header};
+use odht::raw_table::{ReadPlace, tag_of};
+use odht::read_at::{ReadAt, read_exact_at};
+use odht::swisstable_group_query::is_empty_or_deleted;
+use odht::{FxHashFn, UnHashFn};
+use odht_tool_core::shapes::Hash;
+
+/// How many slots are read at once.
+const GROUP: usize = 16;
+
+/// The most bytes that the entries of these slots have.
+const MOST_ENTRIES: usize = 8160;
+
+/// How many groups are read before all bytes are.
+const MOST_GROUPS: usize = 64;
+
+/// The hash function that is to be named for a table, none where it has no items: the one that is named, or the one
+/// that is left when the first groups of slots exclude the other. None where they exclude none, or both, or a read
+/// failed.
+pub(super) fn found_name<S: ReadAt>(
+    source: &S,
+    start: &Start,
+    hash: Option<Hash>,
+) -> Option<Option<Hash>>
+    requires fits { start.now.at + start.now.len < 2 ^ 64 }
+    requires long { 32 ≤ start.now.len }
+    ensures given { (B : List ℕ) → S.gives source.now B → IsStartOf B start.now
+        → IfSome result (IsNamed (bytes_at B start.now.at start.now.len) hash) }
+{
+    match hash {
+        Some(_) => Some(hash),
+        None => {
+            if Header::of(&start.header).item_count() == 0 {
+                return Some(None);
+            }
+            let hash = left_hash(source, start)?;
+            Some(Some(hash))
+        }
+    }
+}
+
+// The hash function that is left when the first groups of slots exclude the other.
+fn left_hash<S: ReadAt>(source: &S, start: &Start) -> Option<Hash>
+    requires fits { start.now.at + start.now.len < 2 ^ 64 }
+    requires long { 32 ≤ start.now.len }
+    ensures given { (B : List ℕ) → S.gives source.now B → IsStartOf B start.now
+        → IfSome result (IsLeft (bytes_at B start.now.at start.now.len)) }
+{
+    let place = place_of(start)?;
+    for group in 0..(place.slots / GROUP).min(MOST_GROUPS) {
+        let (fx, unhash) = group_fits(source, &place, group * GROUP)?;
+        if !fx && !unhash {
+            return None;
+        }
+        if !unhash {
+            return Some(Hash::Fx);
+        }
+        if !fx {
+            return Some(Hash::Unhash);
+        }
+    }
+    None
+}
+
+// Where the parts of the table are, where its header and its length fit.
+fn place_of(start: &Start) -> Option<ReadPlace>
+    requires fits { start.now.at + start.now.len < 2 ^ 64 }
+    ensures place { IfSome result (λ p. p ≡ table_place start.now.at
+        (header_slots start.now.header) (slice_index start.now.header 5)
+        (slice_index start.now.header 6)) }
+    ensures long { IfSome result (λ p. 32 + p.slots * (p.layout.key_len + p.layout.value_len)
+        + p.slots + 16 ≡ start.now.len) }
+{
+    let header = Header::of(&start.header);
+    let layout = Layout {
+        key_len: header.key_size(),
+        value_len: header.value_size(),
+    };
+    match header.check_layout(layout, start.len) {
+        Ok(()) => {}
+        Err(_) => return None,
+    }
+    let slots = header.slot_count();
+    let entries_at = start.at + HEADER_SIZE as u64;
+    let control_at = entries_at + (slots * layout.entry_len()) as u64;
+    Some(ReadPlace {
+        entries_at,
+        control_at,
+        slots,
+        layout,
+    })
+}
+
+// Whether the sixteen slots from one on fit either hash function.
+fn group_fits<S: ReadAt>(source: &S, place: &ReadPlace, first: usize) -> Option<(bool, bool)>
+    requires within { first + 16 ≤ place.now.slots }
+    requires fits { IsPlaceFitting place.now }
+    ensures given { let k = place.now.layout.key_len in let v = place.now.layout.value_len
+        in (B : List ℕ) → S.gives source.now B → (let T = slots_parts k v
+        (bytes_at B (place.now.entries_at + first * (k + v)) (16 * (k + v)))
+        (bytes_at B (place.now.control_at + first) 16)
+        in IfSome result (λ r. (r.0 ≡ agrees T Hash.Fx) × (r.1 ≡ agrees T Hash.Unhash))) }
+{
+    let layout = place.layout;
+    let mut control = [0; GROUP];
+    read_exact_at(source, place.control_at + first as u64, &mut control).ok()?;
+    let entries_at = place.entries_at + first as u64 * layout.entry_len() as u64;
+    let mut bytes = [0; MOST_ENTRIES];
+    let (entries, _) = bytes.split_at_mut(GROUP * layout.entry_len());
+    read_exact_at(source, entries_at, entries).ok()?;
+    let fx = fits(&control, &*entries, layout, Hash::Fx);
+    let unhash = fits(&control, &*entries, layout, Hash::Unhash);
+    Some((fx, unhash))
+}
+
+// Whether the keys are long enough for a hash function, and each occupied slot of sixteen has the tag of its key by it.
+fn fits(control: &[u8], entries: &[u8], layout: Layout, hash: Hash) -> bool
+    requires control { length control.now ≡ 16 }
+    requires entries { length entries.now ≡ 16 * (layout.key_len + layout.value_len) }
+    ensures { result ≡ agrees (slots_parts layout.key_len layout.value_len entries.now control.now)
+        hash }
+{
+    if (layout.key_len as usize) < least_len(hash) {
+        return false;
+    }
+    for slot in 0..GROUP {
+        if is_mismatch(control, entries, layout, hash, slot) {
+            return false;
+        }
+    }
+    true
+}
+
+// Whether a slot is occupied, and its control byte is not the tag of its key.
+fn is_mismatch(control: &[u8], entries: &[u8], layout: Layout, hash: Hash, slot: usize) -> bool
+    requires slot { slot < 16 }
+    requires control { length control.now ≡ 16 }
+    requires entries { length entries.now ≡ 16 * (layout.key_len + layout.value_len) }
+    requires long { least_key_len hash ≤ layout.key_len }
+    ensures { let T = slots_parts layout.key_len layout.value_len entries.now control.now
+        in result ≡ is_some (control_mismatch (sized_format T hash) T.entries T.control slot) }
+{
+    let control = control[slot];
+    let at = slot * layout.entry_len();
+    let key = &entries[at..at + layout.key_len as usize];
+    !is_empty_or_deleted(control) && control != tag_of(hash_key(key, hash))
+}
+
+// How many bytes the hash function needs at least.
+fn least_len(hash: Hash) -> usize
+    ensures { result ≡ least_key_len hash }
+{
+    match hash {
+        Hash::Fx => FxHashFn::MIN_LEN,
+        Hash::Unhash => UnHashFn::MIN_LEN,
+    }
+}
+
+// The hash of a key.
+fn hash_key(key: &[u8], hash: Hash) -> u32
+    requires { least_key_len hash ≤ length key.now }
+    ensures { result ≡ hash_of hash key.now }
+{
+    match hash {
+        Hash::Fx => FxHashFn::hash(key),
+        Hash::Unhash => UnHashFn::hash(key),
+    }
+}

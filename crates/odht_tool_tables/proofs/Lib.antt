@@ -1,0 +1,6 @@
+-- the format of a shape
+pub mod Formats
+-- the lines of an input, and words that are texts of keys
+pub mod Lines
+-- worked examples of the definitions
+pub mod examples

@@ -1,0 +1,9 @@
+//! `odht_tool_tables`: what the commands that read tables and those that make them both need: the
+//! bytes of a file, their whole check, and tables of lengths that are numbers.
+#![tactic(auto)]
+
+pub mod checks;
+pub mod files;
+mod shapes;
+pub mod sized;
+pub mod whole;

@@ -1,0 +1,256 @@
+-- The tables that `delete` makes.
+use Rattle.std.proofs.Common.{◌≡◌, ◌≤◌, ◌∙◌, ◌++◌, ◌||◌, ℕ, suc, Bool, true, false, cond, IsTrue, List, [], ◌∷◌, Option, Some, None, Result, Ok, Err, sym, ap, refl, arith, length, map, subst, bytes_eq, append-nil}
+use Rattle.std.specs.Prelude.{◌↔◌, not, is_some, IfErr, IfOk, IsSome, MatchResult, OnErr}
+use Rattle.std.specs.List.{AllZip}
+use Rattle.std.proofs.lemmas.List.{length-map}
+use Rattle.std.specs.Option.{option_or}
+use Rattle.std.proofs.lemmas.List.Elements.{filter-append}
+use Rattle.odht_base.specs.Format.{Format, format_of}
+use Rattle.odht_base.specs.Insert.{insert_owned}
+use Rattle.odht_base.specs.Load.{max_items}
+use Rattle.odht_base.specs.Map.{KeysApart, map_of, value_in}
+use Rattle.odht_base.specs.Table.{Pair, Table, slot_count, walk}
+use Rattle.odht_base.specs.Valid.{IsValid}
+use Rattle.odht_base.proofs.lemmas.DistinctKeys.{last-apart, walk-KeysApart}
+use Rattle.odht_base.proofs.lemmas.FreeSlots.{count-empty, map_of-empty, map_of-fresh, slot_count-empty}
+use Rattle.odht_base.proofs.lemmas.Keys.{same_bytes}
+use Rattle.odht_base.proofs.lemmas.Pairs.{value_in-cons}
+use Rattle.odht_header.specs.Refusals.{check_refusal_by}
+use Rattle.odht_header.specs.declared.error.Error.{Error}
+use Rattle.odht.specs.Dynamic.{DynStore, dyn_format}
+use Rattle.odht.specs.DynOwned.{IsDynInsertOwned}
+use Rattle.odht.specs.Inserts.{IsFresh}
+use Rattle.odht.specs.Lists.{IsAfterInserts}
+use Rattle.odht.proofs.lemmas.ListInserts.{inserted_none}
+use Rattle.odht.proofs.lemmas.NewRefusals.{default_fits}
+use Rattle.odht_tool_writes.specs.Deletes.{AreKeysOf, AreNamed, IsDeleted, IsDeleteFailure, are_keys, cleared, fails_by_words, is_among, is_fault, without}
+use Rattle.odht_tool_tables.specs.KeyTexts.{IsTextOf}
+use Rattle.odht_tool_writes.specs.Rebuilds.{IsNewFailure}
+use Rattle.odht_tool_core.specs.AnyShapes.{any_format, any_hash, any_key, any_value, read_any}
+use Rattle.odht_tool_core.specs.Keys.{TellsFault}
+use Rattle.odht_tool_core.specs.Forms.{bytes_form}
+use Rattle.odht_tool_core.specs.SizedTexts.{IsSizedOf, sized_wanted}
+use Rattle.odht_tool_core.specs.ReadyShapes.{hash_of, typed_bytes, typed_len}
+use Rattle.odht_tool_core.specs.ShapeList.{key_part}
+use Rattle.odht_tool_core.specs.declared.any.AnyShape.{AnyShape}
+use Rattle.odht_tool_core.specs.declared.any.AnyShape.TheVariants.{Ready, Other}
+use Rattle.odht_tool_core.specs.declared.any.OtherShape.{OtherShape}
+use Rattle.odht_tool_core.specs.declared.failure.Failure.{Failure}
+use Rattle.odht_tool_core.specs.declared.failure.Failure.TheVariants.{Read, Write, Obstacle, Beside, Refused, ShortKeys, NoHash, OtherKey, OtherValue, PastEnd, Forged, Input, Line, Output, Memory, Misread}
+use Rattle.odht_tool_core.specs.declared.forms.Form.{Form}
+use Rattle.odht_tool_core.specs.declared.forms.GivenForms.{GivenForms}
+use Rattle.odht_tool_core.specs.declared.forms.Kinds.{Kinds}
+use Rattle.odht_tool_core.specs.declared.misread.Wanted.{Wanted}
+use Rattle.odht_tool_core.specs.declared.shapes.Hash.{Hash}
+use Rattle.odht_tool_writes.proofs.AbsentKeys.{is_there}
+use Rattle.odht_tool_tables.proofs.Lines.{AllZip-length}
+use Rattle.odht_tool_tables.proofs.Formats.{format_is}
+use Rattle.odht_tool_writes.proofs.NewTables.{one_more, or_none}
+
+-- ---- the pairs that are left
+module _ (ks : List (List ℕ)) where
+  -- a key has its value among them, but for the keys ks
+  pub value_in-without : (ps : List Pair) (k : List ℕ) → value_in (without ks ps) k ≡ cond (is_among ks k) None (value_in ps k)
+  value_in-without [] k = go (is_among ks k)
+    where
+      go : (b : Bool) → ◌≡◌ {A = Option (List ℕ)} None (cond b None None)
+      go true = refl
+      go false = refl
+  value_in-without (p ∷ ps) k =
+      go (is_among ks p.key) refl (bytes_eq k p.key) refl (value_in-without ps k) ∙ ap (λ o. cond (is_among ks k) None o) (sym (value_in-cons p ps k))
+    where
+      among : (a : Bool) → is_among ks p.key ≡ a → bytes_eq k p.key ≡ true → is_among ks k ≡ a
+      among a e same = ap (is_among ks) (same_bytes k p.key same) ∙ e
+
+      front : (b : Bool) → bytes_eq k p.key ≡ b → value_in (p ∷ without ks ps) k ≡ cond b (Some p.value) (value_in (without ks ps) k)
+      front b e = value_in-cons p (without ks ps) k ∙ ap (λ c. cond c (Some p.value) (value_in (without ks ps) k)) e
+
+      go : (a : Bool) → is_among ks p.key ≡ a → (b : Bool) → bytes_eq k p.key ≡ b → value_in (without ks ps) k ≡ cond (is_among ks k) None (value_in ps k)
+          → value_in (cond (not a) (p ∷ without ks ps) (without ks ps)) k ≡ cond (is_among ks k) None (cond b (Some p.value) (value_in ps k))
+      go true e true same rest =
+          rest ∙ ap (λ c. cond c None (value_in ps k)) (among true e same) ∙ sym (ap (λ c. cond c None (Some p.value)) (among true e same))
+      go true e false other rest = rest
+      go false e true same rest = front true same ∙ sym (ap (λ c. cond c None (Some p.value)) (among false e same))
+      go false e false other rest = front false other ∙ rest
+
+  -- of different keys they have different keys
+  pub KeysApart-without : (ps : List Pair) → KeysApart ps → KeysApart (without ks ps)
+  KeysApart-without [] apart = tt
+  KeysApart-without (p ∷ ps) apart = go (is_among ks p.key) refl (KeysApart-without ps apart.1)
+    where
+      go : (b : Bool) → is_among ks p.key ≡ b → KeysApart (without ks ps) → KeysApart (cond (not b) (p ∷ without ks ps) (without ks ps))
+      go true e rest = rest
+      go false e rest = (value_in-without ps p.key ∙ ap (λ c. cond c None (value_in ps p.key)) e ∙ apart.0, rest)
+
+  -- and they are no more
+  pub length-without : (ps : List Pair) → length (without ks ps) ≤ length ps
+  length-without [] = omega arith
+  length-without (p ∷ ps) = go (is_among ks p.key) (length-without ps)
+    where
+      go : (b : Bool) → length (without ks ps) ≤ length ps → length (cond (not b) (p ∷ without ks ps) (without ks ps)) ≤ suc (length ps)
+      go true few = omega arith
+      go false few = omega arith
+
+  -- one more pair, of one of the keys, or of another
+  pub without-named : (ps : List Pair) (p : Pair) → is_among ks p.key ≡ true → without ks (ps ++ p ∷ []) ≡ without ks ps
+  without-named ps p e =
+      filter-append (λ (q : Pair). not (is_among ks q.key)) ps (p ∷ [])
+      ∙ ap (λ b. without ks ps ++ cond (not b) (p ∷ []) []) e
+      ∙ append-nil (without ks ps)
+
+  pub without-other : (ps : List Pair) (p : Pair) → is_among ks p.key ≡ false → without ks (ps ++ p ∷ []) ≡ without ks ps ++ p ∷ []
+  without-other ps p e =
+      filter-append (λ (q : Pair). not (is_among ks q.key)) ps (p ∷ [])
+      ∙ ap (λ b. without ks ps ++ cond (not b) (p ∷ []) []) e
+
+-- ---- the new table
+pub deleted_from : (F : Format) (ks : List (List ℕ)) (P : Table) (B : List ℕ) → IsValid F P
+    → IsAfterInserts F (insert_owned F) (cleared P) (without ks (walk P)) B → IsDeleted F ks P B
+deleted_from F ks P B valid inserted =
+    let slots = slot_count-empty (slot_count P) P.factor in
+    let none = count-empty (slot_count P) P.factor in
+    let few = length-without ks (walk P) in
+    let most : max_items (slot_count (cleared P)) P.factor ≡ max_items (slot_count P) P.factor = ap (λ s. max_items s P.factor) slots in
+    let stays = inserted.stays (omega (arith, valid.room, none, few, most)) in
+    let apart = KeysApart-without ks (walk P) (walk-KeysApart F P valid.placed) in
+    record {
+      inserted = inserted;
+      never_grown = (stays.0.0 ∙ slots, stays.0.1);
+      maps = λ k. (
+          inserted.maps k
+          ∙ ap (λ o. option_or o (map_of (cleared P) k)) (last-apart (without ks (walk P)) apart k)
+          ∙ ap (option_or (value_in (without ks (walk P)) k)) (map_of-empty (slot_count P) P.factor k)
+          ∙ or_none (value_in (without ks (walk P)) k)
+          ∙ value_in-without ks (walk P) k);
+    }
+
+-- ---- the table of the keys
+-- one key more
+is_among-push : (ks : List (List ℕ)) (k q : List ℕ) → is_among (ks ++ k ∷ []) q ≡ (is_among ks q || bytes_eq q k)
+is_among-push [] k q = go (bytes_eq q k)
+  where
+    go : (b : Bool) → (b || false) ≡ b
+    go true = refl
+    go false = refl
+is_among-push (x ∷ ks) k q = go (bytes_eq q x) (is_among-push ks k q)
+  where
+    go : (b : Bool) → is_among (ks ++ k ∷ []) q ≡ (is_among ks q || bytes_eq q k) → (b || is_among (ks ++ k ∷ []) q) ≡ ((b || is_among ks q) || bytes_eq q k)
+    go true rest = refl
+    go false rest = rest
+
+-- a fresh table has none
+pub named_none : (F : Format) (B : List ℕ) → IsFresh F 12 87 B → AreNamed F [] B
+named_none F B new = record { table = new.table; image = new.image; names = λ k. ap is_some (map_of-fresh 12 87 new.table new.new k) }
+
+-- an insert adds its key
+pub named_more : (t : DynStore (List ℕ)) (h : List ℕ → ℕ) (ks : List (List ℕ)) (k : List ℕ) (o : Option (List ℕ)) (C : List ℕ)
+    → AreNamed (dyn_format t h) ks t.store → IsDynInsertOwned t h k [] (Ok o) C → AreNamed (dyn_format t h) (ks ++ k ∷ []) C
+named_more t h ks k o C named one =
+    let F = dyn_format t h in
+    let after = one_more h t named.table [] k [] o C (inserted_none F (insert_owned F) named.table t.store named.image) one in
+    record {
+      table = after.table;
+      image = after.image;
+      names = λ q. (
+          ap is_some (after.maps q ∙ ap (λ x. option_or x (map_of named.table q)) (value_in-cons (record { key = k; value = [] }) [] q))
+          ∙ go (map_of named.table q) (bytes_eq q k)
+          ∙ ap (λ b. b || bytes_eq q k) (named.names q)
+          ∙ sym (is_among-push ks k q));
+    }
+  where
+    go : (o : Option (List ℕ)) (b : Bool) → is_some (option_or (cond b (Some []) None) o) ≡ (is_some o || b)
+    go None true = refl
+    go None false = refl
+    go (Some v) true = refl
+    go (Some v) false = refl
+
+-- whether a key is one of them
+pub known : (F : Format) (ks : List (List ℕ)) (B k : List ℕ) (b : Bool) (named : AreNamed F ks B) → (IsTrue b ↔ IsSome (map_of named.table k)) → is_among ks k ≡ b
+known F ks B k b named is = sym (named.names k) ∙ is_there (map_of named.table k) b is
+
+-- ---- failures
+-- a table for few items fails for want of memory alone
+pub memory_alone : {X : Type 0} (r : Result X Failure) (ml : ℕ) (F : Format) → ml ≤ F.key_len → F.key_len ≤ 255 → F.value_len ≤ 255 → IfErr r (IsNewFailure ml F 12 87) → OnErr r (r ≡ Err Memory)
+memory_alone {X = X} (Ok x) ml F long key value h = tt
+memory_alone {X = X} (Err failure) ml F long key value h = go failure h
+  where
+    go : (f : Failure) → IsNewFailure ml F 12 87 f → ◌≡◌ {A = Result X Failure} (Err f) (Err Memory)
+    go (ShortKeys k) h = absurd (omega (arith, long, h.0))
+    go (Refused error) h = absurd (default_fits F key value h.1)
+    go Memory h = refl
+    go (Read e) h = absurd h
+    go (Write e) h = absurd h
+    go (Obstacle o) h = absurd h
+    go (Beside name) h = absurd h
+    go (NoHash k v) h = absurd h
+    go (OtherKey p) h = absurd h
+    go (OtherValue p) h = absurd h
+    go (PastEnd o n) h = absurd h
+    go Forged h = absurd h
+    go (Input e) h = absurd h
+    go (Line n f) h = absurd h
+    go (Output e) h = absurd h
+    go (Misread m) h = absurd h
+
+-- ---- the keys of the words
+-- the bytes of keys of which the words are texts
+pub keys_encoded : {K A : Type 0} (items : A → List (List ℕ)) (b : K → List ℕ) (R : List ℕ → K → Type 0) (p : Wanted) (ws : List (List ℕ)) (xs : List K) (r : Result A Failure) → AllZip R ws xs
+    → IfOk r (λ a. items a ≡ map b xs) → OnErr r (r ≡ Err Memory) → MatchResult r (λ a. AreKeysOf b R ws (items a)) (TellsFault R p ws)
+keys_encoded items b R p ws xs (Ok a) texts bytes memory = (xs, texts, bytes)
+keys_encoded {A = A} items b R p ws xs (Err f) texts bytes memory =
+    let is : f ≡ Memory = same_error f memory in
+    subst (TellsFault R p ws) (sym is) tt
+  where
+    same_error : (f : Failure) → ◌≡◌ {A = Result A Failure} (Err f) (Err Memory) → f ≡ Memory
+    same_error f e = cc
+
+-- bytes that are read as a type of another shape
+pub keys_of_sized : {A : Type 0} (items : A → List (List ℕ)) (f : Form) (o : OtherShape) (ws : List (List ℕ)) (r : Result A Failure) → IfOk r (λ a. AllZip (IsSizedOf (bytes_form f o.key)) ws (items a))
+    → IfErr r (TellsFault (IsSizedOf (bytes_form f o.key)) (sized_wanted (bytes_form f o.key)) ws) → MatchResult r (λ a. are_keys f ws (Other o) (items a)) (is_fault f ws (Other o))
+keys_of_sized items f o ws (Ok a) keys fault = keys
+keys_of_sized items f o ws (Err e) keys fault = fault
+
+-- there are as many as words
+pub as_many : (f : Form) (ws : List (List ℕ)) (s : AnyShape) (ks : List (List ℕ)) → are_keys f ws s ks → length ws ≡ length ks
+as_many f ws (Ready s) ks are = AllZip-length (IsTextOf f (key_part s)) ws are.0 are.1 ∙ sym (ap length are.2 ∙ length-map are.0 (typed_bytes (key_part s)))
+as_many f ws (Other o) ks are = AllZip-length (IsSizedOf (bytes_form f o.key)) ws ks are
+
+-- ---- of a file
+-- the format of a shape
+pub format_as : (s : AnyShape) (k v : ℕ) (t : Hash) → k ≡ typed_len (any_key s) → v ≡ typed_len (any_value s) → any_hash s ≡ t → format_of k v (hash_of t) ≡ any_format s
+format_as s k v t key value hash =
+    let hash' = sym hash in
+    let lengths : format_of k v (hash_of t) ≡ format_of (typed_len (any_key s)) (typed_len (any_value s)) (hash_of (any_hash s)) = λ i. format_of (key i) (value i) (hash_of (hash' i)) in
+    lengths ∙ format_is s
+
+-- a failure of keys, or of memory, where nothing failed before
+pub failed_later : (B : List ℕ) (h : Option Hash) (ks : Kinds) (o : Option ℕ) (ws : List (List ℕ)) (s : AnyShape) (forms : GivenForms) → read_any B h ks ≡ Ok (s, forms)
+    → check_refusal_by (any_format s) o B ≡ None → (f : Failure) → is_fault forms.key ws s f → IsDeleteFailure B h ks o ws f
+failed_later B h ks o ws s forms found checked f fault =
+    subst (λ r. MatchResult r (λ x. fails_by_words x.1.key x.0 ws f (check_refusal_by (any_format x.0) o B)) (λ e. f ≡ e)) (sym found)
+    (subst (fails_by_words forms.key s ws f) (sym checked) fault)
+
+-- or the first rule that the bytes break
+pub failed_check : (B : List ℕ) (h : Option Hash) (ks : Kinds) (o : Option ℕ) (ws : List (List ℕ)) (s : AnyShape) (forms : GivenForms) (e : Error) → read_any B h ks ≡ Ok (s, forms)
+    → check_refusal_by (any_format s) o B ≡ Some e → IsDeleteFailure B h ks o ws (Refused e)
+failed_check B h ks o ws s forms e found broken =
+    subst (λ r. MatchResult r (λ x. fails_by_words x.1.key x.0 ws (Refused e) (check_refusal_by (any_format x.0) o B)) (λ f. Refused e ≡ f)) (sym found)
+    (subst (fails_by_words forms.key s ws (Refused e)) (sym broken) refl)
+
+-- or that of the shape
+pub failed_shape : (B : List ℕ) (h : Option Hash) (ks : Kinds) (o : Option ℕ) (ws : List (List ℕ)) (f : Failure) → read_any B h ks ≡ Err f → IsDeleteFailure B h ks o ws f
+failed_shape B h ks o ws f found =
+    subst (λ r. MatchResult r (λ x. fails_by_words x.1.key x.0 ws f (check_refusal_by (any_format x.0) o B)) (λ e. f ≡ e)) (sym found) refl
+
+-- no memory is a failure of keys
+pub no_memory : (f : Form) (ws : List (List ℕ)) (s : AnyShape) → is_fault f ws s Memory
+no_memory f ws (Ready s) = tt
+no_memory f ws (Other o) = tt
+
+-- what holds of the failure of no memory holds where there is no other
+pub failed_memory : {X : Type 0} (r : Result X Failure) (S : Failure → Type 0) → S Memory → OnErr r (r ≡ Err Memory) → IfErr r S
+failed_memory (Ok x) S s e = tt
+failed_memory {X = X} (Err f) S s e = subst S (sym (same_error f e)) s
+  where
+    same_error : (f : Failure) → ◌≡◌ {A = Result X Failure} (Err f) (Err Memory) → f ≡ Memory
+    same_error f e = cc

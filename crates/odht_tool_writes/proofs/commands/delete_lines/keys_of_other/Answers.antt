@@ -1,0 +1,19 @@
+use Rattle.std.proofs.Common.{map, IfOk, subst}
+use Rattle.std.specs.Prelude.{IfErr}
+use Rattle.std.specs.List.{AllZip}
+use Rattle.odht_tool_core.specs.SizedTexts.{IsSizedOf, sized_wanted}
+use Rattle.odht_tool_core.specs.declared.forms.Form.{Form}
+use Rattle.odht_tool_writes.specs.DeleteLines.{AreLinesKeys, TellsLine, are_lines_keys, is_line_fault}
+use Rattle.odht_tool_core.specs.declared.any.AnyShape.TheVariants.{Other}
+use Rattle.odht_tool_writes.proofs.KeyLines.{either}
+use Rattle.odht_tool_writes.proofs.commands.delete_lines.keys_of_other.Goals as goal
+
+pub returns : goal.returns
+returns g c =
+    let of = c.of.ensures in
+    let input = g.I.Read.remaining c.args.input.now in
+    let r = c.read_lines.result in
+    either r (λ x. are_lines_keys c.args.form input (map (λ line. line.items) x.lines.items) (Other c.args.shape) x.keys.items)
+    (is_line_fault c.args.form input (Other c.args.shape))
+    (subst (λ (f : Form). IfOk r (λ x. AreLinesKeys (IsSizedOf f) (AllZip (IsSizedOf f)) input (map (λ line. line.items) x.lines.items) x.keys.items)) of c.read_lines.ensures.ok)
+    (subst (λ (f : Form). IfErr r (TellsLine (IsSizedOf f) (sized_wanted f) input)) of c.read_lines.ensures.err)

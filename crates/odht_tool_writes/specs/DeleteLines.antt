@@ -1,0 +1,129 @@
+-- What `delete -` makes of the bytes B of a file, and of the lines of an input. R says which line is a text of which key.
+--     AreLinesKeys R T o ws ks ws are the lines of an input with the bytes o, where they are known, but that an empty last one
+--                          that is a text of no key may be left out; T says that they are texts of the keys ks
+--     are_lines_keys f o ws s ks   the same of keys of the shape s, in the form f
+--     IsFirstNoKey R p bytes t one of the lines of these bytes is the first that is a text of no key, where p is wanted, and no
+--                          empty last one; the text t tells it with its number, counted from 1
+--     TellsLine R p o f    the failure f tells so of the lines of the bytes o, where they are known; or the reader failed, or
+--                          there was no memory
+--     is_line_fault f o s g    the same of keys of the shape s, in the form f
+--     IsDeletedByLines B h ks o input B' status    B' are made, as for the words of a command line, of the table of the bytes B
+--                          for the keys of the lines of an input with these bytes
+--     IsLinesFailure B h ks o input f  f is the failure of the shape, or else the first rule that B breaks, or else tells of the
+--                          first line that is no key, or that the reader failed, or that there was no memory
+-- The parts of this, of the line of the number n:
+--     IsOneLineMore R o o' ws ws' ks ks'   ws' and ks' are one line more, the next one of the bytes o, and its key; o' are the
+--                          bytes after it
+--     IsLinesEnd R o ws ws' ks ks'     there is no line in the bytes o, or an empty last one that is no key, and no more is in
+--                          ws' and ks'
+--     TellsNumbered p n line f     the failure f tells that this line is no key, or there was no memory
+--     IsNextFailure R p n o f  f tells so of the next line of the bytes o; or the reader failed, or there was no memory
+use Rattle.std.specs.Prelude.{◌≡◌, ◌≢◌, ◌⊎◌, ⊤, ℕ, ◌+◌, List, [], ◌∷◌, ◌++◌, length, Option, None, Some, IfSome, MatchResult, string_bytes}
+use Rattle.std.specs.Io.KnownBytes.{IsAtEnd}
+use Rattle.std.specs.List.{AllZip}
+use Rattle.std.specs.Str.Lines.{lines}
+use Rattle.odht_header.specs.Refusals.{check_refusal_by}
+use Rattle.odht_header.specs.declared.error.Error.{Error}
+use Rattle.odht_tool_writes.specs.Deletes.{AreKeysOf, IsDeletedOf}
+use Rattle.odht_tool_tables.specs.KeyTexts.{AreLinesOf}
+use Rattle.odht_tool_tables.specs.KeyTexts.{IsTextOf}
+use Rattle.odht_tool_core.specs.AnyShapes.{any_format, read_any}
+use Rattle.odht_tool_core.specs.InputLines.{AreLeft, IsNextLine}
+use Rattle.odht_tool_core.specs.Keys.{IsLeftOut, IsTextOfNone}
+use Rattle.odht_tool_core.specs.Forms.{bytes_form}
+use Rattle.odht_tool_core.specs.Misreads.{misread_text, typed_wanted}
+use Rattle.odht_tool_core.specs.ReadyShapes.{typed_bytes}
+use Rattle.odht_tool_core.specs.ShapeList.{key_part}
+use Rattle.odht_tool_core.specs.SizedTexts.{IsSizedOf, sized_wanted}
+use Rattle.odht_tool_core.specs.declared.any.AnyShape.{AnyShape}
+use Rattle.odht_tool_core.specs.declared.any.AnyShape.TheVariants.{Ready, Other}
+use Rattle.odht_tool_core.specs.declared.failure.Failure.{Failure}
+use Rattle.odht_tool_core.specs.declared.failure.Failure.TheVariants.{Input, Memory, Misread, Refused}
+use Rattle.odht_tool_core.specs.declared.failure.LineFault.TheVariants.{Key}
+use Rattle.odht_tool_core.specs.declared.forms.Form.{Form}
+use Rattle.odht_tool_core.specs.declared.forms.Kinds.{Kinds}
+use Rattle.odht_tool_core.specs.declared.misread.Wanted.{Wanted}
+use Rattle.odht_tool_core.specs.declared.shapes.Hash.{Hash}
+use Rattle.odht_tool_core.specs.declared.status.Status.{Status}
+
+-- ---- the keys of the lines
+abbrev pub AreLinesKeys : {K X : Type 0} → (List ℕ → K → Type 0) → (List (List ℕ) → List X → Type 0) → Option (List ℕ) → List (List ℕ) → List X → Type 0
+AreLinesKeys R T input ws ks = T ws ks × IfSome input (λ bytes. AreLinesOf R bytes ws)
+
+abbrev pub are_lines_keys : Form → Option (List ℕ) → List (List ℕ) → AnyShape → List (List ℕ) → Type 0
+are_lines_keys f input ws (Ready s) ks =
+    let R = IsTextOf f (key_part s) in
+    AreLinesKeys R (AreKeysOf (typed_bytes (key_part s)) R) input ws ks
+are_lines_keys f input ws (Other o) ks =
+    let R = IsSizedOf (bytes_form f o.key) in
+    AreLinesKeys R (AllZip R) input ws ks
+
+pub record IsFirstNoKey {K : Type 0} (R : List ℕ → K → Type 0) (p : Wanted) (bytes text : List ℕ) : Type 0 where
+  pub before : List (List ℕ)
+  pub line : List ℕ
+  pub after : List (List ℕ)
+  pub place : lines bytes ≡ before ++ (line ∷ after)
+  pub keys : List K
+  pub earlier : AllZip R before keys
+  pub fault : IsTextOfNone R line
+  pub more : line ≡ [] → after ≢ []
+  pub told : text ≡ misread_text (Some (length before + 1)) Key p line
+
+abbrev pub TellsLine : {K : Type 0} → (List ℕ → K → Type 0) → Wanted → Option (List ℕ) → Failure → Type 0
+TellsLine R p input (Misread message) = IfSome input (λ bytes. IsFirstNoKey R p bytes (string_bytes message))
+TellsLine R p input (Input error) = ⊤
+TellsLine R p input Memory = ⊤
+TellsLine R p input _ = ⊥
+
+abbrev pub is_line_fault : Form → Option (List ℕ) → AnyShape → Failure → Type 0
+is_line_fault f input (Ready s) failure = TellsLine (IsTextOf f (key_part s)) (typed_wanted f (key_part s)) input failure
+is_line_fault f input (Other o) failure = TellsLine (IsSizedOf (bytes_form f o.key)) (sized_wanted (bytes_form f o.key)) input failure
+
+-- ---- of a file
+pub record IsDeletedByLines (B : List ℕ) (h : Option Hash) (ks : Kinds) (o : Option ℕ) (input : Option (List ℕ)) (B' : List ℕ) (status : Status) : Type 0 where
+  pub words : List (List ℕ)
+  pub deleted : IsDeletedOf B h ks o words B' status
+  pub read : are_lines_keys deleted.forms.key input words deleted.shape deleted.keys
+
+abbrev pub fails_by_lines : Form → AnyShape → Option (List ℕ) → Failure → Option Error → Type 0
+fails_by_lines f s input failure None = is_line_fault f input s failure
+fails_by_lines f s input failure (Some error) = failure ≡ Refused error
+
+abbrev pub IsLinesFailure : List ℕ → Option Hash → Kinds → Option ℕ → Option (List ℕ) → Failure → Type 0
+IsLinesFailure B h ks o input failure =
+    MatchResult (read_any B h ks)
+    (λ x. fails_by_lines x.1.key x.0 input failure (check_refusal_by (any_format x.0) o B))
+    (λ f. failure ≡ f)
+
+-- ---- one line
+pub record IsOneLineMore {K : Type 0} (R : List ℕ → K → Type 0) (old new : Option (List ℕ)) (ws ws' : List (List ℕ)) (ks ks' : List K) : Type 0 where
+  pub line : List ℕ
+  pub key : K
+  pub next : IsNextLine old new line
+  pub text : R line key
+  pub lines_are : ws' ≡ ws ++ (line ∷ [])
+  pub keys_are : ks' ≡ ks ++ (key ∷ [])
+
+pub record IsLinesEnd {K : Type 0} (R : List ℕ → K → Type 0) (old : Option (List ℕ)) (ws ws' : List (List ℕ)) (ks ks' : List K) : Type 0 where
+  pub end : IsAtEnd old ⊎ IsLeftOut R old
+  pub lines_are : ws' ≡ ws
+  pub keys_are : ks' ≡ ks
+
+abbrev pub TellsNumbered : Wanted → ℕ → List ℕ → Failure → Type 0
+TellsNumbered p n line (Misread message) = string_bytes message ≡ misread_text (Some n) Key p line
+TellsNumbered p n line Memory = ⊤
+TellsNumbered p n line _ = ⊥
+
+pub record IsNextNoKey {K : Type 0} (R : List ℕ → K → Type 0) (p : Wanted) (number : ℕ) (old : Option (List ℕ)) (text : List ℕ) : Type 0 where
+  pub then : Option (List ℕ)
+  pub line : List ℕ
+  pub next : IsNextLine old then line
+  pub fault : IsTextOfNone R line
+  pub more : line ≡ [] → AreLeft then
+  pub told : text ≡ misread_text (Some number) Key p line
+
+abbrev pub IsNextFailure : {K : Type 0} → (List ℕ → K → Type 0) → Wanted → ℕ → Option (List ℕ) → Failure → Type 0
+IsNextFailure R p n old (Misread message) = IsNextNoKey R p n old (string_bytes message)
+IsNextFailure R p n old (Input error) = ⊤
+IsNextFailure R p n old Memory = ⊤
+IsNextFailure R p n old _ = ⊥

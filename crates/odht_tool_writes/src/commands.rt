@@ -1,0 +1,7 @@
+//! The commands, a module each.
+
+pub mod build;
+pub mod delete;
+pub mod delete_lines;
+pub mod merge;
+pub mod rebuild;

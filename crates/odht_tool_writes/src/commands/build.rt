@@ -1,0 +1,215 @@
+//! `odht build` and `odht put`: tables from the lines of standard input.
+ghost use Rattle.std.specs.Prelude.{◌≡◌, None, IfErr, IfOk};
+ghost use Rattle.odht_header.specs.Refusals.{check_refusal_by};
+ghost use Rattle.odht.specs.Inserts.{IsFresh};
+ghost use Rattle.odht_tool_writes.specs.Inserted.{copy_failure};
+
+use crate::inserts::insert_into_file;
+use crate::inserts::lines::{Place, check_lines, insert_lines, makes_no_table};
+use crate::shapes::for_shape;
+use crate::sized::builds::{build_other, put_other};
+use odht::HashTableOwned;
+use odht::config::{Coded, Config};
+use odht::load::Percent;
+use odht_tool_core::any::{AnyShape, read_any};
+use odht_tool_core::arguments::BuildOptions;
+use odht_tool_core::failure::Failure;
+use odht_tool_core::forms::{Forms, GivenForms, Kinds, LineForms, OwnForms};
+use odht_tool_core::progress::Watch;
+use odht_tool_core::shapes::{Hash, Shape};
+use odht_tool_core::status::Status;
+use odht_tool_core::targets::Target;
+use odht_tool_core::text::Text;
+use odht_tool_tables::checks::check_bytes;
+use std::alloc::Global;
+use std::io::{BufRead, Write};
+use std::os::fd::AsFd;
+use std::rt::{Clock, Files};
+
+/// Makes a table from the lines, and stores it as the file; or writes it to `output`, where the name stands for that.
+pub fn build<R: Files + AllocGlobal + Clock, I: BufRead, O: Write, E: Write>(
+    rt: &R,
+    file: &str,
+    options: BuildOptions,
+    input: &mut I,
+    output: &mut O,
+    errors: &mut E,
+) -> Result<Status, Failure>
+where
+    R::File: AsFd,
+{
+    let (forms, delimiter) = (options.forms, options.delimiter);
+    match options.shape {
+        AnyShape::Ready(shape) if forms.are_own() && delimiter == b'\t' => {
+            build_in(rt, file, shape, OwnForms, options, input, output, errors)
+        }
+        AnyShape::Ready(shape) => {
+            let forms = LineForms { forms, delimiter };
+            build_in(rt, file, shape, forms, options, input, output, errors)
+        }
+        AnyShape::Other(shape) => { build_other(rt, file, shape, options, input, output, errors) }
+    }
+}
+
+// The same of a ready shape, where the forms are known.
+fn build_in<F: Forms, R: Files + AllocGlobal + Clock, I: BufRead, O: Write, E: Write>(
+    rt: &R,
+    file: &str,
+    shape: Shape,
+    forms: F,
+    options: BuildOptions,
+    input: &mut I,
+    output: &mut O,
+    errors: &mut E,
+) -> Result<Status, Failure>
+where
+    R::File: AsFd,
+{
+    for_shape!(
+        shape,
+        build_ready[F, R, I, O, E](rt, file, forms, options, input, output, errors)
+    )
+}
+
+fn build_ready<C: Config, F: Forms, R: Files + AllocGlobal + Clock, I: BufRead, O: Write, E: Write>(
+    rt: &R,
+    file: &str,
+    forms: F,
+    options: BuildOptions,
+    input: &mut I,
+    output: &mut O,
+    errors: &mut E,
+) -> Result<Status, Failure>
+where
+    C::Key: Text,
+    C::Value: Text,
+    R::File: AsFd,
+{
+    let (duplicates, is_check) = (options.duplicates, options.is_check);
+    let (capacity, percent, watch) = (options.capacity, options.percent, options.watch);
+    let breaks_links = options.breaks_links;
+    if makes_no_table(duplicates, is_check) {
+        return check_lines::<C::Key, C::Value, F, R, I, E>(rt, forms, watch, input, errors);
+    }
+    let place = Place::find(rt, file, is_check, breaks_links)?;
+    let table = make_table::<C>(rt.alloc(), capacity, percent)?;
+    insert_lines(rt, place, table, forms, options, input, output, errors)
+}
+
+fn make_table<C: Config>(
+    alloc: Global,
+    capacity: usize,
+    percent: Percent,
+) -> Result<HashTableOwned<C>, Failure>
+    ensures { IfOk result (IsFresh ⟦<C as Coded>⟧.coding.format capacity percent) }
+{
+    HashTableOwned::with_capacity(alloc, capacity, percent.value()).map_err(Failure::of_table)
+}
+
+/// Adds the lines to the table of the target, which has these bytes. They are checked whole before, with the bound of
+/// searches where there is one.
+pub fn put<R: Files + AllocGlobal + Clock, I: BufRead, E: Write>(
+    rt: &R,
+    target: Target,
+    bytes: Vec<u8>,
+    hash: Option<Hash>,
+    kinds: Kinds,
+    bound: Option<usize>,
+    watch: Watch,
+    input: &mut I,
+    errors: &mut E,
+) -> Result<Status, Failure>
+where
+    R::File: AsFd,
+{
+    let (shape, forms) = read_any(bytes.as_slice(), hash, kinds)?;
+    match shape {
+        AnyShape::Ready(shape) => put_ready(
+            rt, target, shape, forms, bytes, bound, watch, input, errors,
+        ),
+        AnyShape::Other(shape) => put_other(
+            rt, target, shape, forms, bytes, bound, watch, input, errors,
+        ),
+    }
+}
+
+// The same of a ready shape, in these forms.
+fn put_ready<R: Files + AllocGlobal + Clock, I: BufRead, E: Write>(
+    rt: &R,
+    target: Target,
+    shape: Shape,
+    forms: GivenForms,
+    bytes: Vec<u8>,
+    bound: Option<usize>,
+    watch: Watch,
+    input: &mut I,
+    errors: &mut E,
+) -> Result<Status, Failure>
+where
+    R::File: AsFd,
+{
+    if forms.are_own() {
+        put_in(
+            rt, target, shape, OwnForms, bytes, bound, watch, input, errors,
+        )
+    } else {
+        put_in(rt, target, shape, forms, bytes, bound, watch, input, errors)
+    }
+}
+
+// The same where the shape and the forms are known.
+fn put_in<F: Forms, R: Files + AllocGlobal + Clock, I: BufRead, E: Write>(
+    rt: &R,
+    target: Target,
+    shape: Shape,
+    forms: F,
+    bytes: Vec<u8>,
+    bound: Option<usize>,
+    watch: Watch,
+    input: &mut I,
+    errors: &mut E,
+) -> Result<Status, Failure>
+where
+    R::File: AsFd,
+{
+    for_shape!(
+        shape,
+        put_file[F, R, I, E](rt, target, forms, bytes, bound, watch, input, errors)
+    )
+}
+
+// The bytes are freed once the table has a copy.
+fn put_file<C: Config, F: Forms, R: Files + AllocGlobal + Clock, I: BufRead, E: Write>(
+    rt: &R,
+    target: Target,
+    forms: F,
+    bytes: Vec<u8>,
+    bound: Option<usize>,
+    watch: Watch,
+    input: &mut I,
+    errors: &mut E,
+) -> Result<Status, Failure>
+where
+    C::Key: Text,
+    C::Value: Text,
+    R::File: AsFd,
+{
+    let table = copy_table::<C>(rt.alloc(), bytes, bound)?;
+    insert_into_file(rt, target, table, forms, watch, input, errors)
+}
+
+fn copy_table<C: Config>(
+    alloc: Global,
+    bytes: Vec<u8>,
+    bound: Option<usize>,
+) -> Result<HashTableOwned<C>, Failure>
+    ensures ok { IfOk result (λ table. table ≡ bytes.items) }
+    ensures valid { IfOk result (λ _. let F = ⟦<C as Coded>⟧.coding.format
+        in check_refusal_by F bound bytes.items ≡ None) }
+    ensures err { IfErr result (λ failure. let F = ⟦<C as Coded>⟧.coding.format
+        in failure ≡ copy_failure F bound bytes.items) }
+{
+    let bytes = bytes.as_slice();
+    check_bytes::<C>(bytes, bound).map_err(Failure::Refused)?;
+    HashTableOwned::from_raw_bytes_unchecked(alloc, bytes).map_err(Failure::of_table)
+}

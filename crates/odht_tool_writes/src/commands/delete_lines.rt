@@ -1,0 +1,205 @@
+//! `odht delete FILE -`: the keys are the lines of standard input.
+ghost use Rattle.std.specs.Prelude.{◌≡◌, [], ◌++◌, ◌∷◌, IfErr, IfOk, IfSome, IsFalse, IsTrue};
+ghost use Rattle.std.specs.Prelude.{MatchResult, OnOk, Some, map, string_bytes};
+ghost use Rattle.std.specs.List.{AllZip};
+ghost use Rattle.odht_tool_core.specs.Keys.{IsReadAs};
+ghost use Rattle.odht_tool_core.specs.Misreads.{misread_text};
+ghost use Rattle.odht_tool_tables.specs.KeyTexts.{AreLinesOf};
+ghost use Rattle.odht_tool_writes.specs.DeleteLines.{AreLinesKeys, IsDeletedByLines, IsLinesFailure};
+ghost use Rattle.odht_tool_writes.specs.DeleteLines.{IsNextFailure, IsOneLineMore, IsLinesEnd};
+ghost use Rattle.odht_tool_writes.specs.DeleteLines.{TellsLine, TellsNumbered, are_lines_keys};
+ghost use Rattle.odht_tool_writes.specs.DeleteLines.{is_line_fault};
+ghost use Rattle.odht_tool_writes.specs.Deletes.{AreKeysOf};
+
+use crate::commands::delete::{deleted_for, encoded_keys};
+use crate::shapes::for_shape;
+use odht::config::{Coded, Config};
+use odht::dynamic::ShortBytes;
+use odht_tool_core::any::{AnyShape, OtherShape, read_any};
+use odht_tool_core::arguments::DeleteOptions;
+use odht_tool_core::failure::{Failure, LineFault};
+use odht_tool_core::forms::Form;
+use odht_tool_core::keys::{NextKey, next_key_as, push_key};
+use odht_tool_core::misread::Misread;
+use odht_tool_core::progress::{Progress, Watch};
+use odht_tool_core::shapes::Shape;
+use odht_tool_core::status::Status;
+use odht_tool_core::text::Text;
+use odht_tool_tables::checks::check_any;
+use std::alloc::Global;
+use std::io::{BufRead, Write};
+use std::rt::Clock;
+
+/// Lines, and the keys that they are the texts of.
+#[derive(Drop)]
+pub struct KeyLines<K> {
+    pub lines: Vec<Vec<u8>>,
+    pub keys: Vec<K>,
+}
+
+/// The bytes of the new table, without the keys of the lines of an input. Those of the old one are checked whole before,
+/// with the bound of searches where there is one. A line on `errors` tells of each key that is absent.
+pub fn deleted_by_lines<R: AllocGlobal + Clock, I: BufRead, E: Write>(
+    rt: &R,
+    file: &str,
+    bytes: Vec<u8>,
+    options: &DeleteOptions,
+    input: &mut I,
+    errors: &mut E,
+) -> Result<(Vec<u8>, Status), Failure>
+    ensures ok { let o = options.now in IfOk result (λ x. IsDeletedByLines bytes.items o.hash
+        o.kinds o.bound (I.remaining input.old) x.0.items x.1) }
+    ensures err { let o = options.now in IfErr result (IsLinesFailure bytes.items o.hash
+        o.kinds o.bound (I.remaining input.old)) }
+{
+    let bytes = bytes.as_slice();
+    let found = read_any(bytes, options.hash, options.kinds)?;
+    let (shape, forms) = found;
+    match check_any(shape, bytes, options.bound) {
+        Ok(()) => {
+            let read = keys_of_lines(rt.alloc(), shape, forms.key, input)?;
+            let lines = read.lines.as_slice();
+            let keys = read.keys.as_slice();
+            let progress = Progress::new(rt, Watch::of(options.has_progress));
+            deleted_for(rt, file, shape, bytes, lines, keys, progress, errors)
+        }
+        Err(error) => Err(Failure::Refused(error)),
+    }
+}
+
+// The lines, and the bytes of their keys in this form, or the first line that is no key.
+fn keys_of_lines<I: BufRead>(
+    alloc: Global,
+    shape: AnyShape,
+    form: Form,
+    input: &mut I,
+) -> Result<KeyLines<ShortBytes>, Failure>
+    ensures { MatchResult result (λ x. are_lines_keys form (I.remaining input.old)
+        (map (λ line. line.items) x.lines.items) shape x.keys.items)
+        (is_line_fault form (I.remaining input.old) shape) }
+{
+    match shape {
+        AnyShape::Ready(shape) => keys_of_ready(alloc, shape, form, input),
+        AnyShape::Other(shape) => keys_of_other(alloc, shape, form, input),
+    }
+}
+
+fn keys_of_ready<I: BufRead>(
+    alloc: Global,
+    shape: Shape,
+    form: Form,
+    input: &mut I,
+) -> Result<KeyLines<ShortBytes>, Failure>
+    ensures { MatchResult result (λ x. are_lines_keys form (I.remaining input.old)
+        (map (λ line. line.items) x.lines.items) (AnyShape.Ready shape) x.keys.items)
+        (is_line_fault form (I.remaining input.old) (AnyShape.Ready shape)) }
+{
+    for_shape!(shape, keys_of[I](alloc, form, input))
+}
+
+fn keys_of_other<I: BufRead>(
+    alloc: Global,
+    shape: OtherShape,
+    form: Form,
+    input: &mut I,
+) -> Result<KeyLines<ShortBytes>, Failure>
+    ensures { MatchResult result (λ x. are_lines_keys form (I.remaining input.old)
+        (map (λ line. line.items) x.lines.items) (AnyShape.Other shape) x.keys.items)
+        (is_line_fault form (I.remaining input.old) (AnyShape.Other shape)) }
+{
+    read_lines(alloc, form.of(shape.key), input)
+}
+
+// The same of a configuration.
+fn keys_of<C: Config, I: BufRead>(
+    alloc: Global,
+    form: Form,
+    input: &mut I,
+) -> Result<KeyLines<ShortBytes>, Failure>
+where
+    C::Key: Text,
+    ensures { let R = IsReadAs (C.Key.is_word form) (C.Key.stands_for form)
+        in MatchResult result (λ x. AreLinesKeys R (AreKeysOf ⟦<C as Coded>⟧.coding.key_bytes R)
+        (I.remaining input.old) (map (λ line. line.items) x.lines.items) x.keys.items)
+        (TellsLine R (C.Key.wants form) (I.remaining input.old)) }
+{
+    let read = read_lines::<C::Key, I>(alloc, form, input)?;
+    let keys = encoded_keys::<C>(alloc, read.keys.as_slice())?;
+    Ok(KeyLines {
+        lines: read.lines,
+        keys,
+    })
+}
+
+// The lines of an input, but for an empty last one that is no key, and their keys; or the first line that is no key.
+fn read_lines<K: Text, I: BufRead>(
+    alloc: Global,
+    form: Form,
+    input: &mut I,
+) -> Result<KeyLines<K>, Failure>
+    ensures ok { let R = IsReadAs (K.is_word form) (K.stands_for form)
+        in IfOk result (λ x. AreLinesKeys R (AllZip R) (I.remaining input.old)
+        (map (λ line. line.items) x.lines.items) x.keys.items) }
+    ensures err { IfErr result (TellsLine (IsReadAs (K.is_word form) (K.stands_for form))
+        (K.wants form) (I.remaining input.old)) }
+{
+    let mut lines = Vec::new(alloc);
+    let mut keys = Vec::new(alloc);
+    for number in 1..u64::MAX {
+        if !take_line(alloc, number, form, input, &mut lines, &mut keys)? {
+            return Ok(KeyLines { lines, keys });
+        }
+    }
+    // There is no room for so many.
+    Err(Failure::Memory)
+}
+
+// Adds the line of this number and its key, if there is such a line. Returns whether there is.
+fn take_line<K: Text, I: BufRead>(
+    alloc: Global,
+    number: u64,
+    form: Form,
+    input: &mut I,
+    lines: &mut Vec<Vec<u8>>,
+    keys: &mut Vec<K>,
+) -> Result<bool, Failure>
+    ensures more { let R = IsReadAs (K.is_word form) (K.stands_for form)
+        in let items = map (λ line. line.items)
+        in IfOk result (λ more. IsTrue more → IsOneLineMore R (I.remaining input.old)
+        (I.remaining input.new) (items lines.old.items) (items lines.new.items)
+        keys.old.items keys.new.items) }
+    ensures end { let R = IsReadAs (K.is_word form) (K.stands_for form)
+        in let items = map (λ line. line.items)
+        in IfOk result (λ more. IsFalse more → IsLinesEnd R (I.remaining input.old)
+        (items lines.old.items) (items lines.new.items) keys.old.items keys.new.items) }
+    ensures err { IfErr result (IsNextFailure (IsReadAs (K.is_word form) (K.stands_for form))
+        (K.wants form) number (I.remaining input.old)) }
+{
+    let mut line = Vec::new(alloc);
+    match next_key_as(input, &mut line, form) {
+        Ok(NextKey::Key(key)) => {
+            lines.push(line).map_err(|_| Failure::Memory)?;
+            push_key(keys, key)?;
+            Ok(true)
+        }
+        Ok(NextKey::End) => Ok(false),
+        Ok(NextKey::NoKey) => Err(wrong_line::<K>(alloc, number, line.as_slice(), form)),
+        Err(error) => Err(Failure::Input(error)),
+    }
+}
+
+// What is said of the line of this number, which is no key.
+fn wrong_line<K: Text>(alloc: Global, number: u64, line: &[u8], form: Form) -> Failure
+    ensures { TellsNumbered (K.wants form) number line.now result }
+{
+    let misread = Misread {
+        line: Some(number),
+        fault: LineFault::Key,
+        wanted: K::wanted(form),
+        text: line,
+    };
+    match misread.message(alloc) {
+        Ok(message) => Failure::Misread(message),
+        Err(_) => Failure::Memory,
+    }
+}

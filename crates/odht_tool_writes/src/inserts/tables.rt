@@ -1,0 +1,143 @@
+//! Inserts into the tables of configurations, and of lengths that are known at run time alone.
+ghost use Rattle.std.specs.Prelude.{◌≡◌, Err, IfOk, OnErr, OnOk};
+ghost use Rattle.odht.specs.Dynamic.{dyn_coding};
+ghost use Rattle.odht_tool_core.specs.declared.failure.Failure.TheVariants.{Memory};
+ghost use Rattle.odht_tool_writes.specs.Inserted.{AreInserted, IsNewInsert};
+
+use super::Inserts;
+use odht::HashTableOwned;
+use odht::config::{Coded, Config};
+use odht::dynamic::{DynTableOwned, ShortBytes};
+use odht::hash::HashFn;
+use odht_tool_core::failure::Failure;
+use odht_tool_core::text::Text;
+
+impl<C: Config> Inserts for HashTableOwned<C>
+where
+    C::Key: Text,
+    C::Value: Text,
+{
+    type Key = C::Key;
+
+    type Value = C::Value;
+
+    ghost coding = { λ table. ⟦<C as Coded>⟧.coding };
+
+    ghost bytes = { λ table. table };
+
+    fn insert_pairs(&mut self, pairs: &[(C::Key, C::Value)]) -> Result<(), Failure> {
+        insert_all(self, pairs)
+    }
+
+    fn insert_new(&mut self, key: &C::Key, value: &C::Value) -> Result<bool, Failure> {
+        insert_absent(self, key, value)
+    }
+
+    fn pair_count(&self) -> usize {
+        self.len()
+    }
+
+    fn all_bytes(&self) -> &[u8] {
+        self.raw_bytes()
+    }
+}
+
+fn insert_all<C: Config>(
+    table: &mut HashTableOwned<C>,
+    pairs: &[(C::Key, C::Value)],
+) -> Result<(), Failure>
+    ensures inserted { OnOk result
+        (AreInserted ⟦<C as Coded>⟧.coding table.old pairs.now table.new) }
+    ensures memory { OnErr result (result ≡ Err Memory) }
+{
+    let (_, inserted) = table.insert_all(pairs);
+    match inserted {
+        Ok(()) => Ok(()),
+        Err(_) => Err(Failure::Memory),
+    }
+}
+
+// Inserts the pair where its key has no value, and returns whether that is so.
+fn insert_absent<C: Config>(
+    table: &mut HashTableOwned<C>,
+    key: &C::Key,
+    value: &C::Value,
+) -> Result<bool, Failure>
+    ensures new { IfOk result (λ new. IsNewInsert ⟦<C as Coded>⟧.coding table.old
+        key.now value.now new table.new) }
+    ensures memory { OnErr result (result ≡ Err Memory) }
+{
+    if table.contains_key(key) {
+        return Ok(false);
+    }
+    match table.insert(key, value) {
+        Ok(_) => Ok(true),
+        Err(_) => Err(Failure::Memory),
+    }
+}
+
+impl<H: HashFn> Inserts for DynTableOwned<H> {
+    type Key = ShortBytes;
+
+    type Value = ShortBytes;
+
+    ghost use Rattle.odht.specs.Dynamic.{dyn_coding};
+
+    ghost coding = { λ table. dyn_coding table H.hash };
+
+    ghost bytes = { λ table. table.store };
+
+    fn insert_pairs(&mut self, pairs: &[(ShortBytes, ShortBytes)]) -> Result<(), Failure> {
+        insert_each(self, pairs)
+    }
+
+    fn insert_new(&mut self, key: &ShortBytes, value: &ShortBytes) -> Result<bool, Failure> {
+        insert_absent_bytes(self, key.as_slice(), value.as_slice())
+    }
+
+    fn pair_count(&self) -> usize {
+        self.len()
+    }
+
+    fn all_bytes(&self) -> &[u8] {
+        self.raw_bytes()
+    }
+}
+
+fn insert_each<H: HashFn>(
+    table: &mut DynTableOwned<H>,
+    pairs: &[(ShortBytes, ShortBytes)],
+) -> Result<(), Failure>
+    ensures inserted { OnOk result (AreInserted (dyn_coding table.old H.hash) table.old.store
+        pairs.now table.new.store) }
+    ensures memory { OnErr result (result ≡ Err Memory) }
+{
+    for index in 0..pairs.len() {
+        let (key, value) = &pairs[index];
+        // Keys and values of the lines have the lengths of the table.
+        if let Err(_) = table.insert(key.as_slice(), value.as_slice()) {
+            return Err(Failure::Memory);
+        }
+    }
+    Ok(())
+}
+
+// The same of a table of lengths that are known at run time alone, which those of the key and the value are.
+fn insert_absent_bytes<H: HashFn>(
+    table: &mut DynTableOwned<H>,
+    key: &[u8],
+    value: &[u8],
+) -> Result<bool, Failure>
+    ensures new { IfOk result (λ new. IsNewInsert (dyn_coding table.old H.hash) table.old.store
+        key.now value.now new table.new.store) }
+    ensures memory { OnErr result (result ≡ Err Memory) }
+{
+    let is_known = table.contains_key(key);
+    if is_known {
+        return Ok(false);
+    }
+    match table.insert(key, value) {
+        Ok(_) => Ok(true),
+        Err(_) => Err(Failure::Memory),
+    }
+}

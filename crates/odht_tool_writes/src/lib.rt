@@ -1,0 +1,7 @@
+//! `odht_tool_writes`: the commands of `odht_tool` that make tables or replace them.
+#![tactic(auto)]
+
+pub mod commands;
+mod inserts;
+mod shapes;
+mod sized;

@@ -1,0 +1,5 @@
+//! Tables of lengths that are numbers, by command.
+
+pub mod builds;
+pub mod deletes;
+pub mod merges;

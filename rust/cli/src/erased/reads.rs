@@ -1,0 +1,10 @@
+// Made by `make rust` of crates/odht_tool_reads/src/lib.rt.
+//! `odht_tool_reads`: the commands of `odht_tool` that read tables and write none.
+
+use crate::host::prelude::*;
+
+pub mod commands;
+mod lookups;
+pub mod positions;
+mod shapes;
+mod sized;

@@ -1,0 +1,15 @@
+// Made by `make rust` of crates/odht_tool_reads/src/commands.rt.
+//! The commands, a module each.
+
+use crate::host::prelude::*;
+
+pub mod check;
+pub mod check_json;
+pub mod count;
+pub mod diff;
+pub mod dump;
+pub mod find;
+pub mod find_json;
+pub mod get;
+pub mod keys;
+pub mod order;

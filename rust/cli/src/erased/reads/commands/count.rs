@@ -1,0 +1,38 @@
+// Made by `make rust` of crates/odht_tool_reads/src/commands/count.rt.
+//! `odht count`: how many items a table file has.
+
+use crate::erased::core::any::AnyShape;
+use crate::erased::core::failure::Failure;
+use crate::erased::core::found::found_any;
+use crate::erased::core::shapes::Hash;
+use crate::erased::core::status::{of_output, Status};
+use crate::erased::tables::checks::check_any;
+use crate::host::prelude::*;
+use crate::proved::header::header::Header;
+use std::io::{self, Write};
+
+/// `odht count` of the bytes of a file: writes the label, and how many items the table has; or fails with the first
+/// rule that the bytes break, as `check` finds it.
+pub fn count_file<O: Write>(
+    label: &str,
+    bytes: &[u8],
+    hash: Option<Hash>,
+    bound: Option<usize>,
+    output: &mut O,
+) -> Result<Status, Failure> {
+    let shape = found_any(bytes, hash)?;
+    let count = count_any(shape, bytes, bound)?;
+    of_output(write_count(label, count, output))
+}
+
+// How many items a table of this shape has, or the first rule that it breaks.
+fn count_any(shape: AnyShape, bytes: &[u8], bound: Option<usize>) -> Result<usize, Failure> {
+    match check_any(shape, bytes, bound) {
+        Ok(()) => Ok(Header::of(bytes).item_count()),
+        Err(error) => Err(Failure::Refused(error)),
+    }
+}
+
+fn write_count<O: Write>(label: &str, count: usize, output: &mut O) -> io::Result<()> {
+    writeln!(output, "{label}{count}")
+}

@@ -1,0 +1,75 @@
+// Made by `make rust` of crates/odht_tool_reads/src/commands/diff.rt.
+//! `odht diff`: how the pairs of two table files differ.
+
+use crate::erased::core::any::AnyShape;
+use crate::erased::core::arguments::DiffOptions;
+use crate::erased::core::failure::Failure;
+use crate::erased::core::forms::{GivenForms, Kinds};
+use crate::erased::core::shapes::Hash;
+use crate::erased::core::status::Status;
+use crate::erased::core::typed::Texts;
+use crate::erased::reads::sized::diffs::diff_lengths;
+use crate::erased::tables::files::{finish_as, read_bytes};
+use crate::erased::tables::whole::{have_same_sizes, read_whole, sizes_of, write_sizes};
+use crate::host::prelude::*;
+use crate::host::rt::Files;
+use crate::proved::tables::{FxHashFn, UnHashFn};
+use std::io::{BufRead, Write};
+
+/// Compares a file with another one. A failure of the other is reported here.
+pub fn diff<R: Files + AllocGlobal, I: BufRead, O: Write, E: Write>(
+    rt: &R,
+    file: &str,
+    options: DiffOptions,
+    input: &mut I,
+    output: &mut O,
+    errors: &mut E,
+) -> Result<Status, Failure> {
+    let first = read_bytes(rt, file, input)?;
+    let first = first.as_slice();
+    let (shape, forms) = read_whole(first, options.hash, options.kinds, options.bound)?;
+    let other = options.other.as_str();
+    let second = match read_bytes(rt, other, input) {
+        Ok(second) => second,
+        Err(failure) => return Ok(finish_as(other, Err(failure), Status::Trouble, errors)),
+    };
+    let second = second.as_slice();
+    // Its keys and values are written in the texts of the first one.
+    let kinds = Kinds { key: None, value: None };
+    match read_whole(second, options.hash, kinds, options.bound) {
+        Ok((beside, _)) if have_same_sizes(shape, beside) => {
+            diff_tables(shape, forms, first, beside, second, output)
+        }
+        Ok((beside, _)) => {
+            // A line that cannot be written is no failure.
+            let _ = write_sizes(other, file, sizes_of(beside), sizes_of(shape), errors);
+            Ok(Status::Trouble)
+        }
+        Err(failure) => Ok(finish_as(other, Err(failure), Status::Trouble, errors)),
+    }
+}
+
+/// Compares the bytes of two files, which are valid tables of these shapes: writes a line for each pair that differs, in
+/// the texts of the first one, or, where none does, whether the bytes do.
+pub fn diff_tables<O: Write>(
+    shape: AnyShape,
+    forms: GivenForms,
+    first: &[u8],
+    beside: AnyShape,
+    second: &[u8],
+    output: &mut O,
+) -> Result<Status, Failure> {
+    let texts = Texts::of(shape, forms);
+    match (shape.hash(), beside.hash()) {
+        (Hash::Fx, Hash::Fx) => diff_lengths::<FxHashFn, FxHashFn, O>(texts, first, second, output),
+        (Hash::Fx, Hash::Unhash) => {
+            diff_lengths::<FxHashFn, UnHashFn, O>(texts, first, second, output)
+        }
+        (Hash::Unhash, Hash::Fx) => {
+            diff_lengths::<UnHashFn, FxHashFn, O>(texts, first, second, output)
+        }
+        (Hash::Unhash, Hash::Unhash) => {
+            diff_lengths::<UnHashFn, UnHashFn, O>(texts, first, second, output)
+        }
+    }
+}

@@ -1,0 +1,121 @@
+// Made by `make rust` of crates/odht_tool_reads/src/commands/dump.rt.
+//! `odht dump`: the pairs of a table file.
+
+use crate::erased::core::any::read_any;
+use crate::erased::core::failure::Failure;
+use crate::erased::core::forms::{Form, Kinds};
+use crate::erased::core::json::pairs::write_pair_object;
+use crate::erased::core::shapes::{Hash, Part};
+use crate::erased::core::sized_slots::write_slots;
+use crate::erased::core::status::{of_output, Status};
+use crate::erased::core::typed::stored::{Digits32, Digits64, Stored, Typed};
+use crate::erased::core::typed::Texts;
+use crate::erased::tables::sized::{lengths_of, open_lengths};
+use crate::host::prelude::*;
+use crate::proved::tables::hash::HashFn;
+use crate::proved::tables::raw_table::SizedIter;
+use crate::proved::tables::{FxHashFn, UnHashFn};
+use std::io::{self, Write};
+
+/// `odht dump` of the bytes of a file, with `--slots` and with `--json` or without: writes a line for each pair, in slot
+/// order.
+pub fn dump_file<O: Write>(
+    bytes: &[u8],
+    hash: Option<Hash>,
+    kinds: Kinds,
+    is_slots: bool,
+    is_json: bool,
+    output: &mut O,
+) -> Result<Status, Failure> {
+    let found = read_any(bytes, hash, kinds)?;
+    let (shape, forms) = found;
+    let texts = Texts::of(shape, forms);
+    match shape.hash() {
+        Hash::Fx => dump_table::<FxHashFn, O>(texts, bytes, is_slots, is_json, output),
+        Hash::Unhash => dump_table::<UnHashFn, O>(texts, bytes, is_slots, is_json, output),
+    }
+}
+
+// The same of a hash function.
+fn dump_table<H: HashFn, O: Write>(
+    texts: Texts,
+    bytes: &[u8],
+    is_slots: bool,
+    is_json: bool,
+    output: &mut O,
+) -> Result<Status, Failure> {
+    let table = open_lengths::<H>(lengths_of(texts.key, texts.value), bytes)?;
+    if is_slots {
+        return of_output(write_slots(texts, is_json, &table.as_sized(), output));
+    }
+    let pairs = table.iter();
+    if is_json {
+        return of_output(write_objects(texts, pairs, output));
+    }
+    of_output(write_lines(texts, pairs, output))
+}
+
+// Writes the object of each pair on a line.
+fn write_objects<H: HashFn, O: Write>(
+    texts: Texts,
+    pairs: SizedIter<'_, H>,
+    output: &mut O,
+) -> io::Result<()> {
+    for (key, value) in pairs {
+        write_pair_object(texts, key, value, output)?;
+    }
+    Ok(())
+}
+
+// Writes each pair on a line. What is written of keys is known first.
+fn write_lines<H: HashFn, O: Write>(
+    texts: Texts,
+    pairs: SizedIter<'_, H>,
+    output: &mut O,
+) -> io::Result<()> {
+    match (texts.key, texts.forms.key) {
+        (Part::U32, Form::Own) => write_values(Digits32, texts, pairs, output),
+        (Part::U64, Form::Own) => write_values(Digits64, texts, pairs, output),
+        (part, form) => write_values(Typed { part, form }, texts, pairs, output),
+    }
+}
+
+// And then what is written of values.
+fn write_values<K: Stored, H: HashFn, O: Write>(
+    keys: K,
+    texts: Texts,
+    pairs: SizedIter<'_, H>,
+    output: &mut O,
+) -> io::Result<()> {
+    match (texts.value, texts.forms.value) {
+        (Part::U32, Form::Own) => write_pairs(keys, Digits32, pairs, output),
+        (Part::U64, Form::Own) => write_pairs(keys, Digits64, pairs, output),
+        (part, form) => write_pairs(keys, Typed { part, form }, pairs, output),
+    }
+}
+
+fn write_pairs<K: Stored, V: Stored, H: HashFn, O: Write>(
+    keys: K,
+    values: V,
+    pairs: SizedIter<'_, H>,
+    output: &mut O,
+) -> io::Result<()> {
+    for (key, value) in pairs {
+        write_pair(keys, values, key, value, output)?;
+    }
+    Ok(())
+}
+
+#[inline(always)]
+fn write_pair<K: Stored, V: Stored, O: Write>(
+    keys: K,
+    values: V,
+    key: &[u8],
+    value: &[u8],
+    output: &mut O,
+) -> io::Result<()> {
+    keys.write_text(key, output)?;
+    output.write_all(b"\t")?;
+    values.write_text(value, output)?;
+    output.write_all(b"\n")
+}

@@ -1,0 +1,160 @@
+// Made by `make rust` of crates/odht_tool_reads/src/commands/get.rt.
+//! `odht get`: lookups in a table file.
+
+use crate::erased::core::any::{read_any, AnyShape};
+use crate::erased::core::failure::Failure;
+use crate::erased::core::forms::{Forms, GivenForms, Kinds, OwnForms};
+use crate::erased::core::json::answers::AnswerStyle;
+use crate::erased::core::shapes::{Hash, Shape};
+use crate::erased::core::status::Status;
+use crate::erased::core::text::Text;
+use crate::erased::reads::lookups::{answer_lines, answer_words};
+use crate::erased::reads::shapes::for_shape;
+use crate::erased::reads::sized::gets::{get_lines_other, get_words_other};
+use crate::host::prelude::*;
+use crate::proved::tables::bytes::Borrowed;
+use crate::proved::tables::config::Config;
+use crate::proved::tables::HashTable;
+use crate::shim::Global;
+use std::io::{BufRead, Write};
+
+/// `odht get` of the bytes of a file, for the words of the command line: writes a line for each
+/// key, with a tab and its value, or the key alone; or an object of JSON of both.
+pub fn get_file_words<O: Write>(
+    alloc: Global,
+    bytes: &[u8],
+    hash: Option<Hash>,
+    kinds: Kinds,
+    is_json: bool,
+    words: &[String],
+    output: &mut O,
+) -> Result<Status, Failure> {
+    let found = read_any(bytes, hash, kinds)?;
+    let (shape, forms) = found;
+    match shape {
+        AnyShape::Ready(shape) => {
+            get_words_ready(alloc, shape, forms, is_json, bytes, words, output)
+        }
+        AnyShape::Other(shape) => {
+            get_words_other(alloc, shape, forms, is_json, bytes, words, output)
+        }
+    }
+}
+
+// The same of a ready shape, in these forms.
+fn get_words_ready<O: Write>(
+    alloc: Global,
+    shape: Shape,
+    forms: GivenForms,
+    is_json: bool,
+    bytes: &[u8],
+    words: &[String],
+    output: &mut O,
+) -> Result<Status, Failure> {
+    if forms.are_own() {
+        let own = AnswerStyle { forms: OwnForms, is_json };
+        get_words_of(alloc, shape, own, bytes, words, output)
+    } else {
+        let style = AnswerStyle { forms, is_json };
+        get_words_of(alloc, shape, style, bytes, words, output)
+    }
+}
+
+fn get_words_of<F: Forms, O: Write>(
+    alloc: Global,
+    shape: Shape,
+    style: AnswerStyle<F>,
+    bytes: &[u8],
+    words: &[String],
+    output: &mut O,
+) -> Result<Status, Failure> {
+    for_shape!(shape, get_words[F, O](alloc, bytes, style, words, output))
+}
+
+/// `odht get` of the bytes of a file, for the lines of an input.
+pub fn get_file_lines<I: BufRead, O: Write>(
+    alloc: Global,
+    bytes: &[u8],
+    hash: Option<Hash>,
+    kinds: Kinds,
+    is_json: bool,
+    input: &mut I,
+    output: &mut O,
+) -> Result<Status, Failure> {
+    let found = read_any(bytes, hash, kinds)?;
+    let (shape, forms) = found;
+    match shape {
+        AnyShape::Ready(shape) => {
+            get_lines_ready(alloc, shape, forms, is_json, bytes, input, output)
+        }
+        AnyShape::Other(shape) => {
+            get_lines_other(alloc, shape, forms, is_json, bytes, input, output)
+        }
+    }
+}
+
+// The same of a ready shape, in these forms.
+fn get_lines_ready<I: BufRead, O: Write>(
+    alloc: Global,
+    shape: Shape,
+    forms: GivenForms,
+    is_json: bool,
+    bytes: &[u8],
+    input: &mut I,
+    output: &mut O,
+) -> Result<Status, Failure> {
+    if forms.are_own() {
+        let own = AnswerStyle { forms: OwnForms, is_json };
+        get_lines_of(alloc, shape, own, bytes, input, output)
+    } else {
+        let style = AnswerStyle { forms, is_json };
+        get_lines_of(alloc, shape, style, bytes, input, output)
+    }
+}
+
+fn get_lines_of<F: Forms, I: BufRead, O: Write>(
+    alloc: Global,
+    shape: Shape,
+    style: AnswerStyle<F>,
+    bytes: &[u8],
+    input: &mut I,
+    output: &mut O,
+) -> Result<Status, Failure> {
+    for_shape!(shape, get_lines[F, I, O](alloc, bytes, style, input, output))
+}
+
+// Looks up the keys of the words.
+fn get_words<C: Config, F: Forms, O: Write>(
+    alloc: Global,
+    bytes: &[u8],
+    style: AnswerStyle<F>,
+    words: &[String],
+    output: &mut O,
+) -> Result<Status, Failure>
+where
+    C::Key: Text,
+    C::Value: Text,
+{
+    let table = open::<C>(bytes)?;
+    answer_words(alloc, &table, style, words, output)
+}
+
+// Looks up the keys of the lines, a batch at a time.
+fn get_lines<C: Config, F: Forms, I: BufRead, O: Write>(
+    alloc: Global,
+    bytes: &[u8],
+    style: AnswerStyle<F>,
+    input: &mut I,
+    output: &mut O,
+) -> Result<Status, Failure>
+where
+    C::Key: Text,
+    C::Value: Text,
+{
+    let table = open::<C>(bytes)?;
+    answer_lines(alloc, &table, style, input, output)
+}
+
+fn open<C: Config>(bytes: &[u8]) -> Result<HashTable<C, Borrowed<'_>>, Failure> {
+    HashTable::from_raw_bytes(Borrowed::new(bytes)).map_err(Failure::Refused)
+}

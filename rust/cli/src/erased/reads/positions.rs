@@ -1,0 +1,153 @@
+// Made by `make rust` of crates/odht_tool_reads/src/positions.rt.
+//! `odht get` of a regular file that is read by position: its header, some groups of slots until they tell the hash
+//! function, and what lookups read. Where that does not do, all bytes are read as for other commands.
+
+use crate::erased::core::any::{read_any, AnyShape};
+use crate::erased::core::arguments::is_stream;
+use crate::erased::core::failure::Failure;
+use crate::erased::core::forms::Kinds;
+use crate::erased::core::shapes::Hash;
+use crate::erased::core::status::Status;
+use crate::host::fs::{self, OpenFile};
+use crate::host::prelude::*;
+use crate::host::rt::Files;
+use crate::proved::tables::dynamic::Layout;
+use crate::proved::tables::memory_layout::{Header, HEADER_SIZE};
+use crate::proved::tables::read_at::{read_exact_at, ReadAt};
+use crate::shim::Global;
+use std::io::Write;
+use std::os::unix::fs::FileExt;
+
+mod lookups;
+mod names;
+mod shaped;
+mod source;
+
+use names::found_name;
+use shaped::{words_other, words_ready};
+use source::FileSource;
+
+/// `odht get` of a file, for the words of the command line. None where it is not read by position: it is no regular
+/// file, or a read failed, or its bytes are not opened, or too many of them would be read to know the hash function.
+/// Nothing was written then, and reading all bytes has the answer.
+pub fn get_words<R: Files + AllocGlobal, O: Write>(
+    rt: &R,
+    file: &str,
+    offset: Option<usize>,
+    hash: Option<Hash>,
+    kinds: Kinds,
+    is_json: bool,
+    words: &[String],
+    output: &mut O,
+) -> Result<Option<Status>, Failure>
+where
+    R::File: FileExt,
+{
+    let Some((file, len)) = open_regular(rt, file) else {
+        return Ok(None);
+    };
+    let source = FileSource::new(file);
+    get_words_at(rt.alloc(), source, len, offset, hash, kinds, is_json, words, output)
+}
+
+// A regular file, and its length.
+fn open_regular<R: Files>(rt: &R, file: &str) -> Option<(R::File, usize)> {
+    // To open a pipe would wait for its writer.
+    if is_stream(file) || !fs::metadata(rt, file).ok()?.is_file() {
+        return None;
+    }
+    let file = fs::open(rt, file).ok()?;
+    let found = file.metadata().ok()?;
+    if !found.is_file() {
+        return None;
+    }
+    let len = usize::try_from(found.len()).ok()?;
+    Some((file, len))
+}
+
+/// The header of a table, and where its bytes are in a source.
+struct Start {
+    header: [u8; HEADER_SIZE],
+    at: u64,
+    len: usize,
+}
+
+// Reads the header of the table that begins at the offset, or of one that is all of the source. None where there is no
+// table by the header, or a read failed.
+fn read_start<S: ReadAt>(source: &S, len: usize, offset: Option<usize>) -> Option<Start> {
+    let at = offset.unwrap_or(0);
+    let rest = len.checked_sub(at)?;
+    if rest < HEADER_SIZE {
+        return None;
+    }
+    let mut header = [0; HEADER_SIZE];
+    read_exact_at(source, at as u64, &mut header).ok()?;
+    let len = match offset {
+        None => rest,
+        Some(_) => front_len(&header, rest)?,
+    };
+    Some(Start { header, at: at as u64, len })
+}
+
+// How many bytes the table of this header has, at the front of so many.
+fn front_len(header: &[u8], found: usize) -> Option<usize> {
+    let header = Header::of(header);
+    let layout = Layout { key_len: header.key_size(), value_len: header.value_size() };
+    match header.layout_len(layout, found) {
+        Ok(len) => {
+            if len <= found {
+                Some(len)
+            } else {
+                None
+            }
+        }
+        Err(_) => None,
+    }
+}
+
+// The same of a source of so many bytes, the table at the offset, or all of them.
+fn get_words_at<S: ReadAt, O: Write>(
+    alloc: Global,
+    source: S,
+    len: usize,
+    offset: Option<usize>,
+    hash: Option<Hash>,
+    kinds: Kinds,
+    is_json: bool,
+    words: &[String],
+    output: &mut O,
+) -> Result<Option<Status>, Failure> {
+    let Some(start) = read_start(&source, len, offset) else {
+        return Ok(None);
+    };
+    get_table_words(alloc, source, &start, hash, kinds, is_json, words, output)
+}
+
+// The same of the table that begins so.
+fn get_table_words<S: ReadAt, O: Write>(
+    alloc: Global,
+    source: S,
+    start: &Start,
+    hash: Option<Hash>,
+    kinds: Kinds,
+    is_json: bool,
+    words: &[String],
+    output: &mut O,
+) -> Result<Option<Status>, Failure> {
+    let Some(name) = found_name(&source, start, hash) else {
+        return Ok(None);
+    };
+    let Ok(found) = read_any(&start.header, name, kinds) else {
+        return Ok(None);
+    };
+    let (shape, forms) = found;
+    let (at, len) = (start.at, start.len);
+    match shape {
+        AnyShape::Ready(shape) => {
+            words_ready(alloc, source, at, len, shape, forms, is_json, words, output)
+        }
+        AnyShape::Other(shape) => {
+            words_other(alloc, source, at, len, shape, forms, is_json, words, output)
+        }
+    }
+}

@@ -1,0 +1,125 @@
+// Made by `make rust` of crates/odht_tool_reads/src/positions/names.rt.
+//! The hash function of a table that is read by position: the one that the first groups of slots leave.
+
+use super::Start;
+use crate::erased::core::shapes::Hash;
+use crate::host::prelude::*;
+use crate::proved::tables::dynamic::Layout;
+use crate::proved::tables::hash::HashFn;
+use crate::proved::tables::memory_layout::{Header, HEADER_SIZE};
+use crate::proved::tables::raw_table::{tag_of, ReadPlace};
+use crate::proved::tables::read_at::{read_exact_at, ReadAt};
+use crate::proved::tables::swisstable_group_query::is_empty_or_deleted;
+use crate::proved::tables::{FxHashFn, UnHashFn};
+
+/// How many slots are read at once.
+const GROUP: usize = 16;
+
+/// The most bytes that the entries of these slots have.
+const MOST_ENTRIES: usize = 8160;
+
+/// How many groups are read before all bytes are.
+const MOST_GROUPS: usize = 64;
+
+/// The hash function that is to be named for a table, none where it has no items: the one that is named, or the one
+/// that is left when the first groups of slots exclude the other. None where they exclude none, or both, or a read
+/// failed.
+pub(super) fn found_name<S: ReadAt>(
+    source: &S,
+    start: &Start,
+    hash: Option<Hash>,
+) -> Option<Option<Hash>> {
+    match hash {
+        Some(_) => Some(hash),
+        None => {
+            if Header::of(&start.header).item_count() == 0 {
+                return Some(None);
+            }
+            let hash = left_hash(source, start)?;
+            Some(Some(hash))
+        }
+    }
+}
+
+// The hash function that is left when the first groups of slots exclude the other.
+fn left_hash<S: ReadAt>(source: &S, start: &Start) -> Option<Hash> {
+    let place = place_of(start)?;
+    for group in 0..(place.slots / GROUP).min(MOST_GROUPS) {
+        let (fx, unhash) = group_fits(source, &place, group * GROUP)?;
+        if !fx && !unhash {
+            return None;
+        }
+        if !unhash {
+            return Some(Hash::Fx);
+        }
+        if !fx {
+            return Some(Hash::Unhash);
+        }
+    }
+    None
+}
+
+// Where the parts of the table are, where its header and its length fit.
+fn place_of(start: &Start) -> Option<ReadPlace> {
+    let header = Header::of(&start.header);
+    let layout = Layout { key_len: header.key_size(), value_len: header.value_size() };
+    match header.check_layout(layout, start.len) {
+        Ok(()) => {}
+        Err(_) => return None,
+    }
+    let slots = header.slot_count();
+    let entries_at = start.at + HEADER_SIZE as u64;
+    let control_at = entries_at + (slots * layout.entry_len()) as u64;
+    Some(ReadPlace { entries_at, control_at, slots, layout })
+}
+
+// Whether the sixteen slots from one on fit either hash function.
+fn group_fits<S: ReadAt>(source: &S, place: &ReadPlace, first: usize) -> Option<(bool, bool)> {
+    let layout = place.layout;
+    let mut control = [0; GROUP];
+    read_exact_at(source, place.control_at + first as u64, &mut control).ok()?;
+    let entries_at = place.entries_at + first as u64 * layout.entry_len() as u64;
+    let mut bytes = [0; MOST_ENTRIES];
+    let (entries, _) = bytes.split_at_mut(GROUP * layout.entry_len());
+    read_exact_at(source, entries_at, entries).ok()?;
+    let fx = fits(&control, &*entries, layout, Hash::Fx);
+    let unhash = fits(&control, &*entries, layout, Hash::Unhash);
+    Some((fx, unhash))
+}
+
+// Whether the keys are long enough for a hash function, and each occupied slot of sixteen has the tag of its key by it.
+fn fits(control: &[u8], entries: &[u8], layout: Layout, hash: Hash) -> bool {
+    if (layout.key_len as usize) < least_len(hash) {
+        return false;
+    }
+    for slot in 0..GROUP {
+        if is_mismatch(control, entries, layout, hash, slot) {
+            return false;
+        }
+    }
+    true
+}
+
+// Whether a slot is occupied, and its control byte is not the tag of its key.
+fn is_mismatch(control: &[u8], entries: &[u8], layout: Layout, hash: Hash, slot: usize) -> bool {
+    let control = control[slot];
+    let at = slot * layout.entry_len();
+    let key = &entries[at..at + layout.key_len as usize];
+    !is_empty_or_deleted(control) && control != tag_of(hash_key(key, hash))
+}
+
+// How many bytes the hash function needs at least.
+fn least_len(hash: Hash) -> usize {
+    match hash {
+        Hash::Fx => FxHashFn::MIN_LEN,
+        Hash::Unhash => UnHashFn::MIN_LEN,
+    }
+}
+
+// The hash of a key.
+fn hash_key(key: &[u8], hash: Hash) -> u32 {
+    match hash {
+        Hash::Fx => FxHashFn::hash(key),
+        Hash::Unhash => UnHashFn::hash(key),
+    }
+}

@@ -1,0 +1,30 @@
+// Made by `make rust` of crates/odht_tool_reads/src/positions/source.rt.
+//! A file, as a source of bytes.
+
+use crate::host::prelude::*;
+use crate::proved::tables::read_at::{ReadAt, ReadError};
+use std::io::ErrorKind;
+use std::os::unix::fs::FileExt;
+
+/// An open file. Nothing is known of the bytes that its reads give.
+pub(super) struct FileSource<F: FileExt> {
+    file: F,
+}
+
+impl<F: FileExt> FileSource<F> {
+    /// This file.
+    pub(super) fn new(file: F) -> Self {
+        FileSource { file }
+    }
+}
+
+impl<F: FileExt> ReadAt for FileSource<F> {
+    fn read_at(&self, offset: u64, out: &mut [u8]) -> Result<usize, ReadError> {
+        match self.file.read_at(out, offset) {
+            Ok(len) => Ok(len),
+            Err(error) if error.kind() == ErrorKind::Interrupted => Err(ReadError::Interrupted),
+            // Reading all bytes tells which error it is.
+            Err(_) => Err(ReadError::Failed { code: 0 }),
+        }
+    }
+}

@@ -1,0 +1,11 @@
+// Made by `make rust` of crates/odht_tool_tables/src/lib.rt.
+//! `odht_tool_tables`: what the commands that read tables and those that make them both need: the
+//! bytes of a file, their whole check, and tables of lengths that are numbers.
+
+use crate::host::prelude::*;
+
+pub mod checks;
+pub mod files;
+mod shapes;
+pub mod sized;
+pub mod whole;

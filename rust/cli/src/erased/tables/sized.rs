@@ -1,0 +1,62 @@
+// Made by `make rust` of crates/odht_tool_tables/src/sized.rt.
+//! Tables of lengths that are numbers: keys and values are bytes, of lengths that the header states.
+
+use crate::erased::core::any::OtherShape;
+use crate::erased::core::failure::Failure;
+use crate::erased::core::shapes::{Hash, Part};
+use crate::erased::core::typed::Texts;
+use crate::host::prelude::*;
+use crate::proved::tables::bytes::Borrowed;
+use crate::proved::tables::dynamic::{DynTable, Layout};
+use crate::proved::tables::error::Error;
+use crate::proved::tables::hash::HashFn;
+use crate::proved::tables::memory_layout::{check_opening, check_sized, check_sized_within};
+use crate::proved::tables::{FxHashFn, UnHashFn};
+
+/// The lengths of a shape.
+pub fn layout_of(shape: OtherShape) -> Layout {
+    Layout { key_len: shape.key.size(), value_len: shape.value.size() }
+}
+
+/// The lengths of keys and values of these types.
+pub fn lengths_of(key: Part, value: Part) -> Layout {
+    Layout { key_len: key.size(), value_len: value.size() }
+}
+
+/// The first rule that the bytes break, as a table of this shape, the bound of searches among them where there is one.
+/// Bytes without an error are valid.
+pub fn check_other(shape: OtherShape, bytes: &[u8], bound: Option<usize>) -> Result<(), Error> {
+    let layout = layout_of(shape);
+    match shape.hash {
+        Hash::Fx => check_lengths::<FxHashFn>(layout, bytes, bound),
+        Hash::Unhash => check_lengths::<UnHashFn>(layout, bytes, bound),
+    }
+}
+
+/// The same of these lengths and of a hash function.
+pub fn check_lengths<H: HashFn>(
+    layout: Layout,
+    bytes: &[u8],
+    bound: Option<usize>,
+) -> Result<(), Error> {
+    check_opening::<H>(bytes, layout)?;
+    match bound {
+        Some(groups) => check_sized_within::<H>(bytes, layout, groups),
+        None => check_sized::<H>(bytes, layout),
+    }
+}
+
+/// Opens the bytes as a table of these lengths.
+pub fn open_lengths<H: HashFn>(
+    layout: Layout,
+    bytes: &[u8],
+) -> Result<DynTable<H, Borrowed<'_>>, Failure> {
+    check_opening::<H>(bytes, layout).map_err(Failure::Refused)?;
+    Ok(DynTable::open_unchecked(layout, Borrowed::new(bytes)))
+}
+
+/// The table of valid bytes.
+pub fn open_valid<H: HashFn>(texts: Texts, bytes: &[u8]) -> DynTable<H, Borrowed<'_>> {
+    let layout = Layout { key_len: texts.key.size(), value_len: texts.value.size() };
+    DynTable::open_unchecked(layout, Borrowed::new(bytes))
+}

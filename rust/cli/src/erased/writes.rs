@@ -1,0 +1,9 @@
+// Made by `make rust` of crates/odht_tool_writes/src/lib.rt.
+//! `odht_tool_writes`: the commands of `odht_tool` that make tables or replace them.
+
+use crate::host::prelude::*;
+
+pub mod commands;
+mod inserts;
+mod shapes;
+mod sized;

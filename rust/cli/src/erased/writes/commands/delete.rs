@@ -1,0 +1,149 @@
+// Made by `make rust` of crates/odht_tool_writes/src/commands/delete.rt.
+//! `odht delete`: a table file without some of its keys.
+
+use crate::erased::core::any::{read_any, AnyShape, OtherShape};
+use crate::erased::core::arguments::{DeleteOptions, Keys};
+use crate::erased::core::failure::Failure;
+use crate::erased::core::files::{read_file, replace_file};
+use crate::erased::core::forms::Form;
+use crate::erased::core::keys::{parse_keys, push_key, Word};
+use crate::erased::core::progress::{Progress, Watch};
+use crate::erased::core::shapes::{Hash, Shape};
+use crate::erased::core::status::Status;
+use crate::erased::core::targets::Target;
+use crate::erased::core::text::Text;
+use crate::erased::tables::checks::check_any;
+use crate::erased::writes::commands::delete_lines::deleted_by_lines;
+use crate::erased::writes::shapes::for_shape;
+use crate::erased::writes::sized::deletes::delete_lengths;
+use crate::host::prelude::*;
+use crate::host::rt::{Clock, Files};
+use crate::proved::tables::bytes::ByteArray;
+use crate::proved::tables::config::Config;
+use crate::proved::tables::dynamic::{Layout, ShortBytes};
+use crate::proved::tables::{FxHashFn, UnHashFn};
+use crate::shim::Global;
+use std::io::{BufRead, Write};
+use std::os::fd::AsFd;
+
+/// Makes a new table of the pairs of the table in the file whose keys are not named, by words or by the lines of
+/// `input`, and stores it in the place of the older one, which stays where something fails. Not all is done where a key
+/// is absent.
+pub fn delete<R: Files + AllocGlobal + Clock, I: BufRead, E: Write>(
+    rt: &R,
+    file: &str,
+    options: &DeleteOptions,
+    input: &mut I,
+    errors: &mut E,
+) -> Result<Status, Failure>
+where
+    R::File: AsFd,
+{
+    let target = Target::find(rt, file, options.breaks_links)?;
+    let bytes = read_file(rt, target.path())?;
+    let (bytes, status) = match &options.keys {
+        Keys::Words(words) => deleted(rt, file, bytes, words.as_slice(), options, errors)?,
+        Keys::Lines => deleted_by_lines(rt, file, bytes, options, input, errors)?,
+    };
+    replace_file(rt, &target, bytes.as_slice())?;
+    Ok(status)
+}
+
+// The bytes of the new table. Those of the old one are checked whole before, with the bound of searches where there is
+// one. A line on `errors` tells of each key that is absent.
+fn deleted<R: AllocGlobal + Clock, E: Write>(
+    rt: &R,
+    file: &str,
+    bytes: Vec<u8>,
+    words: &[String],
+    options: &DeleteOptions,
+    errors: &mut E,
+) -> Result<(Vec<u8>, Status), Failure> {
+    let bytes = bytes.as_slice();
+    let found = read_any(bytes, options.hash, options.kinds)?;
+    let (shape, forms) = found;
+    match check_any(shape, bytes, options.bound) {
+        Ok(()) => {
+            let keys = keys_of_words(rt.alloc(), shape, forms.key, words)?;
+            let progress = Progress::new(rt, Watch::of(options.has_progress));
+            deleted_for(rt, file, shape, bytes, words, keys.as_slice(), progress, errors)
+        }
+        Err(error) => Err(Failure::Refused(error)),
+    }
+}
+
+// The same of valid bytes of a shape, and of the keys of these words or lines.
+pub fn deleted_for<W: Word, R: AllocGlobal + Clock, E: Write>(
+    rt: &R,
+    file: &str,
+    shape: AnyShape,
+    bytes: &[u8],
+    words: &[W],
+    keys: &[ShortBytes],
+    progress: Progress,
+    errors: &mut E,
+) -> Result<(Vec<u8>, Status), Failure> {
+    let layout = Layout { key_len: shape.key().size(), value_len: shape.value().size() };
+    match shape.hash() {
+        Hash::Fx => delete_lengths::<FxHashFn, W, R, E>(
+            rt, file, layout, bytes, words, keys, progress, errors,
+        ),
+        Hash::Unhash => delete_lengths::<UnHashFn, W, R, E>(
+            rt, file, layout, bytes, words, keys, progress, errors,
+        ),
+    }
+}
+
+// The bytes of the keys of the words in this form, or the first word that is none.
+fn keys_of_words(
+    alloc: Global,
+    shape: AnyShape,
+    form: Form,
+    words: &[String],
+) -> Result<Vec<ShortBytes>, Failure> {
+    match shape {
+        AnyShape::Ready(shape) => keys_of_ready(alloc, shape, form, words),
+        AnyShape::Other(shape) => keys_of_other(alloc, shape, form, words),
+    }
+}
+
+fn keys_of_ready(
+    alloc: Global,
+    shape: Shape,
+    form: Form,
+    words: &[String],
+) -> Result<Vec<ShortBytes>, Failure> {
+    for_shape!(shape, keys_of[](alloc, form, words))
+}
+
+fn keys_of_other(
+    alloc: Global,
+    shape: OtherShape,
+    form: Form,
+    words: &[String],
+) -> Result<Vec<ShortBytes>, Failure> {
+    parse_keys(alloc, words, form.of(shape.key))
+}
+
+// The same of a configuration.
+fn keys_of<C: Config>(
+    alloc: Global,
+    form: Form,
+    words: &[String],
+) -> Result<Vec<ShortBytes>, Failure>
+where
+    C::Key: Text,
+{
+    let keys = parse_keys::<C::Key>(alloc, words, form)?;
+    encoded_keys::<C>(alloc, keys.as_slice())
+}
+
+/// The bytes of the keys.
+pub fn encoded_keys<C: Config>(alloc: Global, keys: &[C::Key]) -> Result<Vec<ShortBytes>, Failure> {
+    let mut all = crate::host::lists::empty(alloc);
+    for key in keys {
+        let key = C::encode_key(key);
+        push_key(&mut all, ShortBytes::of(key.as_slice()))?;
+    }
+    Ok(all)
+}

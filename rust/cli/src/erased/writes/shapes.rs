@@ -1,0 +1,66 @@
+// Made by `make rust` of crates/odht_tool_writes/src/shapes.rt.
+//! The way from a shape to its configuration: made of shapes.txt by tools/shapes; `make exports` makes it anew.
+
+use crate::host::prelude::*;
+
+/// Calls a function for the configuration of a shape, which is its first type parameter:
+/// `for_shape!(shape, function[more, parameters](arguments))`.
+macro_rules! for_shape {
+    ($shape:expr, $function:ident[$($more:ty),*]($($argument:expr),*)) => {
+        match $shape {
+            Shape::U32ToU32 => {
+                $function::<crate::proved::tables::configs::U32ToU32, $($more),*>($($argument),*)
+            }
+            Shape::DirectU32ToU32 => {
+                $function::<crate::proved::tables::configs::DirectU32ToU32, $($more),*>($($argument),*)
+            }
+            Shape::U64ToU32 => {
+                $function::<crate::proved::tables::configs::U64ToU32, $($more),*>($($argument),*)
+            }
+            Shape::U64ToU64 => {
+                $function::<crate::proved::tables::configs::U64ToU64, $($more),*>($($argument),*)
+            }
+            Shape::U64Set => {
+                $function::<crate::proved::tables::configs::U64Set, $($more),*>($($argument),*)
+            }
+            Shape::Bytes8ToU32 => {
+                $function::<crate::proved::tables::configs::Bytes8ToU32, $($more),*>($($argument),*)
+            }
+            Shape::Bytes8ToU64 => {
+                $function::<crate::proved::tables::configs::Bytes8ToU64, $($more),*>($($argument),*)
+            }
+            Shape::Bytes16ToU32 => {
+                $function::<crate::proved::tables::configs::Bytes16ToU32, $($more),*>($($argument),*)
+            }
+            Shape::Bytes16ToU64 => {
+                $function::<crate::proved::tables::configs::Bytes16ToU64, $($more),*>($($argument),*)
+            }
+            Shape::Bytes20ToU64 => {
+                $function::<crate::proved::tables::configs::Bytes20ToU64, $($more),*>($($argument),*)
+            }
+            Shape::Bytes32ToU64 => {
+                $function::<crate::proved::tables::configs::Bytes32ToU64, $($more),*>($($argument),*)
+            }
+            Shape::Bytes16ToBytes16 => {
+                $function::<crate::proved::tables::configs::Bytes16ToBytes16, $($more),*>($($argument),*)
+            }
+            Shape::Bytes32ToBytes32 => {
+                $function::<crate::proved::tables::configs::Bytes32ToBytes32, $($more),*>($($argument),*)
+            }
+            Shape::Bytes8Set => {
+                $function::<crate::proved::tables::configs::Bytes8Set, $($more),*>($($argument),*)
+            }
+            Shape::Bytes16Set => {
+                $function::<crate::proved::tables::configs::Bytes16Set, $($more),*>($($argument),*)
+            }
+            Shape::Bytes20Set => {
+                $function::<crate::proved::tables::configs::Bytes20Set, $($more),*>($($argument),*)
+            }
+            Shape::Bytes32Set => {
+                $function::<crate::proved::tables::configs::Bytes32Set, $($more),*>($($argument),*)
+            }
+        }
+    };
+}
+
+pub(crate) use for_shape;

@@ -1,0 +1,149 @@
+// Made by `make rust` of crates/odht_tool_writes/src/sized/builds.rt.
+//! `odht build` and `odht put` of tables of other sizes than the ready shapes have.
+
+use crate::erased::core::any::OtherShape;
+use crate::erased::core::arguments::BuildOptions;
+use crate::erased::core::failure::Failure;
+use crate::erased::core::forms::{GivenForms, LineForms};
+use crate::erased::core::progress::Watch;
+use crate::erased::core::shapes::Hash;
+use crate::erased::core::status::Status;
+use crate::erased::core::targets::Target;
+use crate::erased::tables::sized::{check_lengths, layout_of};
+use crate::erased::writes::inserts::insert_into_file;
+use crate::erased::writes::inserts::lines::{check_lines, insert_lines, makes_no_table, Place};
+use crate::host::prelude::*;
+use crate::host::rt::{Clock, Files};
+use crate::proved::tables::dynamic::{DynError, DynTableOwned, Layout, ShortBytes};
+use crate::proved::tables::hash::HashFn;
+use crate::proved::tables::load::Percent;
+use crate::proved::tables::{FxHashFn, UnHashFn};
+use crate::shim::Global;
+use std::io::{BufRead, Write};
+use std::os::fd::AsFd;
+
+/// `odht build` of a table of a shape.
+pub fn build_other<R: Files + AllocGlobal + Clock, I: BufRead, O: Write, E: Write>(
+    rt: &R,
+    file: &str,
+    shape: OtherShape,
+    options: BuildOptions,
+    input: &mut I,
+    output: &mut O,
+    errors: &mut E,
+) -> Result<Status, Failure>
+where
+    R::File: AsFd,
+{
+    let layout = layout_of(shape);
+    let forms = LineForms { forms: options.forms.of(shape), delimiter: options.delimiter };
+    match shape.hash {
+        Hash::Fx => build_lengths::<FxHashFn, R, I, O, E>(
+            rt, file, layout, forms, options, input, output, errors,
+        ),
+        Hash::Unhash => build_lengths::<UnHashFn, R, I, O, E>(
+            rt, file, layout, forms, options, input, output, errors,
+        ),
+    }
+}
+
+fn build_lengths<H: HashFn, R: Files + AllocGlobal + Clock, I: BufRead, O: Write, E: Write>(
+    rt: &R,
+    file: &str,
+    layout: Layout,
+    forms: LineForms,
+    options: BuildOptions,
+    input: &mut I,
+    output: &mut O,
+    errors: &mut E,
+) -> Result<Status, Failure>
+where
+    R::File: AsFd,
+{
+    let (duplicates, is_check) = (options.duplicates, options.is_check);
+    let (capacity, percent, watch) = (options.capacity, options.percent, options.watch);
+    let breaks_links = options.breaks_links;
+    if makes_no_table(duplicates, is_check) {
+        return check_lines::<ShortBytes, ShortBytes, LineForms, R, I, E>(
+            rt, forms, watch, input, errors,
+        );
+    }
+    let place = Place::find(rt, file, is_check, breaks_links)?;
+    let table = make_lengths::<H>(rt.alloc(), layout, capacity, percent)?;
+    insert_lines(rt, place, table, forms, options, input, output, errors)
+}
+
+/// An empty table of these lengths, for so many items.
+pub fn make_lengths<H: HashFn>(
+    alloc: Global,
+    layout: Layout,
+    capacity: usize,
+    percent: Percent,
+) -> Result<DynTableOwned<H>, Failure> {
+    match DynTableOwned::with_capacity(alloc, layout, capacity, percent.value()) {
+        Ok(table) => Ok(table),
+        Err(DynError::KeyTooShort { key_len, least: _ }) => {
+            Err(Failure::ShortKeys { key_size: key_len })
+        }
+        Err(DynError::Rejected(error)) => Err(Failure::of_table(error)),
+        // The others are errors of inserts.
+        Err(_) => Err(Failure::Memory),
+    }
+}
+
+/// `odht put` of bytes of a shape.
+pub fn put_other<R: Files + AllocGlobal + Clock, I: BufRead, E: Write>(
+    rt: &R,
+    target: Target,
+    shape: OtherShape,
+    forms: GivenForms,
+    bytes: Vec<u8>,
+    bound: Option<usize>,
+    watch: Watch,
+    input: &mut I,
+    errors: &mut E,
+) -> Result<Status, Failure>
+where
+    R::File: AsFd,
+{
+    let (layout, forms) = (layout_of(shape), forms.of(shape));
+    match shape.hash {
+        Hash::Fx => put_lengths::<FxHashFn, R, I, E>(
+            rt, target, layout, forms, bytes, bound, watch, input, errors,
+        ),
+        Hash::Unhash => put_lengths::<UnHashFn, R, I, E>(
+            rt, target, layout, forms, bytes, bound, watch, input, errors,
+        ),
+    }
+}
+
+// The bytes are freed once the table has a copy.
+fn put_lengths<H: HashFn, R: Files + AllocGlobal + Clock, I: BufRead, E: Write>(
+    rt: &R,
+    target: Target,
+    layout: Layout,
+    forms: GivenForms,
+    bytes: Vec<u8>,
+    bound: Option<usize>,
+    watch: Watch,
+    input: &mut I,
+    errors: &mut E,
+) -> Result<Status, Failure>
+where
+    R::File: AsFd,
+{
+    let table = copy_lengths::<H>(rt.alloc(), layout, bytes, bound)?;
+    insert_into_file(rt, target, table, forms, watch, input, errors)
+}
+
+fn copy_lengths<H: HashFn>(
+    alloc: Global,
+    layout: Layout,
+    bytes: Vec<u8>,
+    bound: Option<usize>,
+) -> Result<DynTableOwned<H>, Failure> {
+    let bytes = bytes.as_slice();
+    check_lengths::<H>(layout, bytes, bound).map_err(Failure::Refused)?;
+    // The bytes are valid, so that memory alone may be lacking.
+    DynTableOwned::from_raw_bytes(alloc, layout, bytes).map_err(|_| Failure::Memory)
+}
