@@ -8,12 +8,9 @@ The processor time is read once a second from the running checks, so what ends w
 
 `rt ci` runs as many checks at once as its own estimate of their memory allows, which is four times what they take: two
 or three of the larger crates. Where there are 4 GB for each processor it is told to run one on each (RT_JOBS), where
-the caller has not said how many. Each then has one processor, so the crates that all others wait for are proved first,
-with all processors, on a copy without their edits: `rt ci` keeps what it proves on a machine, and takes it again for
-the same files.
+the caller has not said how many.
 """
 import os
-import shutil
 import subprocess
 import sys
 import tempfile
@@ -29,8 +26,6 @@ KINDS = ("proof", "tests", "base of edits", "edits")
 TICK = os.sysconf("SC_CLK_TCK")
 # more than a check of any crate takes, in bytes
 CHECK_MEMORY = 4 << 30
-# the crate that nearly all others wait for
-FIRST = "odht_raw"
 
 
 def crates():
@@ -111,7 +106,8 @@ def pass_on(stream, proved):
     """Prints what the gate prints, and notes the crates that are proved."""
     for line in stream:
         print(line, end="", flush=True)
-        if line.startswith("rt: ") and line.endswith(" proved\n") and "its tests" not in line:
+        is_proved = line.endswith(" proved\n") and "its tests" not in line
+        if line.startswith("rt: ") and (is_proved or " is kept: " in line):
             proved.append(line.split()[1])
 
 
@@ -144,17 +140,6 @@ def run(words, tree, at_once, watch, proved, known):
     return gate.returncode
 
 
-def prove_first(tree, by_word, watch, known):
-    """Proves the crates that all others wait for, with all processors, on a copy without edits. Returns the status."""
-    print(f"first {FIRST} and the crates below it, with all processors", flush=True)
-    word_search.copy_tracked(tree, is_changed=by_word)
-    for name in known:
-        shutil.rmtree(f"{tree}/crates/{name}/must-fail", ignore_errors=True)
-    status = run(["rt", "ci", FIRST], tree, "", watch, [], {name: 0 for name in known})
-    shutil.rmtree(tree)
-    return status
-
-
 def main(*words):
     by_word, words = words[:1] == ("--word",), [it for it in words if it != "--word"]
     if words[:1] in ([], ["rt"]):
@@ -172,10 +157,7 @@ def main(*words):
             print(f"on a copy with the word search compiled in, {tree}", flush=True)
         os.chmod(room, 0o755)
         watch = Watch(room)
-        status = 0
-        if at_once and "RT_JOBS" not in os.environ and words in ([], ["rt", "ci"]):
-            status = prove_first(f"{room}/first", by_word, watch, known)
-        status = status or run(words or ["rt", "ci"], tree, at_once, watch, proved, known)
+        status = run(words or ["rt", "ci"], tree, at_once, watch, proved, known)
     print(table(watch.minutes(), known))
     print(f"{(time.monotonic() - began) / 60:.1f} minutes")
     return status

@@ -36,16 +36,15 @@ def copy_sources(folder, crates):
     name_word_search(folder)
 
 
-def copy_tracked(folder, is_changed=True):
-    """Copies the tracked files, as they are in the working tree, with the word search or without this change."""
+def copy_tracked(folder):
+    """Copies the tracked files, as they are in the working tree."""
     listed = subprocess.run(["git", "ls-files", "-z"], cwd=TOP, stdout=subprocess.PIPE, check=True, text=True).stdout
     os.makedirs(folder)
     for file in filter(None, listed.split("\0")):
         if os.path.lexists(f"{TOP}/{file}"):
             os.makedirs(os.path.dirname(f"{folder}/{file}"), exist_ok=True)
             shutil.copy(f"{TOP}/{file}", f"{folder}/{file}", follow_symlinks=False)
-    if is_changed:
-        name_word_search(folder)
+    name_word_search(folder)
 
 
 if __name__ == "__main__":
