@@ -11,7 +11,7 @@ use Rattle.odht_tool_core.specs.Json.{is_simple, json_byte, json_field, string_f
 use Rattle.odht_tool_core.specs.StoredTexts.{stored_text}
 use Rattle.odht_tool_core.specs.Texts.{hex_text}
 use Rattle.odht_tool_core.specs.declared.forms.Form.{Form}
-use Rattle.odht_tool_core.specs.declared.forms.Form.TheVariants.{Own, Signed, BigEndian, Plain, Of}
+use Rattle.odht_tool_core.specs.declared.forms.Form.TheVariants.{Own, Signed, BigEndian, Plain, OfNumber, OfBytes, OfText}
 use Rattle.odht_tool_core.specs.declared.shapes.Part.{Part}
 use Rattle.odht_tool_core.specs.declared.shapes.Part.TheVariants.{Nothing, U32, U64, Bytes}
 
@@ -110,7 +110,9 @@ number_simple w Signed n =
     either_way (nat_lt n (m / 2)) (decimal n) (45 ∷ decimal (m - n)) (decimal_simple n) (all_cons 45 (decimal (m - n)) refl (decimal_simple (m - n)))
 number_simple w BigEndian n = decimal_simple (swap_bytes w n)
 number_simple w Plain n = decimal_simple n
-number_simple w (Of p v) n = decimal_simple n
+number_simple w (OfNumber v) n = decimal_simple n
+number_simple w (OfBytes l) n = decimal_simple n
+number_simple w (OfText l) n = decimal_simple n
 
 pub hex_simple : (bs : List ℕ) → ((k : ℕ) → get_or bs k 0 < 256) → AllPass is_simple (hex_text bs)
 hex_simple [] h = λ k d l. absurd (omega (arith, l))
@@ -134,7 +136,9 @@ bytes_simple Own bs other h = h
 bytes_simple Signed bs other h = h
 bytes_simple BigEndian bs other h = h
 bytes_simple Plain bs other h = absurd (other refl)
-bytes_simple (Of p v) bs other h = h
+bytes_simple (OfNumber v) bs other h = h
+bytes_simple (OfBytes l) bs other h = h
+bytes_simple (OfText l) bs other h = h
 
 -- so is each text of a key or a value that is no bytes
 pub typed_simple : (f : Form) (p : Part) (b : List ℕ) → ((n : ℕ) → p ≡ Bytes n → ⊥) → AllPass is_simple (stored_text f p b)

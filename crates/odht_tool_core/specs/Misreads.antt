@@ -21,7 +21,7 @@ use Rattle.odht_tool_core.specs.Texts.{IsNumberWord, IsHexWord}
 use Rattle.odht_tool_core.specs.declared.failure.LineFault.{LineFault}
 use Rattle.odht_tool_core.specs.declared.failure.LineFault.TheVariants.{NoTab, Key, Value}
 use Rattle.odht_tool_core.specs.declared.forms.Form.{Form}
-use Rattle.odht_tool_core.specs.declared.forms.Form.TheVariants.{Own, Signed, BigEndian, Plain, Of}
+use Rattle.odht_tool_core.specs.declared.forms.Form.TheVariants.{Own, Signed, BigEndian, Plain, OfNumber, OfBytes, OfText}
 use Rattle.odht_tool_core.specs.declared.misread.Wanted.{Wanted}
 use Rattle.odht_tool_core.specs.declared.misread.Wanted.TheVariants.{Nothing, U32, U64, I32, I64, Bytes, Text}
 use Rattle.odht_tool_core.specs.declared.shapes.Part.{Part}
@@ -41,14 +41,18 @@ number_wanted u i Own = u
 number_wanted u i Signed = i
 number_wanted u i BigEndian = u
 number_wanted u i Plain = u
-number_wanted u i (Of p v) = u
+number_wanted u i (OfNumber v) = u
+number_wanted u i (OfBytes l) = u
+number_wanted u i (OfText l) = u
 
 abbrev pub bytes_wanted : ℕ → Form → Wanted
 bytes_wanted n Own = Bytes n
 bytes_wanted n Signed = Bytes n
 bytes_wanted n BigEndian = Bytes n
 bytes_wanted n Plain = Text n
-bytes_wanted n (Of p v) = Bytes n
+bytes_wanted n (OfNumber v) = Bytes n
+bytes_wanted n (OfBytes l) = Bytes n
+bytes_wanted n (OfText l) = Bytes n
 
 abbrev pub typed_wanted : Form → Part → Wanted
 typed_wanted f NoPart = Nothing

@@ -1,13 +1,14 @@
 //! The forms of keys and values: other texts than those that their shape has for them.
 ghost use Rattle.std.specs.Prelude.{◌≡◌, IsTrue};
-ghost use Rattle.odht_tool_core.specs.Forms.{bytes_form, form_in, part_in, way_form, way_of};
+ghost use Rattle.odht_tool_core.specs.Forms.{bytes_form, form_in, form_of_bytes, number_of_32, number_of_64};
+ghost use Rattle.odht_tool_core.specs.Forms.{number_form, number_part, part_in};
 ghost use Rattle.odht_tool_core.specs.ReadAs.{form_for};
 ghost use Rattle.odht_tool_core.specs.SizedTexts.{sized_forms};
 
 use crate::any::OtherShape;
 use crate::shapes::Part;
 
-/// How a key or a value is written and read.
+/// How a key or a value is written and read. It has two bytes, so that it is passed in registers.
 #[derive(Clone, Copy)]
 pub enum Form {
     /// As its shape has it: a number in decimal digits, or bytes in hexadecimal digits.
@@ -18,33 +19,50 @@ pub enum Form {
     BigEndian,
     /// Bytes that are a plain text, with zeros behind it.
     Plain,
-    /// Stored bytes that do not say their type: they are of this one, and written in this way.
-    Of(Part, Way),
+    /// Stored bytes that do not say their type: they are of this number.
+    OfNumber(Number),
+    /// Stored bytes that do not say their type: so many bytes, in hexadecimal digits.
+    OfBytes(u8),
+    /// Stored bytes that do not say their type: so many bytes, a plain text with zeros behind it.
+    OfText(u8),
 }
 
-/// How what is of a type is written and read.
+/// A type of numbers, and how they are written and read.
 #[derive(Clone, Copy)]
-pub enum Way {
-    /// As its type has it.
-    Own,
-    /// As a number with a sign.
-    Signed,
-    /// As a number whose stored bytes begin with the highest one.
-    BigEndian,
-    /// As a plain text.
-    Plain,
+pub enum Number {
+    /// Of 32 bits.
+    U32,
+    /// Of 32 bits, with a sign.
+    I32,
+    /// Of 32 bits, whose stored bytes begin with the highest one.
+    U32BigEndian,
+    /// Of 64 bits.
+    U64,
+    /// Of 64 bits, with a sign.
+    I64,
+    /// Of 64 bits, whose stored bytes begin with the highest one.
+    U64BigEndian,
 }
 
-impl Way {
-    // The form of what is of a type.
-    fn form(self) -> Form
-        ensures { result ≡ way_form self }
+impl Number {
+    // The type of its stored bytes.
+    fn part(self) -> Part
+        ensures { result ≡ number_part self }
     {
         match self {
-            Way::Own => Form::Own,
-            Way::Signed => Form::Signed,
-            Way::BigEndian => Form::BigEndian,
-            Way::Plain => Form::Plain,
+            Number::U32 | Number::I32 | Number::U32BigEndian => Part::U32,
+            Number::U64 | Number::I64 | Number::U64BigEndian => Part::U64,
+        }
+    }
+
+    // The form of what is of that type.
+    fn form(self) -> Form
+        ensures { result ≡ number_form self }
+    {
+        match self {
+            Number::U32 | Number::U64 => Form::Own,
+            Number::I32 | Number::I64 => Form::Signed,
+            Number::U32BigEndian | Number::U64BigEndian => Form::BigEndian,
         }
     }
 }
@@ -54,7 +72,44 @@ impl Form {
     pub fn of(self, part: Part) -> Form
         ensures { result ≡ bytes_form self part }
     {
-        Form::Of(part, self.way())
+        match part {
+            Part::Nothing => Form::Own,
+            Part::U32 => Form::OfNumber(self.number_of_32()),
+            Part::U64 => Form::OfNumber(self.number_of_64()),
+            Part::Bytes(len) => self.of_bytes(len),
+        }
+    }
+
+    // The numbers of 32 bits that are written as this form has it.
+    fn number_of_32(self) -> Number
+        ensures { result ≡ number_of_32 self }
+    {
+        match self {
+            Form::Signed => Number::I32,
+            Form::BigEndian => Number::U32BigEndian,
+            _ => Number::U32,
+        }
+    }
+
+    // The numbers of 64 bits that are written as this form has it.
+    fn number_of_64(self) -> Number
+        ensures { result ≡ number_of_64 self }
+    {
+        match self {
+            Form::Signed => Number::I64,
+            Form::BigEndian => Number::U64BigEndian,
+            _ => Number::U64,
+        }
+    }
+
+    // The form of so many stored bytes that are written as this form has it.
+    fn of_bytes(self, len: u8) -> Form
+        ensures { result ≡ form_of_bytes self len }
+    {
+        match self {
+            Form::Plain => Form::OfText(len),
+            _ => Form::OfBytes(len),
+        }
     }
 
     /// The type that stored bytes are of. Nothing where it is for them to say.
@@ -62,7 +117,8 @@ impl Form {
         ensures { result ≡ part_in self }
     {
         match self {
-            Form::Of(part, _) => part,
+            Form::OfNumber(number) => number.part(),
+            Form::OfBytes(len) | Form::OfText(len) => Part::Bytes(len),
             _ => Part::Nothing,
         }
     }
@@ -71,19 +127,10 @@ impl Form {
     pub(crate) fn inner(self) -> Form
         ensures { result ≡ form_in self }
     {
-        self.way().form()
-    }
-
-    // How what is of a type is written.
-    fn way(self) -> Way
-        ensures { result ≡ way_of self }
-    {
         match self {
-            Form::Own => Way::Own,
-            Form::Signed => Way::Signed,
-            Form::BigEndian => Way::BigEndian,
-            Form::Plain => Way::Plain,
-            Form::Of(_, way) => way,
+            Form::OfNumber(number) => number.form(),
+            Form::OfText(_) => Form::Plain,
+            _ => Form::Own,
         }
     }
 }

@@ -25,8 +25,7 @@ use Rattle.std.specs.Str.Lines.{lines}
 use Rattle.odht_header.specs.Refusals.{check_refusal_by}
 use Rattle.odht_header.specs.declared.error.Error.{Error}
 use Rattle.odht_tool_writes.specs.Deletes.{AreKeysOf, IsDeletedOf}
-use Rattle.odht_tool_tables.specs.KeyTexts.{AreLinesOf}
-use Rattle.odht_tool_tables.specs.KeyTexts.{IsTextOf}
+use Rattle.odht_tool_tables.specs.KeyTexts.{AreLinesOf, IsTextOf}
 use Rattle.odht_tool_core.specs.AnyShapes.{any_format, read_any}
 use Rattle.odht_tool_core.specs.InputLines.{AreLeft, IsNextLine}
 use Rattle.odht_tool_core.specs.Keys.{IsLeftOut, IsTextOfNone}

@@ -9,20 +9,30 @@ use Rattle.odht_base.specs.Bytes.{overwritten_at}
 use Rattle.odht_header.proofs.examples.Apart.{unequal_lists}
 use Rattle.odht_header.proofs.examples.Opened.{opened}
 use Rattle.odht_tool_core.specs.AnyShapes.{read_any}
-use Rattle.odht_tool_core.specs.Forms.{bytes_form}
+use Rattle.odht_tool_core.specs.Forms.{bytes_form, form_in, part_in}
 use Rattle.odht_tool_core.specs.SizedTexts.{IsSizedOf, StandsForSized, sized_text, sized_wanted}
 use Rattle.odht_tool_core.specs.declared.any.AnyShape.TheVariants.{Other}
 use Rattle.odht_tool_core.specs.declared.failure.Failure.TheVariants.{OtherKey, OtherValue}
-use Rattle.odht_tool_core.specs.declared.forms.Form.TheVariants.{Own, Signed, BigEndian, Plain}
+use Rattle.odht_tool_core.specs.declared.forms.Form.TheVariants.{Own, Signed, BigEndian, Plain, OfNumber, OfBytes, OfText}
+use Rattle.odht_tool_core.specs.declared.forms.Number.TheVariants.{U32 as Unsigned32, I32, U64BigEndian}
 use Rattle.odht_tool_core.specs.declared.misread.Wanted.TheVariants.{Nothing as WantedNothing, Bytes as WantedBytes, Text as WantedText, I32 as WantedI32}
 use Rattle.odht_tool_core.specs.declared.shapes.Hash.TheVariants.{Unhash}
-use Rattle.odht_tool_core.specs.declared.shapes.Part.TheVariants.{U32, U64, Bytes}
+use Rattle.odht_tool_core.specs.declared.shapes.Part.TheVariants.{Nothing, U32, U64, Bytes}
 use Rattle.odht_tool_core.proofs.examples.Forms.{kind, said, unsaid}
 use Rattle.odht_tool_core.proofs.examples.FoundShapes.{other, other_bytes}
 use Rattle.odht_tool_core.proofs.examples.Shapes.{one_bytes}
 
 abbrev pub wide_bytes : List ℕ
 wide_bytes = overwritten_at one_bytes 5 (6 ∷ 8 ∷ [])
+
+-- a form of stored bytes says their type, and how what is of it is written; a number is no plain text, and bytes have no sign
+pub sized_kinds : (bytes_form Signed U32 ≡ OfNumber I32) × (bytes_form Plain U32 ≡ OfNumber Unsigned32)
+    × (bytes_form BigEndian U64 ≡ OfNumber U64BigEndian) × (bytes_form Plain (Bytes 3) ≡ OfText 3)
+    × (bytes_form Signed (Bytes 3) ≡ OfBytes 3) × (bytes_form Plain Nothing ≡ Own)
+    × (part_in (OfNumber U64BigEndian) ≡ U64) × (form_in (OfNumber U64BigEndian) ≡ BigEndian)
+    × (part_in (OfNumber I32) ≡ U32) × (form_in (OfNumber I32) ≡ Signed)
+    × (part_in (OfText 3) ≡ Bytes 3) × (form_in (OfText 3) ≡ Plain) × (form_in (OfBytes 3) ≡ Own)
+sized_kinds = (refl, refl, refl, refl, refl, refl, refl, refl, refl, refl, refl, refl, refl)
 
 -- what is wanted of none is nothing
 pub sized_wants : (sized_wanted (bytes_form Own (Bytes 12)) ≡ WantedBytes 12)

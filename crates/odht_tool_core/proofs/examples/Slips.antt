@@ -1,8 +1,10 @@
 -- Words that one slip makes of each other, and commands and options that are found by their names.
 use Rattle.std.proofs.Common.{◌≡◌, true, false, [], refl}
 use Rattle.std.specs.Prelude.{Some, None, codes, find, bytes_eq}
+use Rattle.odht_tool_core.specs.Asking.{asking_name, asking_words, meant}
 use Rattle.odht_tool_core.specs.Commands.{command_name, commands, option_name, options_of}
 use Rattle.odht_tool_core.specs.Near.{is_near, is_without, is_replaced, is_swapped}
+use Rattle.odht_tool_core.specs.declared.arguments.asking.Asking.TheVariants.{Help, Version}
 use Rattle.odht_tool_core.specs.declared.arguments.topics.Setting.TheVariants.{Slots, Hash}
 use Rattle.odht_tool_core.specs.declared.arguments.topics.Topic.TheVariants.{Check, Dump, Find, Info}
 
@@ -35,3 +37,8 @@ commands_found = (refl, refl, refl, refl)
 pub options_found : (find (λ s. bytes_eq (option_name s) (codes "--slots")) (options_of Dump) ≡ Some Slots) × (find (λ s. bytes_eq (option_name s) (codes "--slots")) (options_of Info) ≡ None)
     × (find (λ s. is_near (option_name s) (codes "--hahs")) (options_of Dump) ≡ Some Hash)
 options_found = (refl, refl, refl)
+
+-- the word that asks for a text, and that which is meant by one that does not
+pub asked : (find (λ a. bytes_eq (asking_name a) (codes "help")) asking_words ≡ Some Help) × (find (λ a. is_near (asking_name a) (codes "versoin")) asking_words ≡ Some Version)
+    × (meant Help ≡ codes "help") × (meant Version ≡ codes "--version")
+asked = (refl, refl, refl, refl)

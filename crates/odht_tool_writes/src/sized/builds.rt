@@ -4,6 +4,7 @@ ghost use Rattle.odht_base.specs.Format.{format_of};
 ghost use Rattle.odht_header.specs.Refusals.{check_refusal_by};
 ghost use Rattle.odht_tool_core.specs.InfoNumbers.{least_key_len};
 ghost use Rattle.odht_tool_core.specs.ReadyShapes.{typed_len};
+ghost use Rattle.odht_tool_core.specs.SizedTexts.{sized_forms};
 ghost use Rattle.odht_tool_writes.specs.Inserted.{copy_failure};
 ghost use Rattle.odht_tool_writes.specs.Rebuilds.{IsNewFailure};
 ghost use Rattle.odht.specs.Dynamic.{dyn_store};
@@ -44,10 +45,7 @@ where
     R::File: AsFd,
 {
     let layout = layout_of(shape);
-    let forms = LineForms {
-        forms: options.forms.of(shape),
-        delimiter: options.delimiter,
-    };
+    let forms = lines_of(shape, options.forms, options.delimiter);
     match shape.hash {
         Hash::Fx => build_lengths::<FxHashFn, R, I, O, E>(
             rt, file, layout, forms, options, input, output, errors,
@@ -55,6 +53,17 @@ where
         Hash::Unhash => build_lengths::<UnHashFn, R, I, O, E>(
             rt, file, layout, forms, options, input, output, errors,
         ),
+    }
+}
+
+// The forms of lines of such stored bytes, with this byte between key and value.
+fn lines_of(shape: OtherShape, forms: GivenForms, delimiter: u8) -> LineForms
+    ensures forms { result.forms ≡ sized_forms shape forms }
+    ensures delimiter { result.delimiter ≡ delimiter }
+{
+    LineForms {
+        forms: forms.of(shape),
+        delimiter,
     }
 }
 

@@ -5,7 +5,7 @@ use crate::erased::core::any::OtherShape;
 use crate::erased::core::shapes::Part;
 use crate::host::prelude::*;
 
-/// How a key or a value is written and read.
+/// How a key or a value is written and read. It has two bytes, so that it is passed in registers.
 #[derive(Clone, Copy)]
 pub enum Form {
     /// As its shape has it: a number in decimal digits, or bytes in hexadecimal digits.
@@ -16,31 +16,46 @@ pub enum Form {
     BigEndian,
     /// Bytes that are a plain text, with zeros behind it.
     Plain,
-    /// Stored bytes that do not say their type: they are of this one, and written in this way.
-    Of(Part, Way),
+    /// Stored bytes that do not say their type: they are of this number.
+    OfNumber(Number),
+    /// Stored bytes that do not say their type: so many bytes, in hexadecimal digits.
+    OfBytes(u8),
+    /// Stored bytes that do not say their type: so many bytes, a plain text with zeros behind it.
+    OfText(u8),
 }
 
-/// How what is of a type is written and read.
+/// A type of numbers, and how they are written and read.
 #[derive(Clone, Copy)]
-pub enum Way {
-    /// As its type has it.
-    Own,
-    /// As a number with a sign.
-    Signed,
-    /// As a number whose stored bytes begin with the highest one.
-    BigEndian,
-    /// As a plain text.
-    Plain,
+pub enum Number {
+    /// Of 32 bits.
+    U32,
+    /// Of 32 bits, with a sign.
+    I32,
+    /// Of 32 bits, whose stored bytes begin with the highest one.
+    U32BigEndian,
+    /// Of 64 bits.
+    U64,
+    /// Of 64 bits, with a sign.
+    I64,
+    /// Of 64 bits, whose stored bytes begin with the highest one.
+    U64BigEndian,
 }
 
-impl Way {
-    // The form of what is of a type.
+impl Number {
+    // The type of its stored bytes.
+    fn part(self) -> Part {
+        match self {
+            Number::U32 | Number::I32 | Number::U32BigEndian => Part::U32,
+            Number::U64 | Number::I64 | Number::U64BigEndian => Part::U64,
+        }
+    }
+
+    // The form of what is of that type.
     fn form(self) -> Form {
         match self {
-            Way::Own => Form::Own,
-            Way::Signed => Form::Signed,
-            Way::BigEndian => Form::BigEndian,
-            Way::Plain => Form::Plain,
+            Number::U32 | Number::U64 => Form::Own,
+            Number::I32 | Number::I64 => Form::Signed,
+            Number::U32BigEndian | Number::U64BigEndian => Form::BigEndian,
         }
     }
 }
@@ -48,30 +63,55 @@ impl Way {
 impl Form {
     /// The form of stored bytes that are of this type, and are written as this form has it.
     pub fn of(self, part: Part) -> Form {
-        Form::Of(part, self.way())
+        match part {
+            Part::Nothing => Form::Own,
+            Part::U32 => Form::OfNumber(self.number_of_32()),
+            Part::U64 => Form::OfNumber(self.number_of_64()),
+            Part::Bytes(len) => self.of_bytes(len),
+        }
+    }
+
+    // The numbers of 32 bits that are written as this form has it.
+    fn number_of_32(self) -> Number {
+        match self {
+            Form::Signed => Number::I32,
+            Form::BigEndian => Number::U32BigEndian,
+            _ => Number::U32,
+        }
+    }
+
+    // The numbers of 64 bits that are written as this form has it.
+    fn number_of_64(self) -> Number {
+        match self {
+            Form::Signed => Number::I64,
+            Form::BigEndian => Number::U64BigEndian,
+            _ => Number::U64,
+        }
+    }
+
+    // The form of so many stored bytes that are written as this form has it.
+    fn of_bytes(self, len: u8) -> Form {
+        match self {
+            Form::Plain => Form::OfText(len),
+            _ => Form::OfBytes(len),
+        }
     }
 
     /// The type that stored bytes are of. Nothing where it is for them to say.
     pub(crate) fn part(self) -> Part {
         match self {
-            Form::Of(part, _) => part,
+            Form::OfNumber(number) => number.part(),
+            Form::OfBytes(len) | Form::OfText(len) => Part::Bytes(len),
             _ => Part::Nothing,
         }
     }
 
     /// The form of what is of that type.
     pub(crate) fn inner(self) -> Form {
-        self.way().form()
-    }
-
-    // How what is of a type is written.
-    fn way(self) -> Way {
         match self {
-            Form::Own => Way::Own,
-            Form::Signed => Way::Signed,
-            Form::BigEndian => Way::BigEndian,
-            Form::Plain => Way::Plain,
-            Form::Of(_, way) => way,
+            Form::OfNumber(number) => number.form(),
+            Form::OfText(_) => Form::Plain,
+            _ => Form::Own,
         }
     }
 }

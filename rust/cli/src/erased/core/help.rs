@@ -232,8 +232,9 @@ odht order FILE [--whole] [--key SHAPE] [--value SHAPE]
     bytes. Where no inserts make the table a line on standard error says so, and
     the status is 1. The file is checked before, as by `odht check`; --whole is as
     there. The hash function is the one that all control bytes fit, unless --hash
-    names it; --key and --value name texts other than those of the ready shape, as
-    in `odht build`.
+    names it. Keys and values have the texts of the ready shape, or of other sizes
+    hexadecimal digits, unless --key and --value name others of these sizes, as in
+    `odht build`.
     --at           the table begins at this byte of the file; bytes after its end
                    are not read
 ";
@@ -287,8 +288,9 @@ odht put FILE [--key SHAPE] [--value SHAPE] [--whole] [--hash fx|unhash]
     stays where something fails. The last line of a key wins; an empty last line
     that is no pair is left out. The file is checked before, as by `odht check`;
     --whole is as there. The hash function is the one that all control bytes fit,
-    unless --hash names it; --key and --value name texts other than those of the
-    ready shape, or of other sizes than hexadecimal digits, as in `odht build`.
+    unless --hash names it. Keys and values have the texts of the ready shape, or of
+    other sizes hexadecimal digits, unless --key and --value name others of these
+    sizes, as in `odht build`.
     Owner, group, permissions and symbolic links of the file are kept; one with hard
     links is not replaced without --break-links, with which its other names keep the
     old file.
@@ -306,8 +308,9 @@ odht delete FILE KEY.. [--key SHAPE] [--whole] [--hash fx|unhash]
     keys are the lines of standard input, but for an empty last one that is no key.
     Where a word or a line is no key nothing is written. The file is checked before,
     as by `odht check`; --whole is as there. The hash function is the one that all
-    control bytes fit, unless --hash names it; --key names another text than that of
-    the ready shape, or of other sizes than hexadecimal digits, as in `odht build`.
+    control bytes fit, unless --hash names it. Keys have the texts of the ready
+    shape, or of other sizes hexadecimal digits, unless --key names others of these
+    sizes, as in `odht build`.
     Owner, group, permissions and symbolic links of the file are kept; one with hard
     links is not replaced without --break-links, with which its other names keep the
     old file.
@@ -345,8 +348,8 @@ odht merge FILE INPUT.. [--duplicates last|first|error] [--key SHAPE]
     --break-links.
     --duplicates   which file's pair of a key counts: last, first, or error: a key
                    that an earlier file has is a failure; else last
-    --key, --value the types and texts of the first INPUT, as in `odht build`; this
-                   failure has the text of --key
+    --key, --value the types and texts of the first INPUT, as in `odht build`; where
+                   --duplicates error fails, the key is told in the text of --key
     --percent      the load factor of the new table, 1 to 100, else 87
     --progress     a line on standard error each second, and a last one of all
     --break-links  replaces this name of a file; its other names keep the old one

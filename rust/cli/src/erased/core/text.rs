@@ -36,12 +36,12 @@ impl Text for u32 {
 
     fn parse(word: &[u8], form: Form) -> Option<u32> {
         match form {
-            Form::Own | Form::Plain | Form::Of(_, _) => u32::try_from(parse_number(word)?).ok(),
             Form::Signed => u32::try_from(parse_signed(word, u64::from(u32::MAX))?).ok(),
             Form::BigEndian => {
                 let number = u32::try_from(parse_number(word)?).ok()?;
                 Some(number.swap_bytes())
             }
+            _ => u32::try_from(parse_number(word)?).ok(),
         }
     }
 
@@ -52,9 +52,9 @@ impl Text for u32 {
     #[inline(always)]
     fn write<W: Write>(&self, form: Form, output: &mut W) -> io::Result<()> {
         match form {
-            Form::Own | Form::Plain | Form::Of(_, _) => write_number(u64::from(*self), output),
             Form::Signed => write_signed(u64::from(*self), u64::from(u32::MAX), output),
             Form::BigEndian => write_number(u64::from(self.swap_bytes()), output),
+            _ => write_number(u64::from(*self), output),
         }
     }
 }
@@ -69,12 +69,12 @@ impl Text for u64 {
 
     fn parse(word: &[u8], form: Form) -> Option<u64> {
         match form {
-            Form::Own | Form::Plain | Form::Of(_, _) => parse_number(word),
             Form::Signed => parse_signed(word, u64::MAX),
             Form::BigEndian => {
                 let number = parse_number(word)?;
                 Some(number.swap_bytes())
             }
+            _ => parse_number(word),
         }
     }
 
@@ -85,9 +85,9 @@ impl Text for u64 {
     #[inline(always)]
     fn write<W: Write>(&self, form: Form, output: &mut W) -> io::Result<()> {
         match form {
-            Form::Own | Form::Plain | Form::Of(_, _) => write_number(*self, output),
             Form::Signed => write_signed(*self, u64::MAX, output),
             Form::BigEndian => write_number(self.swap_bytes(), output),
+            _ => write_number(*self, output),
         }
     }
 }

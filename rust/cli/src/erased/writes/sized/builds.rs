@@ -36,7 +36,7 @@ where
     R::File: AsFd,
 {
     let layout = layout_of(shape);
-    let forms = LineForms { forms: options.forms.of(shape), delimiter: options.delimiter };
+    let forms = lines_of(shape, options.forms, options.delimiter);
     match shape.hash {
         Hash::Fx => build_lengths::<FxHashFn, R, I, O, E>(
             rt, file, layout, forms, options, input, output, errors,
@@ -45,6 +45,11 @@ where
             rt, file, layout, forms, options, input, output, errors,
         ),
     }
+}
+
+// The forms of lines of such stored bytes, with this byte between key and value.
+fn lines_of(shape: OtherShape, forms: GivenForms, delimiter: u8) -> LineForms {
+    LineForms { forms: forms.of(shape), delimiter }
 }
 
 fn build_lengths<H: HashFn, R: Files + AllocGlobal + Clock, I: BufRead, O: Write, E: Write>(
