@@ -1,6 +1,7 @@
 //! Ready configurations: integers, keys that are hashes already, and bytes as they are.
 //!
-//! docs/FORMAT.md says in "Hashes" how a key is hashed, and in "Probe order" where its probe order begins.
+//! docs/FORMAT.md says in "Hashes" how a key is hashed, and in "Probe order" where its probe order
+//! begins.
 ghost use Rattle.std.specs.Prelude.{◌≤◌};
 ghost use Rattle.std.proofs.Common.{lit≤, zero-le};
 

@@ -15,12 +15,12 @@ use crate::hash_table_owned::HashTableOwned;
 use crate::raw_table::{RawIter, RawTable};
 
 impl<C: Config, D: ByteStore> HashTable<C, D> {
-    /// Whether this table and another have the same keys with the same values, as bytes, whatever their slot counts,
-    /// their load factors and the order of their inserts. Of bytes that are not valid nothing is said: it may be true
-    /// of any two.
+    /// Whether this table and another have the same keys with the same values, as bytes, whatever
+    /// their slot counts, their load factors and the order of their inserts. Of bytes that are not
+    /// valid nothing is said: it may be true of any two.
     ///
-    /// Where the item counts differ no key is looked up. Otherwise each key of this table is looked up in the other, up
-    /// to the first that is absent there or has another value.
+    /// Where the item counts differ no key is looked up. Otherwise each key of this table is
+    /// looked up in the other, up to the first that is absent there or has another value.
     pub fn is_same_map<E: ByteStore>(&self, other: &HashTable<C, E>) -> bool
         ensures { InTable ⟦<C as Coded>⟧.coding (D.bytes self.now)
             (λ c P. OfTable c.format (E.bytes other.now)
@@ -33,7 +33,8 @@ impl<C: Config, D: ByteStore> HashTable<C, D> {
         has_all(&other.as_raw(), RawIter::new(control, entries))
     }
 
-    /// Whether this table and another have the same bytes. Tables that are the same map may differ in theirs.
+    /// Whether this table and another have the same bytes. Tables that are the same map may differ
+    /// in theirs.
     ///
     /// One pass over the bytes, up to the first that differ.
     pub fn has_same_bytes<E: ByteStore>(&self, other: &HashTable<C, E>) -> bool
@@ -44,8 +45,9 @@ impl<C: Config, D: ByteStore> HashTable<C, D> {
 }
 
 impl<C: Config> HashTableOwned<C> {
-    /// Whether this table and another have the same keys with the same values, as bytes, whatever their slot counts,
-    /// their load factors and the order of their inserts. It costs what [`HashTable::is_same_map`] does.
+    /// Whether this table and another have the same keys with the same values, as bytes, whatever
+    /// their slot counts, their load factors and the order of their inserts. It costs what
+    /// [`HashTable::is_same_map`] does.
     pub fn is_same_map(&self, other: &HashTableOwned<C>) -> bool
         ensures { InTable ⟦<C as Coded>⟧.coding self.now
             (λ c P. OfTable c.format other.now (λ Q. IsTrue result ↔ IsSameMap P Q)) }
@@ -53,7 +55,8 @@ impl<C: Config> HashTableOwned<C> {
         self.table.is_same_map(&other.table)
     }
 
-    /// Whether this table and another have the same bytes. Tables that are the same map may differ in theirs.
+    /// Whether this table and another have the same bytes. Tables that are the same map may differ
+    /// in theirs.
     ///
     /// One pass over the bytes, up to the first that differ.
     pub fn has_same_bytes(&self, other: &HashTableOwned<C>) -> bool

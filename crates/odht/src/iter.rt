@@ -8,7 +8,8 @@ use std::marker::Model;
 
 /// The keys and values of a table, decoded, in slot order.
 ///
-/// A contract speaks of it as of the list of the pairs that are left. A whole walk reads each control byte once.
+/// A contract speaks of it as of the list of the pairs that are left. A whole walk reads each
+/// control byte once.
 #[derive(Drop)]
 pub struct Iter<'a, C: Config> {
     pub(crate) raw: RawIter<'a, C::EncodedKey, C::EncodedValue>,
@@ -41,10 +42,12 @@ impl<'a, C: Config> Iterator for Iter<'a, C> {
 
 impl<'a, C: Config> FusedIterator for Iter<'a, C> {}
 
-/// The slots that hold a pair, from a slot on, in slot order: the number of each, with its key and value, decoded. A
-/// caller that stops at a pair may go on later from the number that comes with it.
+/// The slots that hold a pair, from a slot on, in slot order: the number of each, with its key and
+/// value, decoded. A caller that stops at a pair may go on later from the number that comes with
+/// it.
 ///
-/// A contract speaks of it as of the list of the slots that are left. A whole walk reads each control byte once.
+/// A contract speaks of it as of the list of the slots that are left. A whole walk reads each
+/// control byte once.
 #[derive(Drop)]
 pub struct Slots<'a, C: Config> {
     pub(crate) raw: RawSlots<'a, C::EncodedKey, C::EncodedValue>,

@@ -1,7 +1,7 @@
-//! Laws of whole tables that are the contract of no single call: in a table of a `Lossless` configuration that is
-//! built from empty a key has its last value, valid bytes are accepted, and an order of inserts makes its table again.
-//! Each function is a few calls at most, and its contract is the law. docs/PROOFS.md lists them in "Laws of whole
-//! tables".
+//! Laws of whole tables that are the contract of no single call: in a table of a `Lossless`
+//! configuration that is built from empty a key has its last value, valid bytes are accepted, and
+//! an order of inserts makes its table again. Each function is a few calls at most, and its
+//! contract is the law. docs/PROOFS.md lists them in "Laws of whole tables".
 ghost use Rattle.std.specs.Prelude.{◌≡◌, ◌≤◌, ℕ, List, None, length, IfOk};
 ghost use Rattle.odht_base.specs.Bounds.{first_longer};
 ghost use Rattle.odht_base.specs.Decoded.{controls_of};
@@ -23,24 +23,24 @@ use std::alloc::Global;
 
 pub mod dynamic;
 
-/// The header and length of a valid table's bytes fit. A caller that has such bytes calls this, and then
-/// [`HashTable::from_raw_bytes_unchecked`](crate::HashTable::from_raw_bytes_unchecked).
+/// The header and length of a valid table's bytes fit. A caller that has such bytes calls this,
+/// and then [`HashTable::from_raw_bytes_unchecked`](crate::HashTable::from_raw_bytes_unchecked).
 pub fn valid_bytes_are_accepted<C: Config>()
     ensures { let F = ⟦<C as Coded>⟧.coding.format
         in (B : List ℕ) → IsValidBytes F B → IsAccepted F B }
 {}
 
-/// In a valid table whose bytes a bound of searches accepts ([`check_all_within`](crate::memory_layout::check_all_within)
-/// and the other calls with a bound say when), no search reads more groups than the bound, whether its key is present
-/// or absent.
+/// In a valid table whose bytes a bound of searches accepts
+/// ([`check_all_within`](crate::memory_layout::check_all_within) and the other calls with a bound
+/// say when), no search reads more groups than the bound, whether its key is present or absent.
 pub fn bounded_searches_end_in_time<C: Config>()
     ensures { let F = ⟦<C as Coded>⟧.coding.format
         in (B : List ℕ) (groups : ℕ) → first_longer (controls_of F B) groups ≡ None
         → OfTable F B (λ P. (key : List ℕ) → groups_read F P.cells key ≤ groups) }
 {}
 
-/// A table that has the last values of the items has for a key the value of the last item with this very key, and no
-/// value where no item has it.
+/// A table that has the last values of the items has for a key the value of the last item with
+/// this very key, and no value where no item has it.
 ///
 /// It has no effect, but costs a pass over the items.
 pub fn keys_have_last_values<C: Lossless>(items: &[(C::Key, C::Value)], key: &C::Key)
@@ -54,7 +54,8 @@ pub fn keys_have_last_values<C: Lossless>(items: &[(C::Key, C::Value)], key: &C:
     C::key_kept(key);
 }
 
-/// The value of a key in a table of the items: that of the last item with this very key, and None where no item has it.
+/// The value of a key in a table of the items: that of the last item with this very key, and None
+/// where no item has it.
 ///
 /// It costs a pass over the items, and a `get`.
 pub fn last_value<C: Lossless>(
@@ -69,11 +70,12 @@ pub fn last_value<C: Lossless>(
     table.get(key)
 }
 
-/// The value of a key in the table that is built from empty by inserting the items in turn: that of the last item with
-/// this very key, and None where no item has it. The load factor is in percent of the slots.
+/// The value of a key in the table that is built from empty by inserting the items in turn: that
+/// of the last item with this very key, and None where no item has it. The load factor is in
+/// percent of the slots.
 ///
-/// `Capacity` exactly where no slot count is enough for so many items, or its length passes `usize`; `Memory` where the
-/// allocator gives none.
+/// `Capacity` exactly where no slot count is enough for so many items, or its length passes
+/// `usize`; `Memory` where the allocator gives none.
 pub fn built_from_empty<C: Lossless>(
     alloc: Global,
     items: &[(C::Key, C::Value)],
@@ -94,12 +96,12 @@ pub fn built_from_empty<C: Lossless>(
     Ok(last_value(&table, items, key))
 }
 
-/// A new table after inserts of the items in turn. Where they are the pairs of a valid table `P` in an insert order,
-/// such as [`HashTableOwned::insert_order`] finds, and the new table has the slot count and load factor of `P`, its
-/// bytes are those of `P`.
+/// A new table after inserts of the items in turn. Where they are the pairs of a valid table `P`
+/// in an insert order, such as [`HashTableOwned::insert_order`] finds, and the new table has the
+/// slot count and load factor of `P`, its bytes are those of `P`.
 ///
-/// `Capacity` exactly where no slot count is enough for `max_item_count`, or its length passes `usize`; `Memory` where
-/// the allocator gives none.
+/// `Capacity` exactly where no slot count is enough for `max_item_count`, or its length passes
+/// `usize`; `Memory` where the allocator gives none.
 pub fn rebuilt<C: Config>(
     alloc: Global,
     items: &[(C::Key, C::Value)],

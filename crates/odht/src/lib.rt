@@ -1,7 +1,7 @@
 //! `odht`: a hash table that is used in the form in which it is stored.
 //!
-//! [`HashTableOwned`] owns its bytes and grows; [`HashTable`] is a view of bytes of any kind, and does not grow. Both
-//! have the bytes of docs/FORMAT.md.
+//! [`HashTableOwned`] owns its bytes and grows; [`HashTable`] is a view of bytes of any kind, and
+//! does not grow. Both have the bytes of docs/FORMAT.md.
 #![tactic(auto)]
 
 pub use hash_table::{HashTable, bytes_needed};

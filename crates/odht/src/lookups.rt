@@ -1,5 +1,6 @@
-//! Lookups of many keys. A first look hashes a key and reads the group of control bytes at its home. The first looks of
-//! eight keys are taken before any of their searches goes on, so that the loads from memory overlap.
+//! Lookups of many keys. A first look hashes a key and reads the group of control bytes at its
+//! home. The first looks of eight keys are taken before any of their searches goes on, so that the
+//! loads from memory overlap.
 ghost use Rattle.std.specs.Prelude.{◌≡◌, ◌+◌, ◌≤◌, ◌<◌, ℕ, length, set, Some};
 ghost use Rattle.odht.specs.Lookups.{IsFirstLookAt, lookups_of, ArePut, PutsOn, IsLookupAt};
 
@@ -11,8 +12,9 @@ const BATCH: usize = 8;
 
 /// Where the results of many lookups go, each to a place with a number.
 ///
-/// In a contract the ghost member `places` is how many places there are, and `after_put` what there is after a result
-/// was put at one of them. [`get_all`] puts one result for each key, in the order of the keys.
+/// In a contract the ghost member `places` is how many places there are, and `after_put` what
+/// there is after a result was put at one of them. [`get_all`] puts one result for each key, in
+/// the order of the keys.
 pub trait Answers<T>: Drop {
     ghost places: { Self → ℕ };
 
@@ -44,9 +46,9 @@ impl<'a, T: Drop> Answers<T> for InSlice<'a, T> {
     }
 }
 
-/// Puts the result of each key at its index: on the parts of a placed table the value for the key, on any parts None or
-/// a value stored with this very key. There are at least as many places as keys. Eight keys are taken at a time, then
-/// the rest one by one.
+/// Puts the result of each key at its index: on the parts of a placed table the value for the key,
+/// on any parts None or a value stored with this very key. There are at least as many places as
+/// keys. Eight keys are taken at a time, then the rest one by one.
 ///
 /// Each key is encoded twice, and hashed once. No group is read twice.
 #[inline(always)]
@@ -87,7 +89,8 @@ fn get_batches<C: Config, A: Answers<Option<C::Value>>>(
     batches * BATCH
 }
 
-// Puts the results of the eight keys from an index on. It has no loop, so that the first looks stay in registers.
+// Puts the results of the eight keys from an index on. It has no loop, so that the first looks
+// stay in registers.
 #[inline(always)]
 fn get_eight<C: Config, A: Answers<Option<C::Value>>>(
     raw: &RawTable<'_, C::EncodedKey, C::EncodedValue, C::H>,
@@ -138,7 +141,8 @@ fn get_one<C: Config, A: Answers<Option<C::Value>>>(
     answers.put(index, find_at::<C>(raw, look, keys, index));
 }
 
-// The first look of the search for the key at an index, which `find_at` continues. It reads one group of control bytes.
+// The first look of the search for the key at an index, which `find_at` continues. It reads one
+// group of control bytes.
 #[inline(always)]
 fn first_look_at<C: Config>(
     raw: &RawTable<'_, C::EncodedKey, C::EncodedValue, C::H>,
@@ -151,7 +155,8 @@ fn first_look_at<C: Config>(
     raw.first_look(&C::encode_key(&keys[index]))
 }
 
-// The value of the key at an index, from its first look by `first_look_at`. The key is encoded once more.
+// The value of the key at an index, from its first look by `first_look_at`. The key is encoded
+// once more.
 #[inline(always)]
 fn find_at<C: Config>(
     raw: &RawTable<'_, C::EncodedKey, C::EncodedValue, C::H>,

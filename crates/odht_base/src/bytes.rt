@@ -1,4 +1,5 @@
-//! Byte arrays of a fixed length, which keys and values are encoded to, and stores of bytes, which hold tables.
+//! Byte arrays of a fixed length, which keys and values are encoded to, and stores of bytes, which
+//! hold tables.
 
 mod arrays;
 mod stores;

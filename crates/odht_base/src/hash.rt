@@ -19,8 +19,8 @@ pub trait HashFn: Eq {
 
     ghost hash: { List ℕ → ℕ };
 
-    /// `NAME` as a function, since a contract cannot read a constant that is a reference. An implementation has to
-    /// return `NAME`; no clause says so.
+    /// `NAME` as a function, since a contract cannot read a constant that is a reference. An
+    /// implementation has to return `NAME`; no clause says so.
     fn hash_name() -> &'static str
         ensures { result.now ≡ hash_name };
 
@@ -32,7 +32,8 @@ pub trait HashFn: Eq {
     ghost fits: { (b : List ℕ) → MIN_LEN ≤ length b → All (λ x. x < 256) b → hash b < 2 ^ 32 };
 }
 
-/// The hash function of rustc-hash: a rotation, an exclusive or and a product for each piece of 8, 4, 2 or 1 bytes.
+/// The hash function of rustc-hash: a rotation, an exclusive or and a product for each piece of 8,
+/// 4, 2 or 1 bytes.
 #[derive(PartialEq, Eq)]
 pub struct FxHashFn;
 
@@ -86,7 +87,8 @@ fn add_to_hash(current_hash: u64, value: u64) -> u64
     (current_hash.rotate_left(5) ^ value).wrapping_mul(0x517c_c1b7_2722_0a95)
 }
 
-/// The hash function that takes the last four bytes of a key as its hash, for keys that are hashes already.
+/// The hash function that takes the last four bytes of a key as its hash, for keys that are hashes
+/// already.
 #[derive(PartialEq, Eq)]
 pub struct UnHashFn;
 

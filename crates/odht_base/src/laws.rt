@@ -1,5 +1,5 @@
-//! Laws of the definitions that are not part of the contract of any call. Each function does nothing: its contract is
-//! the law.
+//! Laws of the definitions that are not part of the contract of any call. Each function does
+//! nothing: its contract is the law.
 //!
 //! They hold for every format `F`: every pair of lengths up to 255 and every hash of 32 bits.
 ghost use Rattle.std.specs.Prelude.{◌≡◌, ℕ, ◌+◌, ◌*◌, ◌%◌, ◌<◌, ◌≤◌, ◌^◌, ◌++◌, ◌↔◌, List, [], ◌∷◌};
@@ -35,8 +35,8 @@ pub fn orders_list_each_slot_once()
     ensures each_once { (b s : ℕ) → IsSlotCount s → IsPermutation (order b s) (range_with_len 0 s) }
 {}
 
-/// The image of a valid table has the length of its slot count and decodes to the table, so different valid tables
-/// have different images.
+/// The image of a valid table has the length of its slot count and decodes to the table, so
+/// different valid tables have different images.
 pub fn images_determine_tables()
     ensures len { (F : Format) (P : Table) → IsValid F P
         → length (image F P) ≡ image_len F (slot_count P) }
@@ -46,8 +46,8 @@ pub fn images_determine_tables()
         → image F P ≡ image F Q → P ≡ Q }
 {}
 
-/// A valid table has a free slot, so any pair can be placed in it. A fresh table for `n` items accepts its first `n`
-/// items, by either insert, without growth or error.
+/// A valid table has a free slot, so any pair can be placed in it. A fresh table for `n` items
+/// accepts its first `n` items, by either insert, without growth or error.
 pub fn valid_tables_have_room()
     ensures free { (F : Format) (P : Table) → IsValid F P → (i : ℕ) × (i < slot_count P)
         × IsTrue (is_free P.cells i) }
@@ -61,8 +61,8 @@ pub fn valid_tables_have_room()
         → (Q : Table) × (run (insert_view F) P ps ≡ Some Q) × (slot_count Q ≡ slot_count P) }
 {}
 
-/// A walk may begin at any slot. From the slot of a pair that another walk reached it gives that pair and those after
-/// it; past the last slot it gives none.
+/// A walk may begin at any slot. From the slot of a pair that another walk reached it gives that
+/// pair and those after it; past the last slot it gives none.
 pub fn walks_go_on_from_any_slot()
     ensures start { (P : Table) → walk_from P 0 ≡ walk P }
     ensures pairs { (P : Table) (i : ℕ) → map (λ x. x.1) (slots_from P i) ≡ walk_from P i }
@@ -89,8 +89,8 @@ pub fn growth_keeps_the_map()
         → map_of Q k ≡ map_of P k }
 {}
 
-/// Inserts in turn keep a table valid. Then each inserted key has its last value, and every other key the value that it
-/// had before.
+/// Inserts in turn keep a table valid. Then each inserted key has its last value, and every other
+/// key the value that it had before.
 pub fn runs_have_the_last_values()
     ensures owned { (F : Format) (P Q : Table) (ps : List Pair)
         → IsValid F P → All (IsPairOf F) ps → run (insert_owned F) P ps ≡ Some Q
@@ -100,9 +100,10 @@ pub fn runs_have_the_last_values()
         → IsValid F Q × ((k : List ℕ) → map_of Q k ≡ overwritten (map_of P) (last ps) k) }
 {}
 
-/// In a table at its maximum item count an insert depends on whether the key is present; by the other rule, that of the
-/// Rust crate, on the item count alone. Both rules make the same table of a list, unless some pair of it overwrites a
-/// value in a table at its maximum. So they agree on pairs whose keys are all different and new.
+/// In a table at its maximum item count an insert depends on whether the key is present; by the
+/// other rule, that of the Rust crate, on the item count alone. Both rules make the same table of
+/// a list, unless some pair of it overwrites a value in a table at its maximum. So they agree on
+/// pairs whose keys are all different and new.
 pub fn rules_at_the_maximum_agree()
     ensures owned { (F : Format) (P : Table) (ps : List Pair)
         → NoneOverwritesFull (insert_owned F) P ps
@@ -118,9 +119,9 @@ pub fn rules_at_the_maximum_agree()
         → run (insert_view F) P ps ≡ run (insert_view_by_count F) P ps }
 {}
 
-/// The valid tables that inserts make, growths included, are exactly those with an insert order. The pairs in such an
-/// order, inserted into an empty table of as many slots, give the table: by the owned table or a view, and by either
-/// rule at the maximum.
+/// The valid tables that inserts make, growths included, are exactly those with an insert order.
+/// The pairs in such an order, inserted into an empty table of as many slots, give the table: by
+/// the owned table or a view, and by either rule at the maximum.
 pub fn insert_orders_make_tables()
     ensures made { (F : Format) (P : Table)
         → IsValid F P → (IsMade F P ↔ (order : List ℕ) × IsInsertOrder F P order) }

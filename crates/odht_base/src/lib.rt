@@ -1,6 +1,7 @@
 //! The base of `odht`: load factors, hashes, byte arrays and stores of bytes.
 //!
-//! The definitions that all contracts cite are in `specs/`, from numbers up to tables and their bytes.
+//! The definitions that all contracts cite are in `specs/`, from numbers up to tables and their
+//! bytes.
 #![tactic(auto)]
 
 pub mod bytes;

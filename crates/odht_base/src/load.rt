@@ -7,7 +7,8 @@ ghost use Rattle.odht_base.specs.Load.{IsPercent};
 
 use std::marker::Model;
 
-/// A load factor in units of 1/65536: of `s` slots at most `s * factor / 65536`, rounded down, are occupied.
+/// A load factor in units of 1/65536: of `s` slots at most `s * factor / 65536`, rounded down, are
+/// occupied.
 ///
 /// 100 percent is 65535, so a table at its maximum item count always has a free slot.
 #[derive(Debug, Clone, Copy, PartialEq, Eq)]
@@ -26,7 +27,8 @@ impl Factor {
         Factor((percent as usize * Self::BASE / 100) as u16)
     }
 
-    /// The percentage, rounded down. It may be one less than the percentage that the factor was made from.
+    /// The percentage, rounded down. It may be one less than the percentage that the factor was
+    /// made from.
     #[inline]
     pub fn to_percent(self) -> usize
         ensures { result ≡ percent_of self.0 }
@@ -44,8 +46,8 @@ impl Factor {
         (x as u128 * self.0 as u128 / 65536) as usize
     }
 
-    /// `x * 65535 / self`, rounded up; the factor is at least 1. It does not undo `apply`, whose divisor is 65536, and
-    /// slot counts are not found by it.
+    /// `x * 65535 / self`, rounded up; the factor is at least 1. It does not undo `apply`, whose
+    /// divisor is 65536, and slot counts are not found by it.
     #[inline]
     pub fn apply_inverse(self, x: usize) -> u128
         requires { 1 ≤ self.0 }
@@ -56,7 +58,8 @@ impl Factor {
     }
 }
 
-/// A load factor in percent with which a table can be made: from 1 to 100. In a contract it is this number.
+/// A load factor in percent with which a table can be made: from 1 to 100. In a contract it is
+/// this number.
 #[derive(Debug, Clone, Copy, PartialEq, Eq)]
 pub struct Percent {
     value: u8,
@@ -98,8 +101,9 @@ impl Percent {
     }
 }
 
-/// The least slot count for `max_item_count` items: the least power of two from 16 on whose maximum item count is
-/// no less. None exactly where no power of two up to 2^63 is enough. The factor is at least 1.
+/// The least slot count for `max_item_count` items: the least power of two from 16 on whose
+/// maximum item count is no less. None exactly where no power of two up to 2^63 is enough. The
+/// factor is at least 1.
 #[inline]
 pub fn slots_needed(max_item_count: usize, max_load_factor: Factor) -> Option<usize>
     requires { 1 ≤ max_load_factor.0 }

@@ -1,8 +1,9 @@
 //! Searches of a group of control bytes.
 //!
-//! A group is searched for a tag, and for the first byte that counts as free. [`Group`] is what a search of a table
-//! needs of it. There are two forms, [`no_simd::GroupQuery`] and [`lanes::GroupQuery`]. Tables use the one that is
-//! named below; what they promise does not depend on the choice.
+//! A group is searched for a tag, and for the first byte that counts as free. [`Group`] is what a
+//! search of a table needs of it. There are two forms, [`no_simd::GroupQuery`] and
+//! [`lanes::GroupQuery`]. Tables use the one that is named below; what they promise does not
+//! depend on the choice.
 ghost use Rattle.std.specs.Prelude.{◌≡◌, ℕ, ◌%◌, ◌<◌, List, Option, length, drop, slice_get};
 ghost use Rattle.std.specs.Prelude.{is_some};
 ghost use Rattle.odht_base.specs.Groups.{IsReport, first_free};
@@ -16,13 +17,15 @@ pub use free::{free_and_occupied, is_empty_or_deleted, late_free, occupied};
 pub use index_set::IndexSet;
 pub use lanes::{GROUP_SIZE, GroupQuery};
 
-/// How many control bytes count as one group in the probe order, however many are searched at once.
+/// How many control bytes count as one group in the probe order, however many are searched at
+/// once.
 pub const REFERENCE_GROUP_SIZE: usize = 16;
 
 /// A search of [`SIZE`](Group::SIZE) control bytes for a tag.
 ///
-/// Its matches are indices into the group. Each byte that is the tag is among them, and no byte of 128 or more. Other
-/// bytes may be among them, so the key has to be compared. How it is used: docs/FORMAT.md, "Search".
+/// Its matches are indices into the group. Each byte that is the tag is among them, and no byte of
+/// 128 or more. Other bytes may be among them, so the key has to be compared. How it is used:
+/// docs/FORMAT.md, "Search".
 pub trait Group: Sized + Drop {
     ghost SIZE: { ℕ };
 

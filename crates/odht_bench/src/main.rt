@@ -1,8 +1,10 @@
-//! Runs a job of the benchmark on inputs that it makes of a seed, and prints a digest of what all its calls returned.
+//! Runs a job of the benchmark on inputs that it makes of a seed, and prints a digest of what all
+//! its calls returned.
 //!
-//! The words are the name of the job, how many rounds it has, how many items the largest list of a round has, and the
-//! seed. docs/PERF.md says what each job is and how its times are compared; bench/workloads.txt has the runs that count.
-//! It prints no times, and the same line for the same words.
+//! The words are the name of the job, how many rounds it has, how many items the largest list of a
+//! round has, and the seed. docs/PERF.md says what each job is and how its times are compared;
+//! bench/workloads.txt has the runs that count. It prints no times, and the same line for the same
+//! words.
 #![tactic(auto)]
 
 mod digest;

@@ -105,7 +105,8 @@ pub fn keys_in_other_order<K: Copy, V>(alloc: Global, items: &[(K, V)]) -> Resul
     Ok(list)
 }
 
-// The index that comes after another one. The step is a prime, so that all come where it does not divide the count.
+// The index that comes after another one. The step is a prime, so that all come where it does not
+// divide the count.
 fn stepped(at: usize, count: usize) -> usize {
     match at.wrapping_add(1_000_003).checked_rem(count) {
         Some(next) => next,

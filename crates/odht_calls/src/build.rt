@@ -1,4 +1,5 @@
-//! Tables that are built from pairs: in the caller's bytes, or in memory of their own and then copied to the caller's.
+//! Tables that are built from pairs: in the caller's bytes, or in memory of their own and then
+//! copied to the caller's.
 ghost use Rattle.std.specs.Prelude.{◌≡◌, ◌⊎◌, None, length, All};
 ghost use Rattle.std.specs.List.{zip};
 ghost use Rattle.odht_base.specs.Load.{factor_of};
@@ -17,9 +18,9 @@ use odht::load::Percent;
 use odht::{HashTable, HashTableOwned, bytes_needed};
 use std::alloc::Global;
 
-/// Builds a table of the pairs at the front of `out`, with slots for as many items as there are pairs, and writes its
-/// length in bytes to `len`. BAD_PERCENT and CAPACITY leave both unchanged, TOO_SMALL leaves `out` unchanged. Allocates
-/// nothing.
+/// Builds a table of the pairs at the front of `out`, with slots for as many items as there are
+/// pairs, and writes its length in bytes to `len`. BAD_PERCENT and CAPACITY leave both unchanged,
+/// TOO_SMALL leaves `out` unchanged. Allocates nothing.
 #[inline]
 pub fn collected<C: Config>(
     keys: &[C::Key],
@@ -47,9 +48,10 @@ pub fn collected<C: Config>(
     OK
 }
 
-// Encodes each key and value and drops the bytes. It changes nothing: only the clause matters, which the proof needs.
-// It is not a law of `ByteArray`, since a law speaks of every value of the logic: there a `[u8; 2]` is any list of
-// numbers, and that it has two bytes is known only of one that a function has read.
+// Encodes each key and value and drops the bytes. It changes nothing: only the clause matters,
+// which the proof needs. It is not a law of `ByteArray`, since a law speaks of every value of the
+// logic: there a `[u8; 2]` is any list of numbers, and that it has two bytes is known only of one
+// that a function has read.
 #[inline(always)]
 fn hold_pairs<C: Config>(keys: &[C::Key], values: &[C::Value])
     requires { length values.now ≡ length keys.now }
@@ -64,7 +66,8 @@ fn hold_pairs<C: Config>(keys: &[C::Key], values: &[C::Value])
     }
 }
 
-// Makes an empty table in the bytes, whatever they hold, and inserts the pairs in order: there is room for each.
+// Makes an empty table in the bytes, whatever they hold, and inserts the pairs in order: there is
+// room for each.
 #[inline(always)]
 fn insert_into_new<C: Config>(
     bytes: &mut [u8],
@@ -82,8 +85,8 @@ fn insert_into_new<C: Config>(
     insert_into_store::<C, BorrowedMut<'_>>(&mut store, percent, keys, values);
 }
 
-// The same in a store. It is a function of its own since the prover knows what a slice holds after a store of it was
-// lent to a call, and not after the store was moved into a table.
+// The same in a store. It is a function of its own since the prover knows what a slice holds after
+// a store of it was lent to a call, and not after the store was moved into a table.
 #[inline(always)]
 fn insert_into_store<C: Config, M: ByteStoreMut>(
     store: &mut M,
@@ -107,8 +110,9 @@ fn insert_into_store<C: Config, M: ByteStoreMut>(
     let _store = table.into_data();
 }
 
-/// Builds a table of the pairs in memory of its own, which starts with sixteen slots at 87 percent of slots and grows,
-/// and copies it to the front of `out`. MEMORY leaves `out` and `len` unchanged, TOO_SMALL leaves `out` unchanged.
+/// Builds a table of the pairs in memory of its own, which starts with sixteen slots at 87 percent
+/// of slots and grows, and copies it to the front of `out`. MEMORY leaves `out` and `len`
+/// unchanged, TOO_SMALL leaves `out` unchanged.
 #[inline]
 pub fn grown<C: Config>(
     alloc: Global,

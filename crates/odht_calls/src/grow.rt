@@ -6,8 +6,8 @@ use crate::status::{CAPACITY, LOAD_FACTOR_TOO_SMALL, OK, TOO_SMALL, status_of};
 use odht::config::{Coded, Config};
 use odht::memory_layout::{Header, LEAST_FACTOR};
 
-/// Writes the table that the one in `bytes` grows into to the front of `out`, and its length in bytes to `len`.
-/// TOO_SMALL leaves `out` unchanged, any other error leaves both unchanged.
+/// Writes the table that the one in `bytes` grows into to the front of `out`, and its length in
+/// bytes to `len`. TOO_SMALL leaves `out` unchanged, any other error leaves both unchanged.
 #[inline]
 pub fn grow<C: Config>(bytes: &[u8], out: &mut [u8], len: &mut usize) -> u32
     ensures { GrowAnswers ⟦<C as Coded>⟧.coding bytes.now out.old len.old result out.new len.new }

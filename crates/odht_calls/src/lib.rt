@@ -1,5 +1,5 @@
-//! The calls for C, for every configuration: what each returns, and what it leaves in the arrays of its caller. The
-//! exports of each shape of table, in `odht_c`, hand on to them.
+//! The calls for C, for every configuration: what each returns, and what it leaves in the arrays
+//! of its caller. The exports of each shape of table, in `odht_c`, hand on to them.
 #![tactic(auto)]
 
 pub mod any;

@@ -4,8 +4,8 @@ ghost use Rattle.odht_calls.specs.Lookups.{flag_of, with_found};
 
 use odht::lookups::Answers;
 
-/// The arrays of a caller. At the index of a key that is found, its value is put in `values` and 1 in `found`; at any
-/// other index 0 is put in `found`.
+/// The arrays of a caller. At the index of a key that is found, its value is put in `values` and 1
+/// in `found`; at any other index 0 is put in `found`.
 #[derive(Drop)]
 pub(crate) struct Arrays<'v, 'f, V> {
     pub(crate) values: &'v mut [V],

@@ -6,8 +6,9 @@ use odht::bytes::Borrowed;
 use odht::config::{Coded, Config};
 use odht::{HashTable, memory_layout};
 
-/// Writes to `out` the occupied slots in an order in which inserts of their pairs make the table. UNMADE where there is
-/// none: what `out` then holds is unspecified. Errors of the whole check and BAD_LENGTHS leave `out` unchanged.
+/// Writes to `out` the occupied slots in an order in which inserts of their pairs make the table.
+/// UNMADE where there is none: what `out` then holds is unspecified. Errors of the whole check and
+/// BAD_LENGTHS leave `out` unchanged.
 #[inline]
 pub fn insert_order<C: Config>(bytes: &[u8], out: &mut [usize]) -> u32
     ensures { OrderAnswers ⟦<C as Coded>⟧.coding bytes.now out.old result out.new }

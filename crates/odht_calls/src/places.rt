@@ -12,7 +12,8 @@ use odht::{HashTable, memory_layout};
 /// What is written for no slot: where there is no error, and where the error names none.
 pub const NO_SLOT: usize = usize::MAX;
 
-// The slot that an error names, the index of a mirror byte, or the home of searches that are too long; else NO_SLOT.
+// The slot that an error names, the index of a mirror byte, or the home of searches that are too
+// long; else NO_SLOT.
 fn slot_of(error: &Error) -> usize
     ensures { result ≡ slot_of error.now }
 {
@@ -37,9 +38,9 @@ pub(crate) fn refused_at(error: &Error, slot: &mut usize) -> u32
     status_of(error)
 }
 
-/// OK where the header, the length and the first ten slots are accepted, else the number of the first error; and
-/// writes to `slot` where that is: the slot of `NonZeroEmpty` and `ControlMismatch`, and NO_SLOT of all other errors
-/// and with OK.
+/// OK where the header, the length and the first ten slots are accepted, else the number of the
+/// first error; and writes to `slot` where that is: the slot of `NonZeroEmpty` and
+/// `ControlMismatch`, and NO_SLOT of all other errors and with OK.
 #[inline]
 pub fn open_at<C: Config>(bytes: &[u8], slot: &mut usize) -> u32
     ensures { PlaceAnswers (view_refusal ⟦<C as Coded>⟧.coding.format bytes.now) result slot.new }
@@ -56,8 +57,9 @@ pub fn open_at<C: Config>(bytes: &[u8], slot: &mut usize) -> u32
     }
 }
 
-/// OK where the bytes are valid, else the number of the first error of the whole check; and writes to `slot` where
-/// that is: the slot that the error names, the index of the mirror's byte, or NO_SLOT of all other errors and with OK.
+/// OK where the bytes are valid, else the number of the first error of the whole check; and writes
+/// to `slot` where that is: the slot that the error names, the index of the mirror's byte, or
+/// NO_SLOT of all other errors and with OK.
 #[inline]
 pub fn check_at<C: Config>(bytes: &[u8], slot: &mut usize) -> u32
     ensures { PlaceAnswers (check_refusal ⟦<C as Coded>⟧.coding.format bytes.now) result slot.new }
@@ -71,9 +73,10 @@ pub fn check_at<C: Config>(bytes: &[u8], slot: &mut usize) -> u32
     }
 }
 
-/// OK where the bytes are valid and each home has a control byte that counts as free among the first `groups` groups of
-/// its probe order, so that no search reads more; else the number of the first error of the whole check with this
-/// bound. Writes to `slot` where that is, as `check_at` does, and of `SearchTooLong` the slot where the searches begin.
+/// OK where the bytes are valid and each home has a control byte that counts as free among the
+/// first `groups` groups of its probe order, so that no search reads more; else the number of the
+/// first error of the whole check with this bound. Writes to `slot` where that is, as `check_at`
+/// does, and of `SearchTooLong` the slot where the searches begin.
 #[inline]
 pub fn check_within_at<C: Config>(bytes: &[u8], groups: usize, slot: &mut usize) -> u32
     ensures { let F = ⟦<C as Coded>⟧.coding.format

@@ -25,8 +25,9 @@ pub(crate) fn view<C: Config>(bytes: &[u8]) -> Result<HashTable<C, Borrowed<'_>>
     HashTable::from_raw_bytes_by_header(Borrowed::new(bytes))
 }
 
-/// The number of the first error of bytes whose header or length does not fit; OK where both do. It is a function of
-/// its own, so that a call that finds the header as it is to be has no code for errors.
+/// The number of the first error of bytes whose header or length does not fit; OK where both do.
+/// It is a function of its own, so that a call that finds the header as it is to be has no code
+/// for errors.
 #[inline(never)]
 pub(crate) fn refused<C: Config>(bytes: &[u8]) -> u32
     ensures { result ≡ status_or_ok (opening_refusal ⟦<C as Coded>⟧.coding.format bytes.now) }
@@ -37,7 +38,8 @@ pub(crate) fn refused<C: Config>(bytes: &[u8]) -> u32
     }
 }
 
-/// OK where the header, the length and the first ten slots are accepted, else the number of the first error.
+/// OK where the header, the length and the first ten slots are accepted, else the number of the
+/// first error.
 #[inline]
 pub fn open<C: Config>(bytes: &[u8]) -> u32
     ensures { result ≡ status_or_ok (view_refusal ⟦<C as Coded>⟧.coding.format bytes.now) }
@@ -51,8 +53,9 @@ pub fn open<C: Config>(bytes: &[u8]) -> u32
     }
 }
 
-/// Writes to `len` how many bytes the table at the front of the bytes has, by its header; what follows is not looked at,
-/// nor is any slot. An error leaves `len` unchanged: one of the header, or of fewer bytes than the table has.
+/// Writes to `len` how many bytes the table at the front of the bytes has, by its header; what
+/// follows is not looked at, nor is any slot. An error leaves `len` unchanged: one of the header,
+/// or of fewer bytes than the table has.
 #[inline]
 pub fn table_len<C: Config>(bytes: &[u8], len: &mut usize) -> u32
     ensures { TableLenAnswers ⟦<C as Coded>⟧.coding.format bytes.now len.old result len.new }
@@ -77,9 +80,9 @@ pub fn check<C: Config>(bytes: &[u8]) -> u32
     }
 }
 
-/// OK where the bytes are valid and each home has a control byte that counts as free among the first `groups` groups of
-/// its probe order, so that no search reads more; else the number of the first error of the whole check with this
-/// bound.
+/// OK where the bytes are valid and each home has a control byte that counts as free among the
+/// first `groups` groups of its probe order, so that no search reads more; else the number of the
+/// first error of the whole check with this bound.
 #[inline]
 pub fn check_within<C: Config>(bytes: &[u8], groups: usize) -> u32
     ensures { let F = ⟦<C as Coded>⟧.coding.format
@@ -105,8 +108,8 @@ pub fn get<C: Config>(bytes: &[u8], key: &C::Key, value: &mut C::Value) -> u32
     view::get(&table, key, value)
 }
 
-/// Looks up many keys: at the index of a key that is found, its value is written to `values` and 1 to `found`; at any
-/// other index 0 is written to `found`. An error leaves both unchanged.
+/// Looks up many keys: at the index of a key that is found, its value is written to `values` and 1
+/// to `found`; at any other index 0 is written to `found`. An error leaves both unchanged.
 #[inline]
 pub fn get_all<C: Config>(
     bytes: &[u8],
@@ -139,8 +142,8 @@ pub fn len<C: Config>(bytes: &[u8], item_count: &mut usize) -> u32
     }
 }
 
-/// Writes the slot count, the maximum item count and the load factor in percent of slots, rounded down, by the header.
-/// An error leaves all three unchanged.
+/// Writes the slot count, the maximum item count and the load factor in percent of slots, rounded
+/// down, by the header. An error leaves all three unchanged.
 pub fn sizes<C: Config>(
     bytes: &[u8],
     slot_count: &mut usize,

@@ -1,5 +1,5 @@
-//! The statuses that the calls return, as numbers. `include/odht.h` names them all, errors included; so does
-//! docs/FORMAT.md, "Numbers for C".
+//! The statuses that the calls return, as numbers. `include/odht.h` names them all, errors
+//! included; so does docs/FORMAT.md, "Numbers for C".
 ghost use Rattle.std.specs.Prelude.{◌≡◌};
 ghost use Rattle.odht_calls.specs.Statuses.{status_of};
 

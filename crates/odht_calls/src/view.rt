@@ -1,4 +1,5 @@
-//! Opened tables as a caller in C keeps them, and lookups that skip the header, for every configuration.
+//! Opened tables as a caller in C keeps them, and lookups that skip the header, for every
+//! configuration.
 ghost use Rattle.std.specs.Prelude.{◌≡◌, length};
 ghost use Rattle.odht_raw.specs.Frame.{IsAccepted};
 ghost use Rattle.odht_calls.specs.Views.{OpenViewAnswers, ViewGetAnswers, ViewGetAllAnswers};
@@ -10,8 +11,8 @@ use odht::config::{Coded, Config};
 use odht::error::Error;
 use odht::{HashTable, lookups};
 
-/// The bytes of an opened table, as C keeps them: a pointer and a length. The calls that read a view require that the
-/// header and the length of its bytes are accepted, and do not check it.
+/// The bytes of an opened table, as C keeps them: a pointer and a length. The calls that read a
+/// view require that the header and the length of its bytes are accepted, and do not check it.
 #[repr(C)]
 #[derive(Clone, Copy)]
 pub struct View<'a> {
@@ -19,8 +20,8 @@ pub struct View<'a> {
     pub bytes: &'a [u8],
 }
 
-/// OK, and `view` is a view of the bytes; or the number of the first error, and `view` is unchanged. Reads the header,
-/// the length and the first ten slots.
+/// OK, and `view` is a view of the bytes; or the number of the first error, and `view` is
+/// unchanged. Reads the header, the length and the first ten slots.
 #[inline]
 pub fn open<'a, C: Config>(bytes: &'a [u8], view: &mut View<'a>) -> u32
     ensures { OpenViewAnswers ⟦<C as Coded>⟧.coding.format bytes.entry view.old.bytes result
@@ -62,10 +63,11 @@ pub fn get<C: Config>(table: &HashTable<C, Borrowed<'_>>, key: &C::Key, value: &
     }
 }
 
-/// Looks up many keys in an opened table: at the index of a key that is found, its value is written to `values` and 1
-/// to `found`; at any other index 0 is written to `found`.
-// Not inlined, so that what it calls has one caller for each configuration: only then does the compiler keep the first
-// looks of eight keys in one function with their searches, which takes a quarter fewer instructions.
+/// Looks up many keys in an opened table: at the index of a key that is found, its value is
+/// written to `values` and 1 to `found`; at any other index 0 is written to `found`.
+// Not inlined, so that what it calls has one caller for each configuration: only then does the
+// compiler keep the first looks of eight keys in one function with their searches, which takes a
+// quarter fewer instructions.
 #[inline(never)]
 pub fn get_all<C: Config>(
     table: &HashTable<C, Borrowed<'_>>,

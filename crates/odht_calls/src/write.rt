@@ -13,7 +13,8 @@ use odht::items::Zipped;
 use odht::load::Percent;
 use odht::memory_layout::is_accepted;
 
-/// Writes to `len` how many bytes a new table for so many items has. BAD_PERCENT and CAPACITY leave `len` unchanged.
+/// Writes to `len` how many bytes a new table for so many items has. BAD_PERCENT and CAPACITY
+/// leave `len` unchanged.
 pub fn bytes_needed<C: Config>(
     max_item_count: usize,
     max_load_factor_percent: u8,
@@ -34,8 +35,8 @@ pub fn bytes_needed<C: Config>(
     }
 }
 
-/// Makes an empty table for so many items in the store, whatever it holds. BAD_PERCENT, CAPACITY and INIT_LENGTH leave
-/// the store unchanged.
+/// Makes an empty table for so many items in the store, whatever it holds. BAD_PERCENT, CAPACITY
+/// and INIT_LENGTH leave the store unchanged.
 pub fn init<C: Config, M: ByteStoreMut>(
     store: &mut M,
     max_item_count: usize,
@@ -54,8 +55,8 @@ pub fn init<C: Config, M: ByteStoreMut>(
     }
 }
 
-/// Gives the key this value. A value that it had before is written to `former`. An error leaves the store and `former`
-/// unchanged.
+/// Gives the key this value. A value that it had before is written to `former`. An error leaves
+/// the store and `former` unchanged.
 #[inline(always)]
 pub fn insert<C: Config, M: ByteStoreMut>(
     store: &mut M,
@@ -85,8 +86,9 @@ pub fn insert<C: Config, M: ByteStoreMut>(
     }
 }
 
-/// Inserts the pairs in order, up to the first whose insert fails with FULL, and writes to `accepted` how many were
-/// inserted. An error of the header or length leaves everything unchanged.
+/// Inserts the pairs in order, up to the first whose insert fails with FULL, and writes to
+/// `accepted` how many were inserted. An error of the header or length leaves everything
+/// unchanged.
 #[inline]
 pub fn insert_all<C: Config, M: ByteStoreMut>(
     store: &mut M,

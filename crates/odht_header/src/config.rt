@@ -5,8 +5,8 @@ ghost use Rattle.odht_header.specs.Coding.{Coding, coding_of};
 use crate::bytes::ByteArray;
 use crate::hash::HashFn;
 
-/// The types of a table, and how they are encoded: all keys to one number of bytes, and all values to one, the same on
-/// every platform.
+/// The types of a table, and how they are encoded: all keys to one number of bytes, and all values
+/// to one, the same on every platform.
 ///
 /// In a contract the ghost member of the same name is what each of the four functions returns.
 pub trait Config {
@@ -56,7 +56,8 @@ pub trait Config {
     ghost key_hashes: { Self.H.MIN_LEN ≤ Self.EncodedKey.LEN };
 }
 
-/// The coding of a configuration, as one value for contracts. Each `Config` has it; a user does not implement it.
+/// The coding of a configuration, as one value for contracts. Each `Config` has it; a user does
+/// not implement it.
 pub trait Coded: Config {
     ghost coding: { Coding Self.Key Self.Value };
 }
@@ -67,8 +68,9 @@ impl<C: Config> Coded for C {
         C.encode_value C.decode_key C.decode_value };
 }
 
-/// A configuration whose decodings undo its encodings, so that different keys have different bytes. By `odht::laws`,
-/// `get` in a table that is built from empty then returns the last value of this very key.
+/// A configuration whose decodings undo its encodings, so that different keys have different
+/// bytes. By `odht::laws`, `get` in a table that is built from empty then returns the last value
+/// of this very key.
 ///
 /// Both functions do nothing: their contracts are the law, for a given key and a given value.
 pub trait Lossless: Config {

@@ -1,6 +1,7 @@
 //! The errors of opening and checking bytes, and of calls.
 //!
-//! The conditions and their order are those of docs/FORMAT.md, "What is rejected, and in which order".
+//! The conditions and their order are those of docs/FORMAT.md, "What is rejected, and in which
+//! order".
 ghost use Rattle.std.specs.Prelude.{◌≡◌, Some};
 ghost use Rattle.std.specs.Fmt.{WritesOnOk};
 ghost use Rattle.odht_header.specs.declared.error.Error.TheVariants.{Memory};
@@ -35,8 +36,8 @@ impl fmt::Display for Part {
     }
 }
 
-/// An error. Lengths and sizes are in bytes, item counts in items, slot counts in slots; a `slot` is the index of a
-/// slot. `found` is what the bytes have, `expected` what they need to have.
+/// An error. Lengths and sizes are in bytes, item counts in items, slot counts in slots; a `slot`
+/// is the index of a slot. `found` is what the bytes have, `expected` what they need to have.
 #[derive(Clone, Copy, PartialEq, Eq, Debug)]
 pub enum Error {
     // variants: made of errors.txt by make exports

@@ -86,11 +86,11 @@ impl<'a> Header<'a> {
         Header { bytes }
     }
 
-    /// Checks the header as that of a table of `raw_bytes_len` bytes, and returns the first error: `WrongTag`,
-    /// `WrongVersion`, `WrongSizeOf` of a control byte, key, value or header, `SlotCountNotPowerOfTwo`,
-    /// `SlotCountTooSmall`, `WrongLength`.
+    /// Checks the header as that of a table of `raw_bytes_len` bytes, and returns the first error:
+    /// `WrongTag`, `WrongVersion`, `WrongSizeOf` of a control byte, key, value or header,
+    /// `SlotCountNotPowerOfTwo`, `SlotCountTooSmall`, `WrongLength`.
     ///
-    /// A table's length is computed of its slot count in 128 bits, so a forged slot count cannot make it wrap.
+    /// A table's length is computed in 128 bits, so a forged slot count cannot make it wrap.
     #[inline(always)]
     pub fn sanity_check<C: Config>(&self, raw_bytes_len: usize) -> Result<(), Error>
         ensures { result
@@ -99,7 +99,7 @@ impl<'a> Header<'a> {
         self.check_layout(Layout::of::<C>(), raw_bytes_len)
     }
 
-    /// [`Header::sanity_check`] as that of a table of these lengths. The hash function does not matter.
+    /// [`Header::sanity_check`] as that of a table of these lengths, whatever the hash function.
     #[inline(always)]
     pub fn check_layout(&self, layout: Layout, raw_bytes_len: usize) -> Result<(), Error>
         ensures { (hash : List ℕ → ℕ)
@@ -110,9 +110,9 @@ impl<'a> Header<'a> {
         self.check_length(layout, raw_bytes_len)
     }
 
-    /// How many bytes a table with this header has, that is at the front of `found` bytes; what follows is not the
-    /// table's. Or the first error: those of [`Header::sanity_check`], but `WrongLength` only where there are fewer
-    /// bytes than the table has, whose length is then `expected`; a forged one does not wrap. Constant time.
+    /// The length in bytes of the table with this header at the front of `found` bytes. Or the
+    /// first error: those of [`Header::sanity_check`], but `WrongLength` only where there are fewer
+    /// bytes than the table has, whose length is then `expected`; a forged one does not wrap.
     #[inline]
     pub fn table_len<C: Config>(&self, found: usize) -> Result<usize, Error>
         ensures len { IfOk result
@@ -231,7 +231,7 @@ impl<'a> Header<'a> {
         }
     }
 
-    /// Whether the slot count is a power of two (else `SlotCountNotPowerOfTwo`), then 16 or more (`SlotCountTooSmall`).
+    /// `SlotCountNotPowerOfTwo` unless the slot count is one, then `SlotCountTooSmall` below 16.
     #[inline(always)]
     pub fn check_slot_count(&self) -> Result<(), Error>
         ensures { result
@@ -292,7 +292,7 @@ impl<'a> Header<'a> {
         }
     }
 
-    /// Whether the item count is what was found, else `WrongItemCount`; then at most the maximum, else `TooManyItems`.
+    /// `WrongItemCount` unless so many were found, then `TooManyItems` above the maximum.
     pub fn check_item_count(&self, found: usize) -> Result<(), Error>
         ensures { result
             ≡ checked (option_or (count_refusal found self.now) (room_refusal self.now)) }
@@ -354,7 +354,7 @@ impl<'a> Header<'a> {
     }
 }
 
-/// Writes the header of a table of `slot_count` slots with the item count `item_count`: all of its 32 bytes.
+/// Writes all 32 bytes of the header of a table of so many slots and items.
 pub fn write_header<C: Config>(
     header: &mut [u8],
     slot_count: usize,

@@ -1,4 +1,5 @@
-//! The lengths of encoded keys and values as a value, for tables whose lengths are known at run time alone.
+//! The lengths of encoded keys and values as a value, for tables whose lengths are known at run
+//! time alone.
 ghost use Rattle.std.specs.Prelude.{◌≡◌, ◌+◌};
 
 use crate::bytes::ByteArray;

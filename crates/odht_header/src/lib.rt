@@ -1,5 +1,5 @@
-//! `odht_header`: the error type, configurations, and the header of a table. `odht_raw` has what comes behind the
-//! header.
+//! `odht_header`: the error type, configurations, and the header of a table. `odht_raw` has what
+//! comes behind the header.
 #![tactic(auto)]
 
 pub use odht_base::{bytes, hash, load, swisstable_group_query};

@@ -23,8 +23,8 @@ pub fn bytes_needed<C: Config>(slot_count: usize) -> Option<usize>
     Layout::of::<C>().bytes_needed(slot_count)
 }
 
-/// The slot count of a new table for `max_item_count` items, and its length in bytes. None exactly where no slot count
-/// is enough, or the length passes `usize::MAX`.
+/// The slot count of a new table for `max_item_count` items, and its length in bytes. None exactly
+/// where no slot count is enough, or the length passes `usize::MAX`.
 pub fn layout_for<C: Config>(
     max_item_count: usize,
     max_load_factor: Factor,
@@ -81,7 +81,8 @@ impl Layout {
         HEADER_SIZE as u128 + slots * entry + slots + REFERENCE_GROUP_SIZE as u128
     }
 
-    /// Where the entry of a slot begins in the bytes of a table; for the number of slots, where the control bytes begin.
+    /// Where the entry of a slot begins in the bytes of a table; for the number of slots, where
+    /// the control bytes begin.
     #[inline(always)]
     pub fn entry_at(self, slot: usize) -> usize
         requires { 32 + slot * (self.key_len + self.value_len) ≤ usize.MAX }
@@ -91,7 +92,8 @@ impl Layout {
     }
 }
 
-/// Where the entry of a slot begins in the bytes of a table; for the number of slots, where the control bytes begin.
+/// Where the entry of a slot begins in the bytes of a table; for the number of slots, where the
+/// control bytes begin.
 #[inline(always)]
 pub fn entry_at<C: Config>(slot: usize) -> usize
     requires { 32 + slot * entry_len ⟦<C as Coded>⟧.coding.format ≤ usize.MAX }

@@ -1,6 +1,8 @@
-//! An index from path hashes of 16 bytes to numbers, as bytes that are stored, mapped and searched in place.
+//! An index from path hashes of 16 bytes to numbers, as bytes that are stored, mapped and searched
+//! in place.
 //!
-//! Its proofs use the public contracts of `odht` alone. It is the worked example for a [`Config`] of your own.
+//! Its proofs use the public contracts of `odht` alone. It is the worked example for a [`Config`]
+//! of your own.
 #![tactic(auto)]
 
 ghost use Rattle.std.specs.Prelude.{◌≡◌, ◌↔◌, ◌⊎◌, length, IfOk, IfSome, IsOk, OnErr};
@@ -22,7 +24,8 @@ use odht::{HashTable, HashTableOwned, UnHashFn, laws};
 use std::alloc::Global;
 use std::marker::Model;
 
-/// From a path's hash to its number. The key is a hash already, so the hash function reads its bytes as they are.
+/// From a path's hash to its number. The key is a hash already, so the hash function reads its
+/// bytes as they are.
 pub struct IndexConfig;
 
 impl Config for IndexConfig {
@@ -37,8 +40,9 @@ impl Config for IndexConfig {
 
     type H = UnHashFn;
 
-    // Each of these four says what the function of its name returns, as a value that contracts can name. The bytes of
-    // a path are the path itself; those of a number are its four bytes, little-endian.
+    // Each of these four says what the function of its name returns, as a value that contracts can
+    // name. The bytes of a path are the path itself; those of a number are its four bytes,
+    // little-endian.
     ghost encode_key = { λ path. path };
 
     ghost encode_value = { to_le_bytes w32 };
@@ -74,12 +78,14 @@ impl Config for IndexConfig {
     // The same law of the value's length: 4 is at most 255.
     ghost value_fits = { lit≤ tt };
 
-    // A law: the key is long enough for its hash function. `UnHashFn` reads four bytes, and 4 is at most 16.
+    // A law: the key is long enough for its hash function. `UnHashFn` reads four bytes, and 4 is
+    // at most 16.
     ghost key_hashes = { lit≤ tt };
 }
 
-// Two laws: decoding undoes encoding, at a given path and at a given number. So a table is a map from the paths to the
-// numbers themselves. The bytes of a path are the path; a number that is read is known to fit its four bytes.
+// Two laws: decoding undoes encoding, at a given path and at a given number. So a table is a map
+// from the paths to the numbers themselves. The bytes of a path are the path; a number that is
+// read is known to fit its four bytes.
 impl Lossless for IndexConfig {
     fn key_kept(_path: &[u8; 16]) {}
 
@@ -88,11 +94,12 @@ impl Lossless for IndexConfig {
     }
 }
 
-/// The bytes of an index of the pairs, to be stored. The load factor is 87 percent of the slots. A path that comes
-/// again gets its later number.
+/// The bytes of an index of the pairs, to be stored. The load factor is 87 percent of the slots. A
+/// path that comes again gets its later number.
 ///
-/// `Capacity` exactly where no slot count is enough for so many pairs, or its length passes `usize`; `Memory` where the
-/// allocator gives none. Each pair is hashed once, the table never grows, and its bytes are copied once.
+/// `Capacity` exactly where no slot count is enough for so many pairs, or its length passes
+/// `usize`; `Memory` where the allocator gives none. Each pair is hashed once, the table never
+/// grows, and its bytes are copied once.
 pub fn build(alloc: Global, pairs: &[([u8; 16], u32)]) -> Result<Vec<u8>, Error>
     ensures inserted { let c = ⟦<IndexConfig as Coded>⟧.coding
         in IfOk result (λ bytes. IsFreshAfterInserts c 87 pairs.now bytes.items) }
@@ -122,9 +129,10 @@ impl<'a> Model for Index<'a> {
 }
 
 impl<'a> Index<'a> {
-    /// Opens the bytes, which are checked and not copied, or returns the first error: of too few bytes, of the header,
-    /// of the length, of the first ten slots. Nothing else is checked. The bytes of a valid table, as [`build`] returns
-    /// them, are never rejected. docs/FORMAT.md, "What is rejected, and in which order", has the order.
+    /// Opens the bytes, which are checked and not copied, or returns the first error: of too few
+    /// bytes, of the header, of the length, of the first ten slots. Nothing else is checked. The
+    /// bytes of a valid table, as [`build`] returns them, are never rejected. docs/FORMAT.md,
+    /// "What is rejected, and in which order", has the order.
     #[inline]
     pub fn open(bytes: &'a [u8]) -> Result<Self, Error>
         ensures ok { IfOk result (λ index. index ≡ bytes.now) }
@@ -137,8 +145,9 @@ impl<'a> Index<'a> {
         Ok(Index { table })
     }
 
-    /// The number of a path, or None. On bytes that were opened and are not valid it is a number that is stored with
-    /// this very path, or None. [`HashTable::get_counted`] counts the groups of such a search.
+    /// The number of a path, or None. On bytes that were opened and are not valid it is a number
+    /// that is stored with this very path, or None. [`HashTable::get_counted`] counts the groups
+    /// of such a search.
     #[inline]
     pub fn lookup(&self, path: &[u8; 16]) -> Option<u32>
         ensures on_valid { let c = ⟦<IndexConfig as Coded>⟧.coding
@@ -150,8 +159,8 @@ impl<'a> Index<'a> {
     }
 }
 
-/// The law of these calls together: the number of a path in an index that is built of the pairs and opened again is
-/// that of the last pair with this very path, and None where no pair has it.
+/// The law of these calls together: the number of a path in an index that is built of the pairs
+/// and opened again is that of the last pair with this very path, and None where no pair has it.
 ///
 /// Its errors are those of [`build`]. It costs what its calls cost.
 pub fn built_and_looked_up(

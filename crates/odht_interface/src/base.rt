@@ -1,5 +1,6 @@
-//! The names of `load`, `hash` and `bytes` as the port promises them, each with the types of its arguments and of its
-//! result: one that goes missing, or has another type, does not compile. The other files have the other modules.
+//! The names of `load`, `hash` and `bytes` as the port promises them, each with the types of its
+//! arguments and of its result: one that goes missing, or has another type, does not compile. The
+//! other files have the other modules.
 ghost use Rattle.std.specs.Prelude.{◌≡◌, ◌+◌, ◌≤◌, length};
 
 use crate::checks::{same, same_bytes};
@@ -67,8 +68,8 @@ fn hashes(rt: HostRuntime) {
     same(&rt, "the name", name, "UnHashFn");
 }
 
-// What the calls of a byte array return: whether the array of the bytes is that of zeros, and whether this one has
-// zeros only.
+// What the calls of a byte array return: whether the array of the bytes is that of zeros, and
+// whether this one has zeros only.
 fn array_calls<A: ByteArray>(slice: &[u8]) -> (usize, A, bool, bool)
     requires { length slice.now ≡ A.LEN }
 {

@@ -1,5 +1,5 @@
-//! Assertions as functions, and slot counts. Those of `odht_tests` cannot be used here: a library has no functions that
-//! may abort, outside of its tests.
+//! Assertions as functions, and slot counts. Those of `odht_tests` cannot be used here: a library
+//! has no functions that may abort, outside of its tests.
 ghost use Rattle.std.specs.Prelude.{◌≡◌};
 ghost use Rattle.odht_base.specs.Load.{IsSlotCount};
 

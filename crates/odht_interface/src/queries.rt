@@ -1,5 +1,6 @@
-//! The names that both group searches have themselves, without the trait, as the port promises them (`base` says
-//! how). `Group` is not brought in here, so that a name which only the trait has does not compile.
+//! The names that both group searches have themselves, without the trait, as the port promises
+//! them (`base` says how). `Group` is not brought in here, so that a name which only the trait has
+//! does not compile.
 use crate::checks::same;
 use odht::swisstable_group_query::{GROUP_SIZE, GroupQuery, lanes, no_simd};
 

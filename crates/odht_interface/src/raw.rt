@@ -1,5 +1,5 @@
-//! The names of `raw_table` as the port promises them (`base` says how). The tables have 16 slots, keys and
-//! values of four bytes, and the key as its hash.
+//! The names of `raw_table` as the port promises them (`base` says how). The tables have 16 slots,
+//! keys and values of four bytes, and the key as its hash.
 ghost use Rattle.std.specs.Prelude.{◌≡◌};
 ghost use Rattle.odht_base.specs.Load.{IsSlotCount};
 
@@ -19,7 +19,8 @@ type Bytes = [u8; 4];
 
 const NO_SLOT: [EntryMetadata; 32] = [255_u8; 32];
 
-// Slot 15 has the key 15 and the value 1; slot 0 has the key 31, whose home is 15 too, and the value 2.
+// Slot 15 has the key 15 and the value 1; slot 0 has the key 31, whose home is 15 too, and the
+// value 2.
 const CONTROL: [EntryMetadata; 32] = [
     0, 255, 255, 255, 255, 255, 255, 255, 255, 255, 255, 255, 255, 255, 255, 0, 0, 255, 255, 255,
     255, 255, 255, 255, 255, 255, 255, 255, 255, 255, 255, 0,

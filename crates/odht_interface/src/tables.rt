@@ -1,5 +1,5 @@
-//! The names at the root of `odht` and those of `odht_index` as the port promises them (`base` says how).
-//! Maps of u64 to u32 and of u32 to u32.
+//! The names at the root of `odht` and those of `odht_index` as the port promises them (`base`
+//! says how). Maps of u64 to u32 and of u32 to u32.
 
 use crate::checks::{same, same_bytes, same_len};
 use odht::bytes::{Borrowed, BorrowedMut, ByteStore, ByteStoreMut};

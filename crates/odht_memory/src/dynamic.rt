@@ -13,7 +13,8 @@ const LAYOUT: Layout = Layout {
     value_len: 4,
 };
 
-// The error of a table of a configuration with these lengths; an error of lengths is none, and is told as `Full`.
+// The error of a table of a configuration with these lengths; an error of lengths is none, and is
+// told as `Full`.
 fn rejected<T>(answer: Result<T, DynError>) -> Result<T, Error> {
     match answer {
         Ok(it) => Ok(it),
@@ -30,7 +31,8 @@ fn insert(table: &mut Table, key: u32) -> Result<(), Error> {
     }
 }
 
-// Adds how many items and bytes a table has, and how many keys below 100 are found with their values.
+// Adds how many items and bytes a table has, and how many keys below 100 are found with their
+// values.
 fn tell_table(report: &mut Report, table: &Table) {
     let mut found = 0;
     for key in 0..100_u32 {
@@ -56,8 +58,8 @@ fn full_table(alloc: Global, report: &mut Report) -> Option<Table> {
     Some(table)
 }
 
-/// Makes a table for thirteen items, inserts fourteen, of which the last makes it grow, once more where memory was
-/// exhausted, and copies it.
+/// Makes a table for thirteen items, inserts fourteen, of which the last makes it grow, once more
+/// where memory was exhausted, and copies it.
 pub fn grow(alloc: Global, report: &mut Report) {
     let Some(mut table) = full_table(alloc, report) else {
         return;
@@ -81,7 +83,8 @@ pub fn grow(alloc: Global, report: &mut Report) {
     }
 }
 
-/// Makes room in a full table for 0, `usize::MAX` and 14 more items: only the last asks for memory.
+/// Makes room in a full table for 0, `usize::MAX` and 14 more items: only the last asks for
+/// memory.
 pub fn reserve(alloc: Global, report: &mut Report) {
     let Some(mut table) = full_table(alloc, report) else {
         return;

@@ -1,7 +1,8 @@
-//! Runs one call, whose name is what standard input has. What it returned, and what the table then holds, are lines on
-//! standard output.
+//! Runs one call, whose name is what standard input has. What it returned, and what the table then
+//! holds, are lines on standard output.
 //!
-//! The tests have each of its requests for memory fail in turn, and the gate runs it with ample memory.
+//! The tests have each of its requests for memory fail in turn, and the gate runs it with ample
+//! memory.
 #![tactic(auto)]
 
 mod dynamic;

@@ -70,7 +70,8 @@ pub fn insert(alloc: Global, report: &mut Report) {
     report.table(&table);
 }
 
-/// Makes room in a full table for 0, 14 and `usize::MAX` more items: only the second asks for memory.
+/// Makes room in a full table for 0, 14 and `usize::MAX` more items: only the second asks for
+/// memory.
 pub fn reserve(alloc: Global, report: &mut Report) {
     let Some(mut table) = full_table(alloc, report) else {
         return;
@@ -102,7 +103,8 @@ pub fn insert_all(alloc: Global, report: &mut Report) {
     report.table(&table);
 }
 
-/// Inserts the keys 13 to 40 from an iterator into a full table, which grows twice after they were collected.
+/// Inserts the keys 13 to 40 from an iterator into a full table, which grows twice after they were
+/// collected.
 pub fn extend(alloc: Global, report: &mut Report) {
     let Some(mut table) = full_table(alloc, report) else {
         return;
@@ -146,8 +148,8 @@ pub fn from_raw_bytes(alloc: Global, report: &mut Report) {
     }
 }
 
-/// Makes a table of the bytes of a full one, where no search reads more than one group; and with the bound of no group,
-/// by which they are rejected before memory is requested.
+/// Makes a table of the bytes of a full one, where no search reads more than one group; and with
+/// the bound of no group, by which they are rejected before memory is requested.
 pub fn from_raw_bytes_within(alloc: Global, report: &mut Report) {
     if let Some(table) = full_table(alloc, report) {
         let refused = Table::from_raw_bytes_within(alloc, table.raw_bytes(), 0);

@@ -17,8 +17,8 @@ fn number(size: Option<usize>) -> Option<u64> {
     size.map(|size| size as u64)
 }
 
-/// A table that owns its bytes: inserts up to its maximum, and at the maximum of present keys. Making it is one
-/// request.
+/// A table that owns its bytes: inserts up to its maximum, and at the maximum of present keys.
+/// Making it is one request.
 pub fn below_the_maximum(alloc: Global, report: &mut Report) {
     let made = Table::with_capacity(alloc, 13, 87);
     report.result("with_capacity", &made);
@@ -47,7 +47,8 @@ fn tell_read(table: &Table, report: &mut Report) {
     tell_checked(table.raw_bytes(), report);
 }
 
-/// A full table that is emptied, and filled again in the memory that it has. Making it is one request.
+/// A full table that is emptied, and filled again in the memory that it has. Making it is one
+/// request.
 pub fn clear(alloc: Global, report: &mut Report) {
     let made = Table::with_capacity(alloc, 13, 87);
     report.result("with_capacity", &made);

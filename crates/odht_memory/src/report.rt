@@ -1,6 +1,7 @@
 //! What a run has to say: lines of a label and what was found, kept until the run ends.
 //!
-//! A call that adds a line cannot fail, so a case is a list of calls, and nothing is written while a request may fail.
+//! A call that adds a line cannot fail, so a case is a list of calls, and nothing is written while
+//! a request may fail.
 use odht::HashTableOwned;
 use odht::configs::DirectU32ToU32;
 use odht::error::Error;
@@ -84,8 +85,8 @@ impl Report {
         self.add(call, Found::Word(word));
     }
 
-    /// Adds how many items and bytes a table has, and how many keys below 100 are found with the values that `value_of`
-    /// gives them.
+    /// Adds how many items and bytes a table has, and how many keys below 100 are found with the
+    /// values that `value_of` gives them.
     pub fn table(&mut self, table: &Table) {
         let mut found = 0;
         for key in 0..100 {

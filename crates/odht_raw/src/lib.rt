@@ -1,5 +1,5 @@
-//! `odht_raw`: the bytes of a table, its parts, and searches, inserts and walks in them. `odht` has the tables over
-//! them.
+//! `odht_raw`: the bytes of a table, its parts, and searches, inserts and walks in them. `odht`
+//! has the tables over them.
 #![tactic(auto)]
 
 pub use odht_base::{bytes, hash, load, swisstable_group_query};

@@ -1,7 +1,8 @@
 //! The parts of a table, control bytes and entries, and searches, inserts and walks in them.
 //!
-//! A table is *placed* where no key is in two slots, and the search for each key ends at its slot. "On the parts of a
-//! placed table" is `IsPartsOf` in a clause: control bytes, mirror and entries are those of such a table.
+//! A table is *placed* where no key is in two slots, and the search for each key ends at its slot.
+//! "On the parts of a placed table" is `IsPartsOf` in a clause: control bytes, mirror and entries
+//! are those of such a table.
 ghost use Rattle.std.specs.Prelude.{◌≡◌, ◌+◌, ◌/◌, ◌^◌, ◌<◌, ◌≤◌, length, slice_index, IfOk};
 ghost use Rattle.std.specs.Prelude.{IsFalse, List, ℕ, ⊤};
 ghost use Rattle.std.specs.Result.{result_err};
@@ -92,7 +93,8 @@ pub fn tag_of(hash: u32) -> u8
     (hash >> TAG_SHIFT) as u8
 }
 
-/// The parts of a table, borrowed to be read: the control bytes with their mirror, and the entries of as many slots.
+/// The parts of a table, borrowed to be read: the control bytes with their mirror, and the entries
+/// of as many slots.
 #[derive(Drop)]
 pub struct RawTable<'a, K: ByteArray, V: ByteArray, H: HashFn> {
     control: &'a [EntryMetadata],
@@ -128,10 +130,11 @@ impl<'a, K: ByteArray, V: ByteArray, H: HashFn> RawTable<'a, K, V, H> {
         }
     }
 
-    /// The value stored with the key, searched for group by group along the probe order (docs/FORMAT.md, "Search").
+    /// The value stored with the key, searched for group by group along the probe order
+    /// (docs/FORMAT.md, "Search").
     ///
-    /// On the parts of a placed table it is the map's result. On any parts it is a value that is stored with an equal
-    /// key. `find_counted` says how many groups that takes.
+    /// On the parts of a placed table it is the map's result. On any parts it is a value that is
+    /// stored with an equal key. `find_counted` says how many groups that takes.
     #[inline(always)]
     pub fn find(&self, key: &K) -> Option<V>
         ensures { IsFind (format_of K.LEN V.LEN H.hash) V.of_bytes self.now
@@ -141,8 +144,9 @@ impl<'a, K: ByteArray, V: ByteArray, H: HashFn> RawTable<'a, K, V, H> {
         value
     }
 
-    /// `find`, and how many groups were read: on the parts of a placed table those up to the first slot that is free
-    /// or holds the key, and on any parts at most all groups. How they are counted: docs/FORMAT.md, "Search".
+    /// `find`, and how many groups were read: on the parts of a placed table those up to the first
+    /// slot that is free or holds the key, and on any parts at most all groups. How they are
+    /// counted: docs/FORMAT.md, "Search".
     #[inline(always)]
     pub fn find_counted(&self, key: &K) -> (Option<V>, usize)
         ensures { IsCountedFind (format_of K.LEN V.LEN H.hash) V.of_bytes self.now (K.bytes key.now)
@@ -151,8 +155,8 @@ impl<'a, K: ByteArray, V: ByteArray, H: HashFn> RawTable<'a, K, V, H> {
         self.find_counted_by::<GroupQuery>(key)
     }
 
-    /// `find_counted` by a group search of the caller's choice. On the parts of a placed table all searches give the
-    /// same.
+    /// `find_counted` by a group search of the caller's choice. On the parts of a placed table all
+    /// searches give the same.
     #[inline(always)]
     pub fn find_counted_by<Q: Group>(&self, key: &K) -> (Option<V>, usize)
         ensures { IsCountedFind (format_of K.LEN V.LEN H.hash) V.of_bytes self.now (K.bytes key.now)
@@ -178,7 +182,8 @@ impl<'a, K: ByteArray, V: ByteArray, H: HashFn> RawTable<'a, K, V, H> {
         }
     }
 
-    /// The control byte and the entry of each slot whose own control byte does not count as free, in slot order.
+    /// The control byte and the entry of each slot whose own control byte does not count as free,
+    /// in slot order.
     #[inline]
     pub fn iter(&self) -> RawIter<'a, K, V>
         ensures items { result
@@ -188,8 +193,8 @@ impl<'a, K: ByteArray, V: ByteArray, H: HashFn> RawTable<'a, K, V, H> {
         RawIter::new(self.control, self.entries.copy())
     }
 
-    /// Checks the first `slots_to_check` slots, or all where there are fewer, and returns the first error:
-    /// `NonZeroEmpty` of a slot that counts as free, `ControlMismatch` of any other.
+    /// Checks the first `slots_to_check` slots, or all where there are fewer, and returns the
+    /// first error: `NonZeroEmpty` of a slot that counts as free, `ControlMismatch` of any other.
     ///
     /// A mismatch can mean that the bytes were written with another hash function.
     #[inline(always)]
@@ -205,7 +210,8 @@ impl<'a, K: ByteArray, V: ByteArray, H: HashFn> RawTable<'a, K, V, H> {
         Ok(())
     }
 
-    // What opening checks of one slot. Returns the hash of the key where the slot does not count as free.
+    // What opening checks of one slot. Returns the hash of the key where the slot does not count
+    // as free.
     #[inline(always)]
     fn check_slot(&self, slot: usize) -> Result<Option<u32>, Error>
         requires { slot < self.now.entries.slots }
@@ -224,7 +230,8 @@ impl<'a, K: ByteArray, V: ByteArray, H: HashFn> RawTable<'a, K, V, H> {
         Ok(Some(self.check_key(slot)?))
     }
 
-    // The hash of the key of an occupied slot; `ControlMismatch` where its tag is not the control byte.
+    // The hash of the key of an occupied slot; `ControlMismatch` where its tag is not the control
+    // byte.
     #[inline(always)]
     fn check_key(&self, slot: usize) -> Result<u32, Error>
         requires slot { slot < self.now.entries.slots }

@@ -1,6 +1,7 @@
 //! Reads a script from standard input and answers each of its lines on standard output.
 //!
-//! The script works on one table from `u64` to `u32`, which grows as it fills. `script::run` says what each line does.
+//! The script works on one table from `u64` to `u32`, which grows as it fills. `script::run` says
+//! what each line does.
 #![tactic(auto)]
 
 ghost use Rattle.std.specs.Prelude.{IfOk, OnOk, IfSome, IsErrOf, List, ℕ};
@@ -28,7 +29,8 @@ fn main(rt: HostRuntime) -> ExitCode {
     }
 }
 
-// Answers come in small pieces: a buffer joins them. The writer is returned once the buffer is empty.
+// Answers come in small pieces: a buffer joins them. The writer is returned once the buffer is
+// empty.
 fn run_buffered<R: Read, W: Write + Drop>(
     alloc: Global,
     input: &mut R,

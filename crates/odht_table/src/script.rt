@@ -1,4 +1,5 @@
-//! Runs a script: a list of lines, each of which makes, changes or prints a table, or checks bytes.
+//! Runs a script: a list of lines, each of which makes, changes or prints a table, or checks
+//! bytes.
 ghost use Rattle.std.specs.Prelude.{◌≡◌, ◌≢◌, ◌↔◌, ◌⊎◌, ◌<◌, ◌≤◌, IfOk, OnOk, IfSome};
 ghost use Rattle.std.specs.Prelude.{IsErrOf, Some, ℕ, List, ◌∷◌, ◌++◌, codes, length};
 ghost use Rattle.std.specs.Io.KnownBytes.{IsAtEnd, Appends};
@@ -73,9 +74,10 @@ impl std::error::Error for Fault {}
 /// | `dump` | the numbers of the header on a line, then each slot on a line |
 /// | `check HEX` | `valid` where these hexadecimal digits are those of a valid table, or the error; or `memory` |
 ///
-/// Any other line is answered with `malformed`. Before the first table a request, a line other than `new` and `check`,
-/// is answered with `no table`. A `new` or a `put` that fails leaves the table as it was, and so does each `check`,
-/// which may have no digits. docs/SCRIPT.md has the whole language.
+/// Any other line is answered with `malformed`. Before the first table a request, a line other
+/// than `new` and `check`, is answered with `no table`. A `new` or a `put` that fails leaves the
+/// table as it was, and so does each `check`, which may have no digits. docs/SCRIPT.md has the
+/// whole language.
 pub fn run<R: Read, W: Write>(alloc: Global, input: &mut R, output: &mut W) -> Result<(), Fault>
     ensures answers { OnOk result (IfSome (R.remaining input.old)
         (λ script. (text : List ℕ) × IsAnsweredBy ⟦<U64ToU32 as Coded>⟧.coding script text
@@ -261,7 +263,8 @@ fn make_fresh(alloc: Global, max_item_count: usize, percent: u64) -> Result<Fres
     })
 }
 
-// Answers with the key's former value. When memory for a growth is exhausted the table stays as it was.
+// Answers with the key's former value. When memory for a growth is exhausted the table stays as it
+// was.
 fn put<W: Write>(table: &mut Table, key: u64, value: u32, output: &mut W) -> io::Result<()>
     ensures { (P : Plain)
         → IsImage ⟦<U64ToU32 as Coded>⟧.coding.format P table.old

@@ -1,6 +1,7 @@
-//! What neither a contract nor a vector says, and what the calls for C cannot reach: lists at many lengths of keys and
-//! values beside a map of std, raw tables without a free slot, owned tables, and the index. `odht_memory` has exhausted
-//! memory, tests/c the calls for C, and `odht_interface` each public name with its types.
+//! What neither a contract nor a vector says, and what the calls for C cannot reach: lists at many
+//! lengths of keys and values beside a map of std, raw tables without a free slot, owned tables,
+//! and the index. `odht_memory` has exhausted memory, tests/c the calls for C, and
+//! `odht_interface` each public name with its types.
 mod builds;
 mod checks;
 mod collected_items;

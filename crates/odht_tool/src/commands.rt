@@ -21,8 +21,8 @@ use std::os::unix::fs::FileExt;
 use std::rt::{Clock, Files};
 
 /// Does what the words ask for. Each failure is reported by a line on `errors`; where that cannot
-/// be written either, the status alone reports it. Where nobody reads `output` any more, nothing is
-/// reported.
+/// be written either, the status alone reports it. Where nobody reads `output` any more, nothing
+/// is reported.
 pub fn run<R: Files + AllocGlobal + Clock, I: BufRead, O: Write, E: Write + IsTerminal>(
     rt: &R,
     words: Vec<String>,
@@ -116,8 +116,9 @@ where
     }
 }
 
-// Runs a command that reads its file alone, on this file and on others. Where there are others, each failure is
-// reported, and the next one is read; but where the output cannot be written, no more is.
+// Runs a command that reads its file alone, on this file and on others. Where there are others,
+// each failure is reported, and the next one is read; but where the output cannot be written, no
+// more is.
 fn read_files<R: Files + AllocGlobal, I: BufRead, O: Write, E: Write>(
     rt: &R,
     file: &str,
@@ -221,7 +222,8 @@ where
     }
 }
 
-// Where these bytes, at this offset of a file, are no table, and one is further on: reports the failure, and tells where.
+// Where these bytes, at this offset of a file, are no table, and one is further on: reports the
+// failure, and tells where.
 fn with_hint<E: Write>(
     alloc: Global,
     file: &str,
@@ -240,8 +242,8 @@ fn with_hint<E: Write>(
     Ok(status)
 }
 
-// Runs a command that reads its file alone, which has these bytes, from `at` on where that is told, and may be the only
-// one.
+// Runs a command that reads its file alone, which has these bytes, from `at` on where that is
+// told, and may be the only one.
 fn run_reading<I: BufRead, O: Write, E: Write>(
     alloc: Global,
     file: &str,
@@ -356,7 +358,8 @@ fn find_in<O: Write, E: Write>(
     Ok(status)
 }
 
-// Writes the pairs of a file in an order of inserts. Where no inserts make the table, a line on `errors` says so.
+// Writes the pairs of a file in an order of inserts. Where no inserts make the table, a line on
+// `errors` says so.
 fn order_in<O: Write, E: Write>(
     alloc: Global,
     file: &str,

@@ -29,7 +29,8 @@ fn main(rt: HostRuntime) -> ExitCode {
     }
 }
 
-// Runs the command that the arguments name. An error is one of memory, or `InvalidData`: an argument is no text.
+// Runs the command that the arguments name. An error is one of memory, or `InvalidData`: an
+// argument is no text.
 fn run(rt: &HostRuntime) -> io::Result<Status> {
     let alloc: Global = rt.alloc();
     let words: Vec<String> = env::args(rt)?.skip(1).collect(alloc)?;

@@ -1,4 +1,5 @@
-//! The shape of a table of any sizes: a ready one, or the types of keys and values and the hash function.
+//! The shape of a table of any sizes: a ready one, or the types of keys and values and the hash
+//! function.
 ghost use Rattle.std.specs.Prelude.{◌≡◌, ◌≤◌, IfOk, IfSome};
 ghost use Rattle.odht_tool_core.specs.AnyShapes.{HasLongKeys, any_of_kinds, any_of_sizes, other_of};
 ghost use Rattle.odht_tool_core.specs.AnyShapes.{any_hash, any_key, any_value, kind_of_size};
@@ -67,9 +68,10 @@ impl AnyShape {
         }
     }
 
-    /// The shape of keys and values that are said to be these, and of the hash function, where one is given: the first
-    /// ready one of their types; else another one, of `fx` where none is given. None where a ready shape of other types
-    /// has as many bytes, since a file is read as that, or the hash function needs longer keys.
+    /// The shape of keys and values that are said to be these, and of the hash function, where one
+    /// is given: the first ready one of their types; else another one, of `fx` where none is
+    /// given. None where a ready shape of other types has as many bytes, since a file is read as
+    /// that, or the hash function needs longer keys.
     pub(crate) fn of_kinds(key: Kind, value: Kind, hash: Option<Hash>) -> Option<AnyShape>
         ensures shape { result ≡ any_of_kinds key value hash }
         ensures long { IfSome result HasLongKeys }
@@ -83,7 +85,8 @@ impl AnyShape {
         }
     }
 
-    // The first ready shape of the lengths of these types and of the hash function, where one is given; else another.
+    // The first ready shape of the lengths of these types and of the hash function, where one is
+    // given; else another.
     fn of_sizes(key: Part, value: Part, hash: Option<Hash>) -> Result<AnyShape, Failure>
         ensures shape { result ≡ any_of_sizes key value hash }
         ensures long { IfOk result HasLongKeys }
@@ -94,7 +97,8 @@ impl AnyShape {
         }
     }
 
-    // That of these types which is no ready one. `ShortKeys` where the hash function needs longer keys.
+    // That of these types which is no ready one. `ShortKeys` where the hash function needs longer
+    // keys.
     fn of_types(key: Part, value: Part, hash: Hash) -> Result<AnyShape, Failure>
         ensures shape { result ≡ other_of key value hash }
         ensures long { IfOk result HasLongKeys }
@@ -107,10 +111,10 @@ impl AnyShape {
     }
 }
 
-/// The shape of these bytes: the ready one of the key and value sizes in the header, and of the hash function, where
-/// one is given; where there is none, another one, of `fx` where none is given. Where the check fails before it comes
-/// to the sizes, some shape is returned: opening has the same error for each. `ShortKeys` where the hash function needs
-/// longer keys.
+/// The shape of these bytes: the ready one of the key and value sizes in the header, and of the
+/// hash function, where one is given; where there is none, another one, of `fx` where none is
+/// given. Where the check fails before it comes to the sizes, some shape is returned: opening has
+/// the same error for each. `ShortKeys` where the hash function needs longer keys.
 pub fn named_any(bytes: &[u8], hash: Option<Hash>) -> Result<AnyShape, Failure>
     ensures shape { result ≡ named_any bytes.now hash }
     ensures long { IfOk result HasLongKeys }
@@ -123,9 +127,10 @@ pub fn named_any(bytes: &[u8], hash: Option<Hash>) -> Result<AnyShape, Failure>
     AnyShape::of_sizes(key, Part::Bytes(header.value_size()), hash)
 }
 
-/// The shape that the bytes of a file are read as, as `found_any` finds it, and the forms of its keys and values: those
-/// that are said, or its own. Where it is no ready shape, its types are those that are said, if they have its lengths.
-/// `OtherKey` or `OtherValue` where what is said is of another type, or of another length.
+/// The shape that the bytes of a file are read as, as `found_any` finds it, and the forms of its
+/// keys and values: those that are said, or its own. Where it is no ready shape, its types are
+/// those that are said, if they have its lengths. `OtherKey` or `OtherValue` where what is said is
+/// of another type, or of another length.
 pub fn read_any(
     bytes: &[u8],
     hash: Option<Hash>,
@@ -180,8 +185,8 @@ fn read_other(shape: OtherShape, kinds: Kinds) -> Result<(AnyShape, GivenForms),
     Ok((shape, forms))
 }
 
-// What stored bytes of this type are read as, where `kind` is said of them, or nothing. None where that has another
-// length.
+// What stored bytes of this type are read as, where `kind` is said of them, or nothing. None where
+// that has another length.
 fn kind_of_size(kind: Option<Kind>, part: Part) -> Option<Kind>
     ensures kind { result ≡ kind_of_size kind part }
     ensures len { IfSome result (λ k. typed_len k.part ≡ typed_len part) }

@@ -123,7 +123,8 @@ impl Keys {
 /// A command, with all that it needs to know beside its file.
 #[derive(Drop)]
 pub enum Command {
-    /// One that reads the file alone, from the given byte on where there is one, and then others so.
+    /// One that reads the file alone, from the given byte on where there is one, and then others
+    /// so.
     Read {
         others: Vec<String>,
         at: Option<usize>,
@@ -153,7 +154,8 @@ impl Command {
     }
 }
 
-/// A command that reads its file alone. A bound is one of searches, in groups; none with `--whole`.
+/// A command that reads its file alone. A bound is one of searches, in groups; none with
+/// `--whole`.
 #[derive(Drop)]
 pub enum Reading {
     // begin readings: made of commands.txt by tools/commands; `make manual` makes it anew
@@ -219,7 +221,8 @@ pub enum Request {
     Run { file: String, command: Command },
 }
 
-/// Whether the name of a file stands for standard input, or of one that is made for standard output.
+/// Whether the name of a file stands for standard input, or of one that is made for standard
+/// output.
 pub fn is_stream(file: &str) -> bool
     ensures { result ≡ bytes_eq file.now (codes "-") }
 {

@@ -64,8 +64,9 @@ fn parse_eight(digits: &[u8; 8]) -> Option<u64>
     Some(value_of_eight(u64::from_le_bytes(*digits)))
 }
 
-// The number of the eight digits that are the bytes of a word, the first of them the lowest. Ten times the digits and
-// the digits one byte further on make a number of two digits in each second byte.
+// The number of the eight digits that are the bytes of a word, the first of them the lowest. Ten
+// times the digits and the digits one byte further on make a number of two digits in each second
+// byte.
 #[inline(always)]
 fn value_of_eight(word: u64) -> u64
     requires low { 0x3030303030303030 ≤ word }
@@ -80,7 +81,8 @@ fn value_of_eight(word: u64) -> u64
         + pairs / 0x1_0000_0000_0000 % 0x100
 }
 
-// The number of the digits of `front` and these behind them, of which there are so few that each step fits.
+// The number of the digits of `front` and these behind them, of which there are so few that each
+// step fits.
 #[inline(always)]
 fn parse_few(front: u64, digits: &[u8]) -> Option<u64>
     requires { (front + 1) * 10 ^ length digits.now ≤ 10 ^ 19 }
@@ -150,8 +152,9 @@ fn put_number(number: u64, text: &mut [u8; 24]) -> usize
     put_front(rest, text, end)
 }
 
-// Puts the digits of a number of at most four before `end`. Returns where they begin. Whether there are one or two, or
-// three or four, is no branch: that would be guessed wrong as often as not.
+// Puts the digits of a number of at most four before `end`. Returns where they begin. Whether
+// there are one or two, or three or four, is no branch: that would be guessed wrong as often as
+// not.
 #[inline(always)]
 fn put_front(number: u64, text: &mut [u8; 24], end: usize) -> usize
     requires number { number < 10000 }

@@ -38,7 +38,8 @@ pub fn input_len<R: Files>(rt: &R) -> Option<u64> {
 }
 
 /// All bytes of an input.
-// By lines, as other commands read it: another way to read would keep the compiler from inlining theirs.
+// By lines, as other commands read it: another way to read would keep the compiler from inlining
+// theirs.
 pub fn read_input<I: BufRead>(alloc: Global, input: &mut I) -> Result<Vec<u8>, Failure> {
     let mut bytes = Vec::new(alloc);
     for _ in 0..u64::MAX {
@@ -54,11 +55,13 @@ pub fn read_input<I: BufRead>(alloc: Global, input: &mut I) -> Result<Vec<u8>, F
     Ok(bytes)
 }
 
-/// Writes a new file beside the target, whose name is that of the target with `.new` after it, and renames it to the
-/// target's name once all of it is stored. On a failure the target is unchanged, and the new file is removed.
+/// Writes a new file beside the target, whose name is that of the target with `.new` after it, and
+/// renames it to the target's name once all of it is stored. On a failure the target is unchanged,
+/// and the new file is removed.
 ///
-/// Where the target is there, nobody but the owner of the new file may read it while it is written; then it gets the
-/// permissions, owner and group that it keeps. A target that has become none is rejected, as by [`Target::find`].
+/// Where the target is there, nobody but the owner of the new file may read it while it is
+/// written; then it gets the permissions, owner and group that it keeps. A target that has become
+/// none is rejected, as by [`Target::find`].
 ///
 /// Where a file of the new name exists already, nothing is written: another run may be writing it.
 pub fn replace_file<R: Files + AllocGlobal>(

@@ -157,7 +157,8 @@ pub trait Forms: Copy {
         ensures { result ≡ delimiter self };
 }
 
-/// The forms of a shape's own. What is generic in forms is compiled for these once more, and asks nothing when it runs.
+/// The forms of a shape's own. What is generic in forms is compiled for these once more, and asks
+/// nothing when it runs.
 #[derive(Clone, Copy)]
 pub struct OwnForms;
 
@@ -268,8 +269,8 @@ pub struct Kind {
 }
 
 impl Kind {
-    /// The kind of this name: that of a type (`Part::named`), `i32` or `i64`, `u32be` or `u64be`, or `text:` and a
-    /// number of bytes from 1 to 255.
+    /// The kind of this name: that of a type (`Part::named`), `i32` or `i64`, `u32be` or `u64be`,
+    /// or `text:` and a number of bytes from 1 to 255.
     pub(crate) fn named(name: &str) -> Option<Kind> {
         let (part, form) = match name {
             "i32" => (Part::U32, Form::Signed),
@@ -292,7 +293,8 @@ pub struct Kinds {
     pub value: Option<Kind>,
 }
 
-/// The form of keys or values of this type of which this is said, if anything is. None where that is of another type.
+/// The form of keys or values of this type of which this is said, if anything is. None where that
+/// is of another type.
 pub(crate) fn form_for(kind: Option<Kind>, part: Part) -> Option<Form>
     ensures { result ≡ form_for kind part }
 {

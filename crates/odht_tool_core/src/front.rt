@@ -11,9 +11,10 @@ use crate::stored::stated_len;
 use odht_header::error::Error;
 use odht_header::header::Header;
 
-/// The table that begins at this byte of a file and ends where its header says; bytes after it are not looked at.
-/// `PastEnd` where the file ends before that byte. Where opening by the header fails, or there are fewer bytes than the
-/// header says, all bytes from there on, which opening rejects with the same error.
+/// The table that begins at this byte of a file and ends where its header says; bytes after it are
+/// not looked at. `PastEnd` where the file ends before that byte. Where opening by the header
+/// fails, or there are fewer bytes than the header says, all bytes from there on, which opening
+/// rejects with the same error.
 pub fn table_at(bytes: &[u8], offset: usize) -> Result<&[u8], Failure>
     ensures past { result_err result ≡ offset_failure bytes.now offset }
     ensures table { IfOk result (λ t. t.now ≡ table_front (drop offset bytes.now)) }
@@ -30,8 +31,8 @@ pub fn table_at(bytes: &[u8], offset: usize) -> Result<&[u8], Failure>
     }
 }
 
-/// The table that these bytes begin with. The errors are those of opening by the header, then `WrongLength` where there
-/// are fewer bytes than the header says.
+/// The table that these bytes begin with. The errors are those of opening by the header, then
+/// `WrongLength` where there are fewer bytes than the header says.
 pub fn front_of(bytes: &[u8]) -> Result<&[u8], Error>
     ensures err { result_err result ≡ front_refusal bytes.now }
     ensures table { IfOk result (λ t. t.now ≡ take (stated_len bytes.now) bytes.now) }

@@ -9,8 +9,9 @@ use odht_base::swisstable_group_query::lanes::GroupQuery;
 use odht_base::swisstable_group_query::{Group, REFERENCE_GROUP_SIZE};
 use odht_raw::raw_table::ProbeSeq;
 
-/// The number of the group of a key's probe order that contains a slot, from 1 on: as many groups as a search for the
-/// key in that slot reads. Where that is above the bound, one more than the bound.
+/// The number of the group of a key's probe order that contains a slot, from 1 on: as many groups
+/// as a search for the key in that slot reads. Where that is above the bound, one more than the
+/// bound.
 ///
 /// It goes over the groups of the probe order up to that one, or to the bound.
 pub fn groups_to(hash: u32, slot: usize, slot_count: usize, bound: Option<usize>) -> usize
@@ -34,8 +35,9 @@ pub fn groups_to(hash: u32, slot: usize, slot_count: usize, bound: Option<usize>
     groups.min(most + 1)
 }
 
-/// How many groups a search from this home reads at most, for any key: up to the first with a control byte that counts
-/// as free, or all. Where that is above the bound, one more than the bound. The control bytes end with their mirror.
+/// How many groups a search from this home reads at most, for any key: up to the first with a
+/// control byte that counts as free, or all. Where that is above the bound, one more than the
+/// bound. The control bytes end with their mirror.
 ///
 /// It reads these groups, up to the bound.
 pub fn groups_to_free(control: &[u8], home: usize, slot_count: usize, bound: Option<usize>) -> usize

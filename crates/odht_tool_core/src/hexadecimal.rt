@@ -1,4 +1,5 @@
-//! Words of hexadecimal digits that are read as bytes, of a length that is known at run time alone.
+//! Words of hexadecimal digits that are read as bytes, of a length that is known at run time
+//! alone.
 ghost use Rattle.std.specs.Prelude.{◌≡◌, ◌↔◌, ◌*◌, IsTrue, None, length};
 ghost use Rattle.std.specs.Char.{is_ascii_hexdigit};
 ghost use Rattle.std.specs.List.{AllPass};
@@ -7,8 +8,8 @@ ghost use Rattle.odht_tool_core.specs.Texts.{IsHexWord, WritesBytes, hex_text};
 
 use crate::text::digit_value;
 
-/// Whether the word is two hexadecimal digits, of either case, for each of so many bytes as there are in `bytes`, which
-/// then become these; else they are not changed.
+/// Whether the word is two hexadecimal digits, of either case, for each of so many bytes as there
+/// are in `bytes`, which then become these; else they are not changed.
 pub fn read_digits(word: &[u8], bytes: &mut [u8]) -> bool
     ensures value { IsTrue result → WritesBytes word.now bytes.new }
     ensures word { IsTrue result ↔ IsHexWord (length bytes.old) word.now }

@@ -48,7 +48,8 @@ impl Histogram {
         self.counts[index] = self.counts[index].saturating_add(1);
     }
 
-    /// Writes a line for each number of groups up to the largest: the number, the count, and a bar.
+    /// Writes a line for each number of groups up to the largest: the number, the count, and a
+    /// bar.
     pub fn write<W: Write>(&self, output: &mut W) -> io::Result<()>
         requires { length self.now.counts.items ≡ 64 }
         ensures { OnOk result (Appends (W.contents output.old) (W.contents output.new)
@@ -61,8 +62,8 @@ impl Histogram {
         Ok(())
     }
 
-    /// Writes an array of JSON: for each number of groups up to the largest the count. The last of 64 counts is that
-    /// of all larger numbers too.
+    /// Writes an array of JSON: for each number of groups up to the largest the count. The last of
+    /// 64 counts is that of all larger numbers too.
     pub fn write_array<W: Write>(&self, output: &mut W) -> io::Result<()>
         requires { length self.now.counts.items ≡ 64 }
         ensures { OnOk result (Appends (W.contents output.old) (W.contents output.new)
@@ -152,7 +153,8 @@ fn longer_mark(index: usize, longest: usize) -> &'static str
     }
 }
 
-// Writes a bar. Its length over that of the longest is the count over the largest; at least 1 where the count is not 0.
+// Writes a bar. Its length over that of the longest is the count over the largest; at least 1
+// where the count is not 0.
 fn write_bar<W: Write>(count: usize, most: usize, output: &mut W) -> io::Result<()>
     requires { count ≤ most }
     ensures { OnOk result

@@ -18,10 +18,11 @@ use odht_header::header::HEADER_SIZE;
 use std::alloc::Global;
 use std::io::{self, Write};
 
-/// `odht info` of the bytes of the file of this name, or of the table at a byte of it: writes that byte, sizes, counts,
-/// load factors, how full the table is along its slots, how many groups a search reads for the items and for absent keys,
-/// up to the bound, and what may help where that is many; after a line of the name where it is not the only one; with
-/// `is_json` as an object of JSON.
+/// `odht info` of the bytes of the file of this name, or of the table at a byte of it: writes that
+/// byte, sizes, counts, load factors, how full the table is along its slots, how many groups a
+/// search reads for the items and for absent keys, up to the bound, and what may help where that
+/// is many; after a line of the name where it is not the only one; with `is_json` as an object of
+/// JSON.
 pub fn info_file<O: Write>(
     alloc: Global,
     file: &str,
@@ -62,7 +63,8 @@ fn write_as<O: Write>(
     write_all(file, at, numbers, output)
 }
 
-// The lines of the file's name, where it is not the only one, and of the byte at which the table stands in it.
+// The lines of the file's name, where it is not the only one, and of the byte at which the table
+// stands in it.
 fn write_place<O: Write>(
     file: &str,
     is_one: bool,

@@ -11,8 +11,8 @@ use odht_header::error::Error;
 use std::alloc::Global;
 use std::io::{self, Write};
 
-/// The offset of the first table inside the bytes of a file that does not begin with one's tag, if there is one. It
-/// takes the time of `find_tables`, and fails as that does.
+/// The offset of the first table inside the bytes of a file that does not begin with one's tag, if
+/// there is one. It takes the time of `find_tables`, and fails as that does.
 pub fn first_inside(alloc: Global, bytes: &[u8]) -> Result<Option<usize>, Failure>
     ensures ok { IfOk result (IsFirstInside bytes.now) }
     ensures err { IfErr result (IsFindFailure bytes.now) }

@@ -116,8 +116,8 @@ pub enum NextKey<K> {
     End,
 }
 
-/// Reads the next line, and parses its key, in the text that its type has. The bytes of `line` are replaced. Where an
-/// empty line is no key, a line after it is taken too.
+/// Reads the next line, and parses its key, in the text that its type has. The bytes of `line` are
+/// replaced. Where an empty line is no key, a line after it is taken too.
 #[inline]
 pub fn next_key<K: Text, I: BufRead>(input: &mut I, line: &mut Vec<u8>) -> io::Result<NextKey<K>>
     ensures next { IfOk result (IsNextKey (IsReadAs (K.is_word Form.Own) (K.stands_for Form.Own))

@@ -1,5 +1,6 @@
-//! `odht_tool_core`: what the program for table files, `odht_tool`, is made of that needs no table of `odht`: words,
-//! lines, keys and values as text, files, and the numbers of a table of any sizes.
+//! `odht_tool_core`: what the program for table files, `odht_tool`, is made of that needs no table
+//! of `odht`: words, lines, keys and values as text, files, and the numbers of a table of any
+//! sizes.
 #![tactic(auto)]
 
 mod advice;

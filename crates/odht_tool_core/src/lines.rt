@@ -15,8 +15,9 @@ use crate::places::{cut_at, place_of};
 use crate::text::Text;
 use std::io::{self, BufRead, ErrorKind};
 
-/// Reads the next line into `line`, without its end, `\n` or `\r\n`, and replaces what `line` held. False at the end of
-/// the input. A read that was interrupted is made again. After an error do not use the line.
+/// Reads the next line into `line`, without its end, `\n` or `\r\n`, and replaces what `line`
+/// held. False at the end of the input. A read that was interrupted is made again. After an error
+/// do not use the line.
 pub(crate) fn read_line<R: BufRead>(reader: &mut R, line: &mut Vec<u8>) -> io::Result<bool>
     ensures line { IfOk result (λ more. IsTrue more
         → IsNextLine (R.remaining reader.old) (R.remaining reader.new) line.new.items) }
@@ -47,8 +48,8 @@ fn read_through<R: BufRead>(reader: &mut R, line: &mut Vec<u8>) -> io::Result<bo
     }
 }
 
-// What a reader has in its buffer: a line with its end, which is taken; a part of one at most, which is left there, as
-// where a read was interrupted; or nothing, at the end of the input.
+// What a reader has in its buffer: a line with its end, which is taken; a part of one at most,
+// which is left there, as where a read was interrupted; or nothing, at the end of the input.
 #[derive(Clone, Copy)]
 enum Buffered {
     Line,
@@ -83,8 +84,8 @@ fn take_buffered<R: BufRead>(reader: &mut R, line: &mut Vec<u8>) -> io::Result<B
     Ok(Buffered::Line)
 }
 
-// What is done where this error came when the buffer was to be filled. Where the read was interrupted nothing was taken,
-// and it is tried again. Any other error is returned as it is.
+// What is done where this error came when the buffer was to be filled. Where the read was
+// interrupted nothing was taken, and it is tried again. Any other error is returned as it is.
 #[cold]
 fn buffered_after(refused: io::Error) -> io::Result<Buffered>
     ensures again { error_kind refused ≡ ErrorKind.Interrupted → result ≡ Ok Buffered.Part }
@@ -119,8 +120,8 @@ fn drop_last(line: &mut Vec<u8>, byte: u8) -> bool
     true
 }
 
-/// Reads the pair of the line of this number, if there is such a line, in the texts that the types of key and value have.
-/// The bytes of `line` are replaced.
+/// Reads the pair of the line of this number, if there is such a line, in the texts that the types
+/// of key and value have. The bytes of `line` are replaced.
 #[inline]
 pub fn read_pair<K: Text, V: Text, I: BufRead>(
     input: &mut I,
@@ -155,8 +156,8 @@ pub fn read_pair_as<K: Text, V: Text, F: Forms, I: BufRead>(
     }
 }
 
-// Nothing where this line, of which no pair is read, is left out: it is empty, and no line comes after it. Else what is
-// returned for it; then the line is as it was.
+// Nothing where this line, of which no pair is read, is left out: it is empty, and no line comes
+// after it. Else what is returned for it; then the line is as it was.
 #[cold]
 #[inline(never)]
 fn left_out<I: BufRead>(
@@ -174,8 +175,9 @@ fn left_out<I: BufRead>(
     }
 }
 
-/// Whether a line that was read, of which nothing is parsed, is left out: it is empty, and no line comes after it. A line
-/// that comes after an empty one is taken from the input; `line` stays as it was.
+/// Whether a line that was read, of which nothing is parsed, is left out: it is empty, and no line
+/// comes after it. A line that comes after an empty one is taken from the input; `line` stays as
+/// it was.
 #[cold]
 #[inline(never)]
 pub(crate) fn is_left_out<I: BufRead>(input: &mut I, line: &mut Vec<u8>) -> io::Result<bool>
@@ -194,8 +196,8 @@ pub(crate) fn is_left_out<I: BufRead>(input: &mut I, line: &mut Vec<u8>) -> io::
     Ok(!is_next)
 }
 
-// The key and the value of a line: on either side of the first byte that stands between them, or, where a value is
-// nothing, of a line without that byte.
+// The key and the value of a line: on either side of the first byte that stands between them, or,
+// where a value is nothing, of a line without that byte.
 fn parse_pair<K: Text, V: Text, F: Forms>(line: &[u8], forms: F) -> Result<(K, V), LineFault>
     ensures pair { IfOk result (IsPairOf (F.delimiter forms) (V.wants (F.pair forms).1)
         (IsReadAs (K.is_word (F.pair forms).0) (K.stands_for (F.pair forms).0))

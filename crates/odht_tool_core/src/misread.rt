@@ -80,7 +80,8 @@ pub struct Misread<'a> {
 }
 
 impl<'a> Misread<'a> {
-    /// The same of a line, by what is wrong with it, what its key and its value should be, and the byte between them.
+    /// The same of a line, by what is wrong with it, what its key and its value should be, and the
+    /// byte between them.
     pub(crate) fn of_line(
         number: u64,
         fault: LineFault,

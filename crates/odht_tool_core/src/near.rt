@@ -2,8 +2,8 @@
 ghost use Rattle.std.specs.Prelude.{◌≡◌};
 ghost use Rattle.odht_tool_core.specs.Near.{is_near, is_replaced, is_slip, is_swapped, is_without};
 
-/// Whether one slip makes one word of the other: a byte left out or too many, another byte in the place of one, or two
-/// neighbours that have changed places.
+/// Whether one slip makes one word of the other: a byte left out or too many, another byte in the
+/// place of one, or two neighbours that have changed places.
 pub fn is_near(one: &[u8], other: &[u8]) -> bool
     ensures { result ≡ is_near one.now other.now }
 {

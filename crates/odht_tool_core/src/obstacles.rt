@@ -1,4 +1,5 @@
-//! Which files are replaced, and which permissions the new one gets, by the numbers that the system gives of a file.
+//! Which files are replaced, and which permissions the new one gets, by the numbers that the
+//! system gives of a file.
 ghost use Rattle.std.specs.Prelude.{◌≡◌, bit_and, Some};
 ghost use Rattle.odht_tool_core.specs.Replaced.{obstacle_of, obstacle_text, irregular};
 ghost use Rattle.odht_tool_core.specs.Replaced.{kept_mode, within_owner, in_both};
@@ -57,7 +58,8 @@ impl fmt::Display for Obstacle {
     }
 }
 
-/// Why the file of this mode, with its kind, and of so many names is not replaced, if there is a reason.
+/// Why the file of this mode, with its kind, and of so many names is not replaced, if there is a
+/// reason.
 pub fn obstacle_of(mode: u32, names: u64, breaks_links: bool) -> Option<Obstacle>
     ensures { result ≡ obstacle_of mode names breaks_links }
 {
@@ -88,11 +90,12 @@ fn irregular(kind: u32) -> Option<Obstacle>
     }
 }
 
-/// The permissions of the file that replaces one of this mode, where the system has left the new one with the owner
-/// and the group of the old one, or not.
+/// The permissions of the file that replaces one of this mode, where the system has left the new
+/// one with the owner and the group of the old one, or not.
 ///
-/// Those who may have come into another class, as the former members of the group, get what both classes had. So nobody
-/// but the new owner may do more than before. The rights to run as the owner or the group go in any case.
+/// Those who may have come into another class, as the former members of the group, get what both
+/// classes had. So nobody but the new owner may do more than before. The rights to run as the
+/// owner or the group go in any case.
 pub fn kept_mode(mode: u32, keeps_owner: bool, keeps_group: bool) -> u32
     ensures exact { result ≡ kept_mode mode keeps_owner keeps_group }
     ensures narrow { bit_and result mode ≡ result }

@@ -50,7 +50,8 @@ fn place_in_few(bytes: &[u8], byte: u8) -> usize
     at
 }
 
-/// The bytes in front of the first place of the byte, and those behind it. None where it is nowhere.
+/// The bytes in front of the first place of the byte, and those behind it. None where it is
+/// nowhere.
 #[inline]
 pub fn cut_at(bytes: &[u8], byte: u8) -> Option<(&[u8], &[u8])>
     ensures { MatchOption result (All (λ x. x ≢ byte) bytes.now)

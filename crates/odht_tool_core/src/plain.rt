@@ -8,7 +8,8 @@ ghost use Rattle.odht_tool_core.specs.PlainTexts.{plain_text};
 
 use std::io::{self, Write};
 
-/// The bytes of the word, and zeros behind them. None where it is longer, or has a byte that no plain text has.
+/// The bytes of the word, and zeros behind them. None where it is longer, or has a byte that no
+/// plain text has.
 pub(crate) fn parse_plain<const N: usize>(word: &[u8]) -> Option<[u8; N]>
     ensures value { IfSome result (PadsText word.now) }
     ensures some { IsSome result ↔ IsPlainText N word.now }
@@ -21,8 +22,8 @@ pub(crate) fn parse_plain<const N: usize>(word: &[u8]) -> Option<[u8; N]>
     }
 }
 
-/// Whether the word is a plain text of at most so many bytes as there are in `bytes`, all zeros; these then become the
-/// text and zeros behind it, else they are not changed.
+/// Whether the word is a plain text of at most so many bytes as there are in `bytes`, all zeros;
+/// these then become the text and zeros behind it, else they are not changed.
 pub(crate) fn read_plain(word: &[u8], bytes: &mut [u8]) -> bool
     requires { bytes.old ≡ replicate (length bytes.old) 0 }
     ensures value { IsTrue result → PadsText word.now bytes.new }

@@ -61,7 +61,8 @@ pub struct Progress {
 }
 
 impl Progress {
-    /// A line each second from now on, and a last one, where they are requested. Without a clock there are none.
+    /// A line each second from now on, and a last one, where they are requested. Without a clock
+    /// there are none.
     pub fn new<R: Clock>(rt: &R, watch: Watch) -> Progress {
         let begun = if watch.is_asked {
             Instant::now(rt).ok()
@@ -75,7 +76,8 @@ impl Progress {
         }
     }
 
-    /// Writes a line of what is taken, where a second or more has passed since the last one, or since the start.
+    /// Writes a line of what is taken, where a second or more has passed since the last one, or
+    /// since the start.
     pub fn report<R: Clock, E: Write>(
         &mut self,
         rt: &R,
@@ -145,7 +147,8 @@ impl Progress {
     }
 }
 
-/// Writes how much of the input is taken after so many seconds, with a bar, where it is said to have so many bytes.
+/// Writes how much of the input is taken after so many seconds, with a bar, where it is said to
+/// have so many bytes.
 pub fn write_taken<E: Write>(
     taken: Taken,
     seconds: u64,

@@ -1,4 +1,5 @@
-//! The shapes of tables that the commands read and write: the types of keys and values, and the hash function.
+//! The shapes of tables that the commands read and write: the types of keys and values, and the
+//! hash function.
 ghost use Rattle.std.specs.Prelude.{◌≡◌};
 ghost use Rattle.odht_tool_core.specs.ReadyShapes.{typed_len, same_part, same_hash, is_hashed_by};
 ghost use Rattle.odht_tool_core.specs.ReadyShapes.{has_parts, shape_of_parts, is_shape_of};
@@ -66,7 +67,8 @@ pub enum Part {
 }
 
 impl Part {
-    /// The type of this name: `u32`, `u64`, `none`, or `hex` or `bytes:` and a number of bytes from 0 to 255.
+    /// The type of this name: `u32`, `u64`, `none`, or `hex` or `bytes:` and a number of bytes
+    /// from 0 to 255.
     pub(crate) fn named(name: &str) -> Option<Part> {
         match name {
             "none" => Some(Part::Nothing),
@@ -130,7 +132,8 @@ impl fmt::Display for Part {
 }
 
 impl Shape {
-    /// The first ready shape of keys and values of so many bytes, and of the hash function, where one is given.
+    /// The first ready shape of keys and values of so many bytes, and of the hash function, where
+    /// one is given.
     pub(crate) fn of_sizes(key_size: u8, value_size: u8, hash: Option<Hash>) -> Option<Shape>
         ensures { result ≡ shape_of_sizes key_size value_size hash }
     {
@@ -140,7 +143,8 @@ impl Shape {
             .find(|shape| shape.is_of(key_size, value_size, hash))
     }
 
-    /// Whether keys and values have so many bytes, and the hash function is this one, where one is given.
+    /// Whether keys and values have so many bytes, and the hash function is this one, where one is
+    /// given.
     pub(crate) fn is_of(self, key_size: u8, value_size: u8, hash: Option<Hash>) -> bool
         ensures { result ≡ is_shape_of key_size value_size hash self }
     {
@@ -159,7 +163,8 @@ impl Shape {
             .find(|shape| shape.has_parts(key, value, hash))
     }
 
-    // Whether keys and values are of these types, and the hash function is this one, where one is given.
+    // Whether keys and values are of these types, and the hash function is this one, where one is
+    // given.
     fn has_parts(self, key: Part, value: Part, hash: Option<Hash>) -> bool
         ensures { result ≡ has_parts key value hash self }
     {

@@ -9,7 +9,8 @@ use std::fmt;
 /// How many bytes are shown of longer ones.
 const MOST: usize = 60;
 
-/// Bytes between quotes: printable characters as they are, others by their numbers, and of many the first alone.
+/// Bytes between quotes: printable characters as they are, others by their numbers, and of many
+/// the first alone.
 #[derive(Clone, Copy)]
 pub(crate) struct Shown<'a>(pub(crate) &'a [u8]);
 

@@ -6,8 +6,8 @@ ghost use Rattle.odht_tool_core.specs.Signed.{IsSignedWord, is_negative, signed_
 use crate::digits::{parse_number, write_number};
 use std::io::{self, Write};
 
-/// The two's complement of the number with this sign and these decimal digits, of `most + 1` numbers. Only a hyphen is a
-/// sign.
+/// The two's complement of the number with this sign and these decimal digits, of `most + 1`
+/// numbers. Only a hyphen is a sign.
 pub(crate) fn parse_signed(word: &[u8], most: u64) -> Option<u64>
     requires { most % 2 ≡ 1 }
     ensures { SomeIff result (IsSignedWord (most + 1) word.now) (signed_value (most + 1) word.now) }
@@ -31,7 +31,8 @@ fn is_negative(word: &[u8]) -> bool
     !word.is_empty() && word[0] == b'-'
 }
 
-// The two's complement of the number below zero of this size. None where it is none of `most + 1` numbers.
+// The two's complement of the number below zero of this size. None where it is none of `most + 1`
+// numbers.
 fn complement_of(size: u64, most: u64) -> Option<u64>
     requires { most % 2 ≡ 1 }
     ensures { let m = most + 1 in SomeIff result (size < m / 2 + 1) ((m - size) % m) }

@@ -1,4 +1,5 @@
-//! Keys and values of a length that is known at run time alone, as text: by the type that the form says they are of.
+//! Keys and values of a length that is known at run time alone, as text: by the type that the form
+//! says they are of.
 ghost use Rattle.std.specs.Prelude.{◌≡◌, ◌↔◌, ℕ, List, IfSome, IsSome, length};
 ghost use Rattle.std.specs.Int.{from_le_bytes, w32, w64};
 ghost use Rattle.odht_tool_core.specs.Forms.{IsBytesText, StandsForBytes};
@@ -17,7 +18,8 @@ use crate::typed::{plain_bytes, write_stored};
 use odht_raw::raw_table::ShortBytes;
 use std::io::{self, Write};
 
-/// The form says their type. Bytes of another length than it has are written in hexadecimal digits.
+/// The form says their type. Bytes of another length than it has are written in hexadecimal
+/// digits.
 impl Text for ShortBytes {
     ghost text = { sized_text };
 

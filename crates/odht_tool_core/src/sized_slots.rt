@@ -1,4 +1,5 @@
-//! The occupied slots of a table whose lengths are numbers, each on a line: as texts, or as an object of JSON.
+//! The occupied slots of a table whose lengths are numbers, each on a line: as texts, or as an
+//! object of JSON.
 ghost use Rattle.std.specs.Prelude.{◌≡◌, ◌<◌, OnOk, length};
 ghost use Rattle.std.specs.Io.KnownBytes.{Appends};
 ghost use Rattle.odht_raw.specs.Sized.{sized_format};
@@ -16,8 +17,8 @@ use odht_base::swisstable_group_query::is_empty_or_deleted;
 use odht_raw::raw_table::SizedTable;
 use std::io::{self, Write};
 
-/// Writes a line for each occupied slot, in slot order: its number, its control byte, how many groups a search reads, and
-/// its pair.
+/// Writes a line for each occupied slot, in slot order: its number, its control byte, how many
+/// groups a search reads, and its pair.
 pub fn write_slots<H: HashFn, O: Write>(
     texts: Texts,
     is_json: bool,

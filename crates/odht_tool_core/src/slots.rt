@@ -22,8 +22,8 @@ use odht_header::config::{Coded, Config};
 use odht_raw::memory_layout::{Allocation, Entries};
 use std::io::{self, Write};
 
-/// `odht dump --slots` of bytes of a configuration: writes a line for each occupied slot, in slot order, in the texts that
-/// the types of key and value have.
+/// `odht dump --slots` of bytes of a configuration: writes a line for each occupied slot, in slot
+/// order, in the texts that the types of key and value have.
 pub fn dump_slots<C: Config, O: Write>(bytes: &[u8], output: &mut O) -> Result<Status, Failure>
 where
     C::Key: Text,
@@ -59,8 +59,8 @@ where
     Ok(())
 }
 
-// Writes the line of a slot, where it is occupied: its number, its control byte, how many groups a search reads, and
-// its pair.
+// Writes the line of a slot, where it is occupied: its number, its control byte, how many groups a
+// search reads, and its pair.
 fn write_slot<C: Config, O: Write>(
     control: &[u8],
     entries: &Entries<'_, C::EncodedKey, C::EncodedValue>,

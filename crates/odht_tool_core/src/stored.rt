@@ -58,8 +58,8 @@ impl<'a> Model for StoredTable<'a> {
 }
 
 impl<'a> StoredTable<'a> {
-    /// Checks the header and the length alone, and returns the first error, as [`Header::sanity_check`] does for the
-    /// key and value sizes in the header.
+    /// Checks the header and the length alone, and returns the first error, as
+    /// [`Header::sanity_check`] does for the key and value sizes in the header.
     pub fn open(bytes: &'a [u8]) -> Result<Self, Error>
         ensures err { result_err result ≡ info_refusal bytes.now }
         ensures parts { IfOk result (λ t. t ≡ sized_parts bytes.now) }
@@ -103,8 +103,8 @@ impl<'a> StoredTable<'a> {
         }
     }
 
-    /// Whether the keys are long enough for a hash function, and each occupied slot has the tag of its key by it. It ends
-    /// at the first that has not.
+    /// Whether the keys are long enough for a hash function, and each occupied slot has the tag of
+    /// its key by it. It ends at the first that has not.
     pub fn agrees(&self, hash: Hash) -> bool
         ensures { result ≡ agrees self.now hash }
     {
@@ -194,8 +194,8 @@ impl<'a> StoredTable<'a> {
         hash_key(&entry[..self.key_size], hash)
     }
 
-    /// Counts for each occupied slot how many groups a search reads to find its key, by this hash function; numbers above
-    /// the bound as one more than the bound. At most `bound` steps a slot.
+    /// Counts for each occupied slot how many groups a search reads to find its key, by this hash
+    /// function; numbers above the bound as one more than the bound. At most `bound` steps a slot.
     pub fn histogram(
         &self,
         alloc: Global,
@@ -215,8 +215,9 @@ impl<'a> StoredTable<'a> {
         Ok(histogram)
     }
 
-    /// How many groups the longest search for an absent key reads at most, whatever the hash function is; where that is
-    /// above the bound, one more than the bound. It reads control bytes alone, at most `bound` groups a slot.
+    /// How many groups the longest search for an absent key reads at most, whatever the hash
+    /// function is; where that is above the bound, one more than the bound. It reads control bytes
+    /// alone, at most `bound` groups a slot.
     pub fn longest_miss(&self, bound: Option<usize>) -> usize
         ensures { result ≡ longest_miss self.now bound }
     {

@@ -31,10 +31,11 @@ pub(crate) struct Kept {
 impl Target {
     /// Follows the links of the name. No file is opened.
     ///
-    /// It fails with [`Failure::Obstacle`] where what is there is not a regular file, where its owner may not write it,
-    /// and where it has other names, unless `breaks_links`; with [`Failure::Beside`] where a file has the name that the
-    /// new one has until it is stored; with [`Failure::Write`] where the system does not follow the links, or the file
-    /// has no name where they end; and without memory.
+    /// It fails with [`Failure::Obstacle`] where what is there is not a regular file, where its
+    /// owner may not write it, and where it has other names, unless `breaks_links`; with
+    /// [`Failure::Beside`] where a file has the name that the new one has until it is stored; with
+    /// [`Failure::Write`] where the system does not follow the links, or the file has no name
+    /// where they end; and without memory.
     pub fn find<R: Files + AllocGlobal>(
         rt: &R,
         path: &str,
@@ -84,8 +85,8 @@ impl Target {
         self.path.as_str()
     }
 
-    /// The same found anew, since another run may have changed it. What is kept of a file that is no longer there is
-    /// what was kept before.
+    /// The same found anew, since another run may have changed it. What is kept of a file that is
+    /// no longer there is what was kept before.
     pub(crate) fn again<R: Files + AllocGlobal>(&self, rt: &R) -> Result<Target, Failure> {
         let mut target = Target::find(rt, self.path(), self.breaks_links)?;
         target.kept = target.kept.or(self.kept);
@@ -107,8 +108,8 @@ impl Kept {
         }
     }
 
-    /// Gives a file the owner and the group, where the system allows it, and then the permissions, narrowed where it
-    /// does not.
+    /// Gives a file the owner and the group, where the system allows it, and then the permissions,
+    /// narrowed where it does not.
     pub(crate) fn give<F: OpenFile + AsFd>(self, file: &F) -> io::Result<()> {
         // Whether the system allowed it is then read from the file.
         let _ = fchown(file, None, Some(self.group));
@@ -166,7 +167,8 @@ fn end_of_links<R: Files + AllocGlobal>(rt: &R, path: &str) -> io::Result<String
     Err(io::Error::from(ErrorKind::FilesystemLoop))
 }
 
-// The name that a link leads to, where the name is that of a link: it begins at the folder that the link is in.
+// The name that a link leads to, where the name is that of a link: it begins at the folder that
+// the link is in.
 fn next_name<R: Files + AllocGlobal>(rt: &R, name: &str) -> io::Result<Option<String>> {
     let alloc: Global = rt.alloc();
     match if_there(fs::symlink_metadata(rt, name))? {

@@ -1,5 +1,5 @@
-//! Keys and values as text: a number in decimal digits, with a sign or without, bytes in hexadecimal digits or as plain
-//! text, and nothing at all.
+//! Keys and values as text: a number in decimal digits, with a sign or without, bytes in
+//! hexadecimal digits or as plain text, and nothing at all.
 ghost use Rattle.std.specs.Prelude.{◌≡◌, ◌↔◌, ◌<◌, ◌≤◌, ◌*◌, ◌%◌, ◌^◌, ℕ};
 ghost use Rattle.std.specs.Prelude.{List, [], length, take, max, slice_index, Some};
 ghost use Rattle.std.specs.Prelude.{IfErr, IfSome, IsFalse, IsNone, IsOk, IsSome, IsTrue, OnOk};
@@ -49,7 +49,8 @@ pub trait Text: Copy {
         ensures value { IfSome result (stands_for form word.now) }
         ensures some { IsSome result ↔ is_word form word.now };
 
-    /// The text, where it may have any bytes. None where each is a character that stands for itself in strings of JSON.
+    /// The text, where it may have any bytes. None where each is a character that stands for
+    /// itself in strings of JSON.
     fn plain_bytes(&self, form: Form) -> Option<&[u8]>
         ensures some { IfSome result (λ t. t.now ≡ text form self.now) }
         ensures none { IsNone result → AllPass is_simple (text form self.now) };
@@ -222,8 +223,9 @@ fn parse_bytes<const N: usize>(word: &[u8]) -> Option<[u8; N]>
     }
 }
 
-// The same of at most 32 bytes: first the value of each digit, then the byte of each two, so that the compiler makes
-// vectors of both loops. All are read before a wrong one is noticed, so that no step branches on a digit.
+// The same of at most 32 bytes: first the value of each digit, then the byte of each two, so that
+// the compiler makes vectors of both loops. All are read before a wrong one is noticed, so that no
+// step branches on a digit.
 #[inline(always)]
 fn parse_short<const N: usize>(word: &[u8]) -> Option<[u8; N]>
     requires few { N ≤ 32 }
@@ -243,7 +245,8 @@ fn parse_short<const N: usize>(word: &[u8]) -> Option<[u8; N]>
     Some(bytes)
 }
 
-// Puts the value of each digit at its place. Returns the largest, which is 16 where a byte is no digit.
+// Puts the value of each digit at its place. Returns the largest, which is 16 where a byte is no
+// digit.
 #[inline(always)]
 fn put_values(digits: &[u8], values: &mut [u8; 64]) -> u8
     requires { length digits.now ≤ 64 }
@@ -300,8 +303,8 @@ pub(crate) fn digit_value(byte: u8) -> u8
     }
 }
 
-/// Writes two lower-case digits for each byte, those of each byte by themselves. The error is that of the writer, and
-/// nothing is written after it.
+/// Writes two lower-case digits for each byte, those of each byte by themselves. The error is that
+/// of the writer, and nothing is written after it.
 // They are put together for 32 bytes at once.
 pub fn write_bytes<W: Write>(bytes: &[u8], output: &mut W) -> io::Result<()>
     ensures { OnOk result (Appends (W.contents output.old) (W.contents output.new)
@@ -318,8 +321,8 @@ pub fn write_bytes<W: Write>(bytes: &[u8], output: &mut W) -> io::Result<()>
     Ok(())
 }
 
-// Writes the digits of each byte by themselves. A buffer behind `output` that becomes full is then passed on with as
-// many digits as fit, however long the text is.
+// Writes the digits of each byte by themselves. A buffer behind `output` that becomes full is then
+// passed on with as many digits as fit, however long the text is.
 #[inline(always)]
 fn write_in_pairs<W: Write>(digits: &[u8], output: &mut W) -> io::Result<()>
     requires { length digits.now % 2 ≡ 0 }
@@ -352,8 +355,8 @@ fn is_written<W: Write>(pair: &[u8; 2], output: &mut W, fault: &mut Option<io::E
 
 // Whether this went well. Where it did not, `fault` becomes its error.
 //
-// The error is put where it stays. As a part of the result it would be copied for each two digits, and zeros in its
-// place where there is none.
+// The error is put where it stays. As a part of the result it would be copied for each two digits,
+// and zeros in its place where there is none.
 #[inline(always)]
 fn went_well(written: io::Result<()>, fault: &mut Option<io::Error>) -> bool
     ensures done { IsTrue result → IsOk written }

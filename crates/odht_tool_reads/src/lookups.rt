@@ -1,5 +1,5 @@
-//! Keys that are looked up in a table, and what is written of them: the words of a command line, or lines, a batch at a
-//! time.
+//! Keys that are looked up in a table, and what is written of them: the words of a command line,
+//! or lines, a batch at a time.
 ghost use Rattle.std.specs.Prelude.{◌≡◌, Ok, Some, None, [], ◌∷◌, ◌++◌, IfOk, IfErr, OnOk};
 ghost use Rattle.std.specs.Prelude.{map, string_bytes};
 ghost use Rattle.std.specs.List.{AllZip};
@@ -131,8 +131,8 @@ pub fn answer_lines<T: Lookups, F: Forms, I: BufRead, O: Write>(
     Ok(Status::of(is_last_found && is_all_found))
 }
 
-// Reads the key of the line of this number, if there is such a line. Where it is no key, the keys before it are
-// answered first.
+// Reads the key of the line of this number, if there is such a line. Where it is no key, the keys
+// before it are answered first.
 fn read_key<T: Lookups, F: Forms, I: BufRead, O: Write>(
     alloc: Global,
     table: &T,
@@ -202,7 +202,8 @@ fn wrong_line<K: Text, F: Forms>(
     misread.message(alloc)
 }
 
-// Adds a key, and answers all where they are a batch. Returns whether each was found, and those before.
+// Adds a key, and answers all where they are a batch. Returns whether each was found, and those
+// before.
 fn take_key<T: Lookups, F: Forms, O: Write>(
     alloc: Global,
     table: &T,

@@ -1,5 +1,6 @@
-//! `odht get` of a regular file that is read by position: its header, some groups of slots until they tell the hash
-//! function, and what lookups read. Where that does not do, all bytes are read as for other commands.
+//! `odht get` of a regular file that is read by position: its header, some groups of slots until
+//! they tell the hash function, and what lookups read. Where that does not do, all bytes are read
+//! as for other commands.
 ghost use Rattle.std.specs.Prelude.{◌≡◌, ◌+◌, ◌<◌, ◌≤◌, ◌^◌, ℕ, List, length, map, string_bytes};
 ghost use Rattle.std.specs.Prelude.{IfSome, unwrap_or};
 ghost use Rattle.odht_base.specs.Bytes.{bytes_at};
@@ -31,9 +32,10 @@ use names::found_name;
 use shaped::{words_other, words_ready};
 use source::FileSource;
 
-/// `odht get` of a file, for the words of the command line. None where it is not read by position: it is no regular
-/// file, or a read failed, or its bytes are not opened, or too many of them would be read to know the hash function.
-/// Nothing was written then, and reading all bytes has the answer.
+/// `odht get` of a file, for the words of the command line. None where it is not read by position:
+/// it is no regular file, or a read failed, or its bytes are not opened, or too many of them would
+/// be read to know the hash function. Nothing was written then, and reading all bytes has the
+/// answer.
 pub fn get_words<R: Files + AllocGlobal, O: Write>(
     rt: &R,
     file: &str,
@@ -87,8 +89,8 @@ struct Start {
     len: usize,
 }
 
-// Reads the header of the table that begins at the offset, or of one that is all of the source. None where there is no
-// table by the header, or a read failed.
+// Reads the header of the table that begins at the offset, or of one that is all of the source.
+// None where there is no table by the header, or a read failed.
 fn read_start<S: ReadAt>(source: &S, len: usize, offset: Option<usize>) -> Option<Start>
     ensures within { IfSome result (λ s. s.at + s.len ≤ len) }
     ensures long { IfSome result (λ s. 32 ≤ s.len) }

@@ -13,8 +13,8 @@ use odht::memory_layout::{check_all, check_all_within};
 use odht_tool_core::any::AnyShape;
 use odht_tool_core::shapes::Shape;
 
-/// The first rule that the bytes break, as a table of this shape, the bound of searches among them where there is one.
-/// Bytes without an error are valid.
+/// The first rule that the bytes break, as a table of this shape, the bound of searches among them
+/// where there is one. Bytes without an error are valid.
 pub fn check_any(shape: AnyShape, bytes: &[u8], bound: Option<usize>) -> Result<(), Error>
     requires { HasLongKeys shape }
     ensures first { result ≡ checked (check_refusal_by (any_format shape) bound bytes.now) }

@@ -1,4 +1,5 @@
-//! Tables of lengths that are numbers: keys and values are bytes, of lengths that the header states.
+//! Tables of lengths that are numbers: keys and values are bytes, of lengths that the header
+//! states.
 ghost use Rattle.std.specs.Prelude.{◌≡◌, ◌≤◌, IfErr, IfOk, None, OnOk};
 ghost use Rattle.odht.specs.Dynamic.{dyn_format};
 ghost use Rattle.odht_base.specs.Decoded.{decoded_pairs};
@@ -43,8 +44,8 @@ pub fn lengths_of(key: Part, value: Part) -> Layout
     }
 }
 
-/// The first rule that the bytes break, as a table of this shape, the bound of searches among them where there is one.
-/// Bytes without an error are valid.
+/// The first rule that the bytes break, as a table of this shape, the bound of searches among them
+/// where there is one. Bytes without an error are valid.
 pub fn check_other(shape: OtherShape, bytes: &[u8], bound: Option<usize>) -> Result<(), Error>
     requires { least_key_len shape.hash ≤ typed_len shape.key }
     ensures first { result ≡ checked (check_refusal_by (other_format shape) bound bytes.now) }

@@ -1,4 +1,5 @@
-//! The shape of a file whose bytes are checked whole, and whether two of them have the same lengths.
+//! The shape of a file whose bytes are checked whole, and whether two of them have the same
+//! lengths.
 ghost use Rattle.std.specs.Prelude.{◌≡◌, IfOk, OnOk};
 ghost use Rattle.std.specs.Io.KnownBytes.{Appends};
 ghost use Rattle.odht_base.specs.Valid.{IsValidBytes};
@@ -13,8 +14,8 @@ use odht_tool_core::forms::{GivenForms, Kinds};
 use odht_tool_core::shapes::Hash;
 use std::io::{self, Write};
 
-/// The shape of the bytes of a file, and the forms of its keys and values, as `read_any` has them; or the first rule that
-/// the bytes break, the bound of searches among them where there is one.
+/// The shape of the bytes of a file, and the forms of its keys and values, as `read_any` has them;
+/// or the first rule that the bytes break, the bound of searches among them where there is one.
 pub fn read_whole(
     bytes: &[u8],
     hash: Option<Hash>,

@@ -47,8 +47,8 @@ pub trait Inserts: Drop {
             (bytes self.new)) }
         ensures memory { OnErr result (result ≡ Err Memory) };
 
-    /// Inserts the pair where its key has no value, and returns whether that is so. `Memory` where there is none for a
-    /// larger table.
+    /// Inserts the pair where its key has no value, and returns whether that is so. `Memory` where
+    /// there is none for a larger table.
     fn insert_new(&mut self, key: &Self::Key, value: &Self::Value) -> Result<bool, Failure>
         ensures new { IfOk result (λ new. IsNewInsert (coding self.old) (bytes self.old)
             key.now value.now new (bytes self.new)) }
@@ -118,7 +118,8 @@ fn fill<T: Inserts, F: Forms, R: AllocGlobal + Clock, I: BufRead, E: Write>(
     insert_batch(table, &mut pairs)
 }
 
-// Reports how far the run is: how many lines were read, of so many bytes, and how many pairs there are by now.
+// Reports how far the run is: how many lines were read, of so many bytes, and how many pairs there
+// are by now.
 fn report<R: Clock, E: Write>(
     rt: &R,
     progress: &mut Progress,

@@ -75,7 +75,8 @@ impl Run {
         }
     }
 
-    /// Runs the cases of a file. Its sections are printed with how many held, and what does not hold, line by line.
+    /// Runs the cases of a file. Its sections are printed with how many held, and what does not
+    /// hold, line by line.
     pub fn file(&mut self, text: &str, output: &mut impl Write) -> Result<(), Fault> {
         self.names.clear();
         for line in text.lines() {
@@ -220,7 +221,8 @@ fn range_and_line(words: &str) -> Option<(Range<usize>, &str)> {
     }
 }
 
-// The line with the number in decimal digits for `{}`, and its lowest byte in hexadecimal digits for `{x}`.
+// The line with the number in decimal digits for `{}`, and its lowest byte in hexadecimal digits
+// for `{x}`.
 fn with_number(alloc: Global, line: &str, number: usize) -> Result<String, AllocError> {
     let decimal = number.to_string(alloc)?;
     let digits = format!(in alloc; "{:02x}", number % 256)?;

@@ -1,7 +1,8 @@
 // Made by `make rust` of crates/odht_base/src/lib.rt.
 //! The base of `odht`: load factors, hashes, byte arrays and stores of bytes.
 //!
-//! The definitions that all contracts cite are in `specs/`, from numbers up to tables and their bytes.
+//! The definitions that all contracts cite are in `specs/`, from numbers up to tables and their
+//! bytes.
 
 pub mod bytes;
 pub mod hash;

@@ -1,6 +1,6 @@
 // Made by `make rust` of crates/odht_header/src/lib.rt.
-//! `odht_header`: the error type, configurations, and the header of a table. `odht_raw` has what comes behind the
-//! header.
+//! `odht_header`: the error type, configurations, and the header of a table. `odht_raw` has what
+//! comes behind the header.
 
 pub use crate::proved::base::{bytes, hash, load, swisstable_group_query};
 

@@ -1,8 +1,8 @@
 // Made by `make rust` of crates/odht/src/lib.rt.
 //! `odht`: a hash table that is used in the form in which it is stored.
 //!
-//! [`HashTableOwned`] owns its bytes and grows; [`HashTable`] is a view of bytes of any kind, and does not grow. Both
-//! have the bytes of docs/FORMAT.md.
+//! [`HashTableOwned`] owns its bytes and grows; [`HashTable`] is a view of bytes of any kind, and
+//! does not grow. Both have the bytes of docs/FORMAT.md.
 
 pub use crate::proved::base::hash::{FxHashFn, HashFn, UnHashFn};
 pub use crate::proved::base::{bytes, hash, load, swisstable_group_query};

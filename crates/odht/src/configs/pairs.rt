@@ -5,8 +5,9 @@ use crate::config::{Config, Lossless};
 use crate::hash::{FxHashFn, HashFn, UnHashFn};
 use std::marker::PhantomData;
 
-/// From keys to values that are stored as `Stored` says; where values are `()` the table is a set. `H` hashes the
-/// bytes of a key: `UnHashFn` is for keys that are hashes already, and takes their last four bytes, which should vary.
+/// From keys to values that are stored as `Stored` says; where values are `()` the table is a set.
+/// `H` hashes the bytes of a key: `UnHashFn` is for keys that are hashes already, and takes their
+/// last four bytes, which should vary.
 pub struct Pairs<K, V, H = FxHashFn> {
     key: PhantomData<K>,
     value: PhantomData<V>,

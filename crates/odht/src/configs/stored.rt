@@ -1,5 +1,5 @@
-//! What the keys and values of ready configurations are, and how they are stored: integers little-endian, and bytes as
-//! they are.
+//! What the keys and values of ready configurations are, and how they are stored: integers
+//! little-endian, and bytes as they are.
 ghost use Rattle.std.specs.Prelude.{◌≡◌, ◌≤◌};
 ghost use Rattle.std.specs.Int.{w32, w64, to_le_bytes, from_le_bytes};
 ghost use Rattle.std.proofs.Common.{lit≤, zero-le};
@@ -7,7 +7,8 @@ ghost use Rattle.std.proofs.Common.{lit≤, zero-le};
 use crate::bytes::ByteArray;
 use crate::hash::{FxHashFn, HashFn, UnHashFn};
 
-/// A type that is stored as a fixed number of bytes: an integer, little-endian, bytes, or `()`, which has none.
+/// A type that is stored as a fixed number of bytes: an integer, little-endian, bytes, or `()`,
+/// which has none.
 pub trait Stored: Drop {
     type Bytes: ByteArray;
 
@@ -145,7 +146,8 @@ impl Fits for [u8; 32] {
     ghost fits = { lit≤ tt };
 }
 
-/// A type whose bytes are long enough for a hash function: `UnHashFn` takes the last four, which should vary.
+/// A type whose bytes are long enough for a hash function: `UnHashFn` takes the last four, which
+/// should vary.
 pub trait HashedBy<H: HashFn>: Fits {
     ghost long: { H.MIN_LEN ≤ Self.Bytes.LEN };
 }

@@ -40,7 +40,8 @@ impl<H: HashFn, D: ByteStore> DynTable<H, D> {
     }
 
     /// Writes the table that this one grows into to `out`, whatever its bytes were, as
-    /// [`HashTable::grow_into`](crate::hash_table::HashTable::grow_into) does. `out` has [`DynTable::grown_len`] bytes.
+    /// [`HashTable::grow_into`](crate::hash_table::HashTable::grow_into) does. `out` has
+    /// [`DynTable::grown_len`] bytes.
     pub fn grow_into(&self, out: &mut [u8])
         requires { grown_len (dyn_format self.now H.hash) (D.bytes self.now.store)
             ≡ Some (length out.old) }
@@ -57,8 +58,8 @@ impl<H: HashFn, D: ByteStore> DynTable<H, D> {
         write_walked::<H>(out, layout, slot_count, item_count, factor, self.iter());
     }
 
-    /// Writes the pairs of this table, placed in slot order into so many slots, to `out`, whatever its bytes were. `out`
-    /// has the length for them.
+    /// Writes the pairs of this table, placed in slot order into so many slots, to `out`, whatever
+    /// its bytes were. `out` has the length for them.
     pub(super) fn move_into(&self, slot_count: usize, out: &mut [u8])
         requires slots { IsSlotCount slot_count }
         requires len { length out.old ≡ image_len (dyn_format self.now H.hash) slot_count }
@@ -72,8 +73,8 @@ impl<H: HashFn, D: ByteStore> DynTable<H, D> {
     }
 }
 
-// Writes the table of so many slots with the pairs of the walk. The new header gets `item_count`, whatever the walk
-// gives.
+// Writes the table of so many slots with the pairs of the walk. The new header gets `item_count`,
+// whatever the walk gives.
 fn write_walked<H: HashFn>(
     bytes: &mut [u8],
     layout: Layout,
@@ -96,8 +97,9 @@ fn write_walked<H: HashFn>(
     place_walk::<H>(control, entries, layout, walk);
 }
 
-// Places the pairs of a walk in turn into the parts of a table, each as long as a slot is free. The clause is for keys
-// that are pairwise distinct and new to the table, as on valid bytes; other walks are taken too.
+// Places the pairs of a walk in turn into the parts of a table, each as long as a slot is free.
+// The clause is for keys that are pairwise distinct and new to the table, as on valid bytes; other
+// walks are taken too.
 fn place_walk<H: HashFn>(
     control: &mut [u8],
     entries: &mut [u8],

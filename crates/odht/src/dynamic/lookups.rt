@@ -9,7 +9,8 @@ use crate::bytes::ByteStore;
 use crate::hash::HashFn;
 
 impl<H: HashFn, D: ByteStore> DynTable<H, D> {
-    /// `get` of many keys: the value of each key is written to its index. A key of another length has no value.
+    /// `get` of many keys: the value of each key is written to its index. A key of another length
+    /// has no value.
     ///
     /// It takes no memory, and costs a `get` for each key.
     pub fn get_all<'a>(&'a self, keys: &[&[u8]], values: &mut [Option<&'a [u8]>])

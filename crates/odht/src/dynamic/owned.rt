@@ -1,4 +1,5 @@
-//! The table that owns its bytes, and grows, of keys and values of lengths that are known at run time alone.
+//! The table that owns its bytes, and grows, of keys and values of lengths that are known at run
+//! time alone.
 ghost use Rattle.std.specs.Prelude.{◌≡◌, ◌≢◌, ◌≤◌, ◌<◌, ◌↔◌, None, All, length, IfOk, Err, OnErr};
 ghost use Rattle.std.specs.Option.{option_copied};
 ghost use Rattle.odht_base.specs.Format.{format_of};
@@ -27,8 +28,8 @@ mod inserts;
 mod reserve;
 mod stores;
 
-/// A table in memory of its own, of keys and values of lengths that were given when it was made. It grows where an
-/// absent key is inserted at the maximum. Its bytes are always valid.
+/// A table in memory of its own, of keys and values of lengths that were given when it was made.
+/// It grows where an absent key is inserted at the maximum. Its bytes are always valid.
 ///
 /// A contract speaks of it as of these lengths and the bytes.
 #[derive(Drop)]
@@ -50,11 +51,12 @@ impl<H: HashFn> Model for DynTableOwned<H> {
 }
 
 impl<H: HashFn> DynTableOwned<H> {
-    /// An empty table of these lengths that takes at least `max_item_count` items before it grows. The load factor is in
-    /// percent of the slots; docs/FORMAT.md, "Load factors", has the rule.
+    /// An empty table of these lengths that takes at least `max_item_count` items before it grows.
+    /// The load factor is in percent of the slots; docs/FORMAT.md, "Load factors", has the rule.
     ///
-    /// `KeyTooShort` where the hash function needs longer keys; then `Rejected` with `Capacity` exactly where no slot
-    /// count is enough, or its length passes `usize`; then with `Memory` where the allocator gives none.
+    /// `KeyTooShort` where the hash function needs longer keys; then `Rejected` with `Capacity`
+    /// exactly where no slot count is enough, or its length passes `usize`; then with `Memory`
+    /// where the allocator gives none.
     pub fn with_capacity(
         alloc: Global,
         layout: Layout,
@@ -88,10 +90,10 @@ impl<H: HashFn> DynTableOwned<H> {
 
     /// A copy of the bytes as a table of these lengths, after all of them were checked.
     ///
-    /// `KeyTooShort` where the hash function needs longer keys; then `Rejected` with the error that
-    /// [`memory_layout::check_all`](crate::memory_layout::check_all) returns, before memory is requested; then with
-    /// `Memory` where the allocator gives none. Valid bytes are never rejected by the check, which costs what that call
-    /// does.
+    /// `KeyTooShort` where the hash function needs longer keys; then `Rejected` with the error
+    /// that [`memory_layout::check_all`](crate::memory_layout::check_all) returns, before memory
+    /// is requested; then with `Memory` where the allocator gives none. Valid bytes are never
+    /// rejected by the check, which costs what that call does.
     pub fn from_raw_bytes(alloc: Global, layout: Layout, raw_bytes: &[u8]) -> Result<Self, DynError>
         ensures ok { IfOk result
             (λ t. t ≡ dyn_store layout.key_len layout.value_len raw_bytes.now) }
@@ -134,8 +136,9 @@ impl<H: HashFn> DynTableOwned<H> {
         &self.table
     }
 
-    /// The value of a key, or None: what its last insert gave it, or what the bytes have for it that were opened. A
-    /// key of another length has no value. [`DynTableOwned::get_counted`] counts the groups of such a search.
+    /// The value of a key, or None: what its last insert gave it, or what the bytes have for it
+    /// that were opened. A key of another length has no value. [`DynTableOwned::get_counted`]
+    /// counts the groups of such a search.
     #[inline]
     pub fn get(&self, key: &[u8]) -> Option<&[u8]>
         ensures { IsGet (dyn_coding self.now H.hash) self.now.store key.now (option_copied result) }
@@ -143,8 +146,9 @@ impl<H: HashFn> DynTableOwned<H> {
         self.table.get(key)
     }
 
-    /// `get`, and how many groups of control bytes it read: those up to the first slot of the key's probe order that is
-    /// free or holds the key. docs/FORMAT.md, "Search", counts them. For a key of another length no group is read.
+    /// `get`, and how many groups of control bytes it read: those up to the first slot of the
+    /// key's probe order that is free or holds the key. docs/FORMAT.md, "Search", counts them. For
+    /// a key of another length no group is read.
     #[inline]
     pub fn get_counted(&self, key: &[u8]) -> (Option<&[u8]>, usize)
         ensures counted { length key.now ≡ self.now.key_len

@@ -15,8 +15,8 @@ use crate::hash::HashFn;
 use crate::layout::Layout;
 use crate::memory_layout::sized_table_len;
 
-/// How many bytes the table of these lengths at the front of `bytes` has, by its header. What follows is not looked at,
-/// nor is any slot, and the hash function does not matter.
+/// How many bytes the table of these lengths at the front of `bytes` has, by its header. What
+/// follows is not looked at, nor is any slot, and the hash function does not matter.
 ///
 /// The first error: as [`table_len`](crate::memory_layout::table_len) returns it. Constant time.
 pub fn table_len(layout: Layout, bytes: &[u8]) -> Result<usize, Error>
@@ -31,12 +31,13 @@ pub fn table_len(layout: Layout, bytes: &[u8]) -> Result<usize, Error>
 }
 
 impl<'a, H: HashFn> DynTable<H, Borrowed<'a>> {
-    /// Opens the table of these lengths at the front of `bytes`, and returns it with the bytes behind it, which are not
-    /// looked at. How many bytes are the table's its header says, as [`table_len`].
+    /// Opens the table of these lengths at the front of `bytes`, and returns it with the bytes
+    /// behind it, which are not looked at. How many bytes are the table's its header says, as
+    /// [`table_len`].
     ///
-    /// Or the first error: `KeyTooShort` where the hash function needs longer keys; then `Rejected` with those of
-    /// [`table_len`], then those of the first ten slots, as [`DynTable::open`]. Valid bytes with anything behind them
-    /// are always opened. Constant time.
+    /// Or the first error: `KeyTooShort` where the hash function needs longer keys; then
+    /// `Rejected` with those of [`table_len`], then those of the first ten slots, as
+    /// [`DynTable::open`]. Valid bytes with anything behind them are always opened. Constant time.
     pub fn from_prefix(layout: Layout, bytes: &'a [u8]) -> Result<(Self, &'a [u8]), DynError>
         ensures ok { let F = format_of layout.key_len layout.value_len H.hash
             in IfOk result (λ r. IsDynCut F bytes.now r.0 r.0.store.0.now r.1.now) }
@@ -58,11 +59,12 @@ impl<'a, H: HashFn> DynTable<H, Borrowed<'a>> {
         }
     }
 
-    /// [`DynTable::from_prefix`] with the lengths that the header states; [`DynTable::layout`] tells them.
+    /// [`DynTable::from_prefix`] with the lengths that the header states; [`DynTable::layout`]
+    /// tells them.
     ///
-    /// The first error: `Rejected` with those of [`table_len`]; then `KeyTooShort`; then `Rejected` with that of the
-    /// first ten slots. A header states no hash function: a table of another one is rejected where one of the first ten
-    /// slots is occupied and has another tag.
+    /// The first error: `Rejected` with those of [`table_len`]; then `KeyTooShort`; then
+    /// `Rejected` with that of the first ten slots. A header states no hash function: a table of
+    /// another one is rejected where one of the first ten slots is occupied and has another tag.
     pub fn from_prefix_as_stated(bytes: &'a [u8]) -> Result<(Self, &'a [u8]), DynError>
         ensures ok { let F = stated_format H.hash bytes.now
             in IfOk result (λ r. IsDynCut F bytes.now r.0 r.0.store.0.now r.1.now) }

@@ -1,5 +1,5 @@
-//! Lookups and inserts by a group search of the caller's choice. The calls without `_by` take the one that is compiled
-//! in.
+//! Lookups and inserts by a group search of the caller's choice. The calls without `_by` take the
+//! one that is compiled in.
 ghost use Rattle.std.specs.Prelude.{◌≡◌, OnErr};
 ghost use Rattle.odht_raw.specs.Frame.{IsAccepted, IsFramed};
 ghost use Rattle.odht.specs.Gets.{IsGet, IsCountedGet, IsKnown};
@@ -26,7 +26,8 @@ impl<C: Config, D: ByteStore> HashTable<C, D> {
         }
     }
 
-    /// `get_counted` by a group search of the caller's choice. On valid bytes all searches give the same.
+    /// `get_counted` by a group search of the caller's choice. On valid bytes all searches give
+    /// the same.
     #[inline]
     pub fn get_counted_by<Q: Group>(&self, key: &C::Key) -> (Option<C::Value>, usize)
         ensures { IsCountedGet ⟦<C as Coded>⟧.coding (D.bytes self.now) key.now result }
@@ -39,7 +40,8 @@ impl<C: Config, D: ByteStore> HashTable<C, D> {
         }
     }
 
-    /// `contains_key` by a group search of the caller's choice. On valid bytes all searches give the same.
+    /// `contains_key` by a group search of the caller's choice. On valid bytes all searches give
+    /// the same.
     #[inline]
     pub fn contains_key_by<Q: Group>(&self, key: &C::Key) -> bool
         ensures { IsKnown ⟦<C as Coded>⟧.coding (D.bytes self.now) key.now result }
@@ -52,7 +54,8 @@ impl<C: Config, D: ByteStore> HashTable<C, D> {
 }
 
 impl<C: Config, D: ByteStoreMut> HashTable<C, D> {
-    /// `insert` by a group search of the caller's choice. On valid bytes all searches leave the same bytes.
+    /// `insert` by a group search of the caller's choice. On valid bytes all searches leave the
+    /// same bytes.
     #[inline(always)]
     pub fn insert_by<Q: Group>(
         &mut self,

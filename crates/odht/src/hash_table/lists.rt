@@ -8,12 +8,13 @@ use crate::error::Error;
 use crate::items::Items;
 
 impl<C: Config, D: ByteStoreMut> HashTable<C, D> {
-    /// Inserts the items in their order, and stops at the first whose insert fails. Returns how many were accepted, and
-    /// `Full` where one failed. The table is then as the accepted ones left it; on valid bytes it is at its maximum,
-    /// and the key of the item that failed is absent.
+    /// Inserts the items in their order, and stops at the first whose insert fails. Returns how
+    /// many were accepted, and `Full` where one failed. The table is then as the accepted ones
+    /// left it; on valid bytes it is at its maximum, and the key of the item that failed is
+    /// absent.
     ///
-    /// On any bytes each accepted item changes no more than `insert` may, and the item that failed is one for which
-    /// `insert` may return `Full`.
+    /// On any bytes each accepted item changes no more than `insert` may, and the item that failed
+    /// is one for which `insert` may return `Full`.
     pub fn insert_all(&mut self, items: &[(C::Key, C::Value)]) -> (usize, Result<(), Error>)
         ensures { IsViewList ⟦<C as Coded>⟧.coding D.bytes D.holding self.old self.new
             items.now result }

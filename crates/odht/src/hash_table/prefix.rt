@@ -11,11 +11,12 @@ use crate::error::Error;
 use crate::memory_layout::table_len;
 
 impl<'a, C: Config> HashTable<C, Borrowed<'a>> {
-    /// Opens the table at the front of `bytes`, and returns it with the bytes behind it, which are not looked at. How
-    /// many bytes are the table's its header says, as [`table_len`].
+    /// Opens the table at the front of `bytes`, and returns it with the bytes behind it, which are
+    /// not looked at. How many bytes are the table's its header says, as [`table_len`].
     ///
     /// Or the first error: those of [`table_len`], then those of the first ten slots, as
-    /// [`HashTable::from_raw_bytes`]. Valid bytes with anything behind them are always opened. Constant time.
+    /// [`HashTable::from_raw_bytes`]. Valid bytes with anything behind them are always opened.
+    /// Constant time.
     #[inline]
     pub fn from_prefix(bytes: &'a [u8]) -> Result<(Self, &'a [u8]), Error>
         ensures ok { IfOk result

@@ -11,8 +11,8 @@ use crate::hash_table::HashTable;
 use crate::iter::Iter;
 use crate::raw_table::SizedIter;
 
-/// What both tables have for a key: the first the value, the second its bytes. On valid bytes these bytes decode to that
-/// value, or both have none.
+/// What both tables have for a key: the first the value, the second its bytes. On valid bytes
+/// these bytes decode to that value, or both have none.
 ///
 /// It costs a `get` of each.
 pub fn same_value<'a, C: Config, D: ByteStore, E: ByteStore>(
@@ -42,7 +42,8 @@ pub fn same_len<C: Config, D: ByteStore, E: ByteStore>(
     (typed.len(), dynamic.len())
 }
 
-/// The walks over both tables: on any bytes the first gives what the pairs of the second decode to, in the same order.
+/// The walks over both tables: on any bytes the first gives what the pairs of the second decode
+/// to, in the same order.
 pub fn same_walk<'a, C: Config, D: ByteStore, E: ByteStore>(
     typed: &'a HashTable<C, D>,
     dynamic: &'a DynTable<C::H, E>,

@@ -6,7 +6,8 @@ ghost use Rattle.odht_base.specs.Bytes.{bytes_at};
 
 use std::fmt::Debug;
 
-/// An array of a fixed number of bytes, and nothing but these bytes: an encoded key or an encoded value.
+/// An array of a fixed number of bytes, and nothing but these bytes: an encoded key or an encoded
+/// value.
 pub trait ByteArray: Sized + Copy + Eq + Debug + 'static {
     /// How many bytes the array has.
     const LEN: usize;
@@ -79,10 +80,12 @@ impl<const LEN: usize> ByteArray for [u8; LEN] {
         as_bytes(self)
     }
 
-    // Arrays of one to four words, and of 9, 10 and 20 bytes, are compared a word at a time, with no loop. Those of 28
-    // bytes, and of other lengths that are not multiples of four, are compared as the compiler does it, which takes fewer
-    // instructions there: up to 7 bytes as arrays, which it keeps in registers; longer ones as lists of a known length, by
-    // loads that overlap. For the calls for C it calls a routine for such a list, which takes some thirty instructions.
+    // Arrays of one to four words, and of 9, 10 and 20 bytes, are compared a word at a time, with
+    // no loop. Those of 28 bytes, and of other lengths that are not multiples of four, are
+    // compared as the compiler does it, which takes fewer instructions there: up to 7 bytes as
+    // arrays, which it keeps in registers; longer ones as lists of a known length, by loads that
+    // overlap. For the calls for C it calls a routine for such a list, which takes some thirty
+    // instructions.
     #[inline]
     fn equals(&self, other: &Self) -> bool {
         let (left, right): (&[u8], &[u8]) = (self, other);
@@ -159,8 +162,8 @@ pub fn is_same_word(left: &[u8], right: &[u8], at: usize) -> bool
 
 /// Whether two slices of the same length have the same bytes. They are compared where they are.
 ///
-/// Up to 64 bytes are compared in pieces of eight, then one of four, then the rest: a copy of a short key is written in
-/// such pieces too, and mostly read back fastest in the same.
+/// Up to 64 bytes are compared in pieces of eight, then one of four, then the rest: a copy of a
+/// short key is written in such pieces too, and mostly read back fastest in the same.
 #[inline(always)]
 pub fn is_same_bytes(left: &[u8], right: &[u8]) -> bool
     requires { length left.now ≡ length right.now }

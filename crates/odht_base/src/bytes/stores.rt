@@ -18,21 +18,23 @@ pub trait ByteStore: Drop {
 
 /// A store whose bytes can be overwritten.
 ///
-/// In a contract the ghost member `holding` is the store with other bytes. So after a borrow of the store its owner
-/// knows which bytes it holds. Three laws say that a write changes nothing but the bytes: the store then holds the
-/// bytes that were written (`held`), of several writes of all bytes only the last one matters (`held_last`), and with
-/// the bytes that it has already the store is unchanged (`held_same`). `after_borrow` is the store after a borrow of
-/// its bytes; where these are as many as before, the store holds exactly these (`after_borrow_fits`).
+/// In a contract the ghost member `holding` is the store with other bytes. So after a borrow of
+/// the store its owner knows which bytes it holds. Three laws say that a write changes nothing but
+/// the bytes: the store then holds the bytes that were written (`held`), of several writes of all
+/// bytes only the last one matters (`held_last`), and with the bytes that it has already the store
+/// is unchanged (`held_same`). `after_borrow` is the store after a borrow of its bytes; where
+/// these are as many as before, the store holds exactly these (`after_borrow_fits`).
 ///
-/// So whatever a store keeps beside its bytes must not change on a write. A count of the writes, say, has to be left
-/// out of the store's `Model`.
+/// So whatever a store keeps beside its bytes must not change on a write. A count of the writes,
+/// say, has to be left out of the store's `Model`.
 pub trait ByteStoreMut: ByteStore {
     ghost holding: { Self → List ℕ → Self };
 
     // the store after a borrow of its bytes that left these bytes
     ghost after_borrow: { Self → List ℕ → Self };
 
-    /// All of its bytes, to be written. After the borrow the store holds the bytes that were left in the slice.
+    /// All of its bytes, to be written. After the borrow the store holds the bytes that were left
+    /// in the slice.
     fn bytes_mut(&mut self) -> &mut [u8]
         ensures* writes_back { sem 𝓛
             (Lends Self.row (Array u8 0) self.entry result (after_borrow self.old)) }
@@ -58,7 +60,8 @@ pub trait ByteStoreMut: ByteStore {
     // with the bytes that it has already the store is unchanged
     ghost held_same: { (s : Self) → holding s (Self.bytes s) ≡ s };
 
-    // a borrowed slice keeps its length, and with as many bytes as before the store holds exactly these
+    // a borrowed slice keeps its length, and with as many bytes as before the store holds exactly
+    // these
     ghost after_borrow_fits: { (s : Self) (b : List ℕ) → length b ≡ length (Self.bytes s)
         → after_borrow s b ≡ holding s b };
 }

@@ -1,4 +1,5 @@
-//! Which control bytes count as free: those of 128 or more. Of a byte, and of up to 64 in the lanes of vectors.
+//! Which control bytes count as free: those of 128 or more. Of a byte, and of up to 64 in the
+//! lanes of vectors.
 ghost use Rattle.std.specs.Prelude.{◌≡◌, ◌≤◌, ◌%◌, length, map, take};
 ghost use Rattle.std.specs.Simd.Lanes.{mask_l};
 ghost use Rattle.odht_base.specs.Decoded.{counts_as_free};
@@ -10,7 +11,8 @@ use std::simd::prelude::*;
 // The least control byte that counts as free: one above each tag.
 const LEAST_FREE: u8 = 128;
 
-/// Whether a control byte counts as free. The name is that of the Rust crate; no slot is ever deleted.
+/// Whether a control byte counts as free. The name is that of the Rust crate; no slot is ever
+/// deleted.
 #[inline]
 pub fn is_empty_or_deleted(control: u8) -> bool
     ensures { result ≡ counts_as_free control }
@@ -18,7 +20,8 @@ pub fn is_empty_or_deleted(control: u8) -> bool
     control >= LEAST_FREE
 }
 
-/// A bit for each of sixteen control bytes, the lowest for the first: set where the byte counts as free.
+/// A bit for each of sixteen control bytes, the lowest for the first: set where the byte counts as
+/// free.
 #[inline(always)]
 pub(super) fn free_bits(control: u8x16) -> u64
     requires { length control ≡ 16 }
@@ -28,11 +31,11 @@ pub(super) fn free_bits(control: u8x16) -> u64
     control.simd_ge(u8x16::splat(LEAST_FREE)).to_bitmask()
 }
 
-/// The index of a control byte that counts as free among sixteen: the least from 8 on, where there is one, else the
-/// least of all; None where no byte does.
+/// The index of a control byte that counts as free among sixteen: the least from 8 on, where there
+/// is one, else the least of all; None where no byte does.
 ///
-/// A late one is asked for by who wants to know of the groups that begin a few slots further on: those up to this byte
-/// have it too.
+/// A late one is asked for by who wants to know of the groups that begin a few slots further on:
+/// those up to this byte have it too.
 #[inline]
 pub fn late_free(control: &[u8]) -> Option<usize>
     requires { length control.now ≡ 16 }
@@ -45,7 +48,8 @@ pub fn late_free(control: &[u8]) -> Option<usize>
     }
 }
 
-/// The indices of the control bytes that do not count as free among the first `count`, at most sixteen, of sixteen.
+/// The indices of the control bytes that do not count as free among the first `count`, at most
+/// sixteen, of sixteen.
 #[inline]
 pub fn occupied(control: &[u8], count: usize) -> IndexSet
     requires len { length control.now ≡ 16 }
@@ -57,7 +61,8 @@ pub fn occupied(control: &[u8], count: usize) -> IndexSet
     IndexSet::of_bits(first - free)
 }
 
-/// The indices of the control bytes that count as free, and of the others. There are up to 64, a multiple of sixteen.
+/// The indices of the control bytes that count as free, and of the others. There are up to 64, a
+/// multiple of sixteen.
 #[inline(always)]
 pub fn free_and_occupied(control: &[u8]) -> (IndexSet, IndexSet)
     requires some { 1 ≤ length control.now }

@@ -12,7 +12,8 @@ use std::simd::prelude::*;
 /// How many control bytes are searched at once.
 pub const GROUP_SIZE: usize = 16;
 
-/// A search of sixteen control bytes. It iterates over its matches: exactly the indices of the tag.
+/// A search of sixteen control bytes. It iterates over its matches: exactly the indices of the
+/// tag.
 #[derive(Drop)]
 pub struct GroupQuery {
     matches: IndexSet,

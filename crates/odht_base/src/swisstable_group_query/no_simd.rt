@@ -18,8 +18,9 @@ const HIGH_BITS: u64 = 0x8080_8080_8080_8080;
 
 /// A search of eight control bytes. It iterates over its matches.
 ///
-/// Beside each byte that is the tag, a byte that differs from the tag in its lowest bit alone can match, but only where
-/// the byte before it matches too: the subtraction of that byte borrows from it.
+/// Beside each byte that is the tag, a byte that differs from the tag in its lowest bit alone can
+/// match, but only where the byte before it matches too: the subtraction of that byte borrows from
+/// it.
 #[derive(Drop)]
 pub struct GroupQuery {
     matches: IndexSet,

@@ -1,4 +1,5 @@
-//! A compiler writes an index: from a list whose length is known, or pair by pair into a table that grows.
+//! A compiler writes an index: from a list whose length is known, or pair by pair into a table
+//! that grows.
 
 use crate::digest::Digest;
 use crate::random::{Random, Sample, items};
@@ -9,8 +10,8 @@ use odht::configs::{Bytes16ToU32, Bytes20ToU64, Bytes32Set, U64ToU32, U64ToU64};
 use odht::{HashTable, HashTableOwned, bytes_needed};
 use std::alloc::Global;
 
-/// A round: tables of numbers of the largest size, ten times as many of a tenth of it and thirty of a hundredth, and
-/// tables of hashes.
+/// A round: tables of numbers of the largest size, ten times as many of a tenth of it and thirty
+/// of a hundredth, and tables of hashes.
 pub fn round(
     alloc: Global,
     largest: usize,
@@ -127,7 +128,8 @@ where
     Ok(())
 }
 
-// In bytes of the caller's, one insert after the other, and then each pair once more with another value.
+// In bytes of the caller's, one insert after the other, and then each pair once more with another
+// value.
 fn in_place<C: Config>(
     alloc: Global,
     count: usize,

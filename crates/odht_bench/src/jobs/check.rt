@@ -1,5 +1,5 @@
-//! A file from elsewhere is opened whole: each byte of it is checked. And many small tables inside a larger file are
-//! opened.
+//! A file from elsewhere is opened whole: each byte of it is checked. And many small tables inside
+//! a larger file are opened.
 ghost use Rattle.odht_base.specs.Load.{IsPercent};
 
 use crate::digest::Digest;
@@ -13,8 +13,8 @@ use odht::memory_layout::{DEFAULT_GROUPS, check_all, check_all_within};
 use odht::{HashTable, HashTableOwned};
 use std::alloc::Global;
 
-/// A round: tables of numbers of the largest size, of a tenth and a hundredth of it, at four load factors, tables of
-/// hashes and of addresses, and a file of many small tables.
+/// A round: tables of numbers of the largest size, of a tenth and a hundredth of it, at four load
+/// factors, tables of hashes and of addresses, and a file of many small tables.
 pub fn round(
     alloc: Global,
     largest: usize,
@@ -75,7 +75,8 @@ fn table<C: Config>(
     Ok(())
 }
 
-// A file of so many tables of sixteen slots and more, one behind the other. Each is opened and checked.
+// A file of so many tables of sixteen slots and more, one behind the other. Each is opened and
+// checked.
 fn small_tables(
     alloc: Global,
     count: usize,

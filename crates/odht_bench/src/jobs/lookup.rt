@@ -42,8 +42,8 @@ impl Told for [u8; 4] {
     }
 }
 
-/// A round: tables of numbers of the largest size, ten times as many of a tenth of it and thirty of a hundredth, and
-/// tables of longer keys.
+/// A round: tables of numbers of the largest size, ten times as many of a tenth of it and thirty
+/// of a hundredth, and tables of longer keys.
 pub fn round(
     alloc: Global,
     largest: usize,
@@ -67,7 +67,8 @@ pub fn round(
     Ok(())
 }
 
-// Looks up each key of a table of so many pairs, in another order than that of their inserts, and as many absent ones.
+// Looks up each key of a table of so many pairs, in another order than that of their inserts, and
+// as many absent ones.
 fn table<C: Config>(
     alloc: Global,
     count: usize,

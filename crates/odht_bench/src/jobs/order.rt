@@ -8,8 +8,8 @@ use odht::HashTableOwned;
 use odht::configs::U64ToU64;
 use std::alloc::Global;
 
-/// A round: tables of random keys of the largest size, ten times as many of a tenth and fifty of a hundredth of it, and
-/// tables of addresses.
+/// A round: tables of random keys of the largest size, ten times as many of a tenth and fifty of a
+/// hundredth of it, and tables of addresses.
 pub fn round(
     alloc: Global,
     largest: usize,

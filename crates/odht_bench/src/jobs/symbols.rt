@@ -1,5 +1,5 @@
-//! The symbols of a library by address. Addresses share their low bits, so that few slots are homes, and searches are
-//! long.
+//! The symbols of a library by address. Addresses share their low bits, so that few slots are
+//! homes, and searches are long.
 
 use crate::digest::Digest;
 use crate::random::{Random, keys_in_other_order};
@@ -8,7 +8,8 @@ use odht::HashTableOwned;
 use odht::configs::U64ToU64;
 use std::alloc::Global;
 
-/// A round: ten tables of a tenth of the largest number of functions, and one of a fiftieth of it of pages.
+/// A round: ten tables of a tenth of the largest number of functions, and one of a fiftieth of it
+/// of pages.
 pub fn round(
     alloc: Global,
     largest: usize,
@@ -23,7 +24,8 @@ pub fn round(
     table(alloc, pages.as_slice(), 2048, digest)
 }
 
-/// Addresses that rise by multiples of `unit`, from one up to eight of it, each with how far the next one is.
+/// Addresses that rise by multiples of `unit`, from one up to eight of it, each with how far the
+/// next one is.
 pub fn addresses(
     alloc: Global,
     count: usize,
@@ -40,8 +42,8 @@ pub fn addresses(
     Ok(list)
 }
 
-// Makes a table of the symbols, which grows, and looks up the address of each, one between it and the next one, and one
-// that has as many low zeros and is behind all others.
+// Makes a table of the symbols, which grows, and looks up the address of each, one between it and
+// the next one, and one that has as many low zeros and is behind all others.
 fn table(
     alloc: Global,
     symbols: &[(u64, u64)],

@@ -1,4 +1,5 @@
-//! Lines of text become a table, and a table lines: what the program for table files does with a file's lines.
+//! Lines of text become a table, and a table lines: what the program for table files does with a
+//! file's lines.
 
 use crate::digest::Digest;
 use crate::random::{Random, Sample, items, keys_in_other_order};
@@ -33,8 +34,8 @@ pub fn round(
     Ok(())
 }
 
-// Writes so many pairs as lines, makes a table of these lines, writes its pairs and its slots as lines, and looks up
-// the keys of lines.
+// Writes so many pairs as lines, makes a table of these lines, writes its pairs and its slots as
+// lines, and looks up the keys of lines.
 fn shape<C: Config>(
     alloc: Global,
     count: usize,

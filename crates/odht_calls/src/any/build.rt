@@ -1,5 +1,5 @@
-//! Tables of any lengths that are built from pairs: in the caller's bytes, or in memory of their own and then copied to
-//! the caller's.
+//! Tables of any lengths that are built from pairs: in the caller's bytes, or in memory of their
+//! own and then copied to the caller's.
 ghost use Rattle.std.specs.Prelude.{◌≡◌, ◌≤◌, None, length};
 ghost use Rattle.std.specs.List.{zip};
 ghost use Rattle.odht_base.specs.Format.{format_of};
@@ -25,7 +25,8 @@ use odht::layout::Layout;
 use odht::load::Percent;
 use std::alloc::Global;
 
-// Makes an empty table in the bytes, whatever they hold, and inserts the pairs in order: there is room for each.
+// Makes an empty table in the bytes, whatever they hold, and inserts the pairs in order: there is
+// room for each.
 fn insert_into_new<H: HashFn>(
     layout: Layout,
     bytes: &mut [u8],
@@ -112,9 +113,9 @@ fn build_by<H: HashFn>(
     )
 }
 
-/// Builds a table of `count` pairs at the front of `out`, with slots for as many items as there are pairs, and writes
-/// its length in bytes to `len`. BAD_LENGTHS, BAD_PERCENT and CAPACITY leave both unchanged, TOO_SMALL leaves `out`
-/// unchanged. Allocates nothing.
+/// Builds a table of `count` pairs at the front of `out`, with slots for as many items as there
+/// are pairs, and writes its length in bytes to `len`. BAD_LENGTHS, BAD_PERCENT and CAPACITY leave
+/// both unchanged, TOO_SMALL leaves `out` unchanged. Allocates nothing.
 pub fn build(
     layout: AnyLayout,
     count: usize,
@@ -180,9 +181,9 @@ fn build_growing_by<H: HashFn>(
     grow_pieces::<H>(alloc, layout, count, keys, values, out, len)
 }
 
-/// Builds a table of `count` pairs in memory of its own, which starts with sixteen slots at 87 percent of slots and
-/// grows, and copies it to the front of `out`. BAD_LENGTHS and MEMORY leave `out` and `len` unchanged, TOO_SMALL leaves
-/// `out` unchanged.
+/// Builds a table of `count` pairs in memory of its own, which starts with sixteen slots at 87
+/// percent of slots and grows, and copies it to the front of `out`. BAD_LENGTHS and MEMORY leave
+/// `out` and `len` unchanged, TOO_SMALL leaves `out` unchanged.
 pub fn build_growing(
     alloc: Global,
     layout: AnyLayout,

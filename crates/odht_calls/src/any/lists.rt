@@ -56,9 +56,9 @@ fn get_all_by<H: HashFn>(
     get_pieces::<H>(layout, bytes, count, keys, values, found)
 }
 
-/// Looks up `count` keys: at the index of a key that is found, its value is written to `values` and 1 to `found`; at
-/// any other index 0 is written to `found`. BAD_LENGTHS where the arrays are not for so many keys, values and flags. It
-/// and any other error leave both unchanged.
+/// Looks up `count` keys: at the index of a key that is found, its value is written to `values`
+/// and 1 to `found`; at any other index 0 is written to `found`. BAD_LENGTHS where the arrays are
+/// not for so many keys, values and flags. It and any other error leave both unchanged.
 pub fn get_all(
     layout: AnyLayout,
     bytes: &[u8],
@@ -124,9 +124,9 @@ fn insert_all_by<H: HashFn>(
     insert_pieces::<H>(layout, bytes, count, keys, values, accepted)
 }
 
-/// Inserts `count` pairs in order, up to the first whose insert fails with FULL, and writes to `accepted` how many were
-/// inserted. BAD_LENGTHS where the arrays are not for so many keys and values. It and an error of the header or length
-/// leave everything unchanged.
+/// Inserts `count` pairs in order, up to the first whose insert fails with FULL, and writes to
+/// `accepted` how many were inserted. BAD_LENGTHS where the arrays are not for so many keys and
+/// values. It and an error of the header or length leave everything unchanged.
 pub fn insert_all(
     layout: AnyLayout,
     bytes: &mut [u8],

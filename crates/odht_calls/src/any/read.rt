@@ -51,7 +51,8 @@ fn open_by<H: HashFn>(layout: Layout, bytes: &[u8]) -> u32
     }
 }
 
-/// OK where the header, the length and the first ten slots are accepted, else the number of the first error.
+/// OK where the header, the length and the first ten slots are accepted, else the number of the
+/// first error.
 pub fn open(layout: AnyLayout, bytes: &[u8]) -> u32
     ensures { AnyAnswers layout result (Unit {0})
         (λ c. result ≡ status_or_ok (view_refusal c.format bytes.now)) }
@@ -113,9 +114,9 @@ fn check_within_by<H: HashFn>(layout: Layout, bytes: &[u8], groups: usize) -> u3
     }
 }
 
-/// OK where the bytes are valid and each home has a control byte that counts as free among the first `groups` groups of
-/// its probe order, so that no search reads more; else the number of the first error of the whole check with this
-/// bound.
+/// OK where the bytes are valid and each home has a control byte that counts as free among the
+/// first `groups` groups of its probe order, so that no search reads more; else the number of the
+/// first error of the whole check with this bound.
 pub fn check_within(layout: AnyLayout, bytes: &[u8], groups: usize) -> u32
     ensures { AnyAnswers layout result (Unit {0})
         (λ c. result ≡ status_or_ok (check_refusal_by c.format (Some groups) bytes.now)) }
@@ -169,8 +170,8 @@ fn sizes_by<H: HashFn>(
     OK
 }
 
-/// Writes the slot count, the maximum item count and the load factor in percent of slots, rounded down, by the header.
-/// An error leaves all three unchanged.
+/// Writes the slot count, the maximum item count and the load factor in percent of slots, rounded
+/// down, by the header. An error leaves all three unchanged.
 pub fn sizes(
     layout: AnyLayout,
     bytes: &[u8],
@@ -204,8 +205,9 @@ fn table_len_by<H: HashFn>(layout: Layout, bytes: &[u8], len: &mut usize) -> u32
     }
 }
 
-/// Writes to `len` how many bytes the table at the front of the bytes has, by its header; what follows is not looked
-/// at, nor is any slot. An error leaves `len` unchanged: one of the header, or of fewer bytes than the table has.
+/// Writes to `len` how many bytes the table at the front of the bytes has, by its header; what
+/// follows is not looked at, nor is any slot. An error leaves `len` unchanged: one of the header,
+/// or of fewer bytes than the table has.
 pub fn table_len(layout: AnyLayout, bytes: &[u8], len: &mut usize) -> u32
     ensures { AnyAnswers layout result (len.new ≡ len.old)
         (λ c. TableLenAnswers c.format bytes.now len.old result len.new) }
@@ -236,8 +238,8 @@ fn get_by<H: HashFn>(layout: Layout, bytes: &[u8], key: &[u8], value: &mut [u8])
     }
 }
 
-/// Writes the value of a key to `value`. BAD_LENGTHS where the key or `value` has another length than the layout says.
-/// ABSENT and errors leave `value` unchanged.
+/// Writes the value of a key to `value`. BAD_LENGTHS where the key or `value` has another length
+/// than the layout says. ABSENT and errors leave `value` unchanged.
 pub fn get(layout: AnyLayout, bytes: &[u8], key: &[u8], value: &mut [u8]) -> u32
     ensures { let Long = (length key.now ≡ layout.key_len) × (length value.old ≡ layout.value_len)
         in AnyAnswers layout result (value.new ≡ value.old)
@@ -266,7 +268,8 @@ fn contains_by<H: HashFn>(layout: Layout, bytes: &[u8], key: &[u8]) -> u32
     }
 }
 
-/// OK where the key has a value, else ABSENT. BAD_LENGTHS where the key has another length than the layout says.
+/// OK where the key has a value, else ABSENT. BAD_LENGTHS where the key has another length than
+/// the layout says.
 pub fn contains(layout: AnyLayout, bytes: &[u8], key: &[u8]) -> u32
     ensures { AnyAnswers layout result (Unit {0})
         (λ c. SizedAnswers (length key.now ≡ layout.key_len) result (Unit {0})
@@ -275,8 +278,9 @@ pub fn contains(layout: AnyLayout, bytes: &[u8], key: &[u8]) -> u32
     by_hash!(layout, contains_by(bytes, key))
 }
 
-/// Writes to `layout` the lengths that the header states, where header and length of the bytes fit; the number of the
-/// hash function, which no header states, stays. Else the number of the first error, and `layout` is unchanged.
+/// Writes to `layout` the lengths that the header states, where header and length of the bytes
+/// fit; the number of the hash function, which no header states, stays. Else the number of the
+/// first error, and `layout` is unchanged.
 pub fn layout_of(bytes: &[u8], layout: &mut AnyLayout) -> u32
     ensures { LayoutAnswers bytes.now layout.old result layout.new }
 {

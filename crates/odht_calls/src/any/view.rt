@@ -33,8 +33,8 @@ fn open_by<'a, H: HashFn>(layout: Layout, bytes: &'a [u8], view: &mut View<'a>) 
     }
 }
 
-/// OK, and `view` is a view of the bytes; or the number of the first error, and `view` is unchanged. Reads the header,
-/// the length and the first ten slots.
+/// OK, and `view` is a view of the bytes; or the number of the first error, and `view` is
+/// unchanged. Reads the header, the length and the first ten slots.
 pub fn open<'a>(layout: AnyLayout, bytes: &'a [u8], view: &mut View<'a>) -> u32
     ensures { AnyAnswers layout result (view.new.bytes ≡ view.old.bytes)
         (λ c. OpenViewAnswers c.format bytes.entry view.old.bytes result view.new.bytes) }
@@ -74,8 +74,8 @@ fn get_by<H: HashFn>(layout: Layout, bytes: &[u8], key: &[u8], value: &mut [u8])
     }
 }
 
-/// Writes the value of a key of an opened table to `value`. BAD_LENGTHS where the key or `value` has another length than
-/// the layout says. It and ABSENT leave `value` unchanged.
+/// Writes the value of a key of an opened table to `value`. BAD_LENGTHS where the key or `value`
+/// has another length than the layout says. It and ABSENT leave `value` unchanged.
 pub fn get(layout: AnyLayout, view: &View<'_>, key: &[u8], value: &mut [u8]) -> u32
     requires accepted { IsLayout layout
         → IsAccepted (any_coding layout).format view.now.bytes.now }
@@ -104,8 +104,8 @@ fn contains_by<H: HashFn>(layout: Layout, bytes: &[u8], key: &[u8]) -> u32
     }
 }
 
-/// OK where the key of an opened table has a value, else ABSENT. BAD_LENGTHS where the key has another length than the
-/// layout says.
+/// OK where the key of an opened table has a value, else ABSENT. BAD_LENGTHS where the key has
+/// another length than the layout says.
 pub fn contains(layout: AnyLayout, view: &View<'_>, key: &[u8]) -> u32
     requires accepted { IsLayout layout
         → IsAccepted (any_coding layout).format view.now.bytes.now }
@@ -159,9 +159,9 @@ fn get_all_by<H: HashFn>(
     look_up::<H>(layout, bytes, count, keys, values, found)
 }
 
-/// Looks up `count` keys in an opened table: at the index of a key that is found, its value is written to `values` and 1
-/// to `found`; at any other index 0 is written to `found`. BAD_LENGTHS where the arrays are not for so many keys, values
-/// and flags; it leaves both unchanged.
+/// Looks up `count` keys in an opened table: at the index of a key that is found, its value is
+/// written to `values` and 1 to `found`; at any other index 0 is written to `found`. BAD_LENGTHS
+/// where the arrays are not for so many keys, values and flags; it leaves both unchanged.
 pub fn get_all(
     layout: AnyLayout,
     view: &View<'_>,

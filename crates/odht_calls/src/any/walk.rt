@@ -68,10 +68,10 @@ fn walk_by<H: HashFn>(
     walk_pieces::<H>(layout, bytes, cursor, room, keys, values, item_count)
 }
 
-/// Writes the keys and values in the slots from `cursor` on to the arrays, in slot order, as many as fit, and to
-/// `item_count` how many. `cursor` is then the slot of the first pair that did not fit (TOO_SMALL), or the slot count
-/// where none is left (OK). The arrays take `room` pairs; BAD_LENGTHS where they have more or fewer bytes. An error
-/// leaves everything unchanged.
+/// Writes the keys and values in the slots from `cursor` on to the arrays, in slot order, as many
+/// as fit, and to `item_count` how many. `cursor` is then the slot of the first pair that did not
+/// fit (TOO_SMALL), or the slot count where none is left (OK). The arrays take `room` pairs;
+/// BAD_LENGTHS where they have more or fewer bytes. An error leaves everything unchanged.
 pub fn walk(
     layout: AnyLayout,
     bytes: &[u8],

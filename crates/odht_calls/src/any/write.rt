@@ -41,7 +41,8 @@ fn bytes_needed_by<H: HashFn>(
     }
 }
 
-/// Writes to `len` how many bytes a new table for so many items has. An error leaves `len` unchanged.
+/// Writes to `len` how many bytes a new table for so many items has. An error leaves `len`
+/// unchanged.
 pub fn bytes_needed(
     layout: AnyLayout,
     max_item_count: usize,
@@ -83,7 +84,8 @@ pub(crate) fn init_by<H: HashFn>(
     }
 }
 
-/// Makes an empty table for so many items in the bytes, whatever they hold. An error leaves them unchanged.
+/// Makes an empty table for so many items in the bytes, whatever they hold. An error leaves them
+/// unchanged.
 pub fn init(
     layout: AnyLayout,
     bytes: &mut [u8],
@@ -135,8 +137,9 @@ fn insert_by<H: HashFn>(
     }
 }
 
-/// Gives the key this value. A value that it had before is written to `former`. BAD_LENGTHS where the key, the value or
-/// `former` has another length than the layout says. An error leaves the bytes and `former` unchanged.
+/// Gives the key this value. A value that it had before is written to `former`. BAD_LENGTHS where
+/// the key, the value or `former` has another length than the layout says. An error leaves the
+/// bytes and `former` unchanged.
 pub fn insert(
     layout: AnyLayout,
     bytes: &mut [u8],
@@ -179,8 +182,8 @@ fn grow_by<H: HashFn>(layout: Layout, bytes: &[u8], out: &mut [u8], len: &mut us
     OK
 }
 
-/// Writes the table that the one in `bytes` grows into to the front of `out`, and its length in bytes to `len`.
-/// TOO_SMALL leaves `out` unchanged, any other error leaves both unchanged.
+/// Writes the table that the one in `bytes` grows into to the front of `out`, and its length in
+/// bytes to `len`. TOO_SMALL leaves `out` unchanged, any other error leaves both unchanged.
 pub fn grow(layout: AnyLayout, bytes: &[u8], out: &mut [u8], len: &mut usize) -> u32
     ensures { AnyAnswers layout result ((out.new ≡ out.old) × (len.new ≡ len.old))
         (λ c. GrowAnswers c bytes.now out.old len.old result out.new len.new) }

@@ -1,6 +1,7 @@
 //! Whether a header fits, told by whole words and without its error.
 //!
-//! A call for C looks at the header each time. Nearly always it fits, and then no error has to be found.
+//! A call for C looks at the header each time. Nearly always it fits, and then no error has to be
+//! found.
 ghost use Rattle.std.specs.Prelude.{◌≡◌, ◌↔◌, ◌≤◌, length, IsTrue, None, [], ◌∷◌};
 ghost use Rattle.odht_base.specs.Bytes.{bytes_at};
 ghost use Rattle.odht_header.specs.Refusals.{opening_refusal};
@@ -13,14 +14,15 @@ use crate::config::{Coded, Config};
 use crate::sizes::len_of_slots;
 use crate::swisstable_group_query::REFERENCE_GROUP_SIZE;
 
-/// Whether the header and the length of the bytes fit: true exactly where opening them by header and length has no error,
-/// that is, they are enough for a header, and [`Header::sanity_check`] finds none. It reads whole words, so it is faster,
-/// and does not tell which error comes first.
+/// Whether the header and the length of the bytes fit: true exactly where opening them by header
+/// and length has no error, that is, they are enough for a header, and [`Header::sanity_check`]
+/// finds none. It reads whole words, so it is faster, and does not tell which error comes first.
 #[inline(always)]
 pub fn is_accepted<C: Config>(bytes: &[u8]) -> bool
     ensures { IsTrue result ↔ (opening_refusal ⟦<C as Coded>⟧.coding.format bytes.now ≡ None) }
 {
-    // One test for two: fewer bytes have no room for a header, or for the slots that each table has.
+    // One test for two: fewer bytes have no room for a header, or for the slots that each table
+    // has.
     if (bytes.len() as u128) < len_of_slots::<C>(REFERENCE_GROUP_SIZE) {
         return false;
     }
@@ -37,7 +39,8 @@ pub fn is_accepted<C: Config>(bytes: &[u8]) -> bool
     bytes.len() as u128 == len_of_slots::<C>(slot_count)
 }
 
-// Whether the first eight bytes, the tag and the four sizes, are those of each table of this configuration.
+// Whether the first eight bytes, the tag and the four sizes, are those of each table of this
+// configuration.
 #[inline(always)]
 fn has_front<C: Config>(bytes: &[u8]) -> bool
     requires { 8 ≤ length bytes.now }

@@ -47,9 +47,10 @@ impl<C: Config, M: ByteStore> Model for Allocation<C, M> {
 }
 
 impl<C: Config, M: ByteStore> Allocation<C, M> {
-    /// Opens the bytes as those of a table. The result is the first error, if any: `TooShort`, then those of
-    /// [`Header::sanity_check`], then those of [`RawTable::sanity_check_hashes`] on the first ten slots. On an error
-    /// the data is dropped. Valid bytes are always opened; bytes that are opened need not be valid.
+    /// Opens the bytes as those of a table. The result is the first error, if any: `TooShort`,
+    /// then those of [`Header::sanity_check`], then those of [`RawTable::sanity_check_hashes`] on
+    /// the first ten slots. On an error the data is dropped. Valid bytes are always opened; bytes
+    /// that are opened need not be valid.
     #[inline(always)]
     pub fn from_raw_bytes(data: M) -> Result<Self, Error>
         ensures ok { IfOk result (λ a. a ≡ «data») }
@@ -67,8 +68,9 @@ impl<C: Config, M: ByteStore> Allocation<C, M> {
         Ok(allocation)
     }
 
-    /// Opens the bytes as those of a table by their header and length alone. The result is the first error, if any:
-    /// `TooShort`, then those of [`Header::sanity_check`]. No slot is read. On an error the data is dropped.
+    /// Opens the bytes as those of a table by their header and length alone. The result is the
+    /// first error, if any: `TooShort`, then those of [`Header::sanity_check`]. No slot is read.
+    /// On an error the data is dropped.
     #[inline(always)]
     pub fn from_raw_bytes_by_header(data: M) -> Result<Self, Error>
         ensures ok { IfOk result (λ a. a ≡ «data») }
@@ -87,7 +89,8 @@ impl<C: Config, M: ByteStore> Allocation<C, M> {
         })
     }
 
-    /// Opens bytes that the caller knows to have a header and a length that fit. Nothing is checked.
+    /// Opens bytes that the caller knows to have a header and a length that fit. Nothing is
+    /// checked.
     #[inline]
     pub fn from_raw_bytes_unchecked(data: M) -> Self
         requires { IsAccepted ⟦<C as Coded>⟧.coding.format (M.bytes «data») }
@@ -132,7 +135,8 @@ impl<C: Config, M: ByteStore> Allocation<C, M> {
         Header::of(self.store.bytes())
     }
 
-    /// The control bytes with their mirror, and the entries. Of the bytes of a valid table they are its parts.
+    /// The control bytes with their mirror, and the entries. Of the bytes of a valid table they
+    /// are its parts.
     #[inline]
     pub fn data_slices(
         &self,

@@ -16,8 +16,8 @@ use crate::load::Factor;
 use crate::raw_table::FREE;
 use std::alloc::Global;
 
-/// Makes a table of `slot_count` free slots in `data`, whatever its bytes were. The header's item count is
-/// `item_count`. Each byte is written.
+/// Makes a table of `slot_count` free slots in `data`, whatever its bytes were. The header's item
+/// count is `item_count`. Each byte is written.
 pub fn init_in_place<C: Config, M: ByteStoreMut>(
     mut data: M,
     slot_count: usize,
@@ -50,7 +50,8 @@ pub(crate) fn init_bytes<C: Config>(
     write_empty::<C>(bytes, slot_count, item_count, max_load_factor);
 }
 
-/// Writes zeros over the entries of the bytes of a table of `slot_count` slots. No other byte changes.
+/// Writes zeros over the entries of the bytes of a table of `slot_count` slots. No other byte
+/// changes.
 pub fn clear_entries<C: Config>(bytes: &mut [u8], slot_count: usize)
     requires { length bytes.old ≡ image_len ⟦<C as Coded>⟧.coding.format slot_count }
     ensures { let F = ⟦<C as Coded>⟧.coding.format
@@ -59,8 +60,8 @@ pub fn clear_entries<C: Config>(bytes: &mut [u8], slot_count: usize)
     bytes[HEADER_SIZE..entry_at::<C>(slot_count)].fill(0);
 }
 
-/// Writes a table of `slot_count` free slots into bytes whose entries are zeros: the header, and the control bytes with
-/// their mirror. The header's item count is `item_count`.
+/// Writes a table of `slot_count` free slots into bytes whose entries are zeros: the header, and
+/// the control bytes with their mirror. The header's item count is `item_count`.
 pub fn write_empty<C: Config>(
     bytes: &mut [u8],
     slot_count: usize,
@@ -80,11 +81,12 @@ pub fn write_empty<C: Config>(
     control.fill(FREE);
 }
 
-/// Makes a table of `slot_count` free slots in newly allocated memory. The header's item count is `item_count`. The
-/// memory is allocated as zeros, so only the header and the control bytes are written.
+/// Makes a table of `slot_count` free slots in newly allocated memory. The header's item count is
+/// `item_count`. The memory is allocated as zeros, so only the header and the control bytes are
+/// written.
 ///
-/// The error is `Capacity` exactly where the length of the table in bytes passes `usize::MAX`, and `Memory` where the
-/// allocation fails.
+/// The error is `Capacity` exactly where the length of the table in bytes passes `usize::MAX`, and
+/// `Memory` where the allocation fails.
 pub fn allocate<C: Config>(
     alloc: Global,
     slot_count: usize,

@@ -10,12 +10,14 @@ use crate::config::{Coded, Config};
 use crate::error::Error;
 use crate::layout::Layout;
 
-/// How many bytes the table at the front of `bytes` has, by its header. What follows is not looked at, nor is any slot.
+/// How many bytes the table at the front of `bytes` has, by its header. What follows is not looked
+/// at, nor is any slot.
 ///
-/// The first error: `TooShort`, then those of [`Header::sanity_check`], but `WrongLength` only where there are fewer
-/// bytes than the table has. It is Ok exactly where so many bytes would be accepted by
-/// [`Allocation::from_raw_bytes_by_header`](super::Allocation::from_raw_bytes_by_header), and then no other number of
-/// bytes at the front would. Constant time.
+/// The first error: `TooShort`, then those of [`Header::sanity_check`], but `WrongLength` only
+/// where there are fewer bytes than the table has. It is Ok exactly where so many bytes would be
+/// accepted by
+/// [`Allocation::from_raw_bytes_by_header`](super::Allocation::from_raw_bytes_by_header), and then
+/// no other number of bytes at the front would. Constant time.
 #[inline]
 pub fn table_len<C: Config>(bytes: &[u8]) -> Result<usize, Error>
     ensures ok { IfOk result (IsFront ⟦<C as Coded>⟧.coding.format bytes.now) }

@@ -17,8 +17,9 @@ use crate::hash::HashFn;
 use crate::layout::Layout;
 use crate::raw_table::SizedTable;
 
-/// Checks the bytes as those of a table of these lengths by their header and length alone, and returns the first error:
-/// `TooShort`, then those of [`Header::check_layout`]. No slot is read, and the hash function does not matter.
+/// Checks the bytes as those of a table of these lengths by their header and length alone, and
+/// returns the first error: `TooShort`, then those of [`Header::check_layout`]. No slot is read,
+/// and the hash function does not matter.
 #[inline]
 pub fn check_by_header(bytes: &[u8], layout: Layout) -> Result<(), Error>
     ensures { (hash : List ℕ → ℕ)
@@ -32,8 +33,9 @@ pub fn check_by_header(bytes: &[u8], layout: Layout) -> Result<(), Error>
     Header::of(bytes).check_layout(layout, found)
 }
 
-/// Checks the bytes as those of a table of these lengths, and returns the first error: those of [`check_by_header`],
-/// then those of [`SizedTable::sanity_check_hashes`] on the first ten slots. Bytes that pass need not be valid.
+/// Checks the bytes as those of a table of these lengths, and returns the first error: those of
+/// [`check_by_header`], then those of [`SizedTable::sanity_check_hashes`] on the first ten slots.
+/// Bytes that pass need not be valid.
 pub fn check_opening<H: HashFn>(bytes: &[u8], layout: Layout) -> Result<(), Error>
     requires hashes { H.MIN_LEN ≤ layout.key_len }
     ensures { let F = format_of layout.key_len layout.value_len H.hash
@@ -43,7 +45,8 @@ pub fn check_opening<H: HashFn>(bytes: &[u8], layout: Layout) -> Result<(), Erro
     sized_parts::<H>(bytes, layout).sanity_check_hashes(SLOTS_TO_CHECK)
 }
 
-/// The parts of bytes whose header and length fit. Of the bytes of a valid table they are its parts.
+/// The parts of bytes whose header and length fit. Of the bytes of a valid table they are its
+/// parts.
 #[inline(always)]
 pub fn sized_parts<H: HashFn>(bytes: &[u8], layout: Layout) -> SizedTable<'_, H>
     requires accepted { IsAccepted (format_of layout.key_len layout.value_len H.hash) bytes.now }

@@ -18,8 +18,9 @@ use crate::raw_table::SizedTable;
 /// Checks what [`check_opening`](super::check_opening) leaves out, and returns the first error, as
 /// [`Allocation::check_rest`](super::Allocation::check_rest) does. Ok exactly for valid bytes.
 ///
-/// Each slot is read once, in slot order, and for each occupied slot the control bytes of its key's probe order up to
-/// it, sixteen at a time. A key is compared only with keys at earlier positions that have its tag.
+/// Each slot is read once, in slot order, and for each occupied slot the control bytes of its
+/// key's probe order up to it, sixteen at a time. A key is compared only with keys at earlier
+/// positions that have its tag.
 pub fn check_sized<H: HashFn>(bytes: &[u8], layout: Layout) -> Result<(), Error>
     requires accepted { IsAccepted (format_of layout.key_len layout.value_len H.hash) bytes.now }
     requires hashes { H.MIN_LEN ≤ layout.key_len }
@@ -32,13 +33,14 @@ pub fn check_sized<H: HashFn>(bytes: &[u8], layout: Layout) -> Result<(), Error>
     check_late_sized::<H>(bytes, layout, None)
 }
 
-/// `check_sized` with a bound of searches, as in [`check_all_within`](super::check_all_within): after the maximum item
-/// count, and before any search for a key, `SearchTooLong` of the least home from which a search may read more than
-/// `groups` groups. Ok exactly for valid bytes in which each home has, among the first `groups` groups of its probe
-/// order, a control byte that counts as free. Then no search, of a present or an absent key, reads more.
+/// `check_sized` with a bound of searches, as in [`check_all_within`](super::check_all_within):
+/// after the maximum item count, and before any search for a key, `SearchTooLong` of the least
+/// home from which a search may read more than `groups` groups. Ok exactly for valid bytes in
+/// which each home has, among the first `groups` groups of its probe order, a control byte that
+/// counts as free. Then no search, of a present or an absent key, reads more.
 ///
-/// For bytes of strangers: whatever they are, for `s` slots it reads at most `2 * s * groups` groups and makes at most
-/// `16 * s * groups` comparisons of keys. It allocates nothing.
+/// For bytes of strangers: whatever they are, for `s` slots it reads at most `2 * s * groups`
+/// groups and makes at most `16 * s * groups` comparisons of keys. It allocates nothing.
 pub fn check_sized_within<H: HashFn>(
     bytes: &[u8],
     layout: Layout,
@@ -56,7 +58,8 @@ pub fn check_sized_within<H: HashFn>(
     check_late_sized::<H>(bytes, layout, Some(groups))
 }
 
-// `check_sized` with a bound of searches, where there is one; its contract gives the first error alone.
+// `check_sized` with a bound of searches, where there is one; its contract gives the first error
+// alone.
 fn check_late_sized<H: HashFn>(
     bytes: &[u8],
     layout: Layout,
@@ -71,7 +74,8 @@ fn check_late_sized<H: HashFn>(
     check_late_parts(&Header::of(bytes), &table, groups)
 }
 
-// What the whole check adds to opening a view, of a header and the parts behind it: the first error alone.
+// What the whole check adds to opening a view, of a header and the parts behind it: the first
+// error alone.
 fn check_late_parts<H: HashFn>(
     header: &Header<'_>,
     table: &SizedTable<'_, H>,

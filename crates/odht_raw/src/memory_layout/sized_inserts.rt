@@ -1,4 +1,5 @@
-//! Inserts into the bytes of a table whose lengths are numbers: the parts are written, and last the item count.
+//! Inserts into the bytes of a table whose lengths are numbers: the parts are written, and last
+//! the item count.
 ghost use Rattle.std.specs.Prelude.{◌≡◌, ◌≤◌, length, IfOk};
 ghost use Rattle.odht_base.specs.Format.{format_of};
 ghost use Rattle.odht_base.specs.Table.{Table};
@@ -14,9 +15,10 @@ use crate::hash::HashFn;
 use crate::layout::Layout;
 use crate::raw_table::{ShortBytes, sized_insert_at, sized_step_end};
 
-/// Gives the key this value in the bytes of a table, and returns its former one. `Full`, with nothing changed, where the
-/// search does not find the key and the header's item count is its maximum or more, or where it finds neither the key
-/// nor a free slot. A new entry raises the item count by one. The key is hashed once.
+/// Gives the key this value in the bytes of a table, and returns its former one. `Full`, with
+/// nothing changed, where the search does not find the key and the header's item count is its
+/// maximum or more, or where it finds neither the key nor a free slot. A new entry raises the item
+/// count by one. The key is hashed once.
 pub fn insert_sized<H: HashFn>(
     bytes: &mut [u8],
     layout: Layout,

@@ -13,8 +13,8 @@ use crate::layout::Layout;
 use crate::load::Factor;
 use crate::raw_table::FREE;
 
-/// Makes a table of `slot_count` free slots in the bytes, whatever they were. The header's item count is `item_count`.
-/// Each byte is written. The hash function does not matter.
+/// Makes a table of `slot_count` free slots in the bytes, whatever they were. The header's item
+/// count is `item_count`. Each byte is written. The hash function does not matter.
 pub fn init_sized(
     bytes: &mut [u8],
     layout: Layout,
@@ -33,7 +33,8 @@ pub fn init_sized(
     write_sized_empty(bytes, layout, slot_count, item_count, max_load_factor);
 }
 
-// Writes zeros over the entries of the bytes of a table of `slot_count` slots. No other byte changes.
+// Writes zeros over the entries of the bytes of a table of `slot_count` slots. No other byte
+// changes.
 fn clear_sized(bytes: &mut [u8], layout: Layout, slot_count: usize)
     requires { length bytes.old
         ≡ 32 + slot_count * (layout.key_len + layout.value_len) + slot_count + 16 }
@@ -43,8 +44,8 @@ fn clear_sized(bytes: &mut [u8], layout: Layout, slot_count: usize)
     bytes[HEADER_SIZE..layout.entry_at(slot_count)].fill(0);
 }
 
-// Writes a table of `slot_count` free slots into bytes whose entries are zeros: the header, and the control bytes with
-// their mirror. The header's item count is `item_count`.
+// Writes a table of `slot_count` free slots into bytes whose entries are zeros: the header, and
+// the control bytes with their mirror. The header's item count is `item_count`.
 fn write_sized_empty(
     bytes: &mut [u8],
     layout: Layout,

@@ -1,4 +1,5 @@
-//! Inserts of several keys whose slots are looked up ahead, so that the memory accesses to their control bytes overlap.
+//! Inserts of several keys whose slots are looked up ahead, so that the memory accesses to their
+//! control bytes overlap.
 ghost use Rattle.std.specs.Prelude.{◌≡◌, ◌-◌, length};
 ghost use Rattle.odht_base.specs.Load.{IsSlotCount};
 ghost use Rattle.odht_base.specs.Format.{format_of};
@@ -17,12 +18,13 @@ use crate::error::Error;
 use crate::hash::HashFn;
 use crate::swisstable_group_query::{Group, GroupQuery, REFERENCE_GROUP_SIZE};
 
-/// The hash of a key, and the slot where a pair with the key is placed, where the first group search at its home slot
-/// finds it; else the slot count: where a key may have to be compared, or where none of these control bytes counts as
-/// free.
+/// The hash of a key, and the slot where a pair with the key is placed, where the first group
+/// search at its home slot finds it; else the slot count: where a key may have to be compared, or
+/// where none of these control bytes counts as free.
 ///
-/// The clause says what such a slot is, not when there is one: the slot count would always be right, and slower. No
-/// entry is read, so the calls for several keys do not depend on one another.
+/// The clause says what such a slot is, not when there is one: the slot count would always be
+/// right, and slower. No entry is read, so the calls for several keys do not depend on one
+/// another.
 #[inline(always)]
 pub(crate) fn expected_slot<K: ByteArray, V: ByteArray, H: HashFn, Q: Group>(
     control: &[EntryMetadata],
@@ -46,8 +48,9 @@ pub(crate) fn expected_slot<K: ByteArray, V: ByteArray, H: HashFn, Q: Group>(
     }
 }
 
-/// `insert_step` of a key with this hash, whose search was expected to end at this slot. Where there is room and the
-/// slot still counts as free the pair is written there; else the whole search is made.
+/// `insert_step` of a key with this hash, whose search was expected to end at this slot. Where
+/// there is room and the slot still counts as free the pair is written there; else the whole
+/// search is made.
 #[inline(always)]
 pub(crate) fn insert_ahead<K: ByteArray, V: ByteArray, H: HashFn>(
     control: &mut [EntryMetadata],
@@ -79,8 +82,8 @@ pub(crate) fn insert_ahead<K: ByteArray, V: ByteArray, H: HashFn>(
     )
 }
 
-// Where the search for the key ends. It was expected to end at this slot. Without room it is the whole search, which
-// alone says what comes before its end.
+// Where the search for the key ends. It was expected to end at this slot. Without room it is the
+// whole search, which alone says what comes before its end.
 #[inline(always)]
 fn expected_end<K: ByteArray, V: ByteArray, H: HashFn>(
     control: &[EntryMetadata],
@@ -109,8 +112,8 @@ fn expected_end<K: ByteArray, V: ByteArray, H: HashFn>(
     whole_search::<K, V, H>(control, &Entries::new(entries, slots), key, hash)
 }
 
-// Where the search for a key with this hash ends. It is not inlined: where a key is placed as expected, this is not
-// called.
+// Where the search for a key with this hash ends. It is not inlined: where a key is placed as
+// expected, this is not called.
 #[inline(never)]
 fn whole_search<K: ByteArray, V: ByteArray, H: HashFn>(
     control: &[EntryMetadata],

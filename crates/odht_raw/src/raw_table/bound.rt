@@ -15,7 +15,8 @@ use crate::hash::{FxHashFn, HashFn};
 use crate::swisstable_group_query::{REFERENCE_GROUP_SIZE, late_free};
 
 impl<'a, K: ByteArray, V: ByteArray, H: HashFn> RawTable<'a, K, V, H> {
-    /// `SearchTooLong` of the least home from which a search may read more groups than the bound; None without a bound.
+    /// `SearchTooLong` of the least home from which a search may read more groups than the bound;
+    /// None without a bound.
     pub(crate) fn longer_refusal(&self, groups: Option<usize>) -> Option<Error>
         ensures { result ≡ longer_refusal self.now.control groups }
     {
@@ -28,8 +29,9 @@ impl<'a, K: ByteArray, V: ByteArray, H: HashFn> RawTable<'a, K, V, H> {
         }
     }
 
-    /// Whether each home has, among the first `groups` groups of its probe order, a control byte that counts as free.
-    /// Then no search in a placed table, of a present or an absent key, reads more. It reads control bytes alone.
+    /// Whether each home has, among the first `groups` groups of its probe order, a control byte
+    /// that counts as free. Then no search in a placed table, of a present or an absent key, reads
+    /// more. It reads control bytes alone.
     pub fn searches_within(&self, groups: usize) -> bool
         ensures bytes { IsTrue result ↔ (first_longer self.now.control groups ≡ None) }
         ensures bound { let F = format_of K.LEN V.LEN H.hash
@@ -41,9 +43,9 @@ impl<'a, K: ByteArray, V: ByteArray, H: HashFn> RawTable<'a, K, V, H> {
         self.first_longer(groups).is_none()
     }
 
-    /// The least home from which a search may read more than `groups` groups: none of the control bytes in these counts
-    /// as free. None where no search reads more. At most `groups` reads of sixteen bytes a slot, and few where most
-    /// groups have a free byte.
+    /// The least home from which a search may read more than `groups` groups: none of the control
+    /// bytes in these counts as free. None where no search reads more. At most `groups` reads of
+    /// sixteen bytes a slot, and few where most groups have a free byte.
     #[inline(never)]
     pub(crate) fn first_longer(&self, groups: usize) -> Option<usize>
         ensures { result ≡ first_longer self.now.control groups }
@@ -58,11 +60,12 @@ impl<'a, K: ByteArray, V: ByteArray, H: HashFn> RawTable<'a, K, V, H> {
         None
     }
 
-    // From this home and those after it, so many in all, no search reads more than `groups` groups. None where one from
-    // this home may.
+    // From this home and those after it, so many in all, no search reads more than `groups`
+    // groups. None where one from this home may.
     //
-    // The groups that these searches read begin one slot after the other. So where one has a free byte, those that begin
-    // up to it have it too; but not behind the last slot, where the mirror may differ from what it mirrors.
+    // The groups that these searches read begin one slot after the other. So where one has a free
+    // byte, those that begin up to it have it too; but not behind the last slot, where the mirror
+    // may differ from what it mirrors.
     #[inline]
     fn homes_within(&self, home: usize, groups: usize) -> Option<usize>
         requires { home < self.now.entries.slots }
@@ -107,7 +110,8 @@ impl<'a, H: HashFn> SizedTable<'a, H> {
         self.without_entries().searches_within(groups)
     }
 
-    // A table of the same control bytes, which are all that a bound of searches reads: its entries have no bytes.
+    // A table of the same control bytes, which are all that a bound of searches reads: its entries
+    // have no bytes.
     #[inline]
     fn without_entries(&self) -> RawTable<'_, [u8; 0], [u8; 0], FxHashFn>
         ensures control { result.control ≡ self.now.parts.control }

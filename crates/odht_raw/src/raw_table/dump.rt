@@ -52,7 +52,8 @@ impl<'a, K: ByteArray, V: ByteArray, H: HashFn> fmt::Debug for RawTable<'a, K, V
         (λ b. K.debug_output (K.of_bytes b)) (λ b. V.debug_output (V.of_bytes b))
         H.hash_name };
 
-    // The slot count and the name of the hash function on one line, then a line for each slot, in slot order.
+    // The slot count and the name of the hash function on one line, then a line for each slot, in
+    // slot order.
     fn fmt<W: fmt::Write>(&self, f: &mut fmt::Formatter<W>) -> fmt::Result {
         self.write_head(f)?;
         for slot in 0..self.entries.len() {

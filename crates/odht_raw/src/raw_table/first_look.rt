@@ -1,5 +1,5 @@
-//! The first look of a search. To look up many keys, take the first looks of several keys before the first search ends:
-//! then their memory accesses overlap.
+//! The first look of a search. To look up many keys, take the first looks of several keys before
+//! the first search ends: then their memory accesses overlap.
 ghost use Rattle.std.specs.Prelude.{◌≡◌};
 ghost use Rattle.odht_base.specs.Format.{format_of};
 ghost use Rattle.odht_raw.specs.FirstLooks.{first_look_of};
@@ -12,8 +12,9 @@ use crate::hash::HashFn;
 use crate::swisstable_group_query::{Group, REFERENCE_GROUP_SIZE, lanes};
 use std::marker::Model;
 
-/// The hash of a key, and what the group of control bytes at its home slot has: the matches of the tag, and the first
-/// byte that counts as free. It is for the table and the key of which it was taken, and for no others.
+/// The hash of a key, and what the group of control bytes at its home slot has: the matches of the
+/// tag, and the first byte that counts as free. It is for the table and the key of which it was
+/// taken, and for no others.
 #[derive(Drop)]
 pub struct FirstLook {
     hash: u32,
@@ -29,8 +30,8 @@ impl Model for FirstLook {
 }
 
 impl<'a, K: ByteArray, V: ByteArray, H: HashFn> RawTable<'a, K, V, H> {
-    /// The first look of the search for a key, from which [`RawTable::find_from`] goes on. It hashes the key and reads
-    /// one group of control bytes, and no entry.
+    /// The first look of the search for a key, from which [`RawTable::find_from`] goes on. It
+    /// hashes the key and reads one group of control bytes, and no entry.
     #[inline(always)]
     pub fn first_look(&self, key: &K) -> FirstLook
         ensures { result ≡ first_look_of (format_of K.LEN V.LEN H.hash) self.now (K.bytes key.now) }
@@ -45,12 +46,13 @@ impl<'a, K: ByteArray, V: ByteArray, H: HashFn> RawTable<'a, K, V, H> {
         }
     }
 
-    /// The value of the key, from its first look in this very table: on the parts of a placed table what `find` returns,
-    /// on any parts a value that is stored with this very key, or None.
+    /// The value of the key, from its first look in this very table: on the parts of a placed
+    /// table what `find` returns, on any parts a value that is stored with this very key, or None.
     ///
-    /// The matches of the look are compared in turn. Where none holds the key and the group has no free byte, the
-    /// search goes on with the second group.
-    // The first group is not looked at by the function for later ones: keys in a near cache took up to a tenth longer.
+    /// The matches of the look are compared in turn. Where none holds the key and the group has no
+    /// free byte, the search goes on with the second group.
+    // The first group is not looked at by the function for later ones: keys in a near cache took
+    // up to a tenth longer.
     #[inline(always)]
     pub fn find_from(&self, look: FirstLook, key: &K) -> Option<V>
         requires { look ≡ first_look_of (format_of K.LEN V.LEN H.hash) self.now (K.bytes key.now) }

@@ -7,11 +7,12 @@ ghost use Rattle.odht_raw.specs.FreeSlots.{IsFirstFree, IsFirstFreeByte};
 use super::{EntryMetadata, GroupProbe, is_empty_or_deleted, tag_of};
 use crate::swisstable_group_query::{Group, REFERENCE_GROUP_SIZE};
 
-/// The first slot of the probe order of a hash that counts as free, by its control byte or its mirror; None where each
-/// slot counts as occupied. Matches of the tag are not used, and no key is compared.
+/// The first slot of the probe order of a hash that counts as free, by its control byte or its
+/// mirror; None where each slot counts as occupied. Matches of the tag are not used, and no key is
+/// compared.
 ///
-/// The home slot's own byte is read first: a load of sixteen bytes has to wait for a byte that was just written, a load
-/// of this byte alone does not. All this holds for every group search.
+/// The home slot's own byte is read first: a load of sixteen bytes has to wait for a byte that was
+/// just written, a load of this byte alone does not. All this holds for every group search.
 #[inline]
 pub(super) fn first_free<Q: Group>(control: &[EntryMetadata], hash: u32) -> Option<usize>
     requires { IsSlotCount (length control.now - 16) }
@@ -29,7 +30,8 @@ pub(super) fn first_free<Q: Group>(control: &[EntryMetadata], hash: u32) -> Opti
 
 // `first_free` group by group. The mask is the slot count less one.
 //
-// In one function with the look at the home slot, tables that grow took up to a hundredth more instructions.
+// In one function with the look at the home slot, tables that grow took up to a hundredth more
+// instructions.
 #[inline]
 fn first_free_by_groups<Q: Group>(
     control: &[EntryMetadata],
@@ -55,8 +57,8 @@ fn first_free_by_groups<Q: Group>(
     }
 }
 
-// The index of the first of sixteen control bytes that counts as free, searched in pieces of the group search's size.
-// The tag does not matter.
+// The index of the first of sixteen control bytes that counts as free, searched in pieces of the
+// group search's size. The tag does not matter.
 #[inline]
 fn first_free_of_group<Q: Group>(bytes: &[EntryMetadata], tag: u8) -> Option<usize>
     requires len { length bytes.now ≡ 16 }

@@ -8,10 +8,11 @@ use super::{EntryMetadata, ProbeSeq, Scan};
 use crate::swisstable_group_query::REFERENCE_GROUP_SIZE;
 use std::marker::Model;
 
-/// The place of a search: the group of sixteen slots at hand, of those along its probe order, and the control bytes.
+/// The place of a search: the group of sixteen slots at hand, of those along its probe order, and
+/// the control bytes.
 ///
-/// In a contract it is the control bytes, how many groups of them were read, the home slot, and the position of the
-/// group's first slot in the order.
+/// In a contract it is the control bytes, how many groups of them were read, the home slot, and
+/// the position of the group's first slot in the order.
 #[derive(Drop)]
 pub(crate) struct GroupProbe<'a> {
     scan: Scan<'a>,
@@ -39,7 +40,8 @@ impl<'a> Model for GroupProbe<'a> {
 }
 
 impl<'a> GroupProbe<'a> {
-    /// The first group of the probe order of a hash, or of a home slot, in the control bytes of `slots` slots.
+    /// The first group of the probe order of a hash, or of a home slot, in the control bytes of
+    /// `slots` slots.
     #[inline(always)]
     pub(crate) fn new(control: &'a [EntryMetadata], slots: usize, hash: usize) -> Self
         requires slots { IsSlotCount slots }

@@ -16,15 +16,15 @@ use super::SlotHomes;
 use super::waiting::{WAITING, list_occupied};
 use crate::swisstable_group_query::REFERENCE_GROUP_SIZE;
 
-// How many frontiers are kept from one search to the next. Few homes have long searches at a time, and one that is
-// forgotten is only found again.
+// How many frontiers are kept from one search to the next. Few homes have long searches at a time,
+// and one that is forgotten is only found again.
 const FRONTIERS: usize = 64;
 
 // An odd number, times which homes that share their low bits differ in the highest.
 const SPREAD: usize = 0x9E37_79B9_7F4A_7C15;
 
-// How far the slots in the probe order of a home are placed: those before a group. It keeps the first slot of the group
-// and the position of that slot.
+// How far the slots in the probe order of a home are placed: those before a group. It keeps the
+// first slot of the group and the position of that slot.
 #[derive(Clone, Copy)]
 struct Frontier {
     home: usize,
@@ -34,7 +34,8 @@ struct Frontier {
 
 /// `RawTable::insert_order` of any parts whose keys have homes.
 ///
-/// It goes through the slots once, up to the first that is not near its home, and then pass by pass.
+/// It goes through the slots once, up to the first that is not near its home, and then pass by
+/// pass.
 pub(super) fn find_order<S: SlotHomes>(table: &S, out: &mut [usize]) -> bool
     requires homes { HasHomes (S.format table.now) (S.parts table.now) }
     requires whole { IsWhole (S.format table.now) (S.parts table.now) (length out.old) }
@@ -49,8 +50,8 @@ pub(super) fn find_order<S: SlotHomes>(table: &S, out: &mut [usize]) -> bool
     place_others(table, out, near)
 }
 
-// Places slots in their order, as long as each is near its home. None that waits is before it in the probe order of
-// its key then, so that it is ready. Returns how many were placed.
+// Places slots in their order, as long as each is near its home. None that waits is before it in
+// the probe order of its key then, so that it is ready. Returns how many were placed.
 fn place_near<S: SlotHomes>(table: &S, slots: &mut [usize]) -> usize
     requires homes { HasHomes (S.format table.now) (S.parts table.now) }
     requires whole { IsWhole (S.format table.now) (S.parts table.now) (length slots.old) }
@@ -71,7 +72,8 @@ fn place_near<S: SlotHomes>(table: &S, slots: &mut [usize]) -> usize
 
 // `insert_order` of the slots that still wait, where the first `placed` are placed.
 //
-// It is a call of its own, since it sets the frontiers up, and most tables with few pairs need none.
+// It is a call of its own, since it sets the frontiers up, and most tables with few pairs need
+// none.
 #[inline(never)]
 fn place_others<S: SlotHomes>(table: &S, out: &mut [usize], placed: usize) -> bool
     requires homes { HasHomes (S.format table.now) (S.parts table.now) }
@@ -92,8 +94,8 @@ fn place_others<S: SlotHomes>(table: &S, out: &mut [usize], placed: usize) -> bo
     true
 }
 
-// Goes once through the slots that wait, and places each that is ready by then. At the end the placed slots come
-// first, in slot order, and after them the others. Returns how many were placed.
+// Goes once through the slots that wait, and places each that is ready by then. At the end the
+// placed slots come first, in slot order, and after them the others. Returns how many were placed.
 fn place_ready<S: SlotHomes>(
     table: &S,
     slots: &mut [usize],
@@ -128,8 +130,9 @@ fn place_ready<S: SlotHomes>(
     placed
 }
 
-// Whether no slot before this one in the probe order of its key waits. In most cases the slots before it begin at
-// its home and end next to it, so that all of them were looked at before in the pass.
+// Whether no slot before this one in the probe order of its key waits. In most cases the slots
+// before it begin at its home and end next to it, so that all of them were looked at before in the
+// pass.
 #[inline]
 fn is_ready<S: SlotHomes>(
     table: &S,
@@ -180,8 +183,8 @@ impl Frontier {
     }
 }
 
-// Whether no slot before this one, which waits, in the probe order of the home waits. What an earlier search from this
-// home has passed is placed, so it goes on from there where that is kept.
+// Whether no slot before this one, which waits, in the probe order of the home waits. What an
+// earlier search from this home has passed is placed, so it goes on from there where that is kept.
 fn is_unblocked_from(
     home: usize,
     slot: usize,
@@ -208,8 +211,8 @@ fn is_unblocked_from(
     result
 }
 
-// Whether no slot before this one, which waits, in the probe order of the home waits. The frontier goes on to the last
-// group that this looks at.
+// Whether no slot before this one, which waits, in the probe order of the home waits. The frontier
+// goes on to the last group that this looks at.
 fn is_unblocked(
     frontier: &mut Frontier,
     slot: usize,
@@ -242,7 +245,8 @@ fn is_unblocked(
     }
 }
 
-// Whether one of the `count` slots from `base` on waits, around the end. From `left` on none below `slot` waits.
+// Whether one of the `count` slots from `base` on waits, around the end. From `left` on none below
+// `slot` waits.
 fn is_any_waiting(
     base: usize,
     count: usize,
@@ -292,9 +296,9 @@ fn is_range_waiting(start: usize, end: usize, slots: &[usize]) -> bool
     false
 }
 
-// Sorts the list, whose slots are in slot order, and of which so many are placed: these come first, and behind them
-// those that wait. The placed ones keep their order as they are moved, so only the others are sorted, of which there
-// are few in most tables, and in many none.
+// Sorts the list, whose slots are in slot order, and of which so many are placed: these come
+// first, and behind them those that wait. The placed ones keep their order as they are moved, so
+// only the others are sorted, of which there are few in most tables, and in many none.
 fn sort_placed_first(slots: &mut [usize], placed: usize)
     requires placed { placed ≡ length (placed_of slots.old) }
     ensures permutation { IsPermutation slots.old slots.new }

@@ -1,4 +1,5 @@
-//! The calls that look for an order of inserts, of typed parts and of those whose lengths are numbers.
+//! The calls that look for an order of inserts, of typed parts and of those whose lengths are
+//! numbers.
 ghost use Rattle.std.specs.Prelude.{◌≡◌, ◌*◌, ◌-◌, ◌^◌, length, min};
 ghost use Rattle.odht_base.specs.Format.{format_of};
 ghost use Rattle.odht_raw.specs.Sized.{sized_format};
@@ -11,17 +12,20 @@ use crate::bytes::ByteArray;
 use crate::hash::HashFn;
 
 impl<'a, K: ByteArray, V: ByteArray, H: HashFn> RawTable<'a, K, V, H> {
-    /// Whether some list of inserts, growths included, makes the table of these parts (`IsMade`); they have no load
-    /// factor, and the result is the same for each. Where one does, `out` lists the occupied slots in an order in
-    /// which their pairs, placed in turn into an empty table of as many slots, give these parts. Otherwise the numbers
-    /// in `out` have no meaning. The parts are those of a valid table, and `out` has as many items as that has pairs.
+    /// Whether some list of inserts, growths included, makes the table of these parts (`IsMade`);
+    /// they have no load factor, and the result is the same for each. Where one does, `out` lists
+    /// the occupied slots in an order in which their pairs, placed in turn into an empty table of
+    /// as many slots, give these parts. Otherwise the numbers in `out` have no meaning. The parts
+    /// are those of a valid table, and `out` has as many items as that has pairs.
     ///
-    /// A pass goes through the waiting slots in slot order, and places each whose earlier slots in the probe order of
-    /// its key are all placed. Passes are made until no slot waits, or a pass places none: at most one pass more than
-    /// there are slots that wait for a slot of a higher index. In a pass a slot in the first group of its probe order
-    /// and not below its home takes one step. Any other takes one or two binary searches in the list of the pass for
-    /// each group up to its own, but for those that were passed before from the same home, as far as that is kept, for
-    /// 64 homes. After each pass the slots that still wait are sorted. It allocates nothing.
+    /// A pass goes through the waiting slots in slot order, and places each whose earlier slots in
+    /// the probe order of its key are all placed. Passes are made until no slot waits, or a pass
+    /// places none: at most one pass more than there are slots that wait for a slot of a higher
+    /// index. In a pass a slot in the first group of its probe order and not below its home takes
+    /// one step. Any other takes one or two binary searches in the list of the pass for each group
+    /// up to its own, but for those that were passed before from the same home, as far as that is
+    /// kept, for 64 homes. After each pass the slots that still wait are sorted. It allocates
+    /// nothing.
     pub fn insert_order(&self, out: &mut [usize]) -> bool
         requires whole { IsWhole (format_of K.LEN V.LEN H.hash) self.now (length out.old) }
         ensures { let F = format_of K.LEN V.LEN H.hash
@@ -40,16 +44,18 @@ impl<'a, K: ByteArray, V: ByteArray, H: HashFn> RawTable<'a, K, V, H> {
         order_scratch(self)
     }
 
-    /// `insert_order` for tables of strangers: it returns the same. `scratch` has as many numbers as
-    /// `insert_order_scratch` says or more, of any values; with fewer this is `insert_order`, in the time that that
-    /// takes. The clause says that `out` has an order; that it is the same one is tested.
+    /// `insert_order` for tables of strangers: it returns the same. `scratch` has as many numbers
+    /// as `insert_order_scratch` says or more, of any values; with fewer this is `insert_order`,
+    /// in the time that that takes. The clause says that `out` has an order; that it is the same
+    /// one is tested.
     ///
-    /// An order takes a slot in a pass, and in each pass the slots in slot order. The probe order of each home is
-    /// walked through once, up to the last slot with a key of this home. A walk that comes to a slot whose pass is not
-    /// known yet waits, while that of this slot's home goes on; where that waits, in turn, for the first one, no order
-    /// takes these slots. So the time is in proportion to the slots, and to the groups that the longest search of each
-    /// home reads: with a bound of `g` groups to `g` times the slots. That `insert_order` is not called after all, which
-    /// no clause says, is tested. It allocates nothing.
+    /// An order takes a slot in a pass, and in each pass the slots in slot order. The probe order
+    /// of each home is walked through once, up to the last slot with a key of this home. A walk
+    /// that comes to a slot whose pass is not known yet waits, while that of this slot's home goes
+    /// on; where that waits, in turn, for the first one, no order takes these slots. So the time
+    /// is in proportion to the slots, and to the groups that the longest search of each home
+    /// reads: with a bound of `g` groups to `g` times the slots. That `insert_order` is not called
+    /// after all, which no clause says, is tested. It allocates nothing.
     pub fn insert_order_with(&self, out: &mut [usize], scratch: &mut [usize]) -> bool
         requires whole { IsWhole (format_of K.LEN V.LEN H.hash) self.now (length out.old) }
         ensures { let F = format_of K.LEN V.LEN H.hash

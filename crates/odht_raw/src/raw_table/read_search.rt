@@ -28,12 +28,14 @@ pub struct ReadPlace {
     pub layout: Layout,
 }
 
-/// Searches for the key as [`search`](super::search) does, and says how many groups were read. It reads each group of
-/// the probe order at most once, up to the one where the search ends, and of each slot whose tag fits the key.
+/// Searches for the key as [`search`](super::search) does, and says how many groups were read. It
+/// reads each group of the probe order at most once, up to the one where the search ends, and of
+/// each slot whose tag fits the key.
 ///
-/// Where the source gives the bytes of one list throughout, which is long enough to have the parts, the result is that
-/// of the search in the parts of this list, or the error of a read that failed. Whatever the reads give, a key that is
-/// found is in one of the slots, and a search that returns has read no more groups than there are.
+/// Where the source gives the bytes of one list throughout, which is long enough to have the
+/// parts, the result is that of the search in the parts of this list, or the error of a read that
+/// failed. Whatever the reads give, a key that is found is in one of the slots, and a search that
+/// returns has read no more groups than there are.
 pub fn search_read<S: ReadAt, H: HashFn>(
     source: &S,
     place: &ReadPlace,
@@ -73,7 +75,8 @@ pub fn search_read<S: ReadAt, H: HashFn>(
     }
 }
 
-// Searches the sixteen slots from `start` on, modulo the slot count, whose control bytes are `bytes`.
+// Searches the sixteen slots from `start` on, modulo the slot count, whose control bytes are
+// `bytes`.
 fn look_at_read<S: ReadAt, H: HashFn, Q: Group>(
     source: &S,
     place: &ReadPlace,

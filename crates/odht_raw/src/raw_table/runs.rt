@@ -14,14 +14,17 @@ use crate::swisstable_group_query::{GroupQuery, REFERENCE_GROUP_SIZE};
 // How many keys are looked up ahead.
 const BATCH: usize = 8;
 
-// The least slot count at which keys are looked up ahead. The control bytes of smaller tables are in a near cache.
+// The least slot count at which keys are looked up ahead. The control bytes of smaller tables are
+// in a near cache.
 const LARGE: usize = 1 << 20;
 
-/// Inserts the items from index `from` on in turn, with room for `room` new entries, and stops at the first item that
-/// is rejected with `Full`. Returns the index after the last item that was inserted, and how many entries were added.
+/// Inserts the items from index `from` on in turn, with room for `room` new entries, and stops at
+/// the first item that is rejected with `Full`. Returns the index after the last item that was
+/// inserted, and how many entries were added.
 ///
-/// Each item costs a search. In tables of 2^20 slots and more the group at the home slot may be read ahead, for eight
-/// keys in turn: these keys are encoded twice, and a new key whose slot was seen free then needs no further search.
+/// Each item costs a search. In tables of 2^20 slots and more the group at the home slot may be
+/// read ahead, for eight keys in turn: these keys are encoded twice, and a new key whose slot was
+/// seen free then needs no further search.
 #[inline(always)]
 pub(crate) fn insert_run<C: Config, I: Items<C::Key, C::Value>>(
     control: &mut [EntryMetadata],
@@ -103,8 +106,8 @@ fn insert_in_batches<C: Config, I: Items<C::Key, C::Value>>(
     (end, added + more)
 }
 
-// `insert_run` of the eight items from `from` on. Their slots are looked up first, and no look-up depends on another
-// one.
+// `insert_run` of the eight items from `from` on. Their slots are looked up first, and no look-up
+// depends on another one.
 #[inline(always)]
 fn insert_batch<C: Config, I: Items<C::Key, C::Value>>(
     control: &mut [EntryMetadata],
@@ -144,7 +147,8 @@ fn insert_batch<C: Config, I: Items<C::Key, C::Value>>(
     (from + BATCH, added)
 }
 
-// The hashes of the keys of the eight items from `from` on, and the slots where their searches are expected to end.
+// The hashes of the keys of the eight items from `from` on, and the slots where their searches are
+// expected to end.
 #[inline(always)]
 fn look_ahead<C: Config, I: Items<C::Key, C::Value>>(
     control: &[EntryMetadata],

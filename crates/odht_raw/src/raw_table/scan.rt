@@ -8,8 +8,8 @@ use std::marker::Model;
 
 /// The control bytes of a table, read a group of sixteen at a time, and how many groups were read.
 ///
-/// What counts as a group that was read: docs/FORMAT.md, "Search". In a contract it is the control bytes and that
-/// number.
+/// What counts as a group that was read: docs/FORMAT.md, "Search". In a contract it is the control
+/// bytes and that number.
 #[derive(Drop)]
 pub struct Scan<'a> {
     control: &'a [EntryMetadata],
@@ -73,8 +73,8 @@ impl<'a> Scan<'a> {
         self.slots
     }
 
-    /// The sixteen control bytes from that of slot `start` on, which run into the mirror after the last slot. Counts
-    /// one group more.
+    /// The sixteen control bytes from that of slot `start` on, which run into the mirror after the
+    /// last slot. Counts one group more.
     #[inline]
     pub fn group(&mut self, start: usize) -> &'a [EntryMetadata]
         requires { start < length self.old.control - 16 }

@@ -5,9 +5,10 @@
 pub enum Search {
     /// This slot holds the key.
     Found(usize),
-    /// The search met this slot, which counts as free. On the parts of a placed table no slot holds the key, and this
-    /// is the first free slot of its probe order.
+    /// The search met this slot, which counts as free. On the parts of a placed table no slot
+    /// holds the key, and this is the first free slot of its probe order.
     Free(usize),
-    /// The search met no slot that is free or holds the key. On the parts of a placed table there is no such slot.
+    /// The search met no slot that is free or holds the key. On the parts of a placed table there
+    /// is no such slot.
     Neither,
 }

@@ -3,7 +3,8 @@ ghost use Rattle.std.specs.Prelude.{◌≡◌, ◌≤◌, length};
 
 use std::marker::Model;
 
-/// At most 255 bytes by value, as a key or a value of a table has. No memory is allocated for them.
+/// At most 255 bytes by value, as a key or a value of a table has. No memory is allocated for
+/// them.
 ///
 /// In a contract it is these bytes.
 #[derive(Clone, Copy)]

@@ -1,5 +1,5 @@
-//! The whole check of the parts of a table whose lengths are numbers: each slot, the mirror, and that the search for each
-//! key ends at its slot.
+//! The whole check of the parts of a table whose lengths are numbers: each slot, the mirror, and
+//! that the search for each key ends at its slot.
 ghost use Rattle.std.specs.Prelude.{◌≡◌, ◌<◌, ◌≤◌, ◌↔◌, length, slice_index, option_map, IfOk, IsFalse};
 ghost use Rattle.std.specs.Prelude.{IsTrue, None};
 ghost use Rattle.std.specs.Result.{result_err};
@@ -20,7 +20,8 @@ use crate::swisstable_group_query::lanes::GroupQuery;
 use crate::swisstable_group_query::{Group, REFERENCE_GROUP_SIZE};
 
 impl<'a, H: HashFn> SizedTable<'a, H> {
-    // The sixteen control bytes from that of slot `start` on, which run into the mirror after the last slot.
+    // The sixteen control bytes from that of slot `start` on, which run into the mirror after the
+    // last slot.
     #[inline(always)]
     fn group(&self, start: usize) -> &'a [u8]
         requires { start < self.now.parts.entries.slots }
@@ -31,11 +32,11 @@ impl<'a, H: HashFn> SizedTable<'a, H> {
         &control[start..start + REFERENCE_GROUP_SIZE]
     }
 
-    /// Checks each slot once, in slot order, and returns the first error: `NonZeroEmpty`, then `BadFreeControl`, of a
-    /// slot that counts as free, `ControlMismatch` of any other.
+    /// Checks each slot once, in slot order, and returns the first error: `NonZeroEmpty`, then
+    /// `BadFreeControl`, of a slot that counts as free, `ControlMismatch` of any other.
     ///
-    /// `unreachable` is what its comment says only where searches are made, no slot gives an error, and the mirror has no
-    /// mismatch. The whole check reads it in no other case.
+    /// `unreachable` is what its comment says only where searches are made, no slot gives an
+    /// error, and the mirror has no mismatch. The whole check reads it in no other case.
     #[inline]
     pub(crate) fn check_slots(&self, searches: bool) -> Result<SlotSummary, Error>
         ensures err { let F = sized_format self.now H.hash
@@ -82,10 +83,11 @@ impl<'a, H: HashFn> SizedTable<'a, H> {
         }
     }
 
-    // Whether the search for the key of an occupied slot, slot by slot along the probe order, ends at that slot. The
-    // key is compared only with keys at earlier positions that have its tag.
+    // Whether the search for the key of an occupied slot, slot by slot along the probe order, ends
+    // at that slot. The key is compared only with keys at earlier positions that have its tag.
     //
-    // This asks for more than `IsReached` does: the second copy of a key may be reached, but no search ends at it.
+    // This asks for more than `IsReached` does: the second copy of a key may be reached, but no
+    // search ends at it.
     #[inline]
     fn is_reached(&self, slot: usize, hash: u32) -> bool
         requires slot { slot < self.now.parts.entries.slots }
@@ -113,8 +115,8 @@ impl<'a, H: HashFn> SizedTable<'a, H> {
         }
     }
 
-    // Whether each of the `count` slots from `start` on, modulo the slot count, is occupied by another key than that of
-    // `slot`, whose tag is `tag`.
+    // Whether each of the `count` slots from `start` on, modulo the slot count, is occupied by
+    // another key than that of `slot`, whose tag is `tag`.
     #[inline]
     fn are_passed(&self, start: usize, count: usize, slot: usize, tag: u8) -> bool
         requires start { start < self.now.parts.entries.slots }
@@ -154,8 +156,8 @@ impl<'a, H: HashFn> SizedTable<'a, H> {
         self.key(slot) == self.key(other)
     }
 
-    /// Compares the mirror with the control bytes of the first sixteen slots; `MirrorMismatch` of the first index that
-    /// differs.
+    /// Compares the mirror with the control bytes of the first sixteen slots; `MirrorMismatch` of
+    /// the first index that differs.
     #[inline]
     pub(crate) fn check_mirror(&self) -> Result<(), Error>
         ensures { result ≡ checked (mirror_refusal self.now.parts.control) }

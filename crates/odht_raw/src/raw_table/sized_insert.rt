@@ -1,4 +1,5 @@
-//! The insert of a pair that is given as bytes into the parts of a table: one search, and the write where it ends.
+//! The insert of a pair that is given as bytes into the parts of a table: one search, and the
+//! write where it ends.
 ghost use Rattle.std.specs.Prelude.{◌≡◌, ◌+◌, ◌-◌, ◌*◌, ◌<◌, ◌++◌, length};
 ghost use Rattle.odht_base.specs.Bytes.{overwritten_at};
 ghost use Rattle.odht_base.specs.Format.{format_of, tag as key_tag};
@@ -19,8 +20,8 @@ use crate::hash::HashFn;
 use crate::layout::Layout;
 use crate::swisstable_group_query::REFERENCE_GROUP_SIZE;
 
-/// Where the search for a key that is inserted ends, and the key's tag. Keys of some lengths have a copy of the search
-/// each, as in [`SizedTable::find_counted`].
+/// Where the search for a key that is inserted ends, and the key's tag. Keys of some lengths have
+/// a copy of the search each, as in [`SizedTable::find_counted`].
 #[inline(always)]
 pub(crate) fn sized_step_end<H: HashFn>(
     control: &[EntryMetadata],
@@ -48,9 +49,10 @@ pub(crate) fn sized_step_end<H: HashFn>(
     }
 }
 
-/// Writes a pair where the search for its key ended, which comes with the key's tag: the value alone into the slot
-/// that holds the key, or, where there is room, the entry with its tag into the free slot. Returns the former value; or
-/// `Full`, with nothing changed, where there is no room for a new entry, or the search met neither slot.
+/// Writes a pair where the search for its key ended, which comes with the key's tag: the value
+/// alone into the slot that holds the key, or, where there is room, the entry with its tag into
+/// the free slot. Returns the former value; or `Full`, with nothing changed, where there is no
+/// room for a new entry, or the search met neither slot.
 pub(crate) fn sized_insert_at<H: HashFn>(
     control: &mut [EntryMetadata],
     entries: &mut [u8],
@@ -92,7 +94,8 @@ pub(crate) fn sized_insert_at<H: HashFn>(
     }
 }
 
-/// Writes the pair into a slot, the tag into the slot's control byte, and for a slot below 16 the tag into the mirror.
+/// Writes the pair into a slot, the tag into the slot's control byte, and for a slot below 16 the
+/// tag into the mirror.
 pub(super) fn fill_sized_slot(
     control: &mut [EntryMetadata],
     entries: &mut [u8],

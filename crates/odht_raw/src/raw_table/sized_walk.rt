@@ -11,11 +11,12 @@ use crate::hash::HashFn;
 use std::iter::FusedIterator;
 use std::marker::Model;
 
-/// A walk from a slot on over the slots whose own control byte does not count as free, in slot order: the index of each
-/// slot, with its key and its value. A walk that stops at an item can go on later from that item's slot.
+/// A walk from a slot on over the slots whose own control byte does not count as free, in slot
+/// order: the index of each slot, with its key and its value. A walk that stops at an item can go
+/// on later from that item's slot.
 ///
-/// In a contract it is the list of the items that are left, each a slot and its pair. A whole walk reads each control
-/// byte once, sixteen at a time.
+/// In a contract it is the list of the items that are left, each a slot and its pair. A whole walk
+/// reads each control byte once, sixteen at a time.
 #[derive(Drop)]
 pub struct SizedSlots<'a, H: HashFn> {
     table: SizedTable<'a, H>,
@@ -65,10 +66,11 @@ impl<'a, H: HashFn> Iterator for SizedSlots<'a, H> {
 
 impl<'a, H: HashFn> FusedIterator for SizedSlots<'a, H> {}
 
-/// A walk over all slots whose own control byte does not count as free, in slot order: the key and the value of each.
+/// A walk over all slots whose own control byte does not count as free, in slot order: the key and
+/// the value of each.
 ///
-/// In a contract it is the list of the pairs that are left. A whole walk reads each control byte once, sixteen at a
-/// time.
+/// In a contract it is the list of the pairs that are left. A whole walk reads each control byte
+/// once, sixteen at a time.
 #[derive(Drop)]
 pub struct SizedIter<'a, H: HashFn> {
     slots: SizedSlots<'a, H>,

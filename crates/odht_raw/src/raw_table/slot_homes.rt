@@ -9,7 +9,8 @@ use super::{EntryMetadata, RawTable, SizedTable};
 use crate::bytes::ByteArray;
 use crate::hash::HashFn;
 
-/// The parts of a table, of which an order of inserts reads the control bytes and the homes of keys.
+/// The parts of a table, of which an order of inserts reads the control bytes and the homes of
+/// keys.
 ///
 /// In a contract it is the format of its lengths and its hash function, and these parts.
 pub(crate) trait SlotHomes {

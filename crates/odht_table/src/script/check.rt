@@ -15,8 +15,8 @@ use odht::memory_layout::check_all;
 use std::alloc::{AllocError, Global};
 use std::io::{self, Write};
 
-/// Answers a line that is no command: with the result of the whole check of the bytes that it writes, or with
-/// `malformed`.
+/// Answers a line that is no command: with the result of the whole check of the bytes that it
+/// writes, or with `malformed`.
 pub fn answer_check<W: Write>(alloc: Global, line: &[u8], output: &mut W) -> io::Result<()>
     ensures { (text : List ℕ) × IsOtherAnswered ⟦<U64ToU32 as Coded>⟧.coding.format line.now text
         × OnOk result (Appends (W.contents output.old) (W.contents output.new) (line_of text)) }
@@ -30,7 +30,8 @@ pub fn answer_check<W: Write>(alloc: Global, line: &[u8], output: &mut W) -> io:
     }
 }
 
-// The digits of a line that checks bytes: an even number of digits, and nothing else. None for any other line.
+// The digits of a line that checks bytes: an even number of digits, and nothing else. None for any
+// other line.
 fn digits_of(line: &[u8]) -> Option<&[u8]>
     ensures line { IfSome result (λ digits. line.now ≡ codes "check " ++ digits.now) }
     ensures even { IfSome result (λ digits. length digits.now % 2 ≡ 0) }

@@ -36,7 +36,8 @@ pub enum Request {
 
 /// The command of a line, which is passed without its end. None where the line is no command.
 ///
-/// Words are separated by exactly one space, so a further space is an empty word, which is no command and no number.
+/// Words are separated by exactly one space, so a further space is an empty word, which is no
+/// command and no number.
 pub fn parse(line: &[u8]) -> Option<Command>
     ensures reads { IfSome result (λ command. IsCommandText line.now command) }
     ensures misses_none { (command : Command) → IsCommandText line.now command

@@ -103,7 +103,8 @@ fn built_by<C: Config, Q: Group>(
     table
 }
 
-/// Inserts slot by slot, with the search by a word and with the search by lanes leave the same bytes.
+/// Inserts slot by slot, with the search by a word and with the search by lanes leave the same
+/// bytes.
 pub fn check_three_builds<C: Config>(
     rt: &impl Abort,
     alloc: Global,

@@ -1,5 +1,6 @@
-//! Assertions as functions. For the proof of a test each is one call, where an assertion in the test would add a branch
-//! and the text that it prints. An assertion prints what was compared, since its line is not the test's.
+//! Assertions as functions. For the proof of a test each is one call, where an assertion in the
+//! test would add a branch and the text that it prints. An assertion prints what was compared,
+//! since its line is not the test's.
 ghost use Rattle.std.specs.Prelude.{◌≡◌};
 
 use odht::error::Error;

@@ -5,8 +5,8 @@ use odht::configs::U32ToU32;
 use std::alloc::Global;
 use std::process::Abort;
 
-// As many pairs as asked for. The keys are the multiples of one step, spread over all of u32, and last the highest key.
-// The value of a key is what the highest key is above it.
+// As many pairs as asked for. The keys are the multiples of one step, spread over all of u32, and
+// last the highest key. The value of a key is what the highest key is above it.
 fn make_test_items(rt: &impl Abort, alloc: Global, count: u32) -> Vec<(u32, u32)> {
     let mut items = Vec::new(alloc);
     if count > 1 {

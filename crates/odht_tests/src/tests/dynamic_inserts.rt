@@ -1,5 +1,5 @@
-//! Tables whose lengths are known at run time alone, written: one of each length of keys and of values, a ready shape
-//! beside its twin, and what is refused.
+//! Tables whose lengths are known at run time alone, written: one of each length of keys and of
+//! values, a ready shape beside its twin, and what is refused.
 use crate::tests::checks::{same, same_at, same_bytes};
 use odht::bytes::{Borrowed, BorrowedMut};
 use odht::configs::U32ToU32;
@@ -72,8 +72,8 @@ fn check(rt: &impl Abort, layout: Layout, bytes: &[u8]) {
     same_at(rt, "absent, keys of", keys, absent, keys == 0);
 }
 
-// Keys of 0 to 255 bytes, and values of 255 to 0 bytes, so that an entry always has 255: 32 bytes of header, 16 entries,
-// 16 control bytes and as many of the mirror.
+// Keys of 0 to 255 bytes, and values of 255 to 0 bytes, so that an entry always has 255: 32 bytes
+// of header, 16 entries, 16 control bytes and as many of the mirror.
 #[test]
 fn each_length(rt: HostRuntime) {
     for key_len in 0..=255_u8 {

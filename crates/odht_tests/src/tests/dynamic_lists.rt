@@ -1,4 +1,5 @@
-//! Tables whose lengths are known at run time alone: lookups and inserts of lists, and a table inside longer bytes.
+//! Tables whose lengths are known at run time alone: lookups and inserts of lists, and a table
+//! inside longer bytes.
 use crate::tests::checks::{same, same_bytes};
 use crate::tests::owned_tables::byte_with_a_pair;
 use odht::bytes::{Borrowed, BorrowedMut};
@@ -17,7 +18,8 @@ const LAYOUT: Layout = Layout {
     value_len: 1,
 };
 
-// A new table for one item: 32 bytes of header, 16 entries of four bytes, 16 control bytes and as many of the mirror.
+// A new table for one item: 32 bytes of header, 16 entries of four bytes, 16 control bytes and as
+// many of the mirror.
 fn new_bytes(rt: &impl Abort) -> [u8; 128] {
     let mut bytes = [7; 128];
     let mut store = BorrowedMut::new(&mut bytes);
@@ -25,7 +27,8 @@ fn new_bytes(rt: &impl Abort) -> [u8; 128] {
     bytes
 }
 
-// Inserts the items into a new table, and asserts how many were accepted, the error, and how many items it has then.
+// Inserts the items into a new table, and asserts how many were accepted, the error, and how many
+// items it has then.
 fn inserted(rt: &impl Abort, items: &[(&[u8], &[u8])], accepted: usize, error: Option<DynError>) {
     let mut bytes = new_bytes(rt);
     let store = BorrowedMut::new(&mut bytes);

@@ -1,5 +1,6 @@
-//! Orders of inserts of tables whose lengths are known at run time alone: that of a typed table with the same bytes,
-//! and of keys of five bytes, one that inserts make and one that none make. Their bytes are written by docs/FORMAT.md.
+//! Orders of inserts of tables whose lengths are known at run time alone: that of a typed table
+//! with the same bytes, and of keys of five bytes, one that inserts make and one that none make.
+//! Their bytes are written by docs/FORMAT.md.
 use crate::tests::checks::same;
 use odht::UnHashFn;
 use odht::bytes::Borrowed;
@@ -42,9 +43,10 @@ pub fn check_order<H: HashFn>(rt: &impl Abort, alloc: Global, bytes: &[u8], orde
     }
 }
 
-// The slots up to 32 and from 49 on are occupied, by keys whose homes they are, but that those of the first two slots
-// may be exchanged. The hash of such a key is its home, so that its tag is 0. The probe order of the home 1 has all
-// occupied slots before slot 0, and that of the home 0 has slot 0 before slot 1.
+// The slots up to 32 and from 49 on are occupied, by keys whose homes they are, but that those of
+// the first two slots may be exchanged. The hash of such a key is its home, so that its tag is 0.
+// The probe order of the home 1 has all occupied slots before slot 0, and that of the home 0 has
+// slot 0 before slot 1.
 fn bytes_of(rt: &impl Abort, alloc: Global, are_exchanged: bool) -> Vec<u8> {
     let mut bytes = HEADER.to_vec(alloc).expect(rt, "memory");
     for slot in 0..64 {

@@ -1,4 +1,5 @@
-//! Tables whose lengths are known at run time alone: a ready shape beside its twin, and what is rejected.
+//! Tables whose lengths are known at run time alone: a ready shape beside its twin, and what is
+//! rejected.
 use crate::tests::checks::{same, same_at};
 use odht::bytes::Borrowed;
 use odht::configs::U64ToU32;

@@ -1,6 +1,7 @@
-//! Which error comes back where a writer or a reader fails once and works again after it: its own, with its kind and its
-//! text. What has gone out until then is all that goes out. The clauses of the traits of std say of an error no more than
-//! that there is one, so no contract over any writer or reader can say which it is.
+//! Which error comes back where a writer or a reader fails once and works again after it: its own,
+//! with its kind and its text. What has gone out until then is all that goes out. The clauses of
+//! the traits of std say of an error no more than that there is one, so no contract over any
+//! writer or reader can say which it is.
 use crate::tests::checks::{same, same_bytes};
 use odht_tool_core::keys::{NextKey, next_key};
 use odht_tool_core::text::write_bytes;
@@ -102,8 +103,8 @@ fn read_keys(
     (keys, None)
 }
 
-// The buffer takes `12\n3`, `45\n6` and `\n`, and then nothing more: each read but the last ends a line, and those after
-// the first and the second are in the midst of one.
+// The buffer takes `12\n3`, `45\n6` and `\n`, and then nothing more: each read but the last ends a
+// line, and those after the first and the second are in the midst of one.
 #[test]
 fn keys_end_with_the_reader_s_error(rt: HostRuntime) {
     let alloc = rt.alloc();

@@ -1,5 +1,6 @@
-//! Tables that are read by position: beside the same table in memory, and where a read fails or the source ends too
-//! early. The crate for Rust has a test with a fault at each read in turn, and one with a file.
+//! Tables that are read by position: beside the same table in memory, and where a read fails or
+//! the source ends too early. The crate for Rust has a test with a fault at each read in turn, and
+//! one with a file.
 use crate::tests::checks::{same, same_at};
 use odht::bytes::Borrowed;
 use odht::configs::U64ToU32;

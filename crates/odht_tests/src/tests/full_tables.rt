@@ -24,7 +24,8 @@ fn value(number: u16, is_second: bool) -> [u8; 2] {
     }
 }
 
-// Inserts each number of two bytes, which is new the first time and has its first value the second time.
+// Inserts each number of two bytes, which is new the first time and has its first value the second
+// time.
 fn insert_each(
     rt: &impl Abort,
     control: &mut [u8],

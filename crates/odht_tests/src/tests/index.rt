@@ -1,5 +1,5 @@
-//! A small index and one of no pairs, byte for byte, and a cut one. The expected bytes were worked out by hand from
-//! docs/FORMAT.md.
+//! A small index and one of no pairs, byte for byte, and a cut one. The expected bytes were worked
+//! out by hand from docs/FORMAT.md.
 
 use crate::tests::checks::{same, same_at, same_len};
 use odht::error::Error;
@@ -19,7 +19,8 @@ const HEADER: [u8; 32] = [
     2, 0xb7, 0xde, 0, 0,
 ];
 
-// The byte at an offset of an index of no pairs: its header, entries of zeros, control bytes of free slots.
+// The byte at an offset of an index of no pairs: its header, entries of zeros, control bytes of
+// free slots.
 fn empty_byte(at: usize) -> u8 {
     match HEADER.get(at) {
         Some(byte) => *byte,
@@ -28,7 +29,8 @@ fn empty_byte(at: usize) -> u8 {
     }
 }
 
-// The byte at an offset of the index of the pairs: A is in slot 5, and B, with the same home, in slot 6.
+// The byte at an offset of the index of the pairs: A is in slot 5, and B, with the same home, in
+// slot 6.
 fn expected_byte(at: usize) -> u8 {
     match at {
         8 => 2,

@@ -1,5 +1,6 @@
-//! Orders of inserts of tables of lists that look random: one is found, it lists the occupied slots, and its inserts
-//! make the table again. Single tables, and tables that no inserts make, are in vectors/insert_orders.txt.
+//! Orders of inserts of tables of lists that look random: one is found, it lists the occupied
+//! slots, and its inserts make the table again. Single tables, and tables that no inserts make,
+//! are in vectors/insert_orders.txt.
 use crate::tests::checks::{same, same_bytes};
 use crate::tests::dynamic_orders::check_order;
 use odht::bytes::ByteArray;
@@ -8,7 +9,8 @@ use odht::{Config, HashTableOwned};
 use std::alloc::Global;
 use std::process::Abort;
 
-// A table's bytes, whatever length its keys and values have. They are read by docs/FORMAT.md, "Layout".
+// A table's bytes, whatever length its keys and values have. They are read by docs/FORMAT.md,
+// "Layout".
 #[derive(Clone, Copy)]
 struct Bytes<'a>(&'a [u8]);
 
@@ -99,9 +101,9 @@ fn check_linear_order<C: Config>(
     same(rt, "the same order", other.as_slice(), order);
 }
 
-/// Asserts that an order of inserts is found of a table that was made for so many items at 87 percent, the same where
-/// its lengths are numbers, that it lists each occupied slot once, and that inserts in this order into a new table for as
-/// many leave its bytes.
+/// Asserts that an order of inserts is found of a table that was made for so many items at 87
+/// percent, the same where its lengths are numbers, that it lists each occupied slot once, and
+/// that inserts in this order into a new table for as many leave its bytes.
 pub fn check_insert_order<C: Config>(
     rt: &impl Abort,
     alloc: Global,

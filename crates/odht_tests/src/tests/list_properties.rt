@@ -11,7 +11,8 @@ use std::collections::BTreeMap;
 use std::process::Abort;
 
 impl Random {
-    // Arrays of more than 64 bytes, which are compared in another way, differ behind these alone, or in the last alone.
+    // Arrays of more than 64 bytes, which are compared in another way, differ behind these alone,
+    // or in the last alone.
     fn array<A: ByteArray>(&mut self, rt: &impl Abort, is_last: bool) -> A {
         let mut buffer = [0; 255];
         assert!(rt; A::LEN <= buffer.len());
@@ -159,7 +160,8 @@ fn new_table<K: Short, V: Short>(
     HashTableOwned::with_capacity(alloc, items, 87).expect(rt, "a table")
 }
 
-// Each insert of a list with duplicates into a table that grows returns what the insert into a map of std returns.
+// Each insert of a list with duplicates into a table that grows returns what the insert into a map
+// of std returns.
 fn check_insert_with_duplicates<K: Short, V: Short>(
     rt: &impl Abort,
     alloc: Global,
@@ -176,7 +178,8 @@ fn check_insert_with_duplicates<K: Short, V: Short>(
     }
 }
 
-// Inserts in the order of a list with duplicates leave the bytes of the table that `from_iterator` makes of the list.
+// Inserts in the order of a list with duplicates leave the bytes of the table that `from_iterator`
+// makes of the list.
 fn check_from_iterator_vs_manual_insertion<K: Short, V: Short>(
     rt: &impl Abort,
     alloc: Global,

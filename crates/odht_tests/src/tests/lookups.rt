@@ -1,5 +1,5 @@
-//! Lookups of many keys against one lookup after the other: of full batches and of others, of present and of absent
-//! keys, in a table with one free slot.
+//! Lookups of many keys against one lookup after the other: of full batches and of others, of
+//! present and of absent keys, in a table with one free slot.
 use crate::tests::checks::{same_answer, same_at};
 use odht::bytes::{Borrowed, ByteStore};
 use odht::configs::U32ToU32;

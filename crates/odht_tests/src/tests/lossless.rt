@@ -1,5 +1,5 @@
-//! Configurations whose decodings undo their encodings: keys and values come back, and a table returns the values
-//! themselves.
+//! Configurations whose decodings undo their encodings: keys and values come back, and a table
+//! returns the values themselves.
 ghost use Rattle.std.specs.Prelude.{◌≡◌};
 
 use crate::tests::checks::{same, same_at};

@@ -46,7 +46,8 @@ fn check_absent(rt: &impl Abort, table: &HashTableOwned<U32ToU32>, start: u32, e
     }
 }
 
-// A byte of a new table of 16 slots at 87 percent, keys and values of four bytes: header, entries, control bytes.
+// A byte of a new table of 16 slots at 87 percent, keys and values of four bytes: header, entries,
+// control bytes.
 fn byte_of_new_table(at: usize) -> u8 {
     match at {
         0 => b'O',
@@ -181,7 +182,8 @@ fn checked_copies_have_the_same_bytes(rt: HostRuntime) {
     same_value(&rt, 1, copied.get(&1), Some(2));
 }
 
-// The error is that of the bytes. That it comes before memory is requested is run by `odht_memory`.
+// The error is that of the bytes. That it comes before memory is requested is run by
+// `odht_memory`.
 #[test]
 fn refused_bytes_are_not_copied(rt: HostRuntime) {
     let slot = 15;

@@ -1,5 +1,6 @@
-//! What has gone out of a full buffer when a call returns: as many parts as fit it, and of the digits of bytes as many
-//! pairs. Of a call that put a line or a key together first another number would have gone out.
+//! What has gone out of a full buffer when a call returns: as many parts as fit it, and of the
+//! digits of bytes as many pairs. Of a call that put a line or a key together first another number
+//! would have gone out.
 use crate::tests::checks::same_len;
 use odht::HashTableOwned;
 use odht::configs::Bytes16ToU32;
@@ -23,7 +24,8 @@ fn output(rt: &impl Abort, alloc: Global) -> Output {
     output
 }
 
-// Asserts that 39 bytes have gone out: the thirteen, and all that came until two digits more had no room.
+// Asserts that 39 bytes have gone out: the thirteen, and all that came until two digits more had
+// no room.
 fn check_full(rt: &impl Abort, what: &str, output: &Output) {
     same_len(rt, what, output.get_ref().len(), 39);
 }
@@ -42,7 +44,8 @@ fn a_full_buffer_has_as_many_parts_as_fit(rt: HostRuntime) {
     check_full(&rt, "answer", &answers);
 }
 
-// The tag of the key is 85, and its home slot 11, so that its line begins with `11`, `85` and `1`, each with a tab.
+// The tag of the key is 85, and its home slot 11, so that its line begins with `11`, `85` and `1`,
+// each with a tab.
 #[test]
 fn a_full_buffer_has_as_many_parts_of_a_slot_as_fit(rt: HostRuntime) {
     let alloc = rt.alloc();

@@ -89,7 +89,8 @@ fn forged_tables(rt: HostRuntime) {
     }
 }
 
-// 2^63 slots of nine bytes each, with their mirror and the header, are more bytes than 64 bits count.
+// 2^63 slots of nine bytes each, with their mirror and the header, are more bytes than 64 bits
+// count.
 #[test]
 fn a_length_that_wraps(rt: HostRuntime) {
     let mut bytes = changed_file(16, 0);

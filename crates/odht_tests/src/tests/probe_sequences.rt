@@ -8,7 +8,8 @@ use odht::raw_table::ProbeSeq;
 use std::alloc::Global;
 use std::process::Abort;
 
-// The slots of a home of 0, one after the other, by groups of sixteen whose distance grows by sixteen.
+// The slots of a home of 0, one after the other, by groups of sixteen whose distance grows by
+// sixteen.
 fn reference(rt: &impl Abort, alloc: Global, slots: usize) -> Vec<usize> {
     let mut order = Vec::new(alloc);
     let (mut index, mut stride) = (0_usize, 0_usize);

@@ -1,4 +1,5 @@
-//! A new table in a buffer that is rejected leaves the buffer as it was: no contract can say this of a moved value.
+//! A new table in a buffer that is rejected leaves the buffer as it was: no contract can say this
+//! of a moved value.
 use crate::tests::checks::{same, same_bytes};
 use odht::HashTable;
 use odht::bytes::BorrowedMut;

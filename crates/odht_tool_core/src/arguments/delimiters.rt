@@ -2,7 +2,8 @@
 ghost use Rattle.std.specs.Prelude.{◌≡◌};
 ghost use Rattle.odht_tool_core.specs.PairLines.{delimiter_named, is_delimiter};
 
-/// The byte that the word names: its own, where that is a printable character of ASCII and no quote; of `\t` a tab.
+/// The byte that the word names: its own, where that is a printable character of ASCII and no
+/// quote; of `\t` a tab.
 pub(super) fn delimiter_named(word: &str) -> Option<u8>
     ensures { result ≡ delimiter_named word.now }
 {

@@ -109,7 +109,8 @@ impl fmt::Display for Misuse {
     }
 }
 
-// What was meant by a word that is no command, where one slip makes a command of it, or what asks for a text.
+// What was meant by a word that is no command, where one slip makes a command of it, or what asks
+// for a text.
 fn nearest_name(word: &str) -> Option<&'static str> {
     match Topic::nearest(word) {
         Some(topic) => Some(topic.name()),
@@ -126,8 +127,8 @@ fn write_commands<W: fmt::Write>(f: &mut fmt::Formatter<W>) -> fmt::Result {
     Ok(())
 }
 
-// Writes what was meant by a word that is no option, where one slip makes an option of it, or else how a word that
-// begins with a hyphen is passed.
+// Writes what was meant by a word that is no option, where one slip makes an option of it, or else
+// how a word that begins with a hyphen is passed.
 fn write_nearest<W: fmt::Write>(
     topic: Topic,
     word: &str,
@@ -143,7 +144,8 @@ fn write_nearest<W: fmt::Write>(
 impl std::error::Error for Misuse {}
 
 impl Misuse {
-    /// How the program ends: where the words cannot be parsed for want of memory alone, they may be right.
+    /// How the program ends: where the words cannot be parsed for want of memory alone, they may
+    /// be right.
     pub fn status(&self) -> Status {
         match self {
             Misuse::InCommand(_, CommandMisuse::Memory) => Status::NotDone,

@@ -29,7 +29,8 @@ pub fn write_pair_object<O: Write>(
     write_pair_fields(texts, key, value, output)
 }
 
-/// Writes the fields of the pair that is stored as these bytes, the end of their object, and of its line.
+/// Writes the fields of the pair that is stored as these bytes, the end of their object, and of
+/// its line.
 pub(crate) fn write_pair_fields<O: Write>(
     texts: Texts,
     key: &[u8],
@@ -47,7 +48,8 @@ pub(crate) fn write_pair_fields<O: Write>(
     output.write_all(b"}\n")
 }
 
-// Writes a field that is the text of a key or a value of this type, which is stored as these bytes.
+// Writes a field that is the text of a key or a value of this type, which is stored as these
+// bytes.
 fn write_stored_field<O: Write>(
     name: &str,
     part: Part,

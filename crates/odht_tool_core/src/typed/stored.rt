@@ -1,5 +1,5 @@
-//! The ways to write stored keys or values. What is generic in them is compiled for numbers by itself, and asks for their
-//! type once for a table, and not for each.
+//! The ways to write stored keys or values. What is generic in them is compiled for numbers by
+//! itself, and asks for their type once for a table, and not for each.
 ghost use Rattle.std.specs.Prelude.{◌≡◌, ℕ, List, length, decimal, OnOk};
 ghost use Rattle.std.specs.Int.{w32, w64, from_le_bytes};
 ghost use Rattle.std.specs.Io.KnownBytes.{Appends};

@@ -16,9 +16,9 @@ use odht_tool_core::status::Status;
 use odht_tool_tables::checks::check_any;
 use std::io::{self, Write};
 
-/// `odht check` of the bytes of the file of this name: writes the name, and that they are valid, and with a bound that
-/// no search reads more groups; or the first rule that they break. With a bound it takes time in proportion to the
-/// bytes and the bound.
+/// `odht check` of the bytes of the file of this name: writes the name, and that they are valid,
+/// and with a bound that no search reads more groups; or the first rule that they break. With a
+/// bound it takes time in proportion to the bytes and the bound.
 pub fn check_file<O: Write>(
     file: &str,
     bytes: &[u8],
@@ -60,8 +60,8 @@ fn write_checked<O: Write>(
     }
 }
 
-/// The hash function to name for bytes that were rejected where none was named: the other one than that of their shape,
-/// where all control bytes agree with it.
+/// The hash function to name for bytes that were rejected where none was named: the other one than
+/// that of their shape, where all control bytes agree with it.
 pub fn hint_of(bytes: &[u8], hash: Option<Hash>) -> Option<Hash>
     ensures { result ≡ hint_of bytes.now hash }
 {

@@ -14,8 +14,8 @@ use odht_tool_core::status::{Status, of_output};
 use odht_tool_tables::checks::check_any;
 use std::io::{self, Write};
 
-/// `odht count` of the bytes of a file: writes the label, and how many items the table has; or fails with the first
-/// rule that the bytes break, as `check` finds it.
+/// `odht count` of the bytes of a file: writes the label, and how many items the table has; or
+/// fails with the first rule that the bytes break, as `check` finds it.
 pub fn count_file<O: Write>(
     label: &str,
     bytes: &[u8],

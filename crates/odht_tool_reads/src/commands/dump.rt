@@ -26,8 +26,8 @@ use odht_tool_core::typed::stored::{Digits32, Digits64, Stored, Typed};
 use odht_tool_tables::sized::{lengths_of, open_lengths};
 use std::io::{self, Write};
 
-/// `odht dump` of the bytes of a file, with `--slots` and with `--json` or without: writes a line for each pair, in slot
-/// order.
+/// `odht dump` of the bytes of a file, with `--slots` and with `--json` or without: writes a line
+/// for each pair, in slot order.
 pub fn dump_file<O: Write>(
     bytes: &[u8],
     hash: Option<Hash>,

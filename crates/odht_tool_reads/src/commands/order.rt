@@ -24,9 +24,9 @@ use odht_tool_tables::whole::read_whole;
 use std::alloc::{AllocError, Global};
 use std::io::{self, Write};
 
-/// `odht order` of the bytes of a file: writes a line for each pair, in an order of inserts that makes the table; or
-/// nothing where no inserts make it, with the status `NotDone`. They are checked whole before, with the bound of searches
-/// where there is one.
+/// `odht order` of the bytes of a file: writes a line for each pair, in an order of inserts that
+/// makes the table; or nothing where no inserts make it, with the status `NotDone`. They are
+/// checked whole before, with the bound of searches where there is one.
 pub fn order_file<O: Write>(
     alloc: Global,
     bytes: &[u8],

@@ -27,10 +27,11 @@ use odht_tool_core::text::Text;
 use std::alloc::{AllocError, Global};
 use std::io::Write;
 
-/// A table that is read by position, in which keys are looked up that have texts, as its values have.
+/// A table that is read by position, in which keys are looked up that have texts, as its values
+/// have.
 ///
-/// In a contract `is_over t T` says that each read that succeeds gives bytes of the table `T`, whose header and length
-/// fit.
+/// In a contract `is_over t T` says that each read that succeeds gives bytes of the table `T`,
+/// whose header and length fit.
 pub(super) trait FileLookups {
     ghost use Rattle.std.specs.Prelude.{ℕ, List};
     ghost use Rattle.odht_header.specs.Coding.{Coding};
@@ -107,7 +108,8 @@ impl<H: HashFn, S: ReadAt + Drop> FileLookups for FileTable<H, S> {
     }
 }
 
-/// Looks up the keys of the words, and writes a line for each. None where a read failed: nothing was written then.
+/// Looks up the keys of the words, and writes a line for each. None where a read failed: nothing
+/// was written then.
 pub(super) fn answer_words_at<T: FileLookups, F: Forms, O: Write>(
     alloc: Global,
     table: &T,

@@ -1,4 +1,5 @@
-//! The hash function of a table that is read by position: the one that the first groups of slots leave.
+//! The hash function of a table that is read by position: the one that the first groups of slots
+//! leave.
 ghost use Rattle.std.specs.Prelude.{◌≡◌, ◌≤◌, ◌<◌, ◌+◌, ◌*◌, ◌^◌, ℕ, List, length, is_some};
 ghost use Rattle.std.specs.Prelude.{IfSome, slice_index};
 ghost use Rattle.odht_base.specs.Bytes.{bytes_at};
@@ -29,9 +30,9 @@ const MOST_ENTRIES: usize = 8160;
 /// How many groups are read before all bytes are.
 const MOST_GROUPS: usize = 64;
 
-/// The hash function that is to be named for a table, none where it has no items: the one that is named, or the one
-/// that is left when the first groups of slots exclude the other. None where they exclude none, or both, or a read
-/// failed.
+/// The hash function that is to be named for a table, none where it has no items: the one that is
+/// named, or the one that is left when the first groups of slots exclude the other. None where
+/// they exclude none, or both, or a read failed.
 pub(super) fn found_name<S: ReadAt>(
     source: &S,
     start: &Start,
@@ -128,7 +129,8 @@ fn group_fits<S: ReadAt>(source: &S, place: &ReadPlace, first: usize) -> Option<
     Some((fx, unhash))
 }
 
-// Whether the keys are long enough for a hash function, and each occupied slot of sixteen has the tag of its key by it.
+// Whether the keys are long enough for a hash function, and each occupied slot of sixteen has the
+// tag of its key by it.
 fn fits(control: &[u8], entries: &[u8], layout: Layout, hash: Hash) -> bool
     requires control { length control.now ≡ 16 }
     requires entries { length entries.now ≡ 16 * (layout.key_len + layout.value_len) }

@@ -31,8 +31,9 @@ use odht_tool_tables::sized::layout_of;
 use std::alloc::Global;
 use std::io::Write;
 
-/// `odht get` for the words of the command line, of the bytes of a ready shape in these forms, of which there are `len`
-/// from an offset on. None where a read failed, or they are not opened: nothing was written then.
+/// `odht get` for the words of the command line, of the bytes of a ready shape in these forms, of
+/// which there are `len` from an offset on. None where a read failed, or they are not opened:
+/// nothing was written then.
 pub(super) fn words_ready<S: ReadAt + Drop, O: Write>(
     alloc: Global,
     source: S,

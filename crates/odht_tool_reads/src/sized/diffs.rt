@@ -34,7 +34,8 @@ pub enum Side {
     Second,
 }
 
-/// Writes a line for each pair that differs, or, where none does, whether the bytes do. They are valid tables.
+/// Writes a line for each pair that differs, or, where none does, whether the bytes do. They are
+/// valid tables.
 pub fn diff_lengths<H1: HashFn, H2: HashFn, O: Write>(
     texts: Texts,
     first: &[u8],
@@ -119,7 +120,8 @@ fn same_text(first: &[u8], second: &[u8]) -> &'static str
     }
 }
 
-// Writes the lines of one side, of the pairs of its table, beside the other table. Returns whether there are none.
+// Writes the lines of one side, of the pairs of its table, beside the other table. Returns whether
+// there are none.
 fn write_side<S: HashFn, H: HashFn, O: Write>(
     texts: Texts,
     side: Side,
@@ -143,7 +145,8 @@ fn write_side<S: HashFn, H: HashFn, O: Write>(
     Ok(is_same)
 }
 
-// Writes the line of a pair of one side, beside the other table, if there is one. Returns whether there is none.
+// Writes the line of a pair of one side, beside the other table, if there is one. Returns whether
+// there is none.
 fn write_beside<H: HashFn, O: Write>(
     texts: Texts,
     side: Side,
@@ -203,7 +206,8 @@ fn value_of<'a, H: HashFn>(table: &'a DynTable<H, Borrowed<'_>>, key: &[u8]) -> 
         in option_copied result ≡ value_in pairs key.now }
     ensures fits { IfSome result (λ v. length v.now ≡ table.now.value_len) }
 {
-    // To look at the lengths is what tells that they are short, and keys long enough for the hash function.
+    // To look at the lengths is what tells that they are short, and keys long enough for the hash
+    // function.
     let _ = table.layout();
     table.get(key)
 }
@@ -218,8 +222,8 @@ fn mark_of(side: Side) -> &'static [u8]
     }
 }
 
-// Writes the line of a pair for whose key the other table has this value, if that is another one. Returns whether it is
-// the same.
+// Writes the line of a pair for whose key the other table has this value, if that is another one.
+// Returns whether it is the same.
 fn write_change<O: Write>(
     texts: Texts,
     key: &[u8],

@@ -26,7 +26,8 @@ use std::io::{BufRead, Write};
 use std::os::fd::AsFd;
 use std::rt::{Clock, Files};
 
-/// Makes a table from the lines, and stores it as the file; or writes it to `output`, where the name stands for that.
+/// Makes a table from the lines, and stores it as the file; or writes it to `output`, where the
+/// name stands for that.
 pub fn build<R: Files + AllocGlobal + Clock, I: BufRead, O: Write, E: Write>(
     rt: &R,
     file: &str,
@@ -106,8 +107,8 @@ fn make_table<C: Config>(
     HashTableOwned::with_capacity(alloc, capacity, percent.value()).map_err(Failure::of_table)
 }
 
-/// Adds the lines to the table of the target, which has these bytes. They are checked whole before, with the bound of
-/// searches where there is one.
+/// Adds the lines to the table of the target, which has these bytes. They are checked whole
+/// before, with the bound of searches where there is one.
 pub fn put<R: Files + AllocGlobal + Clock, I: BufRead, E: Write>(
     rt: &R,
     target: Target,

@@ -33,9 +33,9 @@ use std::io::{BufRead, Write};
 use std::os::fd::AsFd;
 use std::rt::{Clock, Files};
 
-/// Makes a new table of the pairs of the table in the file whose keys are not named, by words or by the lines of
-/// `input`, and stores it in the place of the older one, which stays where something fails. Not all is done where a key
-/// is absent.
+/// Makes a new table of the pairs of the table in the file whose keys are not named, by words or
+/// by the lines of `input`, and stores it in the place of the older one, which stays where
+/// something fails. Not all is done where a key is absent.
 pub fn delete<R: Files + AllocGlobal + Clock, I: BufRead, E: Write>(
     rt: &R,
     file: &str,
@@ -56,8 +56,8 @@ where
     Ok(status)
 }
 
-// The bytes of the new table. Those of the old one are checked whole before, with the bound of searches where there is
-// one. A line on `errors` tells of each key that is absent.
+// The bytes of the new table. Those of the old one are checked whole before, with the bound of
+// searches where there is one. A line on `errors` tells of each key that is absent.
 fn deleted<R: AllocGlobal + Clock, E: Write>(
     rt: &R,
     file: &str,

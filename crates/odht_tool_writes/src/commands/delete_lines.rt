@@ -37,8 +37,9 @@ pub struct KeyLines<K> {
     pub keys: Vec<K>,
 }
 
-/// The bytes of the new table, without the keys of the lines of an input. Those of the old one are checked whole before,
-/// with the bound of searches where there is one. A line on `errors` tells of each key that is absent.
+/// The bytes of the new table, without the keys of the lines of an input. Those of the old one are
+/// checked whole before, with the bound of searches where there is one. A line on `errors` tells
+/// of each key that is absent.
 pub fn deleted_by_lines<R: AllocGlobal + Clock, I: BufRead, E: Write>(
     rt: &R,
     file: &str,
@@ -131,7 +132,8 @@ where
     })
 }
 
-// The lines of an input, but for an empty last one that is no key, and their keys; or the first line that is no key.
+// The lines of an input, but for an empty last one that is no key, and their keys; or the first
+// line that is no key.
 fn read_lines<K: Text, I: BufRead>(
     alloc: Global,
     form: Form,

@@ -29,9 +29,9 @@ use std::io::{BufRead, Write};
 use std::os::fd::AsFd;
 use std::rt::{Clock, Files};
 
-/// Makes a new table of the pairs of the files, and stores it as the file, in the place of an older one, which stays
-/// where something fails; or writes it to `output`, where the name stands for that. A failure of one of the files is
-/// reported here.
+/// Makes a new table of the pairs of the files, and stores it as the file, in the place of an
+/// older one, which stays where something fails; or writes it to `output`, where the name stands
+/// for that. A failure of one of the files is reported here.
 pub fn merge<R: Files + AllocGlobal + Clock, I: BufRead, O: Write, E: Write>(
     rt: &R,
     file: &str,
@@ -120,7 +120,8 @@ fn name_of(options: &MergeOptions, at: usize) -> &str {
     }
 }
 
-// The bytes of the new table of these files. Each is checked whole before, with the bound of searches where there is one.
+// The bytes of the new table of these files. Each is checked whole before, with the bound of
+// searches where there is one.
 fn merged<R: AllocGlobal + Clock, E: Write>(
     rt: &R,
     first: Vec<u8>,
@@ -171,7 +172,8 @@ fn merged_for<R: AllocGlobal + Clock, E: Write>(
     merged_inputs(rt, shape, forms, inputs.as_slice(), options, errors)
 }
 
-// The same of files that are all valid tables of the lengths of this shape, which is that of the first.
+// The same of files that are all valid tables of the lengths of this shape, which is that of the
+// first.
 fn merged_inputs<R: AllocGlobal + Clock, E: Write>(
     rt: &R,
     shape: AnyShape,
@@ -199,7 +201,8 @@ fn merged_inputs<R: AllocGlobal + Clock, E: Write>(
     }
 }
 
-// The files, which are valid tables of the lengths of this shape, or the first that is not; the first one is.
+// The files, which are valid tables of the lengths of this shape, or the first that is not; the
+// first one is.
 fn inputs_of(
     alloc: Global,
     shape: AnyShape,

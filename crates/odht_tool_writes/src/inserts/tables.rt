@@ -122,7 +122,8 @@ fn insert_each<H: HashFn>(
     Ok(())
 }
 
-// The same of a table of lengths that are known at run time alone, which those of the key and the value are.
+// The same of a table of lengths that are known at run time alone, which those of the key and the
+// value are.
 fn insert_absent_bytes<H: HashFn>(
     table: &mut DynTableOwned<H>,
     key: &[u8],

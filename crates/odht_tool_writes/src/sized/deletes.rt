@@ -31,8 +31,8 @@ use std::alloc::Global;
 use std::io::{self, Write};
 use std::rt::Clock;
 
-/// The bytes of the table without the keys of the words or lines, and whether each had a value; a line on `errors` tells
-/// of each that had none.
+/// The bytes of the table without the keys of the words or lines, and whether each had a value; a
+/// line on `errors` tells of each that had none.
 pub fn delete_lengths<H: HashFn, W: Word, R: AllocGlobal + Clock, E: Write>(
     rt: &R,
     file: &str,

@@ -69,7 +69,8 @@ pub enum Unmerged {
     New(Failure),
 }
 
-/// The bytes of a new table of the pairs of the files, whose keys and values have the lengths of these texts.
+/// The bytes of a new table of the pairs of the files, whose keys and values have the lengths of
+/// these texts.
 pub fn merge_lengths<H: HashFn, R: AllocGlobal + Clock, E: Write>(
     rt: &R,
     texts: Texts,
@@ -202,7 +203,8 @@ fn stated_len<S: HashFn>(texts: Texts, bytes: &[u8]) -> usize
         in result ≡ length (decoded_pairs F bytes.now) }
 {
     let table = open_valid::<S>(texts, bytes);
-    // To look at the lengths is what tells that they are short, and keys long enough for the hash function.
+    // To look at the lengths is what tells that they are short, and keys long enough for the hash
+    // function.
     let _ = table.layout();
     table.len()
 }
@@ -257,7 +259,8 @@ fn repeated_key<S: HashFn, H: HashFn>(
     Ok(None)
 }
 
-// The text of a key. The memory is asked for before, as a vector that is written to asks for it without a failure.
+// The text of a key. The memory is asked for before, as a vector that is written to asks for it
+// without a failure.
 fn text_of_key(alloc: Global, texts: Texts, key: &[u8]) -> Result<Vec<u8>, Failure>
     requires { length key.now ≡ typed_len texts.key }
     ensures ok { IfOk result (λ text. text.items ≡ key_text texts key.now) }

@@ -84,7 +84,8 @@ impl Answer {
         }
     }
 
-    /// Adds how many items of a list were accepted and what stopped it, and ends with the bytes of the table.
+    /// Adds how many items of a list were accepted and what stopped it, and ends with the bytes of
+    /// the table.
     pub fn list(
         &mut self,
         (accepted, refused): (usize, Result<(), Error>),

@@ -7,9 +7,9 @@ ghost use Rattle.odht_base.specs.Probe.{probe_slot};
 use odht::raw_table::ProbeSeq;
 use std::alloc::{AllocError, Global};
 
-/// The slots at which the groups of `SIZE` slots begin that a probe sequence reads, in its order: those at the
-/// positions 0, `SIZE`, 2 * `SIZE` and so on of the probe order from the home slot of `hash`. An error where memory is
-/// exhausted.
+/// The slots at which the groups of `SIZE` slots begin that a probe sequence reads, in its order:
+/// those at the positions 0, `SIZE`, 2 * `SIZE` and so on of the probe order from the home slot of
+/// `hash`. An error where memory is exhausted.
 pub fn group_starts<const SIZE: usize>(
     alloc: Global,
     hash: usize,

@@ -65,7 +65,8 @@ fn owned<C: Config>(case: &Case<'_>, bytes: &[u8], answer: &mut Answer) -> Resul
     }
 }
 
-// Whether inserts make a table, and then its occupied slots, in an order in which they do or rising.
+// Whether inserts make a table, and then its occupied slots, in an order in which they do or
+// rising.
 fn insert_order<C: Config>(
     case: &Case<'_>,
     table: &HashTableOwned<C>,

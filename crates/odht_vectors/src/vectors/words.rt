@@ -46,9 +46,9 @@ pub fn percent(word: &str) -> Result<u8, Fault>
 }
 
 impl<'a> Words<'a> {
-    /// The bytes that a word writes: pieces between commas. The first is the name of bytes, or hexadecimal digits, or
-    /// `-` for no bytes. Each further one changes them: `AT:HEX` writes these bytes from offset `AT` on, `..N` keeps
-    /// the first `N`, and `+HEX` appends these.
+    /// The bytes that a word writes: pieces between commas. The first is the name of bytes, or
+    /// hexadecimal digits, or `-` for no bytes. Each further one changes them: `AT:HEX` writes
+    /// these bytes from offset `AT` on, `..N` keeps the first `N`, and `+HEX` appends these.
     pub fn bytes(&self, word: &str) -> Result<Vec<u8>, Fault> {
         let (first, changes) = match word.split_once(',') {
             None => return self.named(word),

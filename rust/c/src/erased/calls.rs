@@ -1,6 +1,6 @@
 // Made by `make rust` of crates/odht_calls/src/lib.rt.
-//! The calls for C, for every configuration: what each returns, and what it leaves in the arrays of its caller. The
-//! exports of each shape of table, in `odht_c`, hand on to them.
+//! The calls for C, for every configuration: what each returns, and what it leaves in the arrays
+//! of its caller. The exports of each shape of table, in `odht_c`, hand on to them.
 
 pub mod any;
 pub mod build;

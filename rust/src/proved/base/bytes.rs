@@ -1,5 +1,6 @@
 // Made by `make rust` of crates/odht_base/src/bytes.rt.
-//! Byte arrays of a fixed length, which keys and values are encoded to, and stores of bytes, which hold tables.
+//! Byte arrays of a fixed length, which keys and values are encoded to, and stores of bytes, which
+//! hold tables.
 
 mod arrays;
 mod stores;

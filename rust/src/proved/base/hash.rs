@@ -11,15 +11,16 @@ pub trait HashFn: Eq {
     /// The name of the function, as a dump writes it.
     const NAME: &'static str;
 
-    /// `NAME` as a function, since a contract cannot read a constant that is a reference. An implementation has to
-    /// return `NAME`; no clause says so.
+    /// `NAME` as a function, since a contract cannot read a constant that is a reference. An
+    /// implementation has to return `NAME`; no clause says so.
     fn hash_name() -> &'static str;
 
     /// The hash of `bytes`, which are at least `MIN_LEN`.
     fn hash(bytes: &[u8]) -> u32;
 }
 
-/// The hash function of rustc-hash: a rotation, an exclusive or and a product for each piece of 8, 4, 2 or 1 bytes.
+/// The hash function of rustc-hash: a rotation, an exclusive or and a product for each piece of 8,
+/// 4, 2 or 1 bytes.
 #[derive(PartialEq, Eq)]
 pub struct FxHashFn;
 
@@ -62,7 +63,8 @@ fn add_to_hash(current_hash: u64, value: u64) -> u64 {
     (current_hash.rotate_left(5) ^ value).wrapping_mul(0x517c_c1b7_2722_0a95)
 }
 
-/// The hash function that takes the last four bytes of a key as its hash, for keys that are hashes already.
+/// The hash function that takes the last four bytes of a key as its hash, for keys that are hashes
+/// already.
 #[derive(PartialEq, Eq)]
 pub struct UnHashFn;
 

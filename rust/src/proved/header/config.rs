@@ -4,8 +4,8 @@
 use crate::proved::header::bytes::ByteArray;
 use crate::proved::header::hash::HashFn;
 
-/// The types of a table, and how they are encoded: all keys to one number of bytes, and all values to one, the same on
-/// every platform.
+/// The types of a table, and how they are encoded: all keys to one number of bytes, and all values
+/// to one, the same on every platform.
 ///
 /// In a contract the ghost member of the same name is what each of the four functions returns.
 pub trait Config {

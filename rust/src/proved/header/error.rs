@@ -1,7 +1,8 @@
 // Made by `make rust` of crates/odht_header/src/error.rt.
 //! The errors of opening and checking bytes, and of calls.
 //!
-//! The conditions and their order are those of docs/FORMAT.md, "What is rejected, and in which order".
+//! The conditions and their order are those of docs/FORMAT.md, "What is rejected, and in which
+//! order".
 
 use crate::shim::AllocError;
 use std::fmt;
@@ -30,8 +31,8 @@ impl fmt::Display for Part {
     }
 }
 
-/// An error. Lengths and sizes are in bytes, item counts in items, slot counts in slots; a `slot` is the index of a
-/// slot. `found` is what the bytes have, `expected` what they need to have.
+/// An error. Lengths and sizes are in bytes, item counts in items, slot counts in slots; a `slot`
+/// is the index of a slot. `found` is what the bytes have, `expected` what they need to have.
 #[derive(Clone, Copy, PartialEq, Eq, Debug)]
 #[non_exhaustive]
 pub enum Error {

@@ -1,5 +1,6 @@
 // Made by `make rust` of crates/odht_header/src/layout.rt.
-//! The lengths of encoded keys and values as a value, for tables whose lengths are known at run time alone.
+//! The lengths of encoded keys and values as a value, for tables whose lengths are known at run
+//! time alone.
 
 use crate::proved::header::bytes::ByteArray;
 use crate::proved::header::config::Config;

@@ -1,8 +1,9 @@
 // Made by `make rust` of crates/odht_raw/src/raw_table.rt.
 //! The parts of a table, control bytes and entries, and searches, inserts and walks in them.
 //!
-//! A table is *placed* where no key is in two slots, and the search for each key ends at its slot. "On the parts of a
-//! placed table" is `IsPartsOf` in a clause: control bytes, mirror and entries are those of such a table.
+//! A table is *placed* where no key is in two slots, and the search for each key ends at its slot.
+//! "On the parts of a placed table" is `IsPartsOf` in a clause: control bytes, mirror and entries
+//! are those of such a table.
 
 use crate::proved::raw::bytes::ByteArray;
 use crate::proved::raw::error::Error;
@@ -78,7 +79,8 @@ pub fn tag_of(hash: u32) -> u8 {
     (hash >> TAG_SHIFT) as u8
 }
 
-/// The parts of a table, borrowed to be read: the control bytes with their mirror, and the entries of as many slots.
+/// The parts of a table, borrowed to be read: the control bytes with their mirror, and the entries
+/// of as many slots.
 pub struct RawTable<'a, K: ByteArray, V: ByteArray, H: HashFn> {
     control: &'a [EntryMetadata],
     entries: Entries<'a, K, V>,
@@ -92,25 +94,27 @@ impl<'a, K: ByteArray, V: ByteArray, H: HashFn> RawTable<'a, K, V, H> {
         RawTable { control, entries, hash: PhantomData }
     }
 
-    /// The value stored with the key, searched for group by group along the probe order (docs/FORMAT.md, "Search").
+    /// The value stored with the key, searched for group by group along the probe order
+    /// (docs/FORMAT.md, "Search").
     ///
-    /// On the parts of a placed table it is the map's result. On any parts it is a value that is stored with an equal
-    /// key. `find_counted` says how many groups that takes.
+    /// On the parts of a placed table it is the map's result. On any parts it is a value that is
+    /// stored with an equal key. `find_counted` says how many groups that takes.
     #[inline(always)]
     pub fn find(&self, key: &K) -> Option<V> {
         let (value, _) = self.find_counted(key);
         value
     }
 
-    /// `find`, and how many groups were read: on the parts of a placed table those up to the first slot that is free
-    /// or holds the key, and on any parts at most all groups. How they are counted: docs/FORMAT.md, "Search".
+    /// `find`, and how many groups were read: on the parts of a placed table those up to the first
+    /// slot that is free or holds the key, and on any parts at most all groups. How they are
+    /// counted: docs/FORMAT.md, "Search".
     #[inline(always)]
     pub fn find_counted(&self, key: &K) -> (Option<V>, usize) {
         self.find_counted_by::<GroupQuery>(key)
     }
 
-    /// `find_counted` by a group search of the caller's choice. On the parts of a placed table all searches give the
-    /// same.
+    /// `find_counted` by a group search of the caller's choice. On the parts of a placed table all
+    /// searches give the same.
     #[inline(always)]
     pub fn find_counted_by<Q: Group>(&self, key: &K) -> (Option<V>, usize) {
         let mut scan = Scan::new(self.control, self.entries.len());
@@ -128,14 +132,15 @@ impl<'a, K: ByteArray, V: ByteArray, H: HashFn> RawTable<'a, K, V, H> {
         }
     }
 
-    /// The control byte and the entry of each slot whose own control byte does not count as free, in slot order.
+    /// The control byte and the entry of each slot whose own control byte does not count as free,
+    /// in slot order.
     #[inline]
     pub fn iter(&self) -> RawIter<'a, K, V> {
         RawIter::new(self.control, self.entries.copy())
     }
 
-    /// Checks the first `slots_to_check` slots, or all where there are fewer, and returns the first error:
-    /// `NonZeroEmpty` of a slot that counts as free, `ControlMismatch` of any other.
+    /// Checks the first `slots_to_check` slots, or all where there are fewer, and returns the
+    /// first error: `NonZeroEmpty` of a slot that counts as free, `ControlMismatch` of any other.
     ///
     /// A mismatch can mean that the bytes were written with another hash function.
     #[inline(always)]
@@ -147,7 +152,8 @@ impl<'a, K: ByteArray, V: ByteArray, H: HashFn> RawTable<'a, K, V, H> {
         Ok(())
     }
 
-    // What opening checks of one slot. Returns the hash of the key where the slot does not count as free.
+    // What opening checks of one slot. Returns the hash of the key where the slot does not count
+    // as free.
     #[inline(always)]
     fn check_slot(&self, slot: usize) -> Result<Option<u32>, Error> {
         if is_empty_or_deleted(index!(self.control[slot])) {
@@ -160,7 +166,8 @@ impl<'a, K: ByteArray, V: ByteArray, H: HashFn> RawTable<'a, K, V, H> {
         Ok(Some(self.check_key(slot)?))
     }
 
-    // The hash of the key of an occupied slot; `ControlMismatch` where its tag is not the control byte.
+    // The hash of the key of an occupied slot; `ControlMismatch` where its tag is not the control
+    // byte.
     #[inline(always)]
     fn check_key(&self, slot: usize) -> Result<u32, Error> {
         let hash = H::hash(self.entries.key_bytes_of(slot));

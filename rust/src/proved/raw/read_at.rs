@@ -17,13 +17,15 @@ pub enum ReadError {
 
 /// A source of bytes that are read by position.
 ///
-/// In a contract `gives s B` says that each read of the source `s` that succeeds gives bytes of the list `B`, and some
-/// where there are more. It holds of no list where the bytes change between reads: then a read promises only how many
-/// bytes it gives. `fails s e` says that a read of `s` may return the error `e`. Of a file nothing proves `gives`: the
-/// clauses of std's own `read_at` say only how many bytes come.
+/// In a contract `gives s B` says that each read of the source `s` that succeeds gives bytes of
+/// the list `B`, and some where there are more. It holds of no list where the bytes change between
+/// reads: then a read promises only how many bytes it gives. `fails s e` says that a read of `s`
+/// may return the error `e`. Of a file nothing proves `gives`: the clauses of std's own `read_at`
+/// say only how many bytes come.
 pub trait ReadAt {
-    /// Reads bytes from the offset on to the front of `out`, and returns how many: fewer than fit in where the source
-    /// gives fewer at once, and none at its end. On an error `out` may have changed.
+    /// Reads bytes from the offset on to the front of `out`, and returns how many: fewer than fit
+    /// in where the source gives fewer at once, and none at its end. On an error `out` may have
+    /// changed.
     fn read_at(&self, offset: u64, out: &mut [u8]) -> Result<usize, ReadError>;
 }
 
@@ -58,12 +60,13 @@ impl<'a> ReadAt for BytesSource<'a> {
 // How often a read that was interrupted is made again.
 const MOST_INTERRUPTS: u32 = 1000;
 
-/// Fills `out` with the bytes from the offset on. A read that gives fewer bytes than were asked is followed by one of
-/// the others, and one that is interrupted is made again, up to a thousand times.
+/// Fills `out` with the bytes from the offset on. A read that gives fewer bytes than were asked is
+/// followed by one of the others, and one that is interrupted is made again, up to a thousand
+/// times.
 ///
-/// Any other error is returned at once, and so is the last interrupt (tests alone have both); `EarlyEnd` comes where
-/// the source has no more bytes, or the offset passes 2^64. So where the source has all of the bytes, the error is that
-/// of a read. On an error `out` may have changed.
+/// Any other error is returned at once, and so is the last interrupt (tests alone have both);
+/// `EarlyEnd` comes where the source has no more bytes, or the offset passes 2^64. So where the
+/// source has all of the bytes, the error is that of a read. On an error `out` may have changed.
 pub fn read_exact_at<S: ReadAt>(source: &S, offset: u64, out: &mut [u8]) -> Result<(), ReadError> {
     let mut filled = 0;
     let mut interrupts = 0;

@@ -1,7 +1,8 @@
 // Made by `make rust` of crates/odht/src/configs.rt.
 //! Ready configurations: integers, keys that are hashes already, and bytes as they are.
 //!
-//! docs/FORMAT.md says in "Hashes" how a key is hashed, and in "Probe order" where its probe order begins.
+//! docs/FORMAT.md says in "Hashes" how a key is hashed, and in "Probe order" where its probe order
+//! begins.
 
 use crate::proved::tables::bytes::ByteArray;
 use crate::proved::tables::config::Config;

@@ -27,7 +27,8 @@ pub use file::{FileError, FileTable};
 pub use owned::DynTableOwned;
 pub use prefix::table_len;
 
-/// Why bytes are not opened as a table whose lengths are known at run time alone, or such a table takes no pair.
+/// Why bytes are not opened as a table whose lengths are known at run time alone, or such a table
+/// takes no pair.
 #[derive(Debug, PartialEq, Eq)]
 #[non_exhaustive]
 pub enum DynError {
@@ -56,8 +57,8 @@ pub enum DynError {
     Rejected(Error),
 }
 
-/// A table in the bytes of a store, of keys and values of lengths that were given when it was opened, or that its
-/// header states. It cannot grow.
+/// A table in the bytes of a store, of keys and values of lengths that were given when it was
+/// opened, or that its header states. It cannot grow.
 ///
 /// A contract speaks of it as of these lengths and the store.
 pub struct DynTable<H: HashFn, D: ByteStore> {
@@ -66,7 +67,8 @@ pub struct DynTable<H: HashFn, D: ByteStore> {
     hash: PhantomData<H>,
 }
 
-// The lengths of keys and values that the header at the front of the bytes states, or that they are too few for one.
+// The lengths of keys and values that the header at the front of the bytes states, or that they
+// are too few for one.
 fn stated_layout(bytes: &[u8]) -> Result<Layout, DynError> {
     let found = bytes.len();
     if found < HEADER_SIZE {
@@ -77,13 +79,14 @@ fn stated_layout(bytes: &[u8]) -> Result<Layout, DynError> {
 }
 
 impl<H: HashFn, D: ByteStore> DynTable<H, D> {
-    /// Opens bytes as a table of these lengths, or returns the first error: `KeyTooShort` where the hash function needs
-    /// longer keys; then `Rejected` with that of too few bytes, of the header, of the length, of the first ten slots,
-    /// as [`HashTable::from_raw_bytes`](crate::proved::tables::hash_table::HashTable::from_raw_bytes) returns it. On an error the store
-    /// is dropped.
+    /// Opens bytes as a table of these lengths, or returns the first error: `KeyTooShort` where
+    /// the hash function needs longer keys; then `Rejected` with that of too few bytes, of the
+    /// header, of the length, of the first ten slots, as
+    /// [`HashTable::from_raw_bytes`](crate::proved::tables::hash_table::HashTable::from_raw_bytes) returns it. On
+    /// an error the store is dropped.
     ///
-    /// Nothing else is checked. A table of bytes that are accepted and not valid is safe to use, but its calls keep
-    /// only what their clauses say of any bytes.
+    /// Nothing else is checked. A table of bytes that are accepted and not valid is safe to use,
+    /// but its calls keep only what their clauses say of any bytes.
     pub fn open(layout: Layout, data: D) -> Result<Self, DynError> {
         if (layout.key_len as usize) < H::MIN_LEN {
             return Err(DynError::KeyTooShort { key_len: layout.key_len, least: H::MIN_LEN });
@@ -94,11 +97,13 @@ impl<H: HashFn, D: ByteStore> DynTable<H, D> {
         }
     }
 
-    /// [`DynTable::open`] with the lengths that the header states; [`DynTable::layout`] tells them.
+    /// [`DynTable::open`] with the lengths that the header states; [`DynTable::layout`] tells
+    /// them.
     ///
-    /// The first error: `Rejected` with that of too few bytes, of the header, of the length; then `KeyTooShort`; then
-    /// `Rejected` with that of the first ten slots. On an error the store is dropped. A header states no hash function:
-    /// a table of another one is rejected where one of the first ten slots is occupied and has another tag.
+    /// The first error: `Rejected` with that of too few bytes, of the header, of the length; then
+    /// `KeyTooShort`; then `Rejected` with that of the first ten slots. On an error the store is
+    /// dropped. A header states no hash function: a table of another one is rejected where one of
+    /// the first ten slots is occupied and has another tag.
     pub fn open_as_stated(data: D) -> Result<Self, DynError> {
         let bytes = data.bytes();
         let layout = stated_layout(bytes)?;
@@ -108,8 +113,8 @@ impl<H: HashFn, D: ByteStore> DynTable<H, D> {
         }
     }
 
-    /// Takes the bytes as those of a table of these lengths, without a check: the caller knows that their header and
-    /// length fit, and that keys are long enough for the hash function.
+    /// Takes the bytes as those of a table of these lengths, without a check: the caller knows
+    /// that their header and length fit, and that keys are long enough for the hash function.
     #[inline]
     pub fn open_unchecked(layout: Layout, data: D) -> Self {
         // A slice's length is below 2^64, so that of the store's bytes is too.
@@ -123,9 +128,9 @@ impl<H: HashFn, D: ByteStore> DynTable<H, D> {
         self.layout
     }
 
-    /// The value of a key, or None. On valid bytes it is the table's value for the key; on any bytes it is one that
-    /// some entry has beside this very key. A key of another length has no value. [`DynTable::get_counted`] counts the
-    /// groups of such a search.
+    /// The value of a key, or None. On valid bytes it is the table's value for the key; on any
+    /// bytes it is one that some entry has beside this very key. A key of another length has no
+    /// value. [`DynTable::get_counted`] counts the groups of such a search.
     pub fn get(&self, key: &[u8]) -> Option<&[u8]> {
         if !self.takes(key) {
             return None;
@@ -133,9 +138,10 @@ impl<H: HashFn, D: ByteStore> DynTable<H, D> {
         self.as_sized().find(key)
     }
 
-    /// `get`, and how many groups of control bytes it read: on valid bytes those up to the first slot of the key's
-    /// probe order that is free or holds the key, and on any bytes at most one for sixteen slots. docs/FORMAT.md,
-    /// "Search", counts them. For a key of another length no group is read.
+    /// `get`, and how many groups of control bytes it read: on valid bytes those up to the first
+    /// slot of the key's probe order that is free or holds the key, and on any bytes at most one
+    /// for sixteen slots. docs/FORMAT.md, "Search", counts them. For a key of another length no
+    /// group is read.
     pub fn get_counted(&self, key: &[u8]) -> (Option<&[u8]>, usize) {
         if !self.takes(key) {
             return (None, 0);
@@ -149,19 +155,21 @@ impl<H: HashFn, D: ByteStore> DynTable<H, D> {
         key.len() == self.layout.key_len as usize
     }
 
-    /// Whether the key has a value. On any bytes it is true only where the entry of some slot holds this very key.
+    /// Whether the key has a value. On any bytes it is true only where the entry of some slot
+    /// holds this very key.
     pub fn contains_key(&self, key: &[u8]) -> bool {
         self.get(key).is_some()
     }
 
-    /// The keys and values of the slots whose own control byte is below 128, in slot order: on valid bytes each pair of
-    /// the table once.
+    /// The keys and values of the slots whose own control byte is below 128, in slot order: on
+    /// valid bytes each pair of the table once.
     pub fn iter(&self) -> SizedIter<'_, H> {
         self.as_sized().iter()
     }
 
-    /// The slots from slot `from` on whose own control byte is below 128, in slot order, each with its key and value:
-    /// on valid bytes each pair in these slots once. Nothing where `from` is past the last slot.
+    /// The slots from slot `from` on whose own control byte is below 128, in slot order, each with
+    /// its key and value: on valid bytes each pair in these slots once. Nothing where `from` is
+    /// past the last slot.
     pub fn iter_from(&self, from: usize) -> SizedSlots<'_, H> {
         self.as_sized().iter_from(from)
     }
@@ -172,28 +180,31 @@ impl<H: HashFn, D: ByteStore> DynTable<H, D> {
         Header::of(self.raw_bytes()).item_count()
     }
 
-    /// Whether the bytes are valid: those of a table that the format allows, to the last byte (docs/FORMAT.md, "Valid
-    /// bytes"). On valid bytes each lookup returns what a map would.
+    /// Whether the bytes are valid: those of a table that the format allows, to the last byte
+    /// (docs/FORMAT.md, "Valid bytes"). On valid bytes each lookup returns what a map would.
     ///
-    /// All of the bytes are checked. It takes no memory, and costs what [`crate::proved::tables::memory_layout::check_all`] does.
-    /// [`crate::proved::tables::memory_layout::check_sized`] returns the error.
+    /// All of the bytes are checked. It takes no memory, and costs what
+    /// [`crate::proved::tables::memory_layout::check_all`] does. [`crate::proved::tables::memory_layout::check_sized`] returns the
+    /// error.
     pub fn verify(&self) -> bool {
         check_sized::<H>(self.store.bytes(), self.layout).is_ok()
     }
 
-    /// Whether the bytes are valid and each home has, among the first `groups` groups of its probe order, a control
-    /// byte that counts as free. Then no search, of a present or an absent key, reads more.
-    /// [`DEFAULT_GROUPS`](crate::proved::tables::memory_layout::DEFAULT_GROUPS) is a bound that tables of hashes that vary keep.
+    /// Whether the bytes are valid and each home has, among the first `groups` groups of its probe
+    /// order, a control byte that counts as free. Then no search, of a present or an absent key,
+    /// reads more. [`DEFAULT_GROUPS`](crate::proved::tables::memory_layout::DEFAULT_GROUPS) is a bound that tables
+    /// of hashes that vary keep.
     ///
     /// It is for bytes of strangers: whatever they are it costs no more than
-    /// [`crate::proved::tables::memory_layout::check_all_within`]. [`crate::proved::tables::memory_layout::check_sized_within`] returns the error.
+    /// [`crate::proved::tables::memory_layout::check_all_within`]. [`crate::proved::tables::memory_layout::check_sized_within`]
+    /// returns the error.
     pub fn verify_within(&self, groups: usize) -> bool {
         check_sized_within::<H>(self.store.bytes(), self.layout, groups).is_ok()
     }
 
-    /// Whether each home has, among the first `groups` groups of its probe order, a control byte that counts as free.
-    /// Then no search in valid bytes, of a present or an absent key, reads more. It reads control bytes alone: for `s`
-    /// slots at most `s * groups` groups.
+    /// Whether each home has, among the first `groups` groups of its probe order, a control byte
+    /// that counts as free. Then no search in valid bytes, of a present or an absent key, reads
+    /// more. It reads control bytes alone: for `s` slots at most `s * groups` groups.
     pub fn searches_within(&self, groups: usize) -> bool {
         self.as_sized().searches_within(groups)
     }

@@ -9,12 +9,12 @@ use crate::proved::tables::hash_table_owned::HashTableOwned;
 use crate::proved::tables::raw_table::{RawIter, RawTable};
 
 impl<C: Config, D: ByteStore> HashTable<C, D> {
-    /// Whether this table and another have the same keys with the same values, as bytes, whatever their slot counts,
-    /// their load factors and the order of their inserts. Of bytes that are not valid nothing is said: it may be true
-    /// of any two.
+    /// Whether this table and another have the same keys with the same values, as bytes, whatever
+    /// their slot counts, their load factors and the order of their inserts. Of bytes that are not
+    /// valid nothing is said: it may be true of any two.
     ///
-    /// Where the item counts differ no key is looked up. Otherwise each key of this table is looked up in the other, up
-    /// to the first that is absent there or has another value.
+    /// Where the item counts differ no key is looked up. Otherwise each key of this table is
+    /// looked up in the other, up to the first that is absent there or has another value.
     pub fn is_same_map<E: ByteStore>(&self, other: &HashTable<C, E>) -> bool {
         if self.len() != other.len() {
             return false;
@@ -23,7 +23,8 @@ impl<C: Config, D: ByteStore> HashTable<C, D> {
         has_all(&other.as_raw(), RawIter::new(control, entries))
     }
 
-    /// Whether this table and another have the same bytes. Tables that are the same map may differ in theirs.
+    /// Whether this table and another have the same bytes. Tables that are the same map may differ
+    /// in theirs.
     ///
     /// One pass over the bytes, up to the first that differ.
     pub fn has_same_bytes<E: ByteStore>(&self, other: &HashTable<C, E>) -> bool {
@@ -32,13 +33,15 @@ impl<C: Config, D: ByteStore> HashTable<C, D> {
 }
 
 impl<C: Config> HashTableOwned<C> {
-    /// Whether this table and another have the same keys with the same values, as bytes, whatever their slot counts,
-    /// their load factors and the order of their inserts. It costs what [`HashTable::is_same_map`] does.
+    /// Whether this table and another have the same keys with the same values, as bytes, whatever
+    /// their slot counts, their load factors and the order of their inserts. It costs what
+    /// [`HashTable::is_same_map`] does.
     pub fn is_same_map(&self, other: &HashTableOwned<C>) -> bool {
         self.table.is_same_map(&other.table)
     }
 
-    /// Whether this table and another have the same bytes. Tables that are the same map may differ in theirs.
+    /// Whether this table and another have the same bytes. Tables that are the same map may differ
+    /// in theirs.
     ///
     /// One pass over the bytes, up to the first that differ.
     pub fn has_same_bytes(&self, other: &HashTableOwned<C>) -> bool {

@@ -11,15 +11,17 @@ use crate::proved::tables::memory_layout::{self, Header, HEADER_SIZE};
 use crate::proved::tables::raw_table::{RawIter, RawTableMut};
 
 impl<C: Config, D: ByteStore> HashTable<C, D> {
-    /// The length in bytes of the table that this one grows into: with the slots for twice the header's item count, and
-    /// for one item at least, at the same load factor. None exactly where no slot count is enough, or the length passes
-    /// `usize`. docs/FORMAT.md, "Growth", has the rule.
+    /// The length in bytes of the table that this one grows into: with the slots for twice the
+    /// header's item count, and for one item at least, at the same load factor. None exactly where
+    /// no slot count is enough, or the length passes `usize`. docs/FORMAT.md, "Growth", has the
+    /// rule.
     ///
-    /// The load factor of valid bytes is at least 655 65536ths of the slots, one percent rounded down. A smaller one is
-    /// taken as it is: for 0 no slot count is enough, so the result is None.
+    /// The load factor of valid bytes is at least 655 65536ths of the slots, one percent rounded
+    /// down. A smaller one is taken as it is: for 0 no slot count is enough, so the result is
+    /// None.
     ///
-    /// The count is the header's. Of bytes that were not checked it may be any number: check them, or bound the length,
-    /// before you allocate.
+    /// The count is the header's. Of bytes that were not checked it may be any number: check them,
+    /// or bound the length, before you allocate.
     pub fn grown_len(&self) -> Option<usize> {
         match grown_layout::<C>(&self.allocation.header()) {
             Some((_, len)) => Some(len),
@@ -27,14 +29,16 @@ impl<C: Config, D: ByteStore> HashTable<C, D> {
         }
     }
 
-    /// Writes the table that this one grows into to `out`, whatever its bytes were. `out` has [`HashTable::grown_len`]
-    /// bytes. The pairs are placed in slot order into the slots for twice as many items, and for one at least, at the
-    /// same load factor. The owned table grows in this way at its maximum (docs/FORMAT.md, "Growth").
+    /// Writes the table that this one grows into to `out`, whatever its bytes were. `out` has
+    /// [`HashTable::grown_len`] bytes. The pairs are placed in slot order into the slots for twice
+    /// as many items, and for one at least, at the same load factor. The owned table grows in this
+    /// way at its maximum (docs/FORMAT.md, "Growth").
     ///
-    /// One pass over `out`, and one over the slots of this table; each item is hashed once. No key is compared.
+    /// One pass over `out`, and one over the slots of this table; each item is hashed once. No key
+    /// is compared.
     ///
-    /// On any bytes the new header has the item count and the load factor of this one. The pairs of the walk are then
-    /// placed as long as a slot is free, which no clause says.
+    /// On any bytes the new header has the item count and the load factor of this one. The pairs
+    /// of the walk are then placed as long as a slot is free, which no clause says.
     pub fn grow_into(&self, out: &mut [u8]) {
         let Some((slot_count, _)) = grown_layout::<C>(&self.allocation.header()) else {
             // `out` has the length of the grown table.
@@ -45,8 +49,8 @@ impl<C: Config, D: ByteStore> HashTable<C, D> {
     }
 }
 
-/// The slot count and the length in bytes of the table that the one with this header grows into. None exactly where no
-/// slot count is enough, or the length passes `usize`.
+/// The slot count and the length in bytes of the table that the one with this header grows into.
+/// None exactly where no slot count is enough, or the length passes `usize`.
 pub(crate) fn grown_layout<C: Config>(header: &Header<'_>) -> Option<(usize, usize)> {
     grown_sizes::<C::H>(Layout::of::<C>(), header)
 }
@@ -67,8 +71,8 @@ pub(crate) fn grown_sizes<H: HashFn>(
     layout.table_for(twice.max(1), factor)
 }
 
-/// Writes the pairs of a table, placed in slot order into so many slots, into bytes whose entries are zeros. The new
-/// header has the item count and the load factor of the table's.
+/// Writes the pairs of a table, placed in slot order into so many slots, into bytes whose entries
+/// are zeros. The new header has the item count and the load factor of the table's.
 pub(crate) fn write_moved<C: Config, D: ByteStore>(
     table: &HashTable<C, D>,
     slot_count: usize,
@@ -82,8 +86,8 @@ pub(crate) fn write_moved<C: Config, D: ByteStore>(
     write_walked::<C>(out, slot_count, item_count, factor, walk);
 }
 
-// Writes the table of so many slots with the items of the walk into bytes whose entries are zeros. The new header gets
-// `item_count`, whatever the walk gives.
+// Writes the table of so many slots with the items of the walk into bytes whose entries are zeros.
+// The new header gets `item_count`, whatever the walk gives.
 fn write_walked<C: Config>(
     bytes: &mut [u8],
     slot_count: usize,
@@ -97,8 +101,9 @@ fn write_walked<C: Config>(
     place_walk::<C::EncodedKey, C::EncodedValue, C::H>(control, entries, walk);
 }
 
-// Places the items of a walk in turn into the parts of a table, each as long as a slot is free. The clause is for keys
-// that are pairwise distinct and new to the table, as on valid bytes; other walks are taken too.
+// Places the items of a walk in turn into the parts of a table, each as long as a slot is free.
+// The clause is for keys that are pairwise distinct and new to the table, as on valid bytes; other
+// walks are taken too.
 fn place_walk<K: ByteArray, V: ByteArray, H: HashFn>(
     control: &mut [u8],
     entries: &mut [u8],

@@ -20,19 +20,19 @@ mod insert_order;
 mod lists;
 mod reserve;
 
-/// A table in memory of its own, which grows where an absent key is inserted at the maximum. Its bytes are always
-/// valid, and a contract speaks of it as of these bytes.
+/// A table in memory of its own, which grows where an absent key is inserted at the maximum. Its
+/// bytes are always valid, and a contract speaks of it as of these bytes.
 pub struct HashTableOwned<C: Config> {
     pub(crate) table: HashTable<C, OwnedBytes>,
     alloc: Global,
 }
 
 impl<C: Config> HashTableOwned<C> {
-    /// An empty table that takes at least `max_item_count` items before it grows. The load factor is in percent of the
-    /// slots; docs/FORMAT.md, "Load factors", has the rule.
+    /// An empty table that takes at least `max_item_count` items before it grows. The load factor
+    /// is in percent of the slots; docs/FORMAT.md, "Load factors", has the rule.
     ///
-    /// `Capacity` exactly where no slot count is enough, or its length passes `usize`; `Memory` where the allocator
-    /// gives none.
+    /// `Capacity` exactly where no slot count is enough, or its length passes `usize`; `Memory`
+    /// where the allocator gives none.
     pub fn with_capacity(
         alloc: Global,
         max_item_count: usize,
@@ -43,22 +43,23 @@ impl<C: Config> HashTableOwned<C> {
         Ok(HashTableOwned { table, alloc })
     }
 
-    /// An empty table made for twelve items: sixteen slots at a load factor of 87 percent, whose maximum is thirteen
-    /// items.
+    /// An empty table made for twelve items: sixteen slots at a load factor of 87 percent, whose
+    /// maximum is thirteen items.
     ///
     /// `Memory` where the allocator gives none.
     pub fn default(alloc: Global) -> Result<Self, Error> {
         Self::with_capacity(alloc, 12, 87)
     }
 
-    /// A table of the items, which are collected first: made for as many as there are, so it never grows. An item with
-    /// the key of an earlier one overwrites its value. The load factor is in percent of the slots.
+    /// A table of the items, which are collected first: made for as many as there are, so it never
+    /// grows. An item with the key of an earlier one overwrites its value. The load factor is in
+    /// percent of the slots.
     ///
-    /// `items` has to end (`ends`), and its `next` may be called (`can`). The clauses speak of the list `xs` that it
-    /// gives until then (`EndsAfter`).
+    /// `items` has to end (`ends`), and its `next` may be called (`can`). The clauses speak of the
+    /// list `xs` that it gives until then (`EndsAfter`).
     ///
-    /// `Capacity` only where no slot count is enough for so many items, or its length passes `usize`; `Memory` where
-    /// the allocator gives none.
+    /// `Capacity` only where no slot count is enough for so many items, or its length passes
+    /// `usize`; `Memory` where the allocator gives none.
     pub fn from_iterator<I: Iterator<Item = (C::Key, C::Value)>>(
         alloc: Global,
         items: I,
@@ -70,15 +71,15 @@ impl<C: Config> HashTableOwned<C> {
         Ok(table)
     }
 
-    /// The value of a key, or None: what its last insert gave it, or what the bytes have for it that were opened.
-    /// [`HashTableOwned::get_counted`] counts the groups of such a search.
+    /// The value of a key, or None: what its last insert gave it, or what the bytes have for it
+    /// that were opened. [`HashTableOwned::get_counted`] counts the groups of such a search.
     #[inline]
     pub fn get(&self, key: &C::Key) -> Option<C::Value> {
         self.table.get(key)
     }
 
-    /// `get`, and how many groups of control bytes it read: those up to the first slot of the key's probe order that is
-    /// free or holds the key. docs/FORMAT.md, "Search", counts them.
+    /// `get`, and how many groups of control bytes it read: those up to the first slot of the
+    /// key's probe order that is free or holds the key. docs/FORMAT.md, "Search", counts them.
     #[inline]
     pub fn get_counted(&self, key: &C::Key) -> (Option<C::Value>, usize) {
         self.table.get_counted(key)
@@ -115,8 +116,9 @@ impl<C: Config> HashTableOwned<C> {
         table.into_data().into_vec()
     }
 
-    /// A copy of the bytes, after all of them were checked. The error that [`memory_layout::check_all`] returns comes
-    /// before memory is requested; valid bytes are never rejected. The check costs what that call does.
+    /// A copy of the bytes, after all of them were checked. The error that
+    /// [`memory_layout::check_all`] returns comes before memory is requested; valid bytes are
+    /// never rejected. The check costs what that call does.
     ///
     /// `Memory` where the allocator gives none.
     pub fn from_raw_bytes(alloc: Global, raw_bytes: &[u8]) -> Result<Self, Error> {
@@ -126,8 +128,9 @@ impl<C: Config> HashTableOwned<C> {
         Self::from_raw_bytes_unchecked(alloc, raw_bytes)
     }
 
-    /// `from_raw_bytes` for bytes of strangers: also rejected, as by [`memory_layout::check_all_within`], are bytes in
-    /// which a search may read more than `groups` groups of control bytes. The check costs what that call does.
+    /// `from_raw_bytes` for bytes of strangers: also rejected, as by
+    /// [`memory_layout::check_all_within`], are bytes in which a search may read more than
+    /// `groups` groups of control bytes. The check costs what that call does.
     ///
     /// `Memory` where the allocator gives none.
     pub fn from_raw_bytes_within(
@@ -159,13 +162,14 @@ impl<C: Config> HashTableOwned<C> {
         Self::from_raw_bytes_unchecked(self.alloc, self.table.raw_bytes())
     }
 
-    /// Gives the key this value, and returns its former one, or None. At the maximum the table grows for an absent
-    /// key; a present key is given its value in place, which takes no memory. docs/FORMAT.md, "Insert" and "Growth",
-    /// has the rules.
+    /// Gives the key this value, and returns its former one, or None. At the maximum the table
+    /// grows for an absent key; a present key is given its value in place, which takes no memory.
+    /// docs/FORMAT.md, "Insert" and "Growth", has the rules.
     ///
-    /// The one error is `Memory`, only at the maximum and for an absent key; then nothing changes. It comes where the
-    /// allocator gives none, or the grown table would need more than 2^63 slots, or more bytes than a `usize` counts;
-    /// that it comes for no other reason, no clause says.
+    /// The one error is `Memory`, only at the maximum and for an absent key; then nothing changes.
+    /// It comes where the allocator gives none, or the grown table would need more than 2^63
+    /// slots, or more bytes than a `usize` counts; that it comes for no other reason, no clause
+    /// says.
     ///
     /// The key is hashed once, and once more at a growth, which hashes and places each item again.
     #[inline(always)]
@@ -191,8 +195,8 @@ impl<C: Config> HashTableOwned<C> {
         Ok(old)
     }
 
-    // The pairs of this table, placed in slot order into a table with the slots for twice as many, and for one at
-    // least.
+    // The pairs of this table, placed in slot order into a table with the slots for twice as many,
+    // and for one at least.
     #[inline(never)]
     fn grown_table(&self) -> Result<HashTable<C, OwnedBytes>, Error> {
         let Some((slot_count, len)) = grown_layout::<C>(&self.table.allocation.header()) else {

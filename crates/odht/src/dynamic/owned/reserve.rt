@@ -1,4 +1,5 @@
-//! Room for items that are still to come, of the owned table whose lengths are known at run time alone.
+//! Room for items that are still to come, of the owned table whose lengths are known at run time
+//! alone.
 ghost use Rattle.std.specs.Prelude.{◌≡◌, IfSome, OnErr};
 ghost use Rattle.odht_base.specs.Image.{image_len};
 ghost use Rattle.odht_base.specs.Load.{IsSlotCount};
@@ -15,13 +16,14 @@ use crate::memory_layout::Header;
 use crate::reserve::sizes_for_more;
 
 impl<H: HashFn> DynTableOwned<H> {
-    /// Makes room for `additional` more items: so many new keys can be inserted before the table grows. Where it has
-    /// the room nothing changes, and no memory is asked for. Otherwise the pairs are placed in slot order into the
-    /// least slot count that is enough for as many items as there are and `additional` more, at the same load factor,
-    /// as at a growth.
+    /// Makes room for `additional` more items: so many new keys can be inserted before the table
+    /// grows. Where it has the room nothing changes, and no memory is asked for. Otherwise the
+    /// pairs are placed in slot order into the least slot count that is enough for as many items
+    /// as there are and `additional` more, at the same load factor, as at a growth.
     ///
-    /// Where the room is lacking, `Rejected` with `Capacity` exactly where no slot count is enough, or the length passes
-    /// `usize`; otherwise with `Memory` where the allocator gives none. On an error nothing changes.
+    /// Where the room is lacking, `Rejected` with `Capacity` exactly where no slot count is
+    /// enough, or the length passes `usize`; otherwise with `Memory` where the allocator gives
+    /// none. On an error nothing changes.
     ///
     /// Where it moves, one pass over the slots; each item is hashed once. No key is compared.
     pub fn reserve(&mut self, additional: usize) -> Result<(), DynError>
@@ -44,8 +46,8 @@ impl<H: HashFn> DynTableOwned<H> {
         Ok(())
     }
 
-    // The pairs of this table, placed in slot order into so many slots in new memory. `len` is the length for them. None
-    // where the allocator gives no memory.
+    // The pairs of this table, placed in slot order into so many slots in new memory. `len` is the
+    // length for them. None where the allocator gives no memory.
     #[inline(never)]
     fn moved(&self, slot_count: usize, len: usize) -> Option<DynTable<H, OwnedBytes>>
         requires slots { IsSlotCount slot_count }

@@ -11,8 +11,8 @@ use crate::config::{Coded, Config};
 use crate::memory_layout::new_tables::init_bytes;
 
 impl<C: Config, M: ByteStoreMut> Allocation<C, M> {
-    /// Makes each slot free: the bytes are then those of the empty table with the slot count and the load factor of the
-    /// header. Each byte is written.
+    /// Makes each slot free: the bytes are then those of the empty table with the slot count and
+    /// the load factor of the header. Each byte is written.
     pub fn clear(&mut self)
         ensures bytes { let B = M.bytes self.old
             in M.bytes self.new

@@ -15,8 +15,8 @@ use odht::hash::HashFn;
 use odht::memory_layout::{self, HEADER_SIZE, Header};
 use odht::raw_table::{RawTableMut, plain_insert};
 
-/// What each pair's insert into the parts returns, and the bytes that they leave. The header stays. Both forms of an
-/// insert are run, and have to agree.
+/// What each pair's insert into the parts returns, and the bytes that they leave. The header
+/// stays. Both forms of an insert are run, and have to agree.
 pub fn insert<C: Config>(
     case: &Case<'_>,
     bytes: &mut [u8],

@@ -1,9 +1,10 @@
 // Made by `make rust` of crates/odht_calls/src/any.rt.
-//! The calls for tables of any lengths: the caller names the lengths of keys and values, and the hash function, by a
-//! layout.
+//! The calls for tables of any lengths: the caller names the lengths of keys and values, and the
+//! hash function, by a layout.
 
-/// Calls a function for the hash function of a layout, which is its type parameter, with the lengths of the layout in
-/// front of these arguments. BAD_LAYOUT where there is no such hash function, or it needs longer keys.
+/// Calls a function for the hash function of a layout, which is its type parameter, with the
+/// lengths of the layout in front of these arguments. BAD_LAYOUT where there is no such hash
+/// function, or it needs longer keys.
 macro_rules! by_hash {
     ($layout:ident, $function:ident($($argument:expr),*)) => {{
         let lengths = crate::proved::tables::dynamic::Layout {
@@ -32,7 +33,8 @@ pub mod view;
 pub mod walk;
 pub mod write;
 
-/// What a caller in C knows of a table: how many bytes a key and a value have, and the number of the hash function.
+/// What a caller in C knows of a table: how many bytes a key and a value have, and the number of
+/// the hash function.
 #[repr(C)]
 #[derive(Clone, Copy)]
 pub struct AnyLayout {
@@ -47,7 +49,8 @@ pub struct AnyLayout {
 /// The number of the hash function of rustc-hash.
 pub const FX: u8 = 0;
 
-/// The number of the hash function of keys that are hashes already, which takes their last four bytes.
+/// The number of the hash function of keys that are hashes already, which takes their last four
+/// bytes.
 pub const UNHASH: u8 = 1;
 
 // Whether a layout has this hash function, and keys that are long enough for it.

@@ -6,8 +6,8 @@ use crate::erased::calls::status::{status_of, CAPACITY, LOAD_FACTOR_TOO_SMALL, O
 use crate::proved::tables::config::Config;
 use crate::proved::tables::memory_layout::{Header, LEAST_FACTOR};
 
-/// Writes the table that the one in `bytes` grows into to the front of `out`, and its length in bytes to `len`.
-/// TOO_SMALL leaves `out` unchanged, any other error leaves both unchanged.
+/// Writes the table that the one in `bytes` grows into to the front of `out`, and its length in
+/// bytes to `len`. TOO_SMALL leaves `out` unchanged, any other error leaves both unchanged.
 #[inline]
 pub fn grow<C: Config>(bytes: &[u8], out: &mut [u8], len: &mut usize) -> u32 {
     let table = match view::<C>(bytes) {

@@ -3,8 +3,8 @@
 
 use crate::proved::tables::lookups::Answers;
 
-/// The arrays of a caller. At the index of a key that is found, its value is put in `values` and 1 in `found`; at any
-/// other index 0 is put in `found`.
+/// The arrays of a caller. At the index of a key that is found, its value is put in `values` and 1
+/// in `found`; at any other index 0 is put in `found`.
 pub(crate) struct Arrays<'v, 'f, V> {
     pub(crate) values: &'v mut [V],
     pub(crate) found: &'f mut [u8],

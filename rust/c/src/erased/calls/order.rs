@@ -6,8 +6,9 @@ use crate::proved::tables::bytes::Borrowed;
 use crate::proved::tables::config::Config;
 use crate::proved::tables::{memory_layout, HashTable};
 
-/// Writes to `out` the occupied slots in an order in which inserts of their pairs make the table. UNMADE where there is
-/// none: what `out` then holds is unspecified. Errors of the whole check and BAD_LENGTHS leave `out` unchanged.
+/// Writes to `out` the occupied slots in an order in which inserts of their pairs make the table.
+/// UNMADE where there is none: what `out` then holds is unspecified. Errors of the whole check and
+/// BAD_LENGTHS leave `out` unchanged.
 #[inline]
 pub fn insert_order<C: Config>(bytes: &[u8], out: &mut [usize]) -> u32 {
     if let Err(refused) = memory_layout::check_all::<C>(bytes) {

@@ -1,6 +1,6 @@
 // Made by `make rust` of crates/odht_calls/src/status.rt.
-//! The statuses that the calls return, as numbers. `include/odht.h` names them all, errors included; so does
-//! docs/FORMAT.md, "Numbers for C".
+//! The statuses that the calls return, as numbers. `include/odht.h` names them all, errors
+//! included; so does docs/FORMAT.md, "Numbers for C".
 
 use crate::proved::tables::error::Error;
 

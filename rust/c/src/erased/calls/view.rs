@@ -1,5 +1,6 @@
 // Made by `make rust` of crates/odht_calls/src/view.rt.
-//! Opened tables as a caller in C keeps them, and lookups that skip the header, for every configuration.
+//! Opened tables as a caller in C keeps them, and lookups that skip the header, for every
+//! configuration.
 
 use crate::erased::calls::lookups::Arrays;
 use crate::erased::calls::status::{status_of, ABSENT, OK};
@@ -8,8 +9,8 @@ use crate::proved::tables::config::Config;
 use crate::proved::tables::error::Error;
 use crate::proved::tables::{lookups, HashTable};
 
-/// The bytes of an opened table, as C keeps them: a pointer and a length. The calls that read a view require that the
-/// header and the length of its bytes are accepted, and do not check it.
+/// The bytes of an opened table, as C keeps them: a pointer and a length. The calls that read a
+/// view require that the header and the length of its bytes are accepted, and do not check it.
 #[repr(C)]
 #[derive(Clone, Copy)]
 pub struct View<'a> {
@@ -17,8 +18,8 @@ pub struct View<'a> {
     pub bytes: &'a [u8],
 }
 
-/// OK, and `view` is a view of the bytes; or the number of the first error, and `view` is unchanged. Reads the header,
-/// the length and the first ten slots.
+/// OK, and `view` is a view of the bytes; or the number of the first error, and `view` is
+/// unchanged. Reads the header, the length and the first ten slots.
 #[inline]
 pub fn open<'a, C: Config>(bytes: &'a [u8], view: &mut View<'a>) -> u32 {
     let opened: Result<HashTable<C, Borrowed<'_>>, Error> =
@@ -54,10 +55,11 @@ pub fn get<C: Config>(
     }
 }
 
-/// Looks up many keys in an opened table: at the index of a key that is found, its value is written to `values` and 1
-/// to `found`; at any other index 0 is written to `found`.
-// Not inlined, so that what it calls has one caller for each configuration: only then does the compiler keep the first
-// looks of eight keys in one function with their searches, which takes a quarter fewer instructions.
+/// Looks up many keys in an opened table: at the index of a key that is found, its value is
+/// written to `values` and 1 to `found`; at any other index 0 is written to `found`.
+// Not inlined, so that what it calls has one caller for each configuration: only then does the
+// compiler keep the first looks of eight keys in one function with their searches, which takes a
+// quarter fewer instructions.
 #[inline(never)]
 pub fn get_all<C: Config>(
     table: &HashTable<C, Borrowed<'_>>,

@@ -6,9 +6,10 @@ use crate::erased::calls::status::{status_of, OK, TOO_SMALL};
 use crate::proved::tables::config::Config;
 use crate::proved::tables::memory_layout::Header;
 
-/// Writes the keys and values in the slots from `cursor` on to the arrays, in slot order, as many as fit, and to
-/// `item_count` how many. `cursor` is then the slot of the first pair that did not fit (TOO_SMALL), or the slot count
-/// where none is left (OK). An error leaves everything unchanged.
+/// Writes the keys and values in the slots from `cursor` on to the arrays, in slot order, as many
+/// as fit, and to `item_count` how many. `cursor` is then the slot of the first pair that did not
+/// fit (TOO_SMALL), or the slot count where none is left (OK). An error leaves everything
+/// unchanged.
 #[inline]
 pub fn walk<C: Config>(
     bytes: &[u8],

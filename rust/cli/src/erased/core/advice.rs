@@ -10,8 +10,9 @@ use crate::host::prelude::*;
 use crate::proved::raw::memory_layout::DEFAULT_GROUPS;
 use std::io::{self, Write};
 
-/// A search of more groups is long. In tables of up to 2^24 slots of random keys at 87 percent, the load that tables get
-/// where none is named, those seen have up to so many; at 50 percent up to 5.
+/// A search of more groups is long. In tables of up to 2^24 slots of random keys at 87 percent,
+/// the load that tables get where none is named, those seen have up to so many; at 50 percent up
+/// to 5.
 const LONG_SEARCH: usize = 24;
 
 /// The load in percent above which a lower one may help.
@@ -75,7 +76,8 @@ fn needs_whole(numbers: &Numbers) -> bool {
     numbers.longest_miss > DEFAULT_GROUPS
 }
 
-// The name for `odht rebuild`, which takes files of a table alone: FILE where this is none, or is standard input.
+// The name for `odht rebuild`, which takes files of a table alone: FILE where this is none, or is
+// standard input.
 fn rebuilt_name<'a>(at: Option<usize>, file: &'a str) -> &'a str {
     if at.is_some() || is_stream(file) {
         "FILE"

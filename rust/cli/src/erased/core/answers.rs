@@ -17,8 +17,8 @@ pub fn write_pair<K: Text, V: Text, O: Write>(
     write_pair_as(key, value, OwnForms, output)
 }
 
-/// Writes a line of a key, a tab and a value, in texts of these forms. Each part is written by itself: a buffer behind
-/// `output` that becomes full is passed on with as many parts as fit.
+/// Writes a line of a key, a tab and a value, in texts of these forms. Each part is written by
+/// itself: a buffer behind `output` that becomes full is passed on with as many parts as fit.
 #[inline(always)]
 pub fn write_pair_as<K: Text, V: Text, F: Forms, O: Write>(
     key: &K,
@@ -32,7 +32,8 @@ pub fn write_pair_as<K: Text, V: Text, F: Forms, O: Write>(
     output.write_all(b"\n")
 }
 
-/// Writes a line for each key: with its value, or the key alone where it has none; in the texts that their types have.
+/// Writes a line for each key: with its value, or the key alone where it has none; in the texts
+/// that their types have.
 #[inline]
 pub fn write_answers<K: Text, V: Text, O: Write>(
     keys: &[K],

@@ -1,5 +1,6 @@
 // Made by `make rust` of crates/odht_tool_core/src/any.rt.
-//! The shape of a table of any sizes: a ready one, or the types of keys and values and the hash function.
+//! The shape of a table of any sizes: a ready one, or the types of keys and values and the hash
+//! function.
 
 use crate::erased::core::early::check_first;
 use crate::erased::core::failure::Failure;
@@ -55,9 +56,10 @@ impl AnyShape {
         }
     }
 
-    /// The shape of keys and values that are said to be these, and of the hash function, where one is given: the first
-    /// ready one of their types; else another one, of `fx` where none is given. None where a ready shape of other types
-    /// has as many bytes, since a file is read as that, or the hash function needs longer keys.
+    /// The shape of keys and values that are said to be these, and of the hash function, where one
+    /// is given: the first ready one of their types; else another one, of `fx` where none is
+    /// given. None where a ready shape of other types has as many bytes, since a file is read as
+    /// that, or the hash function needs longer keys.
     pub(crate) fn of_kinds(key: Kind, value: Kind, hash: Option<Hash>) -> Option<AnyShape> {
         if let Some(shape) = Shape::of_parts(key.part, value.part, hash) {
             return Some(AnyShape::Ready(shape));
@@ -68,7 +70,8 @@ impl AnyShape {
         }
     }
 
-    // The first ready shape of the lengths of these types and of the hash function, where one is given; else another.
+    // The first ready shape of the lengths of these types and of the hash function, where one is
+    // given; else another.
     fn of_sizes(key: Part, value: Part, hash: Option<Hash>) -> Result<AnyShape, Failure> {
         match Shape::of_sizes(key.size(), value.size(), hash) {
             Some(shape) => Ok(AnyShape::Ready(shape)),
@@ -76,7 +79,8 @@ impl AnyShape {
         }
     }
 
-    // That of these types which is no ready one. `ShortKeys` where the hash function needs longer keys.
+    // That of these types which is no ready one. `ShortKeys` where the hash function needs longer
+    // keys.
     fn of_types(key: Part, value: Part, hash: Hash) -> Result<AnyShape, Failure> {
         let key_size = key.size();
         if (key_size as usize) < least_key_size(hash) {
@@ -86,10 +90,10 @@ impl AnyShape {
     }
 }
 
-/// The shape of these bytes: the ready one of the key and value sizes in the header, and of the hash function, where
-/// one is given; where there is none, another one, of `fx` where none is given. Where the check fails before it comes
-/// to the sizes, some shape is returned: opening has the same error for each. `ShortKeys` where the hash function needs
-/// longer keys.
+/// The shape of these bytes: the ready one of the key and value sizes in the header, and of the
+/// hash function, where one is given; where there is none, another one, of `fx` where none is
+/// given. Where the check fails before it comes to the sizes, some shape is returned: opening has
+/// the same error for each. `ShortKeys` where the hash function needs longer keys.
 pub fn named_any(bytes: &[u8], hash: Option<Hash>) -> Result<AnyShape, Failure> {
     if check_first(bytes).is_err() {
         return Ok(AnyShape::Ready(Shape::U64ToU32));
@@ -99,9 +103,10 @@ pub fn named_any(bytes: &[u8], hash: Option<Hash>) -> Result<AnyShape, Failure> 
     AnyShape::of_sizes(key, Part::Bytes(header.value_size()), hash)
 }
 
-/// The shape that the bytes of a file are read as, as `found_any` finds it, and the forms of its keys and values: those
-/// that are said, or its own. Where it is no ready shape, its types are those that are said, if they have its lengths.
-/// `OtherKey` or `OtherValue` where what is said is of another type, or of another length.
+/// The shape that the bytes of a file are read as, as `found_any` finds it, and the forms of its
+/// keys and values: those that are said, or its own. Where it is no ready shape, its types are
+/// those that are said, if they have its lengths. `OtherKey` or `OtherValue` where what is said is
+/// of another type, or of another length.
 pub fn read_any(
     bytes: &[u8],
     hash: Option<Hash>,
@@ -137,8 +142,8 @@ fn read_other(shape: OtherShape, kinds: Kinds) -> Result<(AnyShape, GivenForms),
     Ok((shape, forms))
 }
 
-// What stored bytes of this type are read as, where `kind` is said of them, or nothing. None where that has another
-// length.
+// What stored bytes of this type are read as, where `kind` is said of them, or nothing. None where
+// that has another length.
 fn kind_of_size(kind: Option<Kind>, part: Part) -> Option<Kind> {
     match kind {
         None => Some(Kind { part, form: Form::Own }),

@@ -119,7 +119,8 @@ impl Keys {
 
 /// A command, with all that it needs to know beside its file.
 pub enum Command {
-    /// One that reads the file alone, from the given byte on where there is one, and then others so.
+    /// One that reads the file alone, from the given byte on where there is one, and then others
+    /// so.
     Read {
         others: Vec<String>,
         at: Option<usize>,
@@ -149,7 +150,8 @@ impl Command {
     }
 }
 
-/// A command that reads its file alone. A bound is one of searches, in groups; none with `--whole`.
+/// A command that reads its file alone. A bound is one of searches, in groups; none with
+/// `--whole`.
 pub enum Reading {
     // begin readings: made of commands.txt by tools/commands; `make manual` makes it anew
     Info { bound: Option<usize>, is_json: bool },
@@ -183,7 +185,8 @@ pub enum Request {
     Run { file: String, command: Command },
 }
 
-/// Whether the name of a file stands for standard input, or of one that is made for standard output.
+/// Whether the name of a file stands for standard input, or of one that is made for standard
+/// output.
 pub fn is_stream(file: &str) -> bool {
     file == "-"
 }

@@ -5,8 +5,8 @@ use crate::host::prelude::*;
 use crate::proved::header::error::Error;
 use crate::proved::header::header::{Header, HEADER_SIZE};
 
-/// The error of opening bytes that comes before those of the key and value sizes: `TooShort`, `WrongTag`,
-/// `WrongVersion`, or `WrongSizeOf` of a control byte.
+/// The error of opening bytes that comes before those of the key and value sizes: `TooShort`,
+/// `WrongTag`, `WrongVersion`, or `WrongSizeOf` of a control byte.
 pub fn check_first(bytes: &[u8]) -> Result<(), Error> {
     let found = bytes.len();
     if found < HEADER_SIZE {

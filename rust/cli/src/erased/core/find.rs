@@ -25,12 +25,13 @@ enum Look {
     Nothing,
 }
 
-/// The offsets of the tables inside these bytes, in their order. After a table the search goes on behind it.
+/// The offsets of the tables inside these bytes, in their order. After a table the search goes on
+/// behind it.
 ///
-/// Each byte is looked at once for a first byte of a header. Where a header fits, its control bytes and the keys of
-/// its occupied slots are read, up to the first misfit of these. The slots of the headers whose control bytes do not
-/// fit are counted, and where they become more than the file has bytes, which no file has whose headers do not overlap,
-/// it is `Forged`, and only there.
+/// Each byte is looked at once for a first byte of a header. Where a header fits, its control
+/// bytes and the keys of its occupied slots are read, up to the first misfit of these. The slots
+/// of the headers whose control bytes do not fit are counted, and where they become more than the
+/// file has bytes, which no file has whose headers do not overlap, it is `Forged`, and only there.
 pub fn find_tables(alloc: Global, bytes: &[u8]) -> Result<Vec<usize>, Failure> {
     let mut tables = crate::host::lists::empty(alloc);
     let mut next = 0_usize;
@@ -64,9 +65,9 @@ fn add(tables: &mut Vec<usize>, at: usize) -> Result<(), Failure> {
     }
 }
 
-/// Writes the line of the table that begins at this offset: the offset, its length, the sizes of keys and values, the
-/// item count, the slot count, the load in percent, the hash functions that its control bytes fit, and what the check
-/// says of it, with tabs between them.
+/// Writes the line of the table that begins at this offset: the offset, its length, the sizes of
+/// keys and values, the item count, the slot count, the load in percent, the hash functions that
+/// its control bytes fit, and what the check says of it, with tabs between them.
 pub fn write_row<O: Write>(
     at: usize,
     table: &[u8],
@@ -149,7 +150,8 @@ fn header_front(bytes: &[u8]) -> Option<&[u8]> {
     }
 }
 
-// Whether nothing is rejected of the load factor, the padding, and the item count as the load factor allows it.
+// Whether nothing is rejected of the load factor, the padding, and the item count as the load
+// factor allows it.
 fn has_fields(header: &Header<'_>) -> bool {
     header.check_load_factor().is_ok() && header.check_padding().is_ok() && has_room(header)
 }

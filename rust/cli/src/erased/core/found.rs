@@ -18,9 +18,10 @@ fn is_fitting(shape: Shape, key_size: u8, value_size: u8, table: &StoredTable<'_
     shape.is_of(key_size, value_size, None) && table.agrees(shape.hash())
 }
 
-/// The shape of these bytes: as `named_any` has it; but where header and length fit, the header counts items and no
-/// hash function is given, the first ready shape of the header's sizes with whose hash function all control bytes
-/// agree, else another shape with the first hash function that they agree with. `NoHash` where they agree with none.
+/// The shape of these bytes: as `named_any` has it; but where header and length fit, the header
+/// counts items and no hash function is given, the first ready shape of the header's sizes with
+/// whose hash function all control bytes agree, else another shape with the first hash function
+/// that they agree with. `NoHash` where they agree with none.
 pub fn found_any(bytes: &[u8], hash: Option<Hash>) -> Result<AnyShape, Failure> {
     match (hash, open_with_items(bytes)) {
         (None, Some(table)) => fitting_any(bytes, &table),
@@ -55,8 +56,9 @@ fn open_with_items(bytes: &[u8]) -> Option<StoredTable<'_>> {
     }
 }
 
-/// The hash function that is not this one, where header and length fit, the header counts items and all
-/// control bytes agree with it: then the file may be read by it, though it is rejected under this one.
+/// The hash function that is not this one, where header and length fit, the header counts items
+/// and all control bytes agree with it: then the file may be read by it, though it is rejected
+/// under this one.
 pub fn hinted_hash(bytes: &[u8], hash: Hash) -> Option<Hash> {
     let other = hash.other();
     let table = open_with_items(bytes)?;

@@ -8,9 +8,10 @@ use crate::host::prelude::*;
 use crate::proved::header::error::Error;
 use crate::proved::header::header::Header;
 
-/// The table that begins at this byte of a file and ends where its header says; bytes after it are not looked at.
-/// `PastEnd` where the file ends before that byte. Where opening by the header fails, or there are fewer bytes than the
-/// header says, all bytes from there on, which opening rejects with the same error.
+/// The table that begins at this byte of a file and ends where its header says; bytes after it are
+/// not looked at. `PastEnd` where the file ends before that byte. Where opening by the header
+/// fails, or there are fewer bytes than the header says, all bytes from there on, which opening
+/// rejects with the same error.
 pub fn table_at(bytes: &[u8], offset: usize) -> Result<&[u8], Failure> {
     let len = bytes.len();
     if len < offset {
@@ -23,8 +24,8 @@ pub fn table_at(bytes: &[u8], offset: usize) -> Result<&[u8], Failure> {
     }
 }
 
-/// The table that these bytes begin with. The errors are those of opening by the header, then `WrongLength` where there
-/// are fewer bytes than the header says.
+/// The table that these bytes begin with. The errors are those of opening by the header, then
+/// `WrongLength` where there are fewer bytes than the header says.
 pub fn front_of(bytes: &[u8]) -> Result<&[u8], Error> {
     check_front(bytes)?;
     let len = stated_len(bytes) as usize;

@@ -9,8 +9,8 @@ use crate::proved::header::error::Error;
 use crate::shim::Global;
 use std::io::{self, Write};
 
-/// The offset of the first table inside the bytes of a file that does not begin with one's tag, if there is one. It
-/// takes the time of `find_tables`, and fails as that does.
+/// The offset of the first table inside the bytes of a file that does not begin with one's tag, if
+/// there is one. It takes the time of `find_tables`, and fails as that does.
 pub fn first_inside(alloc: Global, bytes: &[u8]) -> Result<Option<usize>, Failure> {
     if !is_foreign(bytes) {
         return Ok(None);

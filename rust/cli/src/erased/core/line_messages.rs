@@ -8,8 +8,8 @@ use crate::host::prelude::*;
 use crate::shim::{AllocError, Global};
 use std::fmt;
 
-/// What is said of the fault of the line of this number, by what its key and its value should be, and the byte that
-/// stands between them.
+/// What is said of the fault of the line of this number, by what its key and its value should be,
+/// and the byte that stands between them.
 pub fn line_message(
     alloc: Global,
     number: u64,

@@ -3,8 +3,8 @@
 
 use crate::host::prelude::*;
 
-/// Whether one slip makes one word of the other: a byte left out or too many, another byte in the place of one, or two
-/// neighbours that have changed places.
+/// Whether one slip makes one word of the other: a byte left out or too many, another byte in the
+/// place of one, or two neighbours that have changed places.
 pub fn is_near(one: &[u8], other: &[u8]) -> bool {
     for at in 0..one.len() + 1 {
         if is_slip(one, other, at) {

@@ -26,14 +26,16 @@ pub struct Numbers {
     pub max_item_count: usize,
     /// How many percent of the slots the items are, rounded down.
     pub load: u128,
-    /// The percentage that the header's load factor is nearest to: that which it was made from, if it was made from
-    /// one.
+    /// The percentage that the header's load factor is nearest to: that which it was made from, if
+    /// it was made from one.
     pub max_load: u32,
-    /// How many slots of each stretch are occupied, in slot order: at most 64 stretches, of equal length.
+    /// How many slots of each stretch are occupied, in slot order: at most 64 stretches, of equal
+    /// length.
     pub stretches: Vec<usize>,
     /// The hash function that all control bytes agree with, if there is one.
     pub hash: Option<Hash>,
-    /// The bound of the numbers of groups, where there is one: larger ones are counted as one more than it.
+    /// The bound of the numbers of groups, where there is one: larger ones are counted as one more
+    /// than it.
     pub bound: Option<usize>,
     /// How many groups a search reads, by this hash function; of no items where there is none.
     pub histogram: Histogram,
@@ -41,8 +43,8 @@ pub struct Numbers {
     pub longest_miss: usize,
 }
 
-/// The numbers of the bytes of a file, or the first error of their header and length. With a bound it takes time in
-/// proportion to the bytes and the bound.
+/// The numbers of the bytes of a file, or the first error of their header and length. With a bound
+/// it takes time in proportion to the bytes and the bound.
 pub fn numbers_of(alloc: Global, bytes: &[u8], bound: Option<usize>) -> Result<Numbers, Failure> {
     let table = StoredTable::open(bytes).map_err(Failure::Refused)?;
     let hash = table.hash();
@@ -86,7 +88,8 @@ fn percent_of(item_count: usize, slot_count: usize) -> u128 {
     item_count as u128 * 100 / slot_count as u128
 }
 
-// The percentage that a load factor is nearest to: that which it was made from, if it was made from one.
+// The percentage that a load factor is nearest to: that which it was made from, if it was made
+// from one.
 fn nearest_percent(factor: Factor) -> u32 {
     let Factor(factor) = factor;
     (factor as u32 * 100 + 32767) / 65535

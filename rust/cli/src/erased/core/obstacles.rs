@@ -1,5 +1,6 @@
 // Made by `make rust` of crates/odht_tool_core/src/obstacles.rt.
-//! Which files are replaced, and which permissions the new one gets, by the numbers that the system gives of a file.
+//! Which files are replaced, and which permissions the new one gets, by the numbers that the
+//! system gives of a file.
 
 use crate::host::prelude::*;
 use std::fmt;
@@ -56,7 +57,8 @@ impl fmt::Display for Obstacle {
     }
 }
 
-/// Why the file of this mode, with its kind, and of so many names is not replaced, if there is a reason.
+/// Why the file of this mode, with its kind, and of so many names is not replaced, if there is a
+/// reason.
 pub fn obstacle_of(mode: u32, names: u64, breaks_links: bool) -> Option<Obstacle> {
     match irregular(mode & KIND_BITS) {
         Some(kind) => Some(kind),
@@ -83,11 +85,12 @@ fn irregular(kind: u32) -> Option<Obstacle> {
     }
 }
 
-/// The permissions of the file that replaces one of this mode, where the system has left the new one with the owner
-/// and the group of the old one, or not.
+/// The permissions of the file that replaces one of this mode, where the system has left the new
+/// one with the owner and the group of the old one, or not.
 ///
-/// Those who may have come into another class, as the former members of the group, get what both classes had. So nobody
-/// but the new owner may do more than before. The rights to run as the owner or the group go in any case.
+/// Those who may have come into another class, as the former members of the group, get what both
+/// classes had. So nobody but the new owner may do more than before. The rights to run as the
+/// owner or the group go in any case.
 pub fn kept_mode(mode: u32, keeps_owner: bool, keeps_group: bool) -> u32 {
     let of_owner = if keeps_owner { ALL_MAY_ALL } else { within_owner(mode) };
     let of_group = if keeps_group { ALL_MAY_ALL } else { in_both(mode) };

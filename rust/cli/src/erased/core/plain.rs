@@ -4,7 +4,8 @@
 use crate::host::prelude::*;
 use std::io::{self, Write};
 
-/// The bytes of the word, and zeros behind them. None where it is longer, or has a byte that no plain text has.
+/// The bytes of the word, and zeros behind them. None where it is longer, or has a byte that no
+/// plain text has.
 pub(crate) fn parse_plain<const N: usize>(word: &[u8]) -> Option<[u8; N]> {
     let mut bytes = [0; N];
     if read_plain(word, &mut bytes) {
@@ -14,8 +15,8 @@ pub(crate) fn parse_plain<const N: usize>(word: &[u8]) -> Option<[u8; N]> {
     }
 }
 
-/// Whether the word is a plain text of at most so many bytes as there are in `bytes`, all zeros; these then become the
-/// text and zeros behind it, else they are not changed.
+/// Whether the word is a plain text of at most so many bytes as there are in `bytes`, all zeros;
+/// these then become the text and zeros behind it, else they are not changed.
 pub(crate) fn read_plain(word: &[u8], bytes: &mut [u8]) -> bool {
     if word.len() > bytes.len() || !are_plain(word) {
         return false;

@@ -1,5 +1,6 @@
 // Made by `make rust` of crates/odht_tool_core/src/shapes.rt.
-//! The shapes of tables that the commands read and write: the types of keys and values, and the hash function.
+//! The shapes of tables that the commands read and write: the types of keys and values, and the
+//! hash function.
 
 use crate::host::prelude::*;
 use std::fmt;
@@ -59,7 +60,8 @@ pub enum Part {
 }
 
 impl Part {
-    /// The type of this name: `u32`, `u64`, `none`, or `hex` or `bytes:` and a number of bytes from 0 to 255.
+    /// The type of this name: `u32`, `u64`, `none`, or `hex` or `bytes:` and a number of bytes
+    /// from 0 to 255.
     pub(crate) fn named(name: &str) -> Option<Part> {
         match name {
             "none" => Some(Part::Nothing),
@@ -120,12 +122,14 @@ impl fmt::Display for Part {
 }
 
 impl Shape {
-    /// The first ready shape of keys and values of so many bytes, and of the hash function, where one is given.
+    /// The first ready shape of keys and values of so many bytes, and of the hash function, where
+    /// one is given.
     pub(crate) fn of_sizes(key_size: u8, value_size: u8, hash: Option<Hash>) -> Option<Shape> {
         SHAPES.iter().copied().find(|shape| shape.is_of(key_size, value_size, hash))
     }
 
-    /// Whether keys and values have so many bytes, and the hash function is this one, where one is given.
+    /// Whether keys and values have so many bytes, and the hash function is this one, where one is
+    /// given.
     pub(crate) fn is_of(self, key_size: u8, value_size: u8, hash: Option<Hash>) -> bool {
         self.key().size() == key_size
             && self.value().size() == value_size
@@ -137,7 +141,8 @@ impl Shape {
         SHAPES.iter().copied().find(|shape| shape.has_parts(key, value, hash))
     }
 
-    // Whether keys and values are of these types, and the hash function is this one, where one is given.
+    // Whether keys and values are of these types, and the hash function is this one, where one is
+    // given.
     fn has_parts(self, key: Part, value: Part, hash: Option<Hash>) -> bool {
         self.key().is(key) && self.value().is(value) && self.is_hashed_by(hash)
     }

@@ -5,8 +5,8 @@ use crate::erased::core::digits::{parse_number, write_number};
 use crate::host::prelude::*;
 use std::io::{self, Write};
 
-/// The two's complement of the number with this sign and these decimal digits, of `most + 1` numbers. Only a hyphen is a
-/// sign.
+/// The two's complement of the number with this sign and these decimal digits, of `most + 1`
+/// numbers. Only a hyphen is a sign.
 pub(crate) fn parse_signed(word: &[u8], most: u64) -> Option<u64> {
     if is_negative(word) {
         return complement_of(parse_number(&word[1..])?, most);
@@ -24,7 +24,8 @@ fn is_negative(word: &[u8]) -> bool {
     !word.is_empty() && word[0] == b'-'
 }
 
-// The two's complement of the number below zero of this size. None where it is none of `most + 1` numbers.
+// The two's complement of the number below zero of this size. None where it is none of `most + 1`
+// numbers.
 fn complement_of(size: u64, most: u64) -> Option<u64> {
     if size == 0 {
         Some(0)

@@ -1,5 +1,6 @@
 // Made by `make rust` of crates/odht_tool_core/src/sized_bytes.rt.
-//! Keys and values of a length that is known at run time alone, as text: by the type that the form says they are of.
+//! Keys and values of a length that is known at run time alone, as text: by the type that the form
+//! says they are of.
 
 use crate::erased::core::forms::Form;
 use crate::erased::core::hexadecimal::{no_plain_bytes, read_digits};
@@ -12,7 +13,8 @@ use crate::host::prelude::*;
 use crate::proved::raw::raw_table::ShortBytes;
 use std::io::{self, Write};
 
-/// The form says their type. Bytes of another length than it has are written in hexadecimal digits.
+/// The form says their type. Bytes of another length than it has are written in hexadecimal
+/// digits.
 impl Text for ShortBytes {
     fn wanted(form: Form) -> Wanted {
         let part = form.part();

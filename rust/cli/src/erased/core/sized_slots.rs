@@ -1,5 +1,6 @@
 // Made by `make rust` of crates/odht_tool_core/src/sized_slots.rt.
-//! The occupied slots of a table whose lengths are numbers, each on a line: as texts, or as an object of JSON.
+//! The occupied slots of a table whose lengths are numbers, each on a line: as texts, or as an
+//! object of JSON.
 
 use crate::erased::core::groups::groups_to;
 use crate::erased::core::json::slots::write_slot_object;
@@ -11,8 +12,8 @@ use crate::proved::base::swisstable_group_query::is_empty_or_deleted;
 use crate::proved::raw::raw_table::SizedTable;
 use std::io::{self, Write};
 
-/// Writes a line for each occupied slot, in slot order: its number, its control byte, how many groups a search reads, and
-/// its pair.
+/// Writes a line for each occupied slot, in slot order: its number, its control byte, how many
+/// groups a search reads, and its pair.
 pub fn write_slots<H: HashFn, O: Write>(
     texts: Texts,
     is_json: bool,

@@ -1,6 +1,6 @@
 // Made by `make rust` of crates/odht_tool_core/src/text.rt.
-//! Keys and values as text: a number in decimal digits, with a sign or without, bytes in hexadecimal digits or as plain
-//! text, and nothing at all.
+//! Keys and values as text: a number in decimal digits, with a sign or without, bytes in
+//! hexadecimal digits or as plain text, and nothing at all.
 
 use crate::erased::core::digits::{parse_number, write_number};
 use crate::erased::core::forms::Form;
@@ -19,7 +19,8 @@ pub trait Text: Copy {
     /// The value of which the word is the text. None where it is the text of no such value.
     fn parse(word: &[u8], form: Form) -> Option<Self>;
 
-    /// The text, where it may have any bytes. None where each is a character that stands for itself in strings of JSON.
+    /// The text, where it may have any bytes. None where each is a character that stands for
+    /// itself in strings of JSON.
     fn plain_bytes(&self, form: Form) -> Option<&[u8]>;
 
     /// Writes the text.
@@ -157,8 +158,9 @@ fn parse_bytes<const N: usize>(word: &[u8]) -> Option<[u8; N]> {
     }
 }
 
-// The same of at most 32 bytes: first the value of each digit, then the byte of each two, so that the compiler makes
-// vectors of both loops. All are read before a wrong one is noticed, so that no step branches on a digit.
+// The same of at most 32 bytes: first the value of each digit, then the byte of each two, so that
+// the compiler makes vectors of both loops. All are read before a wrong one is noticed, so that no
+// step branches on a digit.
 #[inline(always)]
 fn parse_short<const N: usize>(word: &[u8]) -> Option<[u8; N]> {
     let mut values = [0; 64];
@@ -173,7 +175,8 @@ fn parse_short<const N: usize>(word: &[u8]) -> Option<[u8; N]> {
     Some(bytes)
 }
 
-// Puts the value of each digit at its place. Returns the largest, which is 16 where a byte is no digit.
+// Puts the value of each digit at its place. Returns the largest, which is 16 where a byte is no
+// digit.
 #[inline(always)]
 fn put_values(digits: &[u8], values: &mut [u8; 64]) -> u8 {
     let mut largest = 0;
@@ -218,8 +221,8 @@ pub(crate) fn digit_value(byte: u8) -> u8 {
     }
 }
 
-/// Writes two lower-case digits for each byte, those of each byte by themselves. The error is that of the writer, and
-/// nothing is written after it.
+/// Writes two lower-case digits for each byte, those of each byte by themselves. The error is that
+/// of the writer, and nothing is written after it.
 // They are put together for 32 bytes at once.
 pub fn write_bytes<W: Write>(bytes: &[u8], output: &mut W) -> io::Result<()> {
     let mut text = [0; 64];
@@ -233,8 +236,8 @@ pub fn write_bytes<W: Write>(bytes: &[u8], output: &mut W) -> io::Result<()> {
     Ok(())
 }
 
-// Writes the digits of each byte by themselves. A buffer behind `output` that becomes full is then passed on with as
-// many digits as fit, however long the text is.
+// Writes the digits of each byte by themselves. A buffer behind `output` that becomes full is then
+// passed on with as many digits as fit, however long the text is.
 #[inline(always)]
 fn write_in_pairs<W: Write>(digits: &[u8], output: &mut W) -> io::Result<()> {
     let mut fault = None;
@@ -259,8 +262,8 @@ fn is_written<W: Write>(pair: &[u8; 2], output: &mut W, fault: &mut Option<io::E
 
 // Whether this went well. Where it did not, `fault` becomes its error.
 //
-// The error is put where it stays. As a part of the result it would be copied for each two digits, and zeros in its
-// place where there is none.
+// The error is put where it stays. As a part of the result it would be copied for each two digits,
+// and zeros in its place where there is none.
 #[inline(always)]
 fn went_well(written: io::Result<()>, fault: &mut Option<io::Error>) -> bool {
     match written {

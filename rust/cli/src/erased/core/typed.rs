@@ -51,7 +51,8 @@ impl Texts {
     }
 }
 
-/// Writes the text, in this form, of the key or the value of this type that is stored as these bytes.
+/// Writes the text, in this form, of the key or the value of this type that is stored as these
+/// bytes.
 #[inline(always)]
 pub(crate) fn write_stored<W: Write>(
     part: Part,
@@ -74,7 +75,8 @@ fn write_stored_bytes<W: Write>(form: Form, bytes: &[u8], output: &mut W) -> io:
     }
 }
 
-/// The text, where it may have any bytes. None where each is a character that stands for itself in strings of JSON.
+/// The text, where it may have any bytes. None where each is a character that stands for itself in
+/// strings of JSON.
 pub(crate) fn plain_bytes(part: Part, form: Form, bytes: &[u8]) -> Option<&[u8]> {
     match part {
         Part::Bytes(_) => plain_bytes_in(form, bytes),

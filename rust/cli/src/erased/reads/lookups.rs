@@ -1,6 +1,6 @@
 // Made by `make rust` of crates/odht_tool_reads/src/lookups.rt.
-//! Keys that are looked up in a table, and what is written of them: the words of a command line, or lines, a batch at a
-//! time.
+//! Keys that are looked up in a table, and what is written of them: the words of a command line,
+//! or lines, a batch at a time.
 
 use crate::erased::core::answers::are_found;
 use crate::erased::core::failure::{Failure, LineFault};
@@ -82,8 +82,8 @@ pub fn answer_lines<T: Lookups, F: Forms, I: BufRead, O: Write>(
     Ok(Status::of(is_last_found && is_all_found))
 }
 
-// Reads the key of the line of this number, if there is such a line. Where it is no key, the keys before it are
-// answered first.
+// Reads the key of the line of this number, if there is such a line. Where it is no key, the keys
+// before it are answered first.
 fn read_key<T: Lookups, F: Forms, I: BufRead, O: Write>(
     alloc: Global,
     table: &T,
@@ -132,7 +132,8 @@ fn wrong_line<K: Text, F: Forms>(
     misread.message(alloc)
 }
 
-// Adds a key, and answers all where they are a batch. Returns whether each was found, and those before.
+// Adds a key, and answers all where they are a batch. Returns whether each was found, and those
+// before.
 fn take_key<T: Lookups, F: Forms, O: Write>(
     alloc: Global,
     table: &T,

@@ -10,8 +10,8 @@ use crate::proved::tables::config::Config;
 use crate::proved::tables::error::Error;
 use crate::proved::tables::memory_layout::{check_all, check_all_within};
 
-/// The first rule that the bytes break, as a table of this shape, the bound of searches among them where there is one.
-/// Bytes without an error are valid.
+/// The first rule that the bytes break, as a table of this shape, the bound of searches among them
+/// where there is one. Bytes without an error are valid.
 pub fn check_any(shape: AnyShape, bytes: &[u8], bound: Option<usize>) -> Result<(), Error> {
     match shape {
         AnyShape::Ready(shape) => check_shape(shape, bytes, bound),

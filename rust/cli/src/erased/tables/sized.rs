@@ -1,5 +1,6 @@
 // Made by `make rust` of crates/odht_tool_tables/src/sized.rt.
-//! Tables of lengths that are numbers: keys and values are bytes, of lengths that the header states.
+//! Tables of lengths that are numbers: keys and values are bytes, of lengths that the header
+//! states.
 
 use crate::erased::core::any::OtherShape;
 use crate::erased::core::failure::Failure;
@@ -23,8 +24,8 @@ pub fn lengths_of(key: Part, value: Part) -> Layout {
     Layout { key_len: key.size(), value_len: value.size() }
 }
 
-/// The first rule that the bytes break, as a table of this shape, the bound of searches among them where there is one.
-/// Bytes without an error are valid.
+/// The first rule that the bytes break, as a table of this shape, the bound of searches among them
+/// where there is one. Bytes without an error are valid.
 pub fn check_other(shape: OtherShape, bytes: &[u8], bound: Option<usize>) -> Result<(), Error> {
     let layout = layout_of(shape);
     match shape.hash {

@@ -1,5 +1,6 @@
 // Made by `make rust` of crates/odht_tool_tables/src/whole.rt.
-//! The shape of a file whose bytes are checked whole, and whether two of them have the same lengths.
+//! The shape of a file whose bytes are checked whole, and whether two of them have the same
+//! lengths.
 
 use crate::erased::core::any::{read_any, AnyShape};
 use crate::erased::core::failure::Failure;
@@ -9,8 +10,8 @@ use crate::erased::tables::checks::check_any;
 use crate::host::prelude::*;
 use std::io::{self, Write};
 
-/// The shape of the bytes of a file, and the forms of its keys and values, as `read_any` has them; or the first rule that
-/// the bytes break, the bound of searches among them where there is one.
+/// The shape of the bytes of a file, and the forms of its keys and values, as `read_any` has them;
+/// or the first rule that the bytes break, the bound of searches among them where there is one.
 pub fn read_whole(
     bytes: &[u8],
     hash: Option<Hash>,

@@ -33,8 +33,8 @@ pub trait Inserts {
     /// Inserts the pairs in turn. `Memory` where there is none for a larger table.
     fn insert_pairs(&mut self, pairs: &[(Self::Key, Self::Value)]) -> Result<(), Failure>;
 
-    /// Inserts the pair where its key has no value, and returns whether that is so. `Memory` where there is none for a
-    /// larger table.
+    /// Inserts the pair where its key has no value, and returns whether that is so. `Memory` where
+    /// there is none for a larger table.
     fn insert_new(&mut self, key: &Self::Key, value: &Self::Value) -> Result<bool, Failure>;
 
     /// How many pairs the table has.
@@ -105,7 +105,8 @@ fn fill<T: Inserts, F: Forms, R: AllocGlobal + Clock, I: BufRead, E: Write>(
     insert_batch(table, &mut pairs)
 }
 
-// Reports how far the run is: how many lines were read, of so many bytes, and how many pairs there are by now.
+// Reports how far the run is: how many lines were read, of so many bytes, and how many pairs there
+// are by now.
 fn report<R: Clock, E: Write>(
     rt: &R,
     progress: &mut Progress,

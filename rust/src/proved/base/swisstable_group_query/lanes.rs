@@ -8,7 +8,8 @@ use crate::shim::u8x16;
 /// How many control bytes are searched at once.
 pub const GROUP_SIZE: usize = 16;
 
-/// A search of sixteen control bytes. It iterates over its matches: exactly the indices of the tag.
+/// A search of sixteen control bytes. It iterates over its matches: exactly the indices of the
+/// tag.
 pub struct GroupQuery {
     matches: IndexSet,
     free: IndexSet,

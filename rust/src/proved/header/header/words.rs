@@ -1,7 +1,8 @@
 // Made by `make rust` of crates/odht_header/src/header/words.rt.
 //! Whether a header fits, told by whole words and without its error.
 //!
-//! A call for C looks at the header each time. Nearly always it fits, and then no error has to be found.
+//! A call for C looks at the header each time. Nearly always it fits, and then no error has to be
+//! found.
 
 use super::{
     Header, CURRENT_FILE_FORMAT_VERSION, HEADER_SIZE, HEADER_TAG, METADATA_SIZE, TAG_AT, VERSION_AT,
@@ -11,12 +12,13 @@ use crate::proved::header::config::Config;
 use crate::proved::header::sizes::len_of_slots;
 use crate::proved::header::swisstable_group_query::REFERENCE_GROUP_SIZE;
 
-/// Whether the header and the length of the bytes fit: true exactly where opening them by header and length has no error,
-/// that is, they are enough for a header, and [`Header::sanity_check`] finds none. It reads whole words, so it is faster,
-/// and does not tell which error comes first.
+/// Whether the header and the length of the bytes fit: true exactly where opening them by header
+/// and length has no error, that is, they are enough for a header, and [`Header::sanity_check`]
+/// finds none. It reads whole words, so it is faster, and does not tell which error comes first.
 #[inline(always)]
 pub fn is_accepted<C: Config>(bytes: &[u8]) -> bool {
-    // One test for two: fewer bytes have no room for a header, or for the slots that each table has.
+    // One test for two: fewer bytes have no room for a header, or for the slots that each table
+    // has.
     if (bytes.len() as u128) < len_of_slots::<C>(REFERENCE_GROUP_SIZE) {
         return false;
     }
@@ -33,7 +35,8 @@ pub fn is_accepted<C: Config>(bytes: &[u8]) -> bool {
     bytes.len() as u128 == len_of_slots::<C>(slot_count)
 }
 
-// Whether the first eight bytes, the tag and the four sizes, are those of each table of this configuration.
+// Whether the first eight bytes, the tag and the four sizes, are those of each table of this
+// configuration.
 #[inline(always)]
 fn has_front<C: Config>(bytes: &[u8]) -> bool {
     let [first, second, third, fourth] = HEADER_TAG;

@@ -24,9 +24,10 @@ pub struct Allocation<C: Config, M: ByteStore> {
 }
 
 impl<C: Config, M: ByteStore> Allocation<C, M> {
-    /// Opens the bytes as those of a table. The result is the first error, if any: `TooShort`, then those of
-    /// [`Header::sanity_check`], then those of [`RawTable::sanity_check_hashes`] on the first ten slots. On an error
-    /// the data is dropped. Valid bytes are always opened; bytes that are opened need not be valid.
+    /// Opens the bytes as those of a table. The result is the first error, if any: `TooShort`,
+    /// then those of [`Header::sanity_check`], then those of [`RawTable::sanity_check_hashes`] on
+    /// the first ten slots. On an error the data is dropped. Valid bytes are always opened; bytes
+    /// that are opened need not be valid.
     #[inline(always)]
     pub fn from_raw_bytes(data: M) -> Result<Self, Error> {
         let allocation = Self::from_raw_bytes_by_header(data)?;
@@ -37,8 +38,9 @@ impl<C: Config, M: ByteStore> Allocation<C, M> {
         Ok(allocation)
     }
 
-    /// Opens the bytes as those of a table by their header and length alone. The result is the first error, if any:
-    /// `TooShort`, then those of [`Header::sanity_check`]. No slot is read. On an error the data is dropped.
+    /// Opens the bytes as those of a table by their header and length alone. The result is the
+    /// first error, if any: `TooShort`, then those of [`Header::sanity_check`]. No slot is read.
+    /// On an error the data is dropped.
     #[inline(always)]
     pub fn from_raw_bytes_by_header(data: M) -> Result<Self, Error> {
         let bytes = data.bytes();
@@ -50,7 +52,8 @@ impl<C: Config, M: ByteStore> Allocation<C, M> {
         Ok(Allocation { store: data, config: PhantomData })
     }
 
-    /// Opens bytes that the caller knows to have a header and a length that fit. Nothing is checked.
+    /// Opens bytes that the caller knows to have a header and a length that fit. Nothing is
+    /// checked.
     #[inline]
     pub fn from_raw_bytes_unchecked(data: M) -> Self {
         // A slice's length is below 2^64, so that of the store's bytes is too.
@@ -77,7 +80,8 @@ impl<C: Config, M: ByteStore> Allocation<C, M> {
         Header::of(self.store.bytes())
     }
 
-    /// The control bytes with their mirror, and the entries. Of the bytes of a valid table they are its parts.
+    /// The control bytes with their mirror, and the entries. Of the bytes of a valid table they
+    /// are its parts.
     #[inline]
     pub fn data_slices(&self) -> (&[EntryMetadata], Entries<'_, C::EncodedKey, C::EncodedValue>) {
         let bytes = self.store.bytes();

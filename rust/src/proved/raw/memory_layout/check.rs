@@ -7,59 +7,65 @@ use crate::proved::raw::config::Config;
 use crate::proved::raw::error::Error;
 use crate::proved::raw::raw_table::RawTable;
 
-/// A bound of searches, in groups, that tables of hashes that vary keep: about twice the longest search that was seen
-/// in random tables of up to 2^24 slots at 95 percent (docs/FORMAT.md, "How long searches are"). Fuller or larger ones
-/// may exceed it.
+/// A bound of searches, in groups, that tables of hashes that vary keep: about twice the longest
+/// search that was seen in random tables of up to 2^24 slots at 95 percent (docs/FORMAT.md, "How
+/// long searches are"). Fuller or larger ones may exceed it.
 pub const DEFAULT_GROUPS: usize = 128;
 
-/// Checks all of the bytes, and returns the first error: first those of [`Allocation::from_raw_bytes`], then those of
-/// [`Allocation::check_rest`]. Ok exactly for valid bytes.
+/// Checks all of the bytes, and returns the first error: first those of
+/// [`Allocation::from_raw_bytes`], then those of [`Allocation::check_rest`]. Ok exactly for valid
+/// bytes.
 ///
-/// The rules and their order are those of docs/FORMAT.md, "What is rejected, and in which order". It allocates nothing.
-/// Where hashes vary its time is linear in the bytes. At worst, where all keys of `s` slots have one hash, it reads
-/// about `s*s/32` groups and makes `s*s/2` comparisons of keys: over an hour for 2^20 slots. For bytes of strangers there
-/// is [`check_all_within`].
+/// The rules and their order are those of docs/FORMAT.md, "What is rejected, and in which order".
+/// It allocates nothing. Where hashes vary its time is linear in the bytes. At worst, where all
+/// keys of `s` slots have one hash, it reads about `s*s/32` groups and makes `s*s/2` comparisons
+/// of keys: over an hour for 2^20 slots. For bytes of strangers there is [`check_all_within`].
 pub fn check_all<C: Config>(bytes: &[u8]) -> Result<(), Error> {
     let allocation: Allocation<C, Borrowed<'_>> = Allocation::from_raw_bytes(Borrowed::new(bytes))?;
     allocation.check_rest()
 }
 
-/// `check_all` with a bound of searches: after the maximum item count, and before any search for a key,
-/// `SearchTooLong` of the least home from which a search may read more than `groups` groups. Ok exactly for valid bytes
-/// in which each home has, among the first `groups` groups of its probe order, a control byte that counts as free. Then
-/// no search, of a present or an absent key, reads more. A table in which a home has none is rejected, also where the
-/// search for each of its keys ends within the bound.
+/// `check_all` with a bound of searches: after the maximum item count, and before any search for a
+/// key, `SearchTooLong` of the least home from which a search may read more than `groups` groups.
+/// Ok exactly for valid bytes in which each home has, among the first `groups` groups of its probe
+/// order, a control byte that counts as free. Then no search, of a present or an absent key, reads
+/// more. A table in which a home has none is rejected, also where the search for each of its keys
+/// ends within the bound.
 ///
-/// For bytes of strangers: whatever they are, for `s` slots it reads at most `2 * s * groups` groups and makes at most
-/// `16 * s * groups` comparisons of keys. It allocates nothing. With `groups` of `s / 16` or more it returns what
-/// `check_all` returns (no clause says it).
+/// For bytes of strangers: whatever they are, for `s` slots it reads at most `2 * s * groups`
+/// groups and makes at most `16 * s * groups` comparisons of keys. It allocates nothing. With
+/// `groups` of `s / 16` or more it returns what `check_all` returns (no clause says it).
 pub fn check_all_within<C: Config>(bytes: &[u8], groups: usize) -> Result<(), Error> {
     let allocation: Allocation<C, Borrowed<'_>> = Allocation::from_raw_bytes(Borrowed::new(bytes))?;
     allocation.check_rest_within(groups)
 }
 
 impl<C: Config, M: ByteStore> Allocation<C, M> {
-    /// Checks what opening leaves out, and returns the first error: `LoadFactorTooSmall`, `NonZeroPadding`; of the
-    /// slots in order `NonZeroEmpty`, `BadFreeControl` or `ControlMismatch`; `MirrorMismatch`, `WrongItemCount`,
-    /// `TooManyItems`; and `Unreachable` of the first occupied slot at which a search slot by slot for its key does not
-    /// end. Ok exactly for valid bytes.
+    /// Checks what opening leaves out, and returns the first error: `LoadFactorTooSmall`,
+    /// `NonZeroPadding`; of the slots in order `NonZeroEmpty`, `BadFreeControl` or
+    /// `ControlMismatch`; `MirrorMismatch`, `WrongItemCount`, `TooManyItems`; and `Unreachable` of
+    /// the first occupied slot at which a search slot by slot for its key does not end. Ok exactly
+    /// for valid bytes.
     ///
-    /// Slots are read up to 64 at a time, the free ones of these first. Where a free one has an error, these are read
-    /// again, in order. For each occupied slot the control bytes of its key's probe order up to it are read, sixteen at
-    /// a time. A key is compared only with keys at earlier positions that have its tag.
+    /// Slots are read up to 64 at a time, the free ones of these first. Where a free one has an
+    /// error, these are read again, in order. For each occupied slot the control bytes of its
+    /// key's probe order up to it are read, sixteen at a time. A key is compared only with keys at
+    /// earlier positions that have its tag.
     pub fn check_rest(&self) -> Result<(), Error> {
         hold_bytes(self.raw_bytes());
         self.check_late(None)
     }
 
-    /// `check_rest` with a bound of searches, as in [`check_all_within`]. Ok exactly for valid bytes in which each home
-    /// has, among the first `groups` groups of its probe order, a control byte that counts as free.
+    /// `check_rest` with a bound of searches, as in [`check_all_within`]. Ok exactly for valid
+    /// bytes in which each home has, among the first `groups` groups of its probe order, a control
+    /// byte that counts as free.
     pub fn check_rest_within(&self, groups: usize) -> Result<(), Error> {
         hold_bytes(self.raw_bytes());
         self.check_late(Some(groups))
     }
 
-    // `check_rest` with a bound of searches, where there is one; its contract gives the first error alone.
+    // `check_rest` with a bound of searches, where there is one; its contract gives the first
+    // error alone.
     fn check_late(&self, groups: Option<usize>) -> Result<(), Error> {
         let header = self.header();
         header.check_load_factor()?;

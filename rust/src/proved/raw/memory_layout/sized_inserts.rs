@@ -1,5 +1,6 @@
 // Made by `make rust` of crates/odht_raw/src/memory_layout/sized_inserts.rt.
-//! Inserts into the bytes of a table whose lengths are numbers: the parts are written, and last the item count.
+//! Inserts into the bytes of a table whose lengths are numbers: the parts are written, and last
+//! the item count.
 
 use super::allocation::{hold_bytes, write_count};
 use super::{Header, HEADER_SIZE};
@@ -8,9 +9,10 @@ use crate::proved::raw::hash::HashFn;
 use crate::proved::raw::layout::Layout;
 use crate::proved::raw::raw_table::{sized_insert_at, sized_step_end, ShortBytes};
 
-/// Gives the key this value in the bytes of a table, and returns its former one. `Full`, with nothing changed, where the
-/// search does not find the key and the header's item count is its maximum or more, or where it finds neither the key
-/// nor a free slot. A new entry raises the item count by one. The key is hashed once.
+/// Gives the key this value in the bytes of a table, and returns its former one. `Full`, with
+/// nothing changed, where the search does not find the key and the header's item count is its
+/// maximum or more, or where it finds neither the key nor a free slot. A new entry raises the item
+/// count by one. The key is hashed once.
 pub fn insert_sized<H: HashFn>(
     bytes: &mut [u8],
     layout: Layout,

@@ -1,5 +1,6 @@
 // Made by `make rust` of crates/odht_raw/src/raw_table/ahead.rt.
-//! Inserts of several keys whose slots are looked up ahead, so that the memory accesses to their control bytes overlap.
+//! Inserts of several keys whose slots are looked up ahead, so that the memory accesses to their
+//! control bytes overlap.
 
 use super::insert::insert_at;
 use super::{is_empty_or_deleted, search_hashed, tag_of, Entries, EntryMetadata, Scan, Search};
@@ -8,12 +9,13 @@ use crate::proved::raw::error::Error;
 use crate::proved::raw::hash::HashFn;
 use crate::proved::raw::swisstable_group_query::{Group, GroupQuery, REFERENCE_GROUP_SIZE};
 
-/// The hash of a key, and the slot where a pair with the key is placed, where the first group search at its home slot
-/// finds it; else the slot count: where a key may have to be compared, or where none of these control bytes counts as
-/// free.
+/// The hash of a key, and the slot where a pair with the key is placed, where the first group
+/// search at its home slot finds it; else the slot count: where a key may have to be compared, or
+/// where none of these control bytes counts as free.
 ///
-/// The clause says what such a slot is, not when there is one: the slot count would always be right, and slower. No
-/// entry is read, so the calls for several keys do not depend on one another.
+/// The clause says what such a slot is, not when there is one: the slot count would always be
+/// right, and slower. No entry is read, so the calls for several keys do not depend on one
+/// another.
 #[inline(always)]
 pub(crate) fn expected_slot<K: ByteArray, V: ByteArray, H: HashFn, Q: Group>(
     control: &[EntryMetadata],
@@ -33,8 +35,9 @@ pub(crate) fn expected_slot<K: ByteArray, V: ByteArray, H: HashFn, Q: Group>(
     }
 }
 
-/// `insert_step` of a key with this hash, whose search was expected to end at this slot. Where there is room and the
-/// slot still counts as free the pair is written there; else the whole search is made.
+/// `insert_step` of a key with this hash, whose search was expected to end at this slot. Where
+/// there is room and the slot still counts as free the pair is written there; else the whole
+/// search is made.
 #[inline(always)]
 pub(crate) fn insert_ahead<K: ByteArray, V: ByteArray, H: HashFn>(
     control: &mut [EntryMetadata],
@@ -50,8 +53,8 @@ pub(crate) fn insert_ahead<K: ByteArray, V: ByteArray, H: HashFn>(
     insert_at::<K, V, H>(control, entries, slots, key, value, (end, tag_of(hash)), room)
 }
 
-// Where the search for the key ends. It was expected to end at this slot. Without room it is the whole search, which
-// alone says what comes before its end.
+// Where the search for the key ends. It was expected to end at this slot. Without room it is the
+// whole search, which alone says what comes before its end.
 #[inline(always)]
 fn expected_end<K: ByteArray, V: ByteArray, H: HashFn>(
     control: &[EntryMetadata],
@@ -68,8 +71,8 @@ fn expected_end<K: ByteArray, V: ByteArray, H: HashFn>(
     whole_search::<K, V, H>(control, &Entries::new(entries, slots), key, hash)
 }
 
-// Where the search for a key with this hash ends. It is not inlined: where a key is placed as expected, this is not
-// called.
+// Where the search for a key with this hash ends. It is not inlined: where a key is placed as
+// expected, this is not called.
 #[inline(never)]
 fn whole_search<K: ByteArray, V: ByteArray, H: HashFn>(
     control: &[EntryMetadata],

@@ -8,7 +8,8 @@ use crate::proved::raw::hash::{FxHashFn, HashFn};
 use crate::proved::raw::swisstable_group_query::{late_free, REFERENCE_GROUP_SIZE};
 
 impl<'a, K: ByteArray, V: ByteArray, H: HashFn> RawTable<'a, K, V, H> {
-    /// `SearchTooLong` of the least home from which a search may read more groups than the bound; None without a bound.
+    /// `SearchTooLong` of the least home from which a search may read more groups than the bound;
+    /// None without a bound.
     pub(crate) fn longer_refusal(&self, groups: Option<usize>) -> Option<Error> {
         let Some(groups) = groups else {
             return None;
@@ -19,17 +20,18 @@ impl<'a, K: ByteArray, V: ByteArray, H: HashFn> RawTable<'a, K, V, H> {
         }
     }
 
-    /// Whether each home has, among the first `groups` groups of its probe order, a control byte that counts as free.
-    /// Then no search in a placed table, of a present or an absent key, reads more. It reads control bytes alone.
+    /// Whether each home has, among the first `groups` groups of its probe order, a control byte
+    /// that counts as free. Then no search in a placed table, of a present or an absent key, reads
+    /// more. It reads control bytes alone.
     pub fn searches_within(&self, groups: usize) -> bool {
         // Its invariant is used: the control bytes are those of a slot count, with their mirror.
         let _ = &self.control;
         self.first_longer(groups).is_none()
     }
 
-    /// The least home from which a search may read more than `groups` groups: none of the control bytes in these counts
-    /// as free. None where no search reads more. At most `groups` reads of sixteen bytes a slot, and few where most
-    /// groups have a free byte.
+    /// The least home from which a search may read more than `groups` groups: none of the control
+    /// bytes in these counts as free. None where no search reads more. At most `groups` reads of
+    /// sixteen bytes a slot, and few where most groups have a free byte.
     #[inline(never)]
     pub(crate) fn first_longer(&self, groups: usize) -> Option<usize> {
         let mut home = 0;
@@ -42,11 +44,12 @@ impl<'a, K: ByteArray, V: ByteArray, H: HashFn> RawTable<'a, K, V, H> {
         None
     }
 
-    // From this home and those after it, so many in all, no search reads more than `groups` groups. None where one from
-    // this home may.
+    // From this home and those after it, so many in all, no search reads more than `groups`
+    // groups. None where one from this home may.
     //
-    // The groups that these searches read begin one slot after the other. So where one has a free byte, those that begin
-    // up to it have it too; but not behind the last slot, where the mirror may differ from what it mirrors.
+    // The groups that these searches read begin one slot after the other. So where one has a free
+    // byte, those that begin up to it have it too; but not behind the last slot, where the mirror
+    // may differ from what it mirrors.
     #[inline]
     fn homes_within(&self, home: usize, groups: usize) -> Option<usize> {
         let mask = self.entries.len() - 1;
@@ -79,7 +82,8 @@ impl<'a, H: HashFn> SizedTable<'a, H> {
         self.without_entries().searches_within(groups)
     }
 
-    // A table of the same control bytes, which are all that a bound of searches reads: its entries have no bytes.
+    // A table of the same control bytes, which are all that a bound of searches reads: its entries
+    // have no bytes.
     #[inline]
     fn without_entries(&self) -> RawTable<'_, [u8; 0], [u8; 0], FxHashFn> {
         let control = self.controls();

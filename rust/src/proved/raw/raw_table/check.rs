@@ -1,5 +1,6 @@
 // Made by `make rust` of crates/odht_raw/src/raw_table/check.rt.
-//! The whole check of the parts of a table: each slot, the mirror, and that the search for each key ends at its slot.
+//! The whole check of the parts of a table: each slot, the mirror, and that the search for each
+//! key ends at its slot.
 
 use super::{is_empty_or_deleted, tag_of, GroupProbe, RawTable, FREE};
 use crate::proved::raw::bytes::{is_zeros, ByteArray};
@@ -20,14 +21,14 @@ pub(crate) struct SlotSummary {
 }
 
 impl<'a, K: ByteArray, V: ByteArray, H: HashFn> RawTable<'a, K, V, H> {
-    /// Checks all slots, and returns the first error in slot order: `NonZeroEmpty`, then `BadFreeControl`, of a slot
-    /// that counts as free, `ControlMismatch` of any other.
+    /// Checks all slots, and returns the first error in slot order: `NonZeroEmpty`, then
+    /// `BadFreeControl`, of a slot that counts as free, `ControlMismatch` of any other.
     ///
-    /// `unreachable` is what its comment says only where searches are made, no slot gives an error, and the mirror has no
-    /// mismatch. The whole check reads it in no other case.
-    // The slots are gone through a span at a time, first the free ones and then the others, so that what a slot is
-    // makes no branch that cannot be predicted. Where a free one has an error, the slots of its span are gone through
-    // in their order instead.
+    /// `unreachable` is what its comment says only where searches are made, no slot gives an
+    /// error, and the mirror has no mismatch. The whole check reads it in no other case.
+    // The slots are gone through a span at a time, first the free ones and then the others, so
+    // that what a slot is makes no branch that cannot be predicted. Where a free one has an error,
+    // the slots of its span are gone through in their order instead.
     //
     // Inlined next to an opening, it would keep the first ten control bytes in registers.
     #[inline(never)]
@@ -47,7 +48,8 @@ impl<'a, K: ByteArray, V: ByteArray, H: HashFn> RawTable<'a, K, V, H> {
         Ok(summary)
     }
 
-    // The first error of the `size` slots from `start` on, each looked at in its order. Those before have none.
+    // The first error of the `size` slots from `start` on, each looked at in its order. Those
+    // before have none.
     #[inline(never)]
     fn check_in_order(&self, start: usize, size: usize) -> Result<(), Error> {
         // Its invariant is used: slots and control bytes are as many as fit in a `usize`.
@@ -59,8 +61,8 @@ impl<'a, K: ByteArray, V: ByteArray, H: HashFn> RawTable<'a, K, V, H> {
         Ok(())
     }
 
-    // What is known after a span of `size` slots from `start` on, of which the free ones have no error, from what is
-    // known before it. The others are taken in their order.
+    // What is known after a span of `size` slots from `start` on, of which the free ones have no
+    // error, from what is known before it. The others are taken in their order.
     #[inline(always)]
     fn take_others(
         &self,
@@ -119,12 +121,14 @@ impl<'a, K: ByteArray, V: ByteArray, H: HashFn> RawTable<'a, K, V, H> {
         }
     }
 
-    // Whether the search for the key of an occupied slot, slot by slot along the probe order, ends at that slot. The
-    // key is compared only with keys at earlier positions that have its tag.
+    // Whether the search for the key of an occupied slot, slot by slot along the probe order, ends
+    // at that slot. The key is compared only with keys at earlier positions that have its tag.
     //
-    // This asks for more than `IsReached` does: the second copy of a key may be reached, but no search ends at it.
+    // This asks for more than `IsReached` does: the second copy of a key may be reached, but no
+    // search ends at it.
     //
-    // Most keys are in the group of their home, with no free byte and no match before them: then this is all.
+    // Most keys are in the group of their home, with no free byte and no match before them: then
+    // this is all.
     #[inline]
     fn is_reached(&self, slot: usize, hash: u32) -> bool {
         let slots = self.entries.len();
@@ -164,8 +168,9 @@ impl<'a, K: ByteArray, V: ByteArray, H: HashFn> RawTable<'a, K, V, H> {
         }
     }
 
-    // Whether each of the `count` slots from `start` on, modulo the slot count, is occupied by another key than that of
-    // `slot`. The group is that of these slots, searched for the tag of this key.
+    // Whether each of the `count` slots from `start` on, modulo the slot count, is occupied by
+    // another key than that of `slot`. The group is that of these slots, searched for the tag of
+    // this key.
     #[inline]
     fn are_passed(&self, group: GroupQuery, start: usize, count: usize, slot: usize) -> bool {
         let mask = self.entries.len() - 1;
@@ -185,8 +190,8 @@ impl<'a, K: ByteArray, V: ByteArray, H: HashFn> RawTable<'a, K, V, H> {
         true
     }
 
-    /// Compares the mirror with the control bytes of the first sixteen slots; `MirrorMismatch` of the first index that
-    /// differs.
+    /// Compares the mirror with the control bytes of the first sixteen slots; `MirrorMismatch` of
+    /// the first index that differs.
     #[inline]
     pub(crate) fn check_mirror(&self) -> Result<(), Error> {
         let slots = self.entries.len();

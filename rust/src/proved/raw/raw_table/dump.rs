@@ -26,7 +26,8 @@ impl<'a, K: ByteArray, V: ByteArray, H: HashFn> RawTable<'a, K, V, H> {
 }
 
 impl<'a, K: ByteArray, V: ByteArray, H: HashFn> fmt::Debug for RawTable<'a, K, V, H> {
-    // The slot count and the name of the hash function on one line, then a line for each slot, in slot order.
+    // The slot count and the name of the hash function on one line, then a line for each slot, in
+    // slot order.
     fn fmt(&self, f: &mut fmt::Formatter<'_>) -> fmt::Result {
         self.write_head(f)?;
         for slot in 0..self.entries.len() {

@@ -98,9 +98,9 @@ impl<'a, K: ByteArray, V: ByteArray> SlotKeys for Entries<'a, K, V> {
         self.slots
     }
 
-    // A short key is loaded whole, and compared as its length allows; a longer one is compared where it is. The whole
-    // entry is cut out of the bytes, as `get` cuts it: where its value is read next, that is the same cut, and is made
-    // once.
+    // A short key is loaded whole, and compared as its length allows; a longer one is compared
+    // where it is. The whole entry is cut out of the bytes, as `get` cuts it: where its value is
+    // read next, that is the same cut, and is made once.
     #[inline(always)]
     fn is_at(&self, slot: usize, key: &K) -> bool {
         let entry = self.bytes_of(slot);

@@ -4,17 +4,19 @@
 use super::{EntryMetadata, ProbeSeq, Scan};
 use crate::proved::raw::swisstable_group_query::REFERENCE_GROUP_SIZE;
 
-/// The place of a search: the group of sixteen slots at hand, of those along its probe order, and the control bytes.
+/// The place of a search: the group of sixteen slots at hand, of those along its probe order, and
+/// the control bytes.
 ///
-/// In a contract it is the control bytes, how many groups of them were read, the home slot, and the position of the
-/// group's first slot in the order.
+/// In a contract it is the control bytes, how many groups of them were read, the home slot, and
+/// the position of the group's first slot in the order.
 pub(crate) struct GroupProbe<'a> {
     scan: Scan<'a>,
     probe: ProbeSeq<REFERENCE_GROUP_SIZE>,
 }
 
 impl<'a> GroupProbe<'a> {
-    /// The first group of the probe order of a hash, or of a home slot, in the control bytes of `slots` slots.
+    /// The first group of the probe order of a hash, or of a home slot, in the control bytes of
+    /// `slots` slots.
     #[inline(always)]
     pub(crate) fn new(control: &'a [EntryMetadata], slots: usize, hash: usize) -> Self {
         GroupProbe::over(Scan::new(control, slots), hash)

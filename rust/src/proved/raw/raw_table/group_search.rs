@@ -6,20 +6,22 @@ use crate::proved::raw::bytes::ByteArray;
 use crate::proved::raw::hash::HashFn;
 use crate::proved::raw::swisstable_group_query::{Group, GroupQuery, REFERENCE_GROUP_SIZE};
 
-/// Searches for the key group by group along its probe order. All of this holds for every group search; the rules are
-/// those of docs/FORMAT.md, "Search".
+/// Searches for the key group by group along its probe order. All of this holds for every group
+/// search; the rules are those of docs/FORMAT.md, "Search".
 ///
-/// On the parts of a placed table the result is the first slot that is free or holds the key, which is where a pair with
-/// the key is placed, and the scan's count rises by the groups up to it.
+/// On the parts of a placed table the result is the first slot that is free or holds the key,
+/// which is where a pair with the key is placed, and the scan's count rises by the groups up to
+/// it.
 ///
 /// On any parts the count rises by no more than there are groups, and the result is one of
-/// - `Found(i)`: the entry of `i` has the key. Each slot of an earlier group counts as occupied; a free byte of the same
-///   group may come before it.
+/// - `Found(i)`: the entry of `i` has the key. Each slot of an earlier group counts as occupied; a
+///   free byte of the same group may come before it.
 /// - `Free(i)`: `i` counts as free, and each slot before it as occupied.
 /// - `Neither`: each slot counts as occupied.
 ///
-/// Each slot before it, or of `Neither` each slot, has another tag than the key or another key. "Before" is in the probe
-/// order. A slot below 16 has two control bytes, and counts as what either of them says, so it may count as both.
+/// Each slot before it, or of `Neither` each slot, has another tag than the key or another key.
+/// "Before" is in the probe order. A slot below 16 has two control bytes, and counts as what
+/// either of them says, so it may count as both.
 #[inline(always)]
 pub fn search<K: ByteArray, V: ByteArray, H: HashFn, Q: Group>(
     scan: &mut Scan<'_>,
@@ -76,8 +78,8 @@ fn search_from<E: SlotKeys, H: HashFn, Q: Group>(
     }
 }
 
-/// The rest of a search whose first group neither holds the key nor has a free byte. It is not inlined: where a first
-/// look ends the search, this is not called.
+/// The rest of a search whose first group neither holds the key nor has a free byte. It is not
+/// inlined: where a first look ends the search, this is not called.
 #[inline(never)]
 pub(super) fn late_search<K: ByteArray, V: ByteArray, H: HashFn>(
     control: &[EntryMetadata],
@@ -93,7 +95,8 @@ pub(super) fn late_search<K: ByteArray, V: ByteArray, H: HashFn>(
     search_from::<Entries<'_, K, V>, H, GroupQuery>(&mut probe, entries, key, tag_of(hash))
 }
 
-// Searches the sixteen slots from `start` on, whose control bytes are `bytes`, in pieces of the group search's size.
+// Searches the sixteen slots from `start` on, whose control bytes are `bytes`, in pieces of the
+// group search's size.
 #[inline(always)]
 fn look_at_group<E: SlotKeys, H: HashFn, Q: Group>(
     bytes: &[EntryMetadata],
@@ -102,7 +105,8 @@ fn look_at_group<E: SlotKeys, H: HashFn, Q: Group>(
     key: &E::Key,
     tag: u8,
 ) -> Option<Search> {
-    // One piece is told apart here, not by a loop of one turn: so the compiler knows early that a match ends the search.
+    // One piece is told apart here, not by a loop of one turn: so the compiler knows early that a
+    // match ends the search.
     if Q::SIZE == REFERENCE_GROUP_SIZE {
         return look_at_piece::<E, H, Q>(bytes, start, keys, key, tag);
     }

@@ -1,8 +1,8 @@
 // Made by `make rust` of crates/odht_raw/src/raw_table/insert.rt.
 //! The insert of one pair into the parts of a table: one search, and the write where it ends.
 //!
-//! These functions take the slot count where their caller has it, though the control bytes have a length: so the
-//! compiler need not keep both.
+//! These functions take the slot count where their caller has it, though the control bytes have a
+//! length: so the compiler need not keep both.
 
 use super::{search_hashed, tag_of, Entries, EntryMetadata, Scan, Search};
 use crate::proved::raw::bytes::{write_slice, ByteArray};
@@ -10,10 +10,10 @@ use crate::proved::raw::error::Error;
 use crate::proved::raw::hash::HashFn;
 use crate::proved::raw::swisstable_group_query::{Group, REFERENCE_GROUP_SIZE};
 
-/// Searches for the key once. Overwrites the value that is stored with it; or, where it is new and `room`, the number
-/// of entries that may be added, is not zero, writes the pair into the first free slot of the key's probe order.
-/// Returns the former value; or `Full`, with nothing changed, where the key is new and there is no room or no free
-/// slot.
+/// Searches for the key once. Overwrites the value that is stored with it; or, where it is new and
+/// `room`, the number of entries that may be added, is not zero, writes the pair into the first
+/// free slot of the key's probe order. Returns the former value; or `Full`, with nothing changed,
+/// where the key is new and there is no room or no free slot.
 #[inline(always)]
 pub(crate) fn insert_step<K: ByteArray, V: ByteArray, H: HashFn, Q: Group>(
     control: &mut [EntryMetadata],
@@ -42,9 +42,10 @@ pub(crate) fn step_end<K: ByteArray, V: ByteArray, H: HashFn, Q: Group>(
     (end, tag_of(hash))
 }
 
-/// Writes a pair where the search for its key ended, which comes with the key's tag: the value alone into the slot
-/// that holds the key, or, where there is room, the entry with its tag into the free slot. Returns the former value; or
-/// `Full`, with nothing changed, where there is no room for a new entry, or the search met neither slot.
+/// Writes a pair where the search for its key ended, which comes with the key's tag: the value
+/// alone into the slot that holds the key, or, where there is room, the entry with its tag into
+/// the free slot. Returns the former value; or `Full`, with nothing changed, where there is no
+/// room for a new entry, or the search met neither slot.
 #[inline(always)]
 pub(crate) fn insert_at<K: ByteArray, V: ByteArray, H: HashFn>(
     control: &mut [EntryMetadata],
@@ -74,7 +75,8 @@ pub(crate) fn insert_at<K: ByteArray, V: ByteArray, H: HashFn>(
     }
 }
 
-/// Writes the pair into a slot, the tag into the slot's control byte, and for a slot below 16 the tag into the mirror.
+/// Writes the pair into a slot, the tag into the slot's control byte, and for a slot below 16 the
+/// tag into the mirror.
 #[inline(always)]
 pub(crate) fn fill_slot<K: ByteArray, V: ByteArray, H: HashFn>(
     control: &mut [EntryMetadata],

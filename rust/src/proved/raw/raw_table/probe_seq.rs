@@ -6,15 +6,16 @@ use crate::proved::raw::swisstable_group_query::REFERENCE_GROUP_SIZE;
 use crate::shim::Global;
 use alloc::vec::Vec;
 
-/// A position of the probe order of a table, from which the next `GROUP_SIZE` slots are searched. The order is that of
-/// docs/FORMAT.md, "Probe order".
+/// A position of the probe order of a table, from which the next `GROUP_SIZE` slots are searched.
+/// The order is that of docs/FORMAT.md, "Probe order".
 ///
-/// Whatever `GROUP_SIZE` is, a divisor of 16, the slots come in the same order: that of groups of sixteen. So a table
-/// that is written with one group search can be read with any other. In a contract it is the home slot, the mask and
-/// the position.
+/// Whatever `GROUP_SIZE` is, a divisor of 16, the slots come in the same order: that of groups of
+/// sixteen. So a table that is written with one group search can be read with any other. In a
+/// contract it is the home slot, the mask and the position.
 ///
-/// Beside these it keeps the slot at the position (`index`), the first slot of its group (`base`), how far the
-/// slot is behind that one (`chunk_index`), and sixteen times the number of the group (`stride`).
+/// Beside these it keeps the slot at the position (`index`), the first slot of its group (`base`),
+/// how far the slot is behind that one (`chunk_index`), and sixteen times the number of the group
+/// (`stride`).
 pub struct ProbeSeq<const GROUP_SIZE: usize> {
     home: usize,
     mask: usize,
@@ -41,7 +42,8 @@ impl<const GROUP_SIZE: usize> ProbeSeq<GROUP_SIZE> {
         }
     }
 
-    /// Advances by `GROUP_SIZE` positions, of which there must be more: `is_last` is false. The mask is that of `new`.
+    /// Advances by `GROUP_SIZE` positions, of which there must be more: `is_last` is false. The
+    /// mask is that of `new`.
     #[inline]
     pub fn advance(&mut self, mask: usize) {
         self.chunk_index += GROUP_SIZE;
@@ -66,14 +68,16 @@ impl<const GROUP_SIZE: usize> ProbeSeq<GROUP_SIZE> {
         self.mask - self.position < GROUP_SIZE
     }
 
-    // `is_last` where the next position fits, which `advance` computes anyway. The mask is that of `new`.
+    // `is_last` where the next position fits, which `advance` computes anyway. The mask is that of
+    // `new`.
     #[inline]
     pub(crate) fn is_last_of(&self, mask: usize) -> bool {
         mask < self.position + GROUP_SIZE
     }
 }
 
-/// The slots of a table in the probe order of the home slot `start`, each exactly once (docs/FORMAT.md, "Probe order").
+/// The slots of a table in the probe order of the home slot `start`, each exactly once
+/// (docs/FORMAT.md, "Probe order").
 ///
 /// The only error is `Memory`, where the list cannot be allocated. One pass over the slots.
 pub fn probe_order(alloc: Global, start: usize, slots: usize) -> Result<Vec<usize>, Error> {

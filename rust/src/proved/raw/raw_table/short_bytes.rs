@@ -1,7 +1,8 @@
 // Made by `make rust` of crates/odht_raw/src/raw_table/short_bytes.rt.
 //! A few bytes, by value.
 
-/// At most 255 bytes by value, as a key or a value of a table has. No memory is allocated for them.
+/// At most 255 bytes by value, as a key or a value of a table has. No memory is allocated for
+/// them.
 ///
 /// In a contract it is these bytes.
 #[derive(Clone, Copy)]

@@ -12,8 +12,8 @@ use crate::proved::raw::layout::Layout;
 use crate::proved::raw::swisstable_group_query::GroupQuery;
 use std::marker::PhantomData;
 
-/// The parts of a table, borrowed to be read: the control bytes with their mirror, and the entries of as many slots. The
-/// lengths of keys and values are numbers.
+/// The parts of a table, borrowed to be read: the control bytes with their mirror, and the entries
+/// of as many slots. The lengths of keys and values are numbers.
 ///
 /// In a contract it is these lengths and the parts.
 pub struct SizedTable<'a, H: HashFn> {
@@ -67,13 +67,14 @@ impl<'a, H: HashFn> SizedTable<'a, H> {
         }
     }
 
-    /// The slots from slot `from` on whose own control byte does not count as free, in slot order, each with its key
-    /// and its value. Nothing where `from` is past the last slot.
+    /// The slots from slot `from` on whose own control byte does not count as free, in slot order,
+    /// each with its key and its value. Nothing where `from` is past the last slot.
     pub fn iter_from(&self, from: usize) -> SizedSlots<'a, H> {
         SizedSlots::new(self.copy(), from)
     }
 
-    /// The key and the value of each slot whose own control byte does not count as free, in slot order.
+    /// The key and the value of each slot whose own control byte does not count as free, in slot
+    /// order.
     pub fn iter(&self) -> SizedIter<'a, H> {
         SizedIter::new(self.copy())
     }
@@ -128,18 +129,20 @@ impl<'a, H: HashFn> SizedTable<'a, H> {
         is_same_key(self.key(slot), key)
     }
 
-    /// The value stored with the key, searched for group by group along the probe order (docs/FORMAT.md, "Search").
+    /// The value stored with the key, searched for group by group along the probe order
+    /// (docs/FORMAT.md, "Search").
     ///
-    /// On the parts of a placed table it is the map's result. On any parts it is a value that is stored with an equal
-    /// key. `find_counted` says how many groups that takes.
+    /// On the parts of a placed table it is the map's result. On any parts it is a value that is
+    /// stored with an equal key. `find_counted` says how many groups that takes.
     #[inline(always)]
     pub fn find(&self, key: &[u8]) -> Option<&'a [u8]> {
         let (value, _) = self.find_counted(key);
         value
     }
 
-    /// `find`, and how many groups were read: on the parts of a placed table those up to the first slot that is free
-    /// or holds the key, and on any parts at most all groups. How they are counted: docs/FORMAT.md, "Search".
+    /// `find`, and how many groups were read: on the parts of a placed table those up to the first
+    /// slot that is free or holds the key, and on any parts at most all groups. How they are
+    /// counted: docs/FORMAT.md, "Search".
     #[inline(always)]
     pub fn find_counted(&self, key: &[u8]) -> (Option<&'a [u8]>, usize) {
         match key.len() {
@@ -152,8 +155,8 @@ impl<'a, H: HashFn> SizedTable<'a, H> {
         }
     }
 
-    // `find_counted`. It is inlined where the compiler knows the length of the key, and so hashes and compares it with
-    // no loop.
+    // `find_counted`. It is inlined where the compiler knows the length of the key, and so hashes
+    // and compares it with no loop.
     #[inline(always)]
     fn find_of(&self, key: &[u8]) -> (Option<&'a [u8]>, usize) {
         let mut scan = Scan::new(self.controls(), self.len());
@@ -168,8 +171,8 @@ impl<'a, H: HashFn> SizedTable<'a, H> {
         }
     }
 
-    // Where the search for a key that is inserted ends, and the key's tag. It is inlined where the compiler knows the length
-    // of the key, as `find_of` is.
+    // Where the search for a key that is inserted ends, and the key's tag. It is inlined where the
+    // compiler knows the length of the key, as `find_of` is.
     #[inline(always)]
     pub(super) fn search_end(&self, key: &[u8]) -> (Search, u8) {
         let mut scan = Scan::new(self.controls(), self.len());
@@ -179,8 +182,8 @@ impl<'a, H: HashFn> SizedTable<'a, H> {
         (end, tag_of(hash))
     }
 
-    /// Checks the first `slots_to_check` slots, or all where there are fewer, and returns the first error:
-    /// `NonZeroEmpty` of a slot that counts as free, `ControlMismatch` of any other.
+    /// Checks the first `slots_to_check` slots, or all where there are fewer, and returns the
+    /// first error: `NonZeroEmpty` of a slot that counts as free, `ControlMismatch` of any other.
     ///
     /// A mismatch can mean that the bytes were written with another hash function.
     #[inline(always)]
@@ -192,7 +195,8 @@ impl<'a, H: HashFn> SizedTable<'a, H> {
         Ok(())
     }
 
-    // What opening checks of one slot. Returns the hash of the key where the slot does not count as free.
+    // What opening checks of one slot. Returns the hash of the key where the slot does not count
+    // as free.
     #[inline(always)]
     pub(super) fn check_slot(&self, slot: usize) -> Result<Option<u32>, Error> {
         let found = self.control(slot);
@@ -217,8 +221,8 @@ fn is_all_zeros(bytes: &[u8]) -> bool {
     bytes.iter().all(|byte| *byte == 0)
 }
 
-// Whether two lists of the same length are equal. From 8 to 64 bytes are compared where they are, by words with no call;
-// the last word may overlap the one before it.
+// Whether two lists of the same length are equal. From 8 to 64 bytes are compared where they are,
+// by words with no call; the last word may overlap the one before it.
 #[inline(always)]
 fn is_same_key(left: &[u8], right: &[u8]) -> bool {
     let len = right.len();

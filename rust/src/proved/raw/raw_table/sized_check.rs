@@ -1,6 +1,6 @@
 // Made by `make rust` of crates/odht_raw/src/raw_table/sized_check.rt.
-//! The whole check of the parts of a table whose lengths are numbers: each slot, the mirror, and that the search for each
-//! key ends at its slot.
+//! The whole check of the parts of a table whose lengths are numbers: each slot, the mirror, and
+//! that the search for each key ends at its slot.
 
 use super::check::SlotSummary;
 use super::{tag_of, GroupProbe, SizedTable, FREE};
@@ -10,18 +10,19 @@ use crate::proved::raw::swisstable_group_query::lanes::GroupQuery;
 use crate::proved::raw::swisstable_group_query::{Group, REFERENCE_GROUP_SIZE};
 
 impl<'a, H: HashFn> SizedTable<'a, H> {
-    // The sixteen control bytes from that of slot `start` on, which run into the mirror after the last slot.
+    // The sixteen control bytes from that of slot `start` on, which run into the mirror after the
+    // last slot.
     #[inline(always)]
     fn group(&self, start: usize) -> &'a [u8] {
         let control = self.controls();
         &control[start..start + REFERENCE_GROUP_SIZE]
     }
 
-    /// Checks each slot once, in slot order, and returns the first error: `NonZeroEmpty`, then `BadFreeControl`, of a
-    /// slot that counts as free, `ControlMismatch` of any other.
+    /// Checks each slot once, in slot order, and returns the first error: `NonZeroEmpty`, then
+    /// `BadFreeControl`, of a slot that counts as free, `ControlMismatch` of any other.
     ///
-    /// `unreachable` is what its comment says only where searches are made, no slot gives an error, and the mirror has no
-    /// mismatch. The whole check reads it in no other case.
+    /// `unreachable` is what its comment says only where searches are made, no slot gives an
+    /// error, and the mirror has no mismatch. The whole check reads it in no other case.
     #[inline]
     pub(crate) fn check_slots(&self, searches: bool) -> Result<SlotSummary, Error> {
         let mut occupied = 0;
@@ -51,10 +52,11 @@ impl<'a, H: HashFn> SizedTable<'a, H> {
         }
     }
 
-    // Whether the search for the key of an occupied slot, slot by slot along the probe order, ends at that slot. The
-    // key is compared only with keys at earlier positions that have its tag.
+    // Whether the search for the key of an occupied slot, slot by slot along the probe order, ends
+    // at that slot. The key is compared only with keys at earlier positions that have its tag.
     //
-    // This asks for more than `IsReached` does: the second copy of a key may be reached, but no search ends at it.
+    // This asks for more than `IsReached` does: the second copy of a key may be reached, but no
+    // search ends at it.
     #[inline]
     fn is_reached(&self, slot: usize, hash: u32) -> bool {
         let slots = self.len();
@@ -73,8 +75,8 @@ impl<'a, H: HashFn> SizedTable<'a, H> {
         }
     }
 
-    // Whether each of the `count` slots from `start` on, modulo the slot count, is occupied by another key than that of
-    // `slot`, whose tag is `tag`.
+    // Whether each of the `count` slots from `start` on, modulo the slot count, is occupied by
+    // another key than that of `slot`, whose tag is `tag`.
     #[inline]
     fn are_passed(&self, start: usize, count: usize, slot: usize, tag: u8) -> bool {
         let mask = self.len() - 1;
@@ -98,8 +100,8 @@ impl<'a, H: HashFn> SizedTable<'a, H> {
         self.key(slot) == self.key(other)
     }
 
-    /// Compares the mirror with the control bytes of the first sixteen slots; `MirrorMismatch` of the first index that
-    /// differs.
+    /// Compares the mirror with the control bytes of the first sixteen slots; `MirrorMismatch` of
+    /// the first index that differs.
     #[inline]
     pub(crate) fn check_mirror(&self) -> Result<(), Error> {
         let slots = self.len();

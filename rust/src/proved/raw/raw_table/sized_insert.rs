@@ -1,5 +1,6 @@
 // Made by `make rust` of crates/odht_raw/src/raw_table/sized_insert.rt.
-//! The insert of a pair that is given as bytes into the parts of a table: one search, and the write where it ends.
+//! The insert of a pair that is given as bytes into the parts of a table: one search, and the
+//! write where it ends.
 
 use super::{EntryMetadata, Search, ShortBytes, SizedTable};
 use crate::proved::raw::bytes::write_slice;
@@ -8,8 +9,8 @@ use crate::proved::raw::hash::HashFn;
 use crate::proved::raw::layout::Layout;
 use crate::proved::raw::swisstable_group_query::REFERENCE_GROUP_SIZE;
 
-/// Where the search for a key that is inserted ends, and the key's tag. Keys of some lengths have a copy of the search
-/// each, as in [`SizedTable::find_counted`].
+/// Where the search for a key that is inserted ends, and the key's tag. Keys of some lengths have
+/// a copy of the search each, as in [`SizedTable::find_counted`].
 #[inline(always)]
 pub(crate) fn sized_step_end<H: HashFn>(
     control: &[EntryMetadata],
@@ -29,9 +30,10 @@ pub(crate) fn sized_step_end<H: HashFn>(
     }
 }
 
-/// Writes a pair where the search for its key ended, which comes with the key's tag: the value alone into the slot
-/// that holds the key, or, where there is room, the entry with its tag into the free slot. Returns the former value; or
-/// `Full`, with nothing changed, where there is no room for a new entry, or the search met neither slot.
+/// Writes a pair where the search for its key ended, which comes with the key's tag: the value
+/// alone into the slot that holds the key, or, where there is room, the entry with its tag into
+/// the free slot. Returns the former value; or `Full`, with nothing changed, where there is no
+/// room for a new entry, or the search met neither slot.
 pub(crate) fn sized_insert_at<H: HashFn>(
     control: &mut [EntryMetadata],
     entries: &mut [u8],
@@ -62,7 +64,8 @@ pub(crate) fn sized_insert_at<H: HashFn>(
     }
 }
 
-/// Writes the pair into a slot, the tag into the slot's control byte, and for a slot below 16 the tag into the mirror.
+/// Writes the pair into a slot, the tag into the slot's control byte, and for a slot below 16 the
+/// tag into the mirror.
 pub(super) fn fill_sized_slot(
     control: &mut [EntryMetadata],
     entries: &mut [u8],

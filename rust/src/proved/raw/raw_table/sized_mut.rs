@@ -11,8 +11,8 @@ use crate::proved::raw::memory_layout::hold_bytes;
 use crate::proved::raw::swisstable_group_query::GroupQuery;
 use std::marker::PhantomData;
 
-/// The parts of a table, borrowed to be written: the control bytes with their mirror, and the bytes of as many entries.
-/// The lengths of keys and values are numbers.
+/// The parts of a table, borrowed to be written: the control bytes with their mirror, and the
+/// bytes of as many entries. The lengths of keys and values are numbers.
 ///
 /// After the borrow both slices hold what the inserts left in them.
 pub struct SizedTableMut<'c, 'e, H: HashFn> {
@@ -29,11 +29,12 @@ impl<'c, 'e, H: HashFn> SizedTableMut<'c, 'e, H> {
         SizedTableMut { control, entries, layout, hash: PhantomData }
     }
 
-    /// Overwrites the value stored with the key, or writes the pair into the first free slot of the key's probe order.
-    /// Returns the former value. Key and value have the lengths of the table's.
+    /// Overwrites the value stored with the key, or writes the pair into the first free slot of
+    /// the key's probe order. Returns the former value. Key and value have the lengths of the
+    /// table's.
     ///
-    /// It does what [`RawTableMut::insert`](super::RawTableMut::insert) does to the parts of a table whose keys and
-    /// values have these lengths, to any parts too.
+    /// It does what [`RawTableMut::insert`](super::RawTableMut::insert) does to the parts of a
+    /// table whose keys and values have these lengths, to any parts too.
     pub fn insert(&mut self, key: &[u8], value: &[u8]) -> Result<Option<ShortBytes>, Error> {
         hold_bytes(key);
         hold_bytes(value);
@@ -44,11 +45,12 @@ impl<'c, 'e, H: HashFn> SizedTableMut<'c, 'e, H> {
         sized_insert_at::<H>(control, entries, layout, key, value, end, usize::MAX)
     }
 
-    /// Writes the pair into the first free slot of its key's probe order. No key is compared, so it is for a key that
-    /// the table does not have. Key and value have the lengths of the table's.
+    /// Writes the pair into the first free slot of its key's probe order. No key is compared, so
+    /// it is for a key that the table does not have. Key and value have the lengths of the
+    /// table's.
     ///
-    /// It does what [`RawTableMut::place`](super::RawTableMut::place) does to the parts of a table whose keys and
-    /// values have these lengths, to any parts too.
+    /// It does what [`RawTableMut::place`](super::RawTableMut::place) does to the parts of a table
+    /// whose keys and values have these lengths, to any parts too.
     pub fn place(&mut self, key: &[u8], value: &[u8]) -> Result<(), Error> {
         hold_bytes(key);
         hold_bytes(value);

@@ -3,8 +3,8 @@
 
 /// What holds the keys of the slots. A search compares keys by it, and asks it nothing else.
 ///
-/// In a contract it is a format of the lengths of keys and values, where the hash does not matter, and the bytes of the
-/// entries of so many slots.
+/// In a contract it is a format of the lengths of keys and values, where the hash does not matter,
+/// and the bytes of the entries of so many slots.
 pub(crate) trait SlotKeys {
     /// A key that is sought.
     type Key;

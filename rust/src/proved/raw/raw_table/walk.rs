@@ -6,11 +6,12 @@ use crate::proved::raw::bytes::ByteArray;
 use crate::proved::raw::swisstable_group_query::{occupied, IndexSet, REFERENCE_GROUP_SIZE};
 use std::iter::FusedIterator;
 
-/// A walk from a slot on over the slots whose own control byte does not count as free, in slot order: the index of each
-/// slot, with its control byte and its entry. A walk that stops at an item can go on later from that item's slot.
+/// A walk from a slot on over the slots whose own control byte does not count as free, in slot
+/// order: the index of each slot, with its control byte and its entry. A walk that stops at an
+/// item can go on later from that item's slot.
 ///
-/// In a contract it is the list of the items that are left. A whole walk reads each control byte once, sixteen at a
-/// time.
+/// In a contract it is the list of the items that are left. A whole walk reads each control byte
+/// once, sixteen at a time.
 pub struct RawSlots<'a, K: ByteArray, V: ByteArray> {
     control: &'a [EntryMetadata],
     entries: Entries<'a, K, V>,
@@ -20,8 +21,8 @@ pub struct RawSlots<'a, K: ByteArray, V: ByteArray> {
 }
 
 impl<'a, K: ByteArray, V: ByteArray> RawSlots<'a, K, V> {
-    /// The walk from slot `from` on; it gives no item where `from` is past the last slot. `control` is the control
-    /// bytes with their mirror.
+    /// The walk from slot `from` on; it gives no item where `from` is past the last slot.
+    /// `control` is the control bytes with their mirror.
     #[inline]
     pub fn new(control: &'a [EntryMetadata], entries: Entries<'a, K, V>, from: usize) -> Self {
         let first = from.min(entries.len());
@@ -54,11 +55,11 @@ impl<'a, K: ByteArray, V: ByteArray> Iterator for RawSlots<'a, K, V> {
 
 impl<'a, K: ByteArray, V: ByteArray> FusedIterator for RawSlots<'a, K, V> {}
 
-/// A walk over all slots whose own control byte does not count as free, in slot order: the control byte and the entry
-/// of each.
+/// A walk over all slots whose own control byte does not count as free, in slot order: the control
+/// byte and the entry of each.
 ///
-/// In a contract it is the list of the items that are left. A whole walk reads each control byte once, sixteen at a
-/// time.
+/// In a contract it is the list of the items that are left. A whole walk reads each control byte
+/// once, sixteen at a time.
 pub struct RawIter<'a, K: ByteArray, V: ByteArray> {
     slots: RawSlots<'a, K, V>,
 }

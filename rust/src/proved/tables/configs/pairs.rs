@@ -6,8 +6,9 @@ use crate::proved::tables::config::Config;
 use crate::proved::tables::hash::{FxHashFn, HashFn, UnHashFn};
 use std::marker::PhantomData;
 
-/// From keys to values that are stored as `Stored` says; where values are `()` the table is a set. `H` hashes the
-/// bytes of a key: `UnHashFn` is for keys that are hashes already, and takes their last four bytes, which should vary.
+/// From keys to values that are stored as `Stored` says; where values are `()` the table is a set.
+/// `H` hashes the bytes of a key: `UnHashFn` is for keys that are hashes already, and takes their
+/// last four bytes, which should vary.
 pub struct Pairs<K, V, H = FxHashFn> {
     key: PhantomData<K>,
     value: PhantomData<V>,

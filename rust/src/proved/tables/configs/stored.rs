@@ -1,11 +1,12 @@
 // Made by `make rust` of crates/odht/src/configs/stored.rt.
-//! What the keys and values of ready configurations are, and how they are stored: integers little-endian, and bytes as
-//! they are.
+//! What the keys and values of ready configurations are, and how they are stored: integers
+//! little-endian, and bytes as they are.
 
 use crate::proved::tables::bytes::ByteArray;
 use crate::proved::tables::hash::{FxHashFn, HashFn, UnHashFn};
 
-/// A type that is stored as a fixed number of bytes: an integer, little-endian, bytes, or `()`, which has none.
+/// A type that is stored as a fixed number of bytes: an integer, little-endian, bytes, or `()`,
+/// which has none.
 pub trait Stored {
     type Bytes: ByteArray;
 
@@ -102,7 +103,8 @@ impl Fits for [u8; 20] {}
 
 impl Fits for [u8; 32] {}
 
-/// A type whose bytes are long enough for a hash function: `UnHashFn` takes the last four, which should vary.
+/// A type whose bytes are long enough for a hash function: `UnHashFn` takes the last four, which
+/// should vary.
 pub trait HashedBy<H: HashFn>: Fits {}
 
 impl<T: Fits> HashedBy<FxHashFn> for T {}

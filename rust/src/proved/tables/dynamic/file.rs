@@ -1,6 +1,6 @@
 // Made by `make rust` of crates/odht/src/dynamic/file.rt.
-//! A table that is read by position where it lies, such as in a file: a lookup reads a few groups of control bytes and
-//! a few entries, and nothing else.
+//! A table that is read by position where it lies, such as in a file: a lookup reads a few groups
+//! of control bytes and a few entries, and nothing else.
 
 use super::DynError;
 use crate::proved::tables::hash::HashFn;
@@ -20,16 +20,19 @@ pub enum FileError {
     Table(DynError),
 }
 
-/// A table that is read by position from a source of bytes: its header when it is opened, and for each lookup the
-/// groups of control bytes up to the end of the search, the keys whose tag fits, and the value. No memory is allocated.
+/// A table that is read by position from a source of bytes: its header when it is opened, and for
+/// each lookup the groups of control bytes up to the end of the search, the keys whose tag fits,
+/// and the value. No memory is allocated.
 ///
-/// Where each read of the source returns bytes of one list, a call returns what that of [`DynTable`](super::DynTable)
-/// over this list returns, or the error of a read that failed; but a key of another length is an error here. Where the
-/// bytes change between reads, a lookup may return what no table had at one time, but it does no harm, and one that
-/// returns has read at most one group for sixteen slots. That a file keeps its bytes is not proved: it is for the
+/// Where each read of the source returns bytes of one list, a call returns what that of
+/// [`DynTable`](super::DynTable) over this list returns, or the error of a read that failed; but a
+/// key of another length is an error here. Where the bytes change between reads, a lookup may
+/// return what no table had at one time, but it does no harm, and one that returns has read at
+/// most one group for sixteen slots. That a file keeps its bytes is not proved: it is for the
 /// caller to know.
 ///
-/// A contract speaks of it as of the source, the offset, the lengths, and the counts of the header.
+/// A contract speaks of it as of the source, the offset, the lengths, and the counts of the
+/// header.
 pub struct FileTable<H: HashFn, S: ReadAt> {
     source: S,
     at: u64,
@@ -45,13 +48,15 @@ impl<H: HashFn, S: ReadAt> FileTable<H, S> {
         FileTable::open_at(layout, source, 0, len)
     }
 
-    /// Opens the `len` bytes from an offset on as a table of these lengths. It reads the header, the first 32 control
-    /// bytes, and the entries of sixteen slots: at most three reads, where each returns all that is asked. That there
-    /// are `len` bytes is the caller's word: where the source ends before, a lookup may return `EarlyEnd`.
+    /// Opens the `len` bytes from an offset on as a table of these lengths. It reads the header,
+    /// the first 32 control bytes, and the entries of sixteen slots: at most three reads, where
+    /// each returns all that is asked. That there are `len` bytes is the caller's word: where the
+    /// source ends before, a lookup may return `EarlyEnd`.
     ///
-    /// The first error: `Table` with `KeyTooShort`; `Read` with `EarlyEnd` where the end reaches 2^64; then that of a
-    /// read, or `Table` with what [`DynTable::open`](super::DynTable::open) returns of the bytes: of the header and the
-    /// length, then of the first ten slots. On an error the source is dropped.
+    /// The first error: `Table` with `KeyTooShort`; `Read` with `EarlyEnd` where the end reaches
+    /// 2^64; then that of a read, or `Table` with what [`DynTable::open`](super::DynTable::open)
+    /// returns of the bytes: of the header and the length, then of the first ten slots. On an
+    /// error the source is dropped.
     pub fn open_at(layout: Layout, source: S, offset: u64, len: usize) -> Result<Self, FileError> {
         if (layout.key_len as usize) < H::MIN_LEN {
             return Err(FileError::Table(DynError::KeyTooShort {
@@ -71,12 +76,13 @@ impl<H: HashFn, S: ReadAt> FileTable<H, S> {
         FileTable::open_at_as_stated(source, 0, len)
     }
 
-    /// [`FileTable::open_at`] with the lengths that the header states; [`FileTable::layout`] tells them. The header is
-    /// read first by itself, so that it is one read more.
+    /// [`FileTable::open_at`] with the lengths that the header states; [`FileTable::layout`] tells
+    /// them. The header is read first by itself, so that it is one read more.
     ///
-    /// The first error: `Read` with `EarlyEnd` where the end reaches 2^64; then that of a read, or `Table` with what
-    /// [`DynTable::open_as_stated`](super::DynTable::open_as_stated) returns of the bytes: of the header and the length,
-    /// then `KeyTooShort`, then of the first ten slots. On an error the source is dropped.
+    /// The first error: `Read` with `EarlyEnd` where the end reaches 2^64; then that of a read, or
+    /// `Table` with what [`DynTable::open_as_stated`](super::DynTable::open_as_stated) returns of
+    /// the bytes: of the header and the length, then `KeyTooShort`, then of the first ten slots.
+    /// On an error the source is dropped.
     pub fn open_at_as_stated(source: S, offset: u64, len: usize) -> Result<Self, FileError> {
         if offset.checked_add(len as u64).is_none() {
             return Err(FileError::Read(ReadError::EarlyEnd));
@@ -99,19 +105,21 @@ impl<H: HashFn, S: ReadAt> FileTable<H, S> {
         self.items
     }
 
-    /// The value of a key, or None, as [`DynTable::get`](super::DynTable::get) of the table's bytes returns it. In a
-    /// file that was made to have long searches it may take a read for each sixteen slots.
+    /// The value of a key, or None, as [`DynTable::get`](super::DynTable::get) of the table's
+    /// bytes returns it. In a file that was made to have long searches it may take a read for each
+    /// sixteen slots.
     ///
-    /// The first error: `Table` with `WrongKeyLength` where the key has another length than the table's keys, and
-    /// nothing is read; then `Read` with that of a read.
+    /// The first error: `Table` with `WrongKeyLength` where the key has another length than the
+    /// table's keys, and nothing is read; then `Read` with that of a read.
     pub fn get(&self, key: &[u8]) -> Result<Option<ShortBytes>, FileError> {
         let (value, _) = self.get_counted(key)?;
         Ok(value)
     }
 
-    /// `get`, and how many groups of control bytes it read: on valid bytes those up to the first slot of the key's
-    /// probe order that is free or holds the key, and whatever the reads give at most one for sixteen slots.
-    /// docs/FORMAT.md, "Search", counts them. Beside these it reads the key of each slot whose tag fits, and the value.
+    /// `get`, and how many groups of control bytes it read: on valid bytes those up to the first
+    /// slot of the key's probe order that is free or holds the key, and whatever the reads give at
+    /// most one for sixteen slots. docs/FORMAT.md, "Search", counts them. Beside these it reads
+    /// the key of each slot whose tag fits, and the value.
     ///
     /// The errors are those of [`FileTable::get`].
     pub fn get_counted(&self, key: &[u8]) -> Result<(Option<ShortBytes>, usize), FileError> {
@@ -128,7 +136,8 @@ impl<H: HashFn, S: ReadAt> FileTable<H, S> {
         }
     }
 
-    /// Whether the key has a value. The errors are those of [`FileTable::get`], and so are the reads.
+    /// Whether the key has a value. The errors are those of [`FileTable::get`], and so are the
+    /// reads.
     pub fn contains_key(&self, key: &[u8]) -> Result<bool, FileError> {
         let value = self.get(key)?;
         Ok(value.is_some())

@@ -10,14 +10,14 @@ use crate::proved::tables::memory_layout::insert_sized;
 use crate::proved::tables::raw_table::ShortBytes;
 
 impl<H: HashFn, D: ByteStoreMut> DynTable<H, D> {
-    /// Gives the key this value, and returns its former one: on valid bytes the table's value for the key. No memory
-    /// is allocated.
+    /// Gives the key this value, and returns its former one: on valid bytes the table's value for
+    /// the key. No memory is allocated.
     ///
-    /// The first error: `WrongKeyLength` where the key has another length than the table's keys; `WrongValueLength`
-    /// where the value has another one than its values; then `Rejected` with `Full`, as
-    /// [`HashTable::insert`](crate::proved::tables::hash_table::HashTable::insert) returns it: on valid bytes exactly where the table has
-    /// its maximum of items and the key is not among them. On an error nothing changes. On bytes that are not valid no
-    /// more changes than that call changes.
+    /// The first error: `WrongKeyLength` where the key has another length than the table's keys;
+    /// `WrongValueLength` where the value has another one than its values; then `Rejected` with
+    /// `Full`, as [`HashTable::insert`](crate::proved::tables::hash_table::HashTable::insert) returns it: on valid
+    /// bytes exactly where the table has its maximum of items and the key is not among them. On an
+    /// error nothing changes. On bytes that are not valid no more changes than that call changes.
     ///
     /// The key is hashed once. [`DynTable::get_counted`] counts the groups of such a search.
     pub fn insert(&mut self, key: &[u8], value: &[u8]) -> Result<Option<ShortBytes>, DynError> {

@@ -10,9 +10,9 @@ use crate::proved::tables::load::Factor;
 use crate::proved::tables::memory_layout::init_sized;
 
 impl<H: HashFn, D: ByteStore> DynTable<H, D> {
-    /// The length in bytes of a new table of these lengths for `max_item_count` items, at a load factor in percent of the
-    /// slots. None exactly where no slot count is enough, or the length passes `usize`. docs/FORMAT.md, "Load factors",
-    /// has the rule.
+    /// The length in bytes of a new table of these lengths for `max_item_count` items, at a load
+    /// factor in percent of the slots. None exactly where no slot count is enough, or the length
+    /// passes `usize`. docs/FORMAT.md, "Load factors", has the rule.
     pub fn bytes_needed(
         layout: Layout,
         max_item_count: usize,
@@ -25,12 +25,13 @@ impl<H: HashFn, D: ByteStore> DynTable<H, D> {
 }
 
 impl<H: HashFn, D: ByteStoreMut> DynTable<H, D> {
-    /// Makes an empty table of these lengths for `max_item_count` items in a store, whatever its bytes were. The load
-    /// factor is in percent of the slots.
+    /// Makes an empty table of these lengths for `max_item_count` items in a store, whatever its
+    /// bytes were. The load factor is in percent of the slots.
     ///
-    /// `KeyTooShort` where the hash function needs longer keys; then `Rejected` with `Capacity` or `InitLength`, as
-    /// [`HashTable::init_store`](crate::proved::tables::hash_table::HashTable::init_store) returns them. An error leaves the store as it
-    /// was. Where there is none, [`DynTable::open_unchecked`] accepts the store. One pass over the bytes.
+    /// `KeyTooShort` where the hash function needs longer keys; then `Rejected` with `Capacity` or
+    /// `InitLength`, as [`HashTable::init_store`](crate::proved::tables::hash_table::HashTable::init_store)
+    /// returns them. An error leaves the store as it was. Where there is none,
+    /// [`DynTable::open_unchecked`] accepts the store. One pass over the bytes.
     pub fn init_store(
         layout: Layout,
         store: &mut D,

@@ -8,8 +8,8 @@ use crate::proved::tables::hash::HashFn;
 use crate::proved::tables::layout::Layout;
 use crate::proved::tables::memory_layout::sized_table_len;
 
-/// How many bytes the table of these lengths at the front of `bytes` has, by its header. What follows is not looked at,
-/// nor is any slot, and the hash function does not matter.
+/// How many bytes the table of these lengths at the front of `bytes` has, by its header. What
+/// follows is not looked at, nor is any slot, and the hash function does not matter.
 ///
 /// The first error: as [`table_len`](crate::proved::tables::memory_layout::table_len) returns it. Constant time.
 pub fn table_len(layout: Layout, bytes: &[u8]) -> Result<usize, Error> {
@@ -17,12 +17,13 @@ pub fn table_len(layout: Layout, bytes: &[u8]) -> Result<usize, Error> {
 }
 
 impl<'a, H: HashFn> DynTable<H, Borrowed<'a>> {
-    /// Opens the table of these lengths at the front of `bytes`, and returns it with the bytes behind it, which are not
-    /// looked at. How many bytes are the table's its header says, as [`table_len`].
+    /// Opens the table of these lengths at the front of `bytes`, and returns it with the bytes
+    /// behind it, which are not looked at. How many bytes are the table's its header says, as
+    /// [`table_len`].
     ///
-    /// Or the first error: `KeyTooShort` where the hash function needs longer keys; then `Rejected` with those of
-    /// [`table_len`], then those of the first ten slots, as [`DynTable::open`]. Valid bytes with anything behind them
-    /// are always opened. Constant time.
+    /// Or the first error: `KeyTooShort` where the hash function needs longer keys; then
+    /// `Rejected` with those of [`table_len`], then those of the first ten slots, as
+    /// [`DynTable::open`]. Valid bytes with anything behind them are always opened. Constant time.
     pub fn from_prefix(layout: Layout, bytes: &'a [u8]) -> Result<(Self, &'a [u8]), DynError> {
         if (layout.key_len as usize) < H::MIN_LEN {
             return Err(DynError::KeyTooShort { key_len: layout.key_len, least: H::MIN_LEN });
@@ -33,11 +34,12 @@ impl<'a, H: HashFn> DynTable<H, Borrowed<'a>> {
         }
     }
 
-    /// [`DynTable::from_prefix`] with the lengths that the header states; [`DynTable::layout`] tells them.
+    /// [`DynTable::from_prefix`] with the lengths that the header states; [`DynTable::layout`]
+    /// tells them.
     ///
-    /// The first error: `Rejected` with those of [`table_len`]; then `KeyTooShort`; then `Rejected` with that of the
-    /// first ten slots. A header states no hash function: a table of another one is rejected where one of the first ten
-    /// slots is occupied and has another tag.
+    /// The first error: `Rejected` with those of [`table_len`]; then `KeyTooShort`; then
+    /// `Rejected` with that of the first ten slots. A header states no hash function: a table of
+    /// another one is rejected where one of the first ten slots is occupied and has another tag.
     pub fn from_prefix_as_stated(bytes: &'a [u8]) -> Result<(Self, &'a [u8]), DynError> {
         let layout = stated_layout(bytes)?;
         match table_len(layout, bytes) {

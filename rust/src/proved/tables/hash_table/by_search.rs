@@ -1,6 +1,6 @@
 // Made by `make rust` of crates/odht/src/hash_table/by_search.rt.
-//! Lookups and inserts by a group search of the caller's choice. The calls without `_by` take the one that is compiled
-//! in.
+//! Lookups and inserts by a group search of the caller's choice. The calls without `_by` take the
+//! one that is compiled in.
 
 use super::HashTable;
 use crate::proved::tables::bytes::{ByteStore, ByteStoreMut};
@@ -20,7 +20,8 @@ impl<C: Config, D: ByteStore> HashTable<C, D> {
         }
     }
 
-    /// `get_counted` by a group search of the caller's choice. On valid bytes all searches give the same.
+    /// `get_counted` by a group search of the caller's choice. On valid bytes all searches give
+    /// the same.
     #[inline]
     pub fn get_counted_by<Q: Group>(&self, key: &C::Key) -> (Option<C::Value>, usize) {
         let table = self.as_raw();
@@ -31,7 +32,8 @@ impl<C: Config, D: ByteStore> HashTable<C, D> {
         }
     }
 
-    /// `contains_key` by a group search of the caller's choice. On valid bytes all searches give the same.
+    /// `contains_key` by a group search of the caller's choice. On valid bytes all searches give
+    /// the same.
     #[inline]
     pub fn contains_key_by<Q: Group>(&self, key: &C::Key) -> bool {
         let table = self.as_raw();
@@ -42,7 +44,8 @@ impl<C: Config, D: ByteStore> HashTable<C, D> {
 }
 
 impl<C: Config, D: ByteStoreMut> HashTable<C, D> {
-    /// `insert` by a group search of the caller's choice. On valid bytes all searches leave the same bytes.
+    /// `insert` by a group search of the caller's choice. On valid bytes all searches leave the
+    /// same bytes.
     #[inline(always)]
     pub fn insert_by<Q: Group>(
         &mut self,

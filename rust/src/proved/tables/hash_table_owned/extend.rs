@@ -7,9 +7,9 @@ use crate::proved::tables::error::Error;
 use alloc::vec::Vec;
 
 impl<C: Config> HashTableOwned<C> {
-    /// `insert_all` of the items of an iterator, which are collected first. Returns how many were accepted, and `Memory`
-    /// where there was none for the list, with none accepted and nothing changed, or where an insert failed, as
-    /// `insert_all` leaves it.
+    /// `insert_all` of the items of an iterator, which are collected first. Returns how many were
+    /// accepted, and `Memory` where there was none for the list, with none accepted and nothing
+    /// changed, or where an insert failed, as `insert_all` leaves it.
     pub fn extend<I: Iterator<Item = (C::Key, C::Value)>>(
         &mut self,
         items: I,

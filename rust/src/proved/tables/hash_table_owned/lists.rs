@@ -7,11 +7,12 @@ use crate::proved::tables::error::Error;
 use crate::proved::tables::items::Items;
 
 impl<C: Config> HashTableOwned<C> {
-    /// Inserts the items in their order, and stops at the first whose insert fails. Returns how many were accepted, and
-    /// `Memory` where one failed. The table is then as the accepted ones left it, at its maximum, and the key of the
-    /// item that failed is absent.
+    /// Inserts the items in their order, and stops at the first whose insert fails. Returns how
+    /// many were accepted, and `Memory` where one failed. The table is then as the accepted ones
+    /// left it, at its maximum, and the key of the item that failed is absent.
     ///
-    /// A fresh table that accepted all has the items' last values; one made for as many as there are has not grown.
+    /// A fresh table that accepted all has the items' last values; one made for as many as there
+    /// are has not grown.
     pub fn insert_all(&mut self, items: &[(C::Key, C::Value)]) -> (usize, Result<(), Error>) {
         self.insert_items(&items)
     }

@@ -11,13 +11,14 @@ use crate::proved::tables::layout::Layout;
 use crate::proved::tables::reserve::sizes_for_more;
 
 impl<C: Config> HashTableOwned<C> {
-    /// Makes room for `additional` more items: so many new keys can be inserted before the table grows. Where it has
-    /// the room nothing changes, and no memory is asked for. Otherwise the pairs are placed in slot order into the
-    /// least slot count that is enough for as many items as there are and `additional` more, at the same load factor,
-    /// as at a growth.
+    /// Makes room for `additional` more items: so many new keys can be inserted before the table
+    /// grows. Where it has the room nothing changes, and no memory is asked for. Otherwise the
+    /// pairs are placed in slot order into the least slot count that is enough for as many items
+    /// as there are and `additional` more, at the same load factor, as at a growth.
     ///
-    /// Where the room is lacking, `Capacity` exactly where no slot count is enough, or the length passes `usize`;
-    /// otherwise `Memory` where the allocator gives none. On an error nothing changes.
+    /// Where the room is lacking, `Capacity` exactly where no slot count is enough, or the length
+    /// passes `usize`; otherwise `Memory` where the allocator gives none. On an error nothing
+    /// changes.
     ///
     /// Where it moves, one pass over the slots; each item is hashed once. No key is compared.
     pub fn reserve(&mut self, additional: usize) -> Result<(), Error> {
@@ -33,7 +34,8 @@ impl<C: Config> HashTableOwned<C> {
         Ok(())
     }
 
-    // The pairs of this table, placed in slot order into so many slots in new memory. `len` is the length for them.
+    // The pairs of this table, placed in slot order into so many slots in new memory. `len` is the
+    // length for them.
     #[inline(never)]
     fn moved(&self, slot_count: usize, len: usize) -> Result<HashTable<C, OwnedBytes>, Error> {
         let Ok(mut bytes) = crate::shim::zeroed_bytes(self.alloc, len) else {

@@ -1,6 +1,6 @@
 // Made by `make rust` of crates/odht_calls/src/any/build.rt.
-//! Tables of any lengths that are built from pairs: in the caller's bytes, or in memory of their own and then copied to
-//! the caller's.
+//! Tables of any lengths that are built from pairs: in the caller's bytes, or in memory of their
+//! own and then copied to the caller's.
 
 use super::lists::insert_pieces;
 use super::pieces::{are_pieces, piece};
@@ -15,7 +15,8 @@ use crate::proved::tables::layout::Layout;
 use crate::proved::tables::load::Percent;
 use crate::shim::Global;
 
-// Makes an empty table in the bytes, whatever they hold, and inserts the pairs in order: there is room for each.
+// Makes an empty table in the bytes, whatever they hold, and inserts the pairs in order: there is
+// room for each.
 fn insert_into_new<H: HashFn>(
     layout: Layout,
     bytes: &mut [u8],
@@ -69,9 +70,9 @@ fn build_by<H: HashFn>(
     build_pieces::<H>(layout, count, keys, values, max_load_factor_percent, out, len)
 }
 
-/// Builds a table of `count` pairs at the front of `out`, with slots for as many items as there are pairs, and writes
-/// its length in bytes to `len`. BAD_LENGTHS, BAD_PERCENT and CAPACITY leave both unchanged, TOO_SMALL leaves `out`
-/// unchanged. Allocates nothing.
+/// Builds a table of `count` pairs at the front of `out`, with slots for as many items as there
+/// are pairs, and writes its length in bytes to `len`. BAD_LENGTHS, BAD_PERCENT and CAPACITY leave
+/// both unchanged, TOO_SMALL leaves `out` unchanged. Allocates nothing.
 pub fn build(
     layout: AnyLayout,
     count: usize,
@@ -125,9 +126,9 @@ fn build_growing_by<H: HashFn>(
     grow_pieces::<H>(alloc, layout, count, keys, values, out, len)
 }
 
-/// Builds a table of `count` pairs in memory of its own, which starts with sixteen slots at 87 percent of slots and
-/// grows, and copies it to the front of `out`. BAD_LENGTHS and MEMORY leave `out` and `len` unchanged, TOO_SMALL leaves
-/// `out` unchanged.
+/// Builds a table of `count` pairs in memory of its own, which starts with sixteen slots at 87
+/// percent of slots and grows, and copies it to the front of `out`. BAD_LENGTHS and MEMORY leave
+/// `out` and `len` unchanged, TOO_SMALL leaves `out` unchanged.
 pub fn build_growing(
     alloc: Global,
     layout: AnyLayout,

@@ -29,12 +29,12 @@ fn insert_order_by<H: HashFn>(
     }
 }
 
-/// Writes to `out` the occupied slots in an order in which inserts of their pairs make the table. UNMADE where there is
-/// none: what `out` then holds is unspecified. Errors of the whole check and BAD_LENGTHS leave `out` and `scratch`
-/// unchanged.
+/// Writes to `out` the occupied slots in an order in which inserts of their pairs make the table.
+/// UNMADE where there is none: what `out` then holds is unspecified. Errors of the whole check and
+/// BAD_LENGTHS leave `out` and `scratch` unchanged.
 ///
-/// With three numbers of scratch for each slot, or more, it takes time in proportion to the slots, and to the groups
-/// that the longest search of each home reads; with fewer, the steps of
+/// With three numbers of scratch for each slot, or more, it takes time in proportion to the slots,
+/// and to the groups that the longest search of each home reads; with fewer, the steps of
 /// [`order::insert_order`](crate::erased::calls::order::insert_order). What `scratch` then holds is unspecified.
 pub fn insert_order(
     layout: AnyLayout,

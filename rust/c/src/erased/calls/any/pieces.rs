@@ -30,7 +30,8 @@ pub(crate) fn put_piece(bytes: &mut [u8], len: u8, index: usize, piece: &[u8]) {
     bytes[at..at + len].copy_from_slice(piece);
 }
 
-// Writes the answer of a lookup: piece `index` of the values where there is a value, and whether there is one.
+// Writes the answer of a lookup: piece `index` of the values where there is a value, and whether
+// there is one.
 pub(crate) fn put_answer(
     values: &mut [u8],
     found: &mut [u8],

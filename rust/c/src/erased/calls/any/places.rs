@@ -19,9 +19,10 @@ fn open_at_by<H: HashFn>(layout: Layout, bytes: &[u8], slot: &mut usize) -> u32 
     }
 }
 
-/// OK where the header, the length and the first ten slots are accepted, else the number of the first error; and
-/// writes to `slot` where that is: the slot of `NonZeroEmpty` and `ControlMismatch`, and NO_SLOT of all other errors
-/// and with OK. BAD_LAYOUT leaves `slot` unchanged.
+/// OK where the header, the length and the first ten slots are accepted, else the number of the
+/// first error; and writes to `slot` where that is: the slot of `NonZeroEmpty` and
+/// `ControlMismatch`, and NO_SLOT of all other errors and with OK. BAD_LAYOUT leaves `slot`
+/// unchanged.
 pub fn open_at(layout: AnyLayout, bytes: &[u8], slot: &mut usize) -> u32 {
     by_hash!(layout, open_at_by(bytes, slot))
 }
@@ -36,9 +37,9 @@ fn check_at_by<H: HashFn>(layout: Layout, bytes: &[u8], slot: &mut usize) -> u32
     }
 }
 
-/// OK where the bytes are valid, else the number of the first error of the whole check; and writes to `slot` where
-/// that is: the slot that the error names, the index of the mirror's byte, or NO_SLOT of all other errors and with OK.
-/// BAD_LAYOUT leaves `slot` unchanged.
+/// OK where the bytes are valid, else the number of the first error of the whole check; and writes
+/// to `slot` where that is: the slot that the error names, the index of the mirror's byte, or
+/// NO_SLOT of all other errors and with OK. BAD_LAYOUT leaves `slot` unchanged.
 pub fn check_at(layout: AnyLayout, bytes: &[u8], slot: &mut usize) -> u32 {
     by_hash!(layout, check_at_by(bytes, slot))
 }
@@ -58,8 +59,8 @@ fn check_within_at_by<H: HashFn>(
     }
 }
 
-/// `check_at` with a bound of searches, as `check_within`; of `SearchTooLong` the slot where the searches begin is
-/// written to `slot`. BAD_LAYOUT leaves `slot` unchanged.
+/// `check_at` with a bound of searches, as `check_within`; of `SearchTooLong` the slot where the
+/// searches begin is written to `slot`. BAD_LAYOUT leaves `slot` unchanged.
 pub fn check_within_at(layout: AnyLayout, bytes: &[u8], groups: usize, slot: &mut usize) -> u32 {
     by_hash!(layout, check_within_at_by(bytes, groups, slot))
 }

@@ -3,7 +3,8 @@
 
 use crate::host::prelude::*;
 
-/// The byte that the word names: its own, where that is a printable character of ASCII and no quote; of `\t` a tab.
+/// The byte that the word names: its own, where that is a printable character of ASCII and no
+/// quote; of `\t` a tab.
 pub(super) fn delimiter_named(word: &str) -> Option<u8> {
     match word.as_bytes() {
         [byte] if is_delimiter(*byte) => Some(*byte),

@@ -298,7 +298,8 @@ impl Draft {
         }))
     }
 
-    // `merge`, of which the words are the files whose pairs it takes. One of them may be standard input.
+    // `merge`, of which the words are the files whose pairs it takes. One of them may be standard
+    // input.
     fn merge(mut self) -> Result<Command, CommandMisuse> {
         if self.words.is_empty() {
             return Err(CommandMisuse::Missing("INPUT"));
@@ -359,7 +360,8 @@ pub(super) fn name_and_value(word: &str) -> (&str, Option<&str>) {
     }
 }
 
-// The bound of searches that a command has which is not to be made slow by its file: that of the library.
+// The bound of searches that a command has which is not to be made slow by its file: that of the
+// library.
 fn bound_of(is_whole: bool) -> Option<usize> {
     if is_whole {
         None

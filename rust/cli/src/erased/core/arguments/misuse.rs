@@ -110,7 +110,8 @@ impl fmt::Display for Misuse {
     }
 }
 
-// What was meant by a word that is no command, where one slip makes a command of it, or what asks for a text.
+// What was meant by a word that is no command, where one slip makes a command of it, or what asks
+// for a text.
 fn nearest_name(word: &str) -> Option<&'static str> {
     match Topic::nearest(word) {
         Some(topic) => Some(topic.name()),
@@ -127,8 +128,8 @@ fn write_commands(f: &mut fmt::Formatter<'_>) -> fmt::Result {
     Ok(())
 }
 
-// Writes what was meant by a word that is no option, where one slip makes an option of it, or else how a word that
-// begins with a hyphen is passed.
+// Writes what was meant by a word that is no option, where one slip makes an option of it, or else
+// how a word that begins with a hyphen is passed.
 fn write_nearest(topic: Topic, word: &str, f: &mut fmt::Formatter<'_>) -> fmt::Result {
     let (name, _) = name_and_value(word);
     match Setting::nearest(topic, name) {
@@ -140,7 +141,8 @@ fn write_nearest(topic: Topic, word: &str, f: &mut fmt::Formatter<'_>) -> fmt::R
 impl std::error::Error for Misuse {}
 
 impl Misuse {
-    /// How the program ends: where the words cannot be parsed for want of memory alone, they may be right.
+    /// How the program ends: where the words cannot be parsed for want of memory alone, they may
+    /// be right.
     pub fn status(&self) -> Status {
         match self {
             Misuse::InCommand(_, CommandMisuse::Memory) => Status::NotDone,

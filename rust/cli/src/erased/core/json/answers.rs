@@ -17,8 +17,8 @@ pub struct AnswerStyle<F: Forms> {
     pub is_json: bool,
 }
 
-/// Writes a line for each key: with its value, or the key alone where it has none; or an object of both, in which such a
-/// value is null.
+/// Writes a line for each key: with its value, or the key alone where it has none; or an object of
+/// both, in which such a value is null.
 pub fn write_answers_in<K: Text, V: Text, F: Forms, O: Write>(
     keys: &[K],
     values: &[Option<V>],

@@ -1,6 +1,6 @@
 // Made by `make rust` of crates/odht_tool_core/src/typed/stored.rt.
-//! The ways to write stored keys or values. What is generic in them is compiled for numbers by itself, and asks for their
-//! type once for a table, and not for each.
+//! The ways to write stored keys or values. What is generic in them is compiled for numbers by
+//! itself, and asks for their type once for a table, and not for each.
 
 use super::write_stored;
 use crate::erased::core::digits::write_number;

@@ -13,9 +13,9 @@ use crate::host::prelude::*;
 use crate::proved::tables::error::Error;
 use std::io::{self, Write};
 
-/// `odht check` of the bytes of the file of this name: writes the name, and that they are valid, and with a bound that
-/// no search reads more groups; or the first rule that they break. With a bound it takes time in proportion to the
-/// bytes and the bound.
+/// `odht check` of the bytes of the file of this name: writes the name, and that they are valid,
+/// and with a bound that no search reads more groups; or the first rule that they break. With a
+/// bound it takes time in proportion to the bytes and the bound.
 pub fn check_file<O: Write>(
     file: &str,
     bytes: &[u8],
@@ -48,8 +48,8 @@ fn write_checked<O: Write>(
     }
 }
 
-/// The hash function to name for bytes that were rejected where none was named: the other one than that of their shape,
-/// where all control bytes agree with it.
+/// The hash function to name for bytes that were rejected where none was named: the other one than
+/// that of their shape, where all control bytes agree with it.
 pub fn hint_of(bytes: &[u8], hash: Option<Hash>) -> Option<Hash> {
     match (hash, named_any(bytes, None)) {
         (None, Ok(shape)) => hinted_hash(bytes, shape.hash()),

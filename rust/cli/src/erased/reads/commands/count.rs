@@ -11,8 +11,8 @@ use crate::host::prelude::*;
 use crate::proved::header::header::Header;
 use std::io::{self, Write};
 
-/// `odht count` of the bytes of a file: writes the label, and how many items the table has; or fails with the first
-/// rule that the bytes break, as `check` finds it.
+/// `odht count` of the bytes of a file: writes the label, and how many items the table has; or
+/// fails with the first rule that the bytes break, as `check` finds it.
 pub fn count_file<O: Write>(
     label: &str,
     bytes: &[u8],

@@ -49,8 +49,8 @@ pub fn diff<R: Files + AllocGlobal, I: BufRead, O: Write, E: Write>(
     }
 }
 
-/// Compares the bytes of two files, which are valid tables of these shapes: writes a line for each pair that differs, in
-/// the texts of the first one, or, where none does, whether the bytes do.
+/// Compares the bytes of two files, which are valid tables of these shapes: writes a line for each
+/// pair that differs, in the texts of the first one, or, where none does, whether the bytes do.
 pub fn diff_tables<O: Write>(
     shape: AnyShape,
     forms: GivenForms,

@@ -17,8 +17,8 @@ use crate::proved::tables::raw_table::SizedIter;
 use crate::proved::tables::{FxHashFn, UnHashFn};
 use std::io::{self, Write};
 
-/// `odht dump` of the bytes of a file, with `--slots` and with `--json` or without: writes a line for each pair, in slot
-/// order.
+/// `odht dump` of the bytes of a file, with `--slots` and with `--json` or without: writes a line
+/// for each pair, in slot order.
 pub fn dump_file<O: Write>(
     bytes: &[u8],
     hash: Option<Hash>,

@@ -13,9 +13,9 @@ use crate::proved::tables::error::Error;
 use crate::shim::Global;
 use std::io::{self, Write};
 
-/// `odht find` of the bytes of the file of this name: writes a line for each table inside them; with `is_json` an
-/// object of JSON. The status is `NotDone` where there is none. `Forged` where there are headers that overlap, as
-/// `find_tables` says.
+/// `odht find` of the bytes of the file of this name: writes a line for each table inside them;
+/// with `is_json` an object of JSON. The status is `NotDone` where there is none. `Forged` where
+/// there are headers that overlap, as `find_tables` says.
 pub fn find_file<O: Write>(
     alloc: Global,
     file: &str,

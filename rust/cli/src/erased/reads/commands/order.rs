@@ -16,9 +16,9 @@ use crate::proved::tables::{FxHashFn, UnHashFn};
 use crate::shim::{AllocError, Global};
 use std::io::{self, Write};
 
-/// `odht order` of the bytes of a file: writes a line for each pair, in an order of inserts that makes the table; or
-/// nothing where no inserts make it, with the status `NotDone`. They are checked whole before, with the bound of searches
-/// where there is one.
+/// `odht order` of the bytes of a file: writes a line for each pair, in an order of inserts that
+/// makes the table; or nothing where no inserts make it, with the status `NotDone`. They are
+/// checked whole before, with the bound of searches where there is one.
 pub fn order_file<O: Write>(
     alloc: Global,
     bytes: &[u8],

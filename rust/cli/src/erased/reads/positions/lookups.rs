@@ -17,10 +17,11 @@ use crate::proved::tables::read_at::ReadAt;
 use crate::shim::{AllocError, Global};
 use std::io::Write;
 
-/// A table that is read by position, in which keys are looked up that have texts, as its values have.
+/// A table that is read by position, in which keys are looked up that have texts, as its values
+/// have.
 ///
-/// In a contract `is_over t T` says that each read that succeeds gives bytes of the table `T`, whose header and length
-/// fit.
+/// In a contract `is_over t T` says that each read that succeeds gives bytes of the table `T`,
+/// whose header and length fit.
 pub(super) trait FileLookups {
     /// A key.
     type Key: Text;
@@ -77,7 +78,8 @@ impl<H: HashFn, S: ReadAt> FileLookups for FileTable<H, S> {
     }
 }
 
-/// Looks up the keys of the words, and writes a line for each. None where a read failed: nothing was written then.
+/// Looks up the keys of the words, and writes a line for each. None where a read failed: nothing
+/// was written then.
 pub(super) fn answer_words_at<T: FileLookups, F: Forms, O: Write>(
     alloc: Global,
     table: &T,

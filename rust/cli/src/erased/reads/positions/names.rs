@@ -1,5 +1,6 @@
 // Made by `make rust` of crates/odht_tool_reads/src/positions/names.rt.
-//! The hash function of a table that is read by position: the one that the first groups of slots leave.
+//! The hash function of a table that is read by position: the one that the first groups of slots
+//! leave.
 
 use super::Start;
 use crate::erased::core::shapes::Hash;
@@ -21,9 +22,9 @@ const MOST_ENTRIES: usize = 8160;
 /// How many groups are read before all bytes are.
 const MOST_GROUPS: usize = 64;
 
-/// The hash function that is to be named for a table, none where it has no items: the one that is named, or the one
-/// that is left when the first groups of slots exclude the other. None where they exclude none, or both, or a read
-/// failed.
+/// The hash function that is to be named for a table, none where it has no items: the one that is
+/// named, or the one that is left when the first groups of slots exclude the other. None where
+/// they exclude none, or both, or a read failed.
 pub(super) fn found_name<S: ReadAt>(
     source: &S,
     start: &Start,
@@ -87,7 +88,8 @@ fn group_fits<S: ReadAt>(source: &S, place: &ReadPlace, first: usize) -> Option<
     Some((fx, unhash))
 }
 
-// Whether the keys are long enough for a hash function, and each occupied slot of sixteen has the tag of its key by it.
+// Whether the keys are long enough for a hash function, and each occupied slot of sixteen has the
+// tag of its key by it.
 fn fits(control: &[u8], entries: &[u8], layout: Layout, hash: Hash) -> bool {
     if (layout.key_len as usize) < least_len(hash) {
         return false;

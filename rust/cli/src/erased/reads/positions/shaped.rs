@@ -20,8 +20,9 @@ use crate::proved::tables::{FxHashFn, UnHashFn};
 use crate::shim::Global;
 use std::io::Write;
 
-/// `odht get` for the words of the command line, of the bytes of a ready shape in these forms, of which there are `len`
-/// from an offset on. None where a read failed, or they are not opened: nothing was written then.
+/// `odht get` for the words of the command line, of the bytes of a ready shape in these forms, of
+/// which there are `len` from an offset on. None where a read failed, or they are not opened:
+/// nothing was written then.
 pub(super) fn words_ready<S: ReadAt, O: Write>(
     alloc: Global,
     source: S,

@@ -24,7 +24,8 @@ use crate::shim::Global;
 use std::io::{BufRead, Write};
 use std::os::fd::AsFd;
 
-/// Makes a table from the lines, and stores it as the file; or writes it to `output`, where the name stands for that.
+/// Makes a table from the lines, and stores it as the file; or writes it to `output`, where the
+/// name stands for that.
 pub fn build<R: Files + AllocGlobal + Clock, I: BufRead, O: Write, E: Write>(
     rt: &R,
     file: &str,
@@ -109,8 +110,8 @@ fn make_table<C: Config>(
     HashTableOwned::with_capacity(alloc, capacity, percent.value()).map_err(Failure::of_table)
 }
 
-/// Adds the lines to the table of the target, which has these bytes. They are checked whole before, with the bound of
-/// searches where there is one.
+/// Adds the lines to the table of the target, which has these bytes. They are checked whole
+/// before, with the bound of searches where there is one.
 pub fn put<R: Files + AllocGlobal + Clock, I: BufRead, E: Write>(
     rt: &R,
     target: Target,

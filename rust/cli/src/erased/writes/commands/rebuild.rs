@@ -26,8 +26,8 @@ use std::os::fd::AsFd;
 /// After how many pairs a line of progress may be due.
 const BATCH: u64 = 1024;
 
-/// Makes a new table of the pairs of the table in the file, and stores it in the place of the older one, which stays
-/// where something fails.
+/// Makes a new table of the pairs of the table in the file, and stores it in the place of the
+/// older one, which stays where something fails.
 pub fn rebuild<R: Files + AllocGlobal + Clock, E: Write>(
     rt: &R,
     file: &str,
@@ -44,8 +44,8 @@ where
     Ok(Status::Done)
 }
 
-// The bytes of the new table. Those of the old one are checked whole before, with the bound of searches where there is
-// one, and freed once the new one has its pairs.
+// The bytes of the new table. Those of the old one are checked whole before, with the bound of
+// searches where there is one, and freed once the new one has its pairs.
 fn rebuilt<R: AllocGlobal + Clock, E: Write>(
     rt: &R,
     bytes: Vec<u8>,

@@ -1,6 +1,6 @@
 // Made by `make rust` of crates/odht_tool_writes/src/inserts/lines.rt.
-//! The lines of `odht build`, as its options say: which line of a key counts, what stands between key and value, and
-//! whether a table is stored at all.
+//! The lines of `odht build`, as its options say: which line of a key counts, what stands between
+//! key and value, and whether a table is stored at all.
 
 use crate::erased::core::arguments::{is_stream, BuildOptions, Duplicates};
 use crate::erased::core::failure::Failure;
@@ -30,8 +30,8 @@ pub enum Place {
 }
 
 impl Place {
-    /// The place that the name of a file stands for, as [`Target::find_place`] finds it. With `--check-only` it is not
-    /// looked at.
+    /// The place that the name of a file stands for, as [`Target::find_place`] finds it. With
+    /// `--check-only` it is not looked at.
     pub fn find<R: Files + AllocGlobal>(
         rt: &R,
         file: &str,
@@ -120,8 +120,8 @@ pub fn check_lines<K: Text, V: Text, F: Forms, R: AllocGlobal + Clock, I: BufRea
     Ok(Status::Done)
 }
 
-// Inserts the pair of each line whose key has no value. One that has is left out, or, where each key is to be there
-// once, a failure.
+// Inserts the pair of each line whose key has no value. One that has is left out, or, where each
+// key is to be there once, a failure.
 fn fill_new<T: Inserts, F: Forms, R: AllocGlobal + Clock, I: BufRead, E: Write>(
     rt: &R,
     table: &mut T,
@@ -164,8 +164,8 @@ fn next_pair<K: Text, V: Text, F: Forms, I: BufRead>(
     }
 }
 
-// Inserts the pair of the line of this number, which is this, where its key has no value. Where it has one, and each key
-// is to be there once, the failure tells of the line.
+// Inserts the pair of the line of this number, which is this, where its key has no value. Where it
+// has one, and each key is to be there once, the failure tells of the line.
 fn insert_line<T: Inserts, F: Forms>(
     alloc: Global,
     table: &mut T,

@@ -18,8 +18,8 @@ use crate::proved::tables::raw_table::SizedIter;
 use crate::shim::Global;
 use std::io::{self, Write};
 
-/// The bytes of the table without the keys of the words or lines, and whether each had a value; a line on `errors` tells
-/// of each that had none.
+/// The bytes of the table without the keys of the words or lines, and whether each had a value; a
+/// line on `errors` tells of each that had none.
 pub fn delete_lengths<H: HashFn, W: Word, R: AllocGlobal + Clock, E: Write>(
     rt: &R,
     file: &str,

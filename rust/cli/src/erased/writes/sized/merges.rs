@@ -43,7 +43,8 @@ pub enum Unmerged {
     New(Failure),
 }
 
-/// The bytes of a new table of the pairs of the files, whose keys and values have the lengths of these texts.
+/// The bytes of a new table of the pairs of the files, whose keys and values have the lengths of
+/// these texts.
 pub fn merge_lengths<H: HashFn, R: AllocGlobal + Clock, E: Write>(
     rt: &R,
     texts: Texts,
@@ -123,7 +124,8 @@ fn input_count(texts: Texts, input: &Input) -> usize {
 // The same of valid bytes.
 fn stated_len<S: HashFn>(texts: Texts, bytes: &[u8]) -> usize {
     let table = open_valid::<S>(texts, bytes);
-    // To look at the lengths is what tells that they are short, and keys long enough for the hash function.
+    // To look at the lengths is what tells that they are short, and keys long enough for the hash
+    // function.
     let _ = table.layout();
     table.len()
 }
@@ -165,7 +167,8 @@ fn repeated_key<S: HashFn, H: HashFn>(
     Ok(None)
 }
 
-// The text of a key. The memory is asked for before, as a vector that is written to asks for it without a failure.
+// The text of a key. The memory is asked for before, as a vector that is written to asks for it
+// without a failure.
 fn text_of_key(alloc: Global, texts: Texts, key: &[u8]) -> Result<Vec<u8>, Failure> {
     let mut text = crate::shim::with_capacity(alloc, LONGEST_TEXT)?;
     match texts.write_key(key, &mut text) {

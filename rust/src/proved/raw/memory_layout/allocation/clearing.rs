@@ -7,8 +7,8 @@ use crate::proved::raw::config::Config;
 use crate::proved::raw::memory_layout::new_tables::init_bytes;
 
 impl<C: Config, M: ByteStoreMut> Allocation<C, M> {
-    /// Makes each slot free: the bytes are then those of the empty table with the slot count and the load factor of the
-    /// header. Each byte is written.
+    /// Makes each slot free: the bytes are then those of the empty table with the slot count and
+    /// the load factor of the header. Each byte is written.
     pub fn clear(&mut self) {
         let header = self.header();
         let slot_count = header.slot_count();

@@ -1,6 +1,6 @@
 // Made by `make rust` of crates/odht_raw/src/memory_layout/allocation/inserts.rt.
-//! Inserts into the bytes of a table: the parts are written, and last the item count: by a single insert where it added
-//! an entry, by a list in any case.
+//! Inserts into the bytes of a table: the parts are written, and last the item count: by a single
+//! insert where it added an entry, by a list in any case.
 
 use super::{hold_bytes, Allocation};
 use crate::proved::header::header::ITEM_COUNT_AT;
@@ -13,11 +13,13 @@ use crate::proved::raw::raw_table::{insert_at, insert_run, step_end};
 use crate::proved::raw::swisstable_group_query::Group;
 
 impl<C: Config, M: ByteStoreMut> Allocation<C, M> {
-    /// Gives the key this value, by a group search of the caller's choice, and returns its former one. `Full`, with
-    /// nothing changed, where the search does not find the key and the header's item count is its maximum or more, or
-    /// where it finds neither the key nor a free slot. A new entry raises the item count by one.
+    /// Gives the key this value, by a group search of the caller's choice, and returns its former
+    /// one. `Full`, with nothing changed, where the search does not find the key and the header's
+    /// item count is its maximum or more, or where it finds neither the key nor a free slot. A new
+    /// entry raises the item count by one.
     ///
-    /// The slot count is read before the search, the rest of the header after it, and the key is hashed once.
+    /// The slot count is read before the search, the rest of the header after it, and the key is
+    /// hashed once.
     #[inline(always)]
     pub fn insert_by<Q: Group>(
         &mut self,
@@ -33,7 +35,8 @@ impl<C: Config, M: ByteStoreMut> Allocation<C, M> {
         let (front, entries) = split_at_mut!(table, HEADER_SIZE);
         let end =
             step_end::<C::EncodedKey, C::EncodedValue, C::H, Q>(control, entries, slots, &key);
-        // Read after the search, which needs the registers. The room is that up to the maximum item count.
+        // Read after the search, which needs the registers. The room is that up to the maximum
+        // item count.
         let header = Header::of(front);
         let count = header.item_count();
         let room = header.max_load_factor().apply(slots).saturating_sub(count);
@@ -49,12 +52,14 @@ impl<C: Config, M: ByteStoreMut> Allocation<C, M> {
         }
     }
 
-    /// Inserts the items from index `from` on in their order, up to the first for which `insert_by` returns `Full`, and
-    /// returns the index after the last item that was inserted. Each new entry raises the item count by one.
+    /// Inserts the items from index `from` on in their order, up to the first for which
+    /// `insert_by` returns `Full`, and returns the index after the last item that was inserted.
+    /// Each new entry raises the item count by one.
     ///
-    /// The header is read once for the list, and the item count is written once. Each item costs a search. In tables of
-    /// 2^20 slots and more the group at the home slot may be read ahead, for eight keys in turn: these keys are encoded
-    /// twice, and a new key whose slot was seen free then needs no further search.
+    /// The header is read once for the list, and the item count is written once. Each item costs a
+    /// search. In tables of 2^20 slots and more the group at the home slot may be read ahead, for
+    /// eight keys in turn: these keys are encoded twice, and a new key whose slot was seen free
+    /// then needs no further search.
     #[inline(always)]
     pub fn insert_items<I: Items<C::Key, C::Value>>(&mut self, items: &I, from: usize) -> usize {
         let store = &mut self.store;

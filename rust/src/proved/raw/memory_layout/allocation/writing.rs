@@ -1,7 +1,7 @@
 // Made by `make rust` of crates/odht_raw/src/memory_layout/allocation/writing.rt.
-//! Single writes to the bytes of a table, for callers who search themselves: an entry with its tag, a value alone, and
-//! the item count. No insert of the library calls them: it writes the parts (`fill_slot`) and the count
-//! (`write_count`).
+//! Single writes to the bytes of a table, for callers who search themselves: an entry with its
+//! tag, a value alone, and the item count. No insert of the library calls them: it writes the
+//! parts (`fill_slot`) and the count (`write_count`).
 
 use super::Allocation;
 use crate::proved::header::header::ITEM_COUNT_AT;
@@ -18,10 +18,10 @@ impl<C: Config, M: ByteStoreMut> Allocation<C, M> {
         store.write_at(ITEM_COUNT_AT, &(item_count as u64).to_le_bytes());
     }
 
-    /// Writes the pair into the entry of a slot, and the tag, whatever it is, into its control byte and, for a slot
-    /// below 16, its mirror. No other byte changes, the item count neither: that the key's search ends at this slot,
-    /// and that the tag is the key's, is the caller's part. The clause `pair` says that key and value have the lengths
-    /// of the format.
+    /// Writes the pair into the entry of a slot, and the tag, whatever it is, into its control
+    /// byte and, for a slot below 16, its mirror. No other byte changes, the item count neither:
+    /// that the key's search ends at this slot, and that the tag is the key's, is the caller's
+    /// part. The clause `pair` says that key and value have the lengths of the format.
     #[inline(always)]
     pub fn write_entry(
         &mut self,
@@ -40,8 +40,8 @@ impl<C: Config, M: ByteStoreMut> Allocation<C, M> {
         );
     }
 
-    /// Writes the value alone into the entry of a slot. No other byte changes. The clause `value` says that it has the
-    /// length of the format.
+    /// Writes the value alone into the entry of a slot. No other byte changes. The clause `value`
+    /// says that it has the length of the format.
     #[inline(always)]
     pub fn write_value(&mut self, slot: usize, value: &C::EncodedValue) {
         let store = &mut self.store;

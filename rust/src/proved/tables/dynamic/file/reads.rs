@@ -29,8 +29,8 @@ pub(super) fn place_of(at: u64, slots: usize, layout: Layout) -> ReadPlace {
     }
 }
 
-/// Reads what a table is opened by, and returns the counts of slots and items that its header states, or the first
-/// error.
+/// Reads what a table is opened by, and returns the counts of slots and items that its header
+/// states, or the first error.
 pub(super) fn open_header<H: HashFn, S: ReadAt>(
     source: &S,
     layout: Layout,

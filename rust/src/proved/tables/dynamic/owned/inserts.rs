@@ -9,14 +9,15 @@ use crate::proved::tables::hash::HashFn;
 use crate::proved::tables::raw_table::ShortBytes;
 
 impl<H: HashFn> DynTableOwned<H> {
-    /// Gives the key this value, and returns its former one, or None. At the maximum the table grows for an absent
-    /// key; a present key is given its value in place, which takes no memory. docs/FORMAT.md, "Insert" and "Growth",
-    /// has the rules.
+    /// Gives the key this value, and returns its former one, or None. At the maximum the table
+    /// grows for an absent key; a present key is given its value in place, which takes no memory.
+    /// docs/FORMAT.md, "Insert" and "Growth", has the rules.
     ///
-    /// The first error: `WrongKeyLength` where the key has another length than the table's keys; `WrongValueLength`
-    /// where the value has another one than its values; then `Rejected` with `Memory`, only at the maximum and for an
-    /// absent key, where the allocator gives none, or the grown table would need more than 2^63 slots, or more bytes
-    /// than a `usize` counts; that it comes for no other reason, no clause says. On an error nothing changes.
+    /// The first error: `WrongKeyLength` where the key has another length than the table's keys;
+    /// `WrongValueLength` where the value has another one than its values; then `Rejected` with
+    /// `Memory`, only at the maximum and for an absent key, where the allocator gives none, or the
+    /// grown table would need more than 2^63 slots, or more bytes than a `usize` counts; that it
+    /// comes for no other reason, no clause says. On an error nothing changes.
     ///
     /// The key is hashed once, and once more at a growth, which hashes and places each item again.
     pub fn insert(&mut self, key: &[u8], value: &[u8]) -> Result<Option<ShortBytes>, DynError> {
@@ -39,8 +40,9 @@ impl<H: HashFn> DynTableOwned<H> {
         Ok(former)
     }
 
-    // The pairs of this table, placed in slot order into a table with the slots for twice as many, and for one at
-    // least. None where the allocator gives no memory for it, or it would be too large.
+    // The pairs of this table, placed in slot order into a table with the slots for twice as many,
+    // and for one at least. None where the allocator gives no memory for it, or it would be too
+    // large.
     #[inline(never)]
     fn grown_table(&self) -> Option<DynTable<H, OwnedBytes>> {
         let len = self.table.grown_len()?;

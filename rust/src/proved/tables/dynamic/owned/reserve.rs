@@ -1,5 +1,6 @@
 // Made by `make rust` of crates/odht/src/dynamic/owned/reserve.rt.
-//! Room for items that are still to come, of the owned table whose lengths are known at run time alone.
+//! Room for items that are still to come, of the owned table whose lengths are known at run time
+//! alone.
 
 use super::DynTableOwned;
 use crate::proved::tables::bytes::OwnedBytes;
@@ -10,13 +11,14 @@ use crate::proved::tables::memory_layout::Header;
 use crate::proved::tables::reserve::sizes_for_more;
 
 impl<H: HashFn> DynTableOwned<H> {
-    /// Makes room for `additional` more items: so many new keys can be inserted before the table grows. Where it has
-    /// the room nothing changes, and no memory is asked for. Otherwise the pairs are placed in slot order into the
-    /// least slot count that is enough for as many items as there are and `additional` more, at the same load factor,
-    /// as at a growth.
+    /// Makes room for `additional` more items: so many new keys can be inserted before the table
+    /// grows. Where it has the room nothing changes, and no memory is asked for. Otherwise the
+    /// pairs are placed in slot order into the least slot count that is enough for as many items
+    /// as there are and `additional` more, at the same load factor, as at a growth.
     ///
-    /// Where the room is lacking, `Rejected` with `Capacity` exactly where no slot count is enough, or the length passes
-    /// `usize`; otherwise with `Memory` where the allocator gives none. On an error nothing changes.
+    /// Where the room is lacking, `Rejected` with `Capacity` exactly where no slot count is
+    /// enough, or the length passes `usize`; otherwise with `Memory` where the allocator gives
+    /// none. On an error nothing changes.
     ///
     /// Where it moves, one pass over the slots; each item is hashed once. No key is compared.
     pub fn reserve(&mut self, additional: usize) -> Result<(), DynError> {
@@ -35,8 +37,8 @@ impl<H: HashFn> DynTableOwned<H> {
         Ok(())
     }
 
-    // The pairs of this table, placed in slot order into so many slots in new memory. `len` is the length for them. None
-    // where the allocator gives no memory.
+    // The pairs of this table, placed in slot order into so many slots in new memory. `len` is the
+    // length for them. None where the allocator gives no memory.
     #[inline(never)]
     fn moved(&self, slot_count: usize, len: usize) -> Option<DynTable<H, OwnedBytes>> {
         let Ok(mut bytes) = crate::shim::zeroed_bytes(self.alloc, len) else {
