@@ -2,7 +2,7 @@
 --     number_part v            the type of the numbers v
 --     number_form v            the form of what is of that type
 --     number_of_32 f           the numbers of 32 bits that are written as the form f has it
---     number_of_64 f           those of 64 bits
+--     number_of_64 f           the numbers of 64 bits that are written as the form f has it
 --     form_of_bytes f k        the form of k stored bytes that are written as the form f has it
 --     bytes_form f p           the form of stored bytes that are of the type p, and are written as the form f has it
 --     part_in f                the type that the form f of stored bytes says that they are of
