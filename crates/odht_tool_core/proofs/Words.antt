@@ -1,10 +1,10 @@
 -- What follows from the digits of bytes.
-use Rattle.std.proofs.Common.{◌≡◌, ◌∙◌, ℕ, suc, ◌+◌, ◌*◌, ◌/◌, ◌%◌, ◌<◌, false, List, [], ◌∷◌, ◌++◌, length, take, get_or, sym, ap, refl, arith}
+use Rattle.std.proofs.Common.{◌≡◌, ◌∙◌, ℕ, zero, suc, ◌+◌, ◌*◌, ◌/◌, ◌%◌, ◌<◌, false, List, [], ◌∷◌, ◌++◌, length, take, get_or, sym, ap, refl, arith}
 use Rattle.std.specs.Char.{to_ascii_lowercase}
 use Rattle.std.specs.Fmt.{digit_glyph}
 use Rattle.std.specs.Str.{str_to_ascii_lowercase}
 use Rattle.std.proofs.lemmas.Grind.{flat_map-append}
-use Rattle.std.proofs.lemmas.List.{append_assoc, map-append}
+use Rattle.std.proofs.lemmas.List.{append_assoc, map-append, take-map}
 use Rattle.std.proofs.Math.Seq.{take-suc}
 use Rattle.odht_tool_core.specs.Texts.{WritesBytes, hex_digits, hex_text}
 
@@ -36,3 +36,17 @@ one_more digits bytes at high low h l small_high small_low is_high is_low =
     ap str_to_ascii_lowercase parts
     ∙ map-append to_ascii_lowercase front (d ∷ e ∷ []) ∙ ap (λ ds. ds ++ str_to_ascii_lowercase (d ∷ e ∷ [])) h
     ∙ ap (λ ds. hex_text bytes ++ ds) lower ∙ sym (flat_map-append hex_digits bytes (value ∷ []))
+
+-- the first bytes have the first digits, two each
+hex_front : (n : ℕ) (bytes : List ℕ) → take (2 * n) (hex_text bytes) ≡ hex_text (take n bytes)
+hex_front zero bytes = refl
+hex_front (suc n) [] =
+    let two : 2 * suc n ≡ suc (suc (2 * n)) = omega arith in
+    ap (λ m. take m (hex_text [])) two
+hex_front (suc n) (b ∷ bs) =
+    let two : 2 * suc n ≡ suc (suc (2 * n)) = omega arith in
+    ap (λ m. take m (hex_text (b ∷ bs))) two ∙ ap (λ ds. digit_glyph false (b / 16) ∷ digit_glyph false (b % 16) ∷ ds) (hex_front n bs)
+
+-- the first digits, of which there are two each, write the first bytes
+pub front_writes : (digits bytes : List ℕ) (n : ℕ) → WritesBytes digits bytes → WritesBytes (take (2 * n) digits) (take n bytes)
+front_writes digits bytes n h = sym (take-map to_ascii_lowercase (2 * n) digits) ∙ ap (λ ds. take (2 * n) ds) h ∙ hex_front n bytes

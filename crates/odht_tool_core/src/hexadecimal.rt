@@ -1,12 +1,13 @@
 //! Words of hexadecimal digits that are read as bytes, of a length that is known at run time
 //! alone.
-ghost use Rattle.std.specs.Prelude.{◌≡◌, ◌↔◌, ◌*◌, IsTrue, None, length};
+ghost use Rattle.std.specs.Prelude.{◌≡◌, ◌↔◌, ◌*◌, ◌-◌, ◌≤◌, ◌++◌, IsTrue, None};
+ghost use Rattle.std.specs.Prelude.{length, replicate};
 ghost use Rattle.std.specs.Char.{is_ascii_hexdigit};
 ghost use Rattle.std.specs.List.{AllPass};
 ghost use Rattle.odht_tool_core.specs.Json.{is_simple};
 ghost use Rattle.odht_tool_core.specs.Texts.{IsHexWord, WritesBytes, hex_text};
 
-use crate::text::digit_value;
+use crate::text::{digit_value, parse_in_vectors};
 
 /// Whether the word is two hexadecimal digits, of either case, for each of so many bytes as there
 /// are in `bytes`, which then become these; else they are not changed.
@@ -15,7 +16,53 @@ pub fn read_digits(word: &[u8], bytes: &mut [u8]) -> bool
     ensures word { IsTrue result ↔ IsHexWord (length bytes.old) word.now }
     ensures len { length bytes.new ≡ length bytes.old }
 {
-    if word.len() % 2 != 0 || word.len() / 2 != bytes.len() || !are_digits(word) {
+    if word.len() % 2 != 0 || word.len() / 2 != bytes.len() {
+        return false;
+    }
+    if bytes.len() <= 32 {
+        read_few(word, bytes)
+    } else {
+        read_many(word, bytes)
+    }
+}
+
+// The same of at most 32 bytes. There are zeros behind the digits up to those of 32 bytes, so that
+// the compiler knows their number, and makes vectors of the loops.
+fn read_few(word: &[u8], bytes: &mut [u8]) -> bool
+    requires few { length bytes.old ≤ 32 }
+    requires digits { length word.now ≡ 2 * length bytes.old }
+    ensures value { IsTrue result → WritesBytes word.now bytes.new }
+    ensures word { IsTrue result ↔ AllPass is_ascii_hexdigit word.now }
+    ensures len { length bytes.new ≡ length bytes.old }
+{
+    match parse_in_vectors::<32>(&with_zeros(word)) {
+        Some(all) => {
+            bytes.copy_from_slice(&all[..bytes.len()]);
+            true
+        }
+        None => false,
+    }
+}
+
+// These digits, and zeros behind them.
+#[inline(always)]
+fn with_zeros(word: &[u8]) -> [u8; 64]
+    requires { length word.now ≤ 64 }
+    ensures { result ≡ word.now ++ replicate (64 - length word.now) 48 }
+{
+    let mut digits = [b'0'; 64];
+    digits[..word.len()].copy_from_slice(word);
+    digits
+}
+
+// The same of any number of bytes. The first byte that is no digit ends it.
+fn read_many(word: &[u8], bytes: &mut [u8]) -> bool
+    requires digits { length word.now ≡ 2 * length bytes.old }
+    ensures value { IsTrue result → WritesBytes word.now bytes.new }
+    ensures word { IsTrue result ↔ AllPass is_ascii_hexdigit word.now }
+    ensures len { length bytes.new ≡ length bytes.old }
+{
+    if !are_digits(word) {
         return false;
     }
     put_digits(word, bytes);

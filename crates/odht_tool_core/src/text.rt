@@ -217,9 +217,9 @@ fn parse_bytes<const N: usize>(word: &[u8]) -> Option<[u8; N]>
         return None;
     }
     if N <= 32 {
-        parse_short(word)
+        parse_in_vectors(word)
     } else {
-        parse_long(word)
+        parse_in_turn(word)
     }
 }
 
@@ -227,7 +227,7 @@ fn parse_bytes<const N: usize>(word: &[u8]) -> Option<[u8; N]>
 // the compiler makes vectors of both loops. All are read before a wrong one is noticed, so that no
 // step branches on a digit.
 #[inline(always)]
-fn parse_short<const N: usize>(word: &[u8]) -> Option<[u8; N]>
+pub(crate) fn parse_in_vectors<const N: usize>(word: &[u8]) -> Option<[u8; N]>
     requires few { N ≤ 32 }
     requires digits { length word.now ≡ 2 * N }
     ensures value { IfSome result (WritesBytes word.now) }
@@ -264,7 +264,7 @@ fn put_values(digits: &[u8], values: &mut [u8; 64]) -> u8
 }
 
 // The same of any number of bytes. The first byte that is no digit ends it.
-fn parse_long<const N: usize>(word: &[u8]) -> Option<[u8; N]>
+fn parse_in_turn<const N: usize>(word: &[u8]) -> Option<[u8; N]>
     requires { length word.now ≡ 2 * N }
     ensures value { IfSome result (WritesBytes word.now) }
     ensures some { IsSome result ↔ IsHexWord N word.now }

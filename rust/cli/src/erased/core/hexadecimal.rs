@@ -2,13 +2,45 @@
 //! Words of hexadecimal digits that are read as bytes, of a length that is known at run time
 //! alone.
 
-use crate::erased::core::text::digit_value;
+use crate::erased::core::text::{digit_value, parse_in_vectors};
 use crate::host::prelude::*;
 
 /// Whether the word is two hexadecimal digits, of either case, for each of so many bytes as there
 /// are in `bytes`, which then become these; else they are not changed.
 pub fn read_digits(word: &[u8], bytes: &mut [u8]) -> bool {
-    if word.len() % 2 != 0 || word.len() / 2 != bytes.len() || !are_digits(word) {
+    if word.len() % 2 != 0 || word.len() / 2 != bytes.len() {
+        return false;
+    }
+    if bytes.len() <= 32 {
+        read_few(word, bytes)
+    } else {
+        read_many(word, bytes)
+    }
+}
+
+// The same of at most 32 bytes. There are zeros behind the digits up to those of 32 bytes, so that
+// the compiler knows their number, and makes vectors of the loops.
+fn read_few(word: &[u8], bytes: &mut [u8]) -> bool {
+    match parse_in_vectors::<32>(&with_zeros(word)) {
+        Some(all) => {
+            bytes.copy_from_slice(&all[..bytes.len()]);
+            true
+        }
+        None => false,
+    }
+}
+
+// These digits, and zeros behind them.
+#[inline(always)]
+fn with_zeros(word: &[u8]) -> [u8; 64] {
+    let mut digits = [b'0'; 64];
+    digits[..word.len()].copy_from_slice(word);
+    digits
+}
+
+// The same of any number of bytes. The first byte that is no digit ends it.
+fn read_many(word: &[u8], bytes: &mut [u8]) -> bool {
+    if !are_digits(word) {
         return false;
     }
     put_digits(word, bytes);

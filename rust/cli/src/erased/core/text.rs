@@ -152,9 +152,9 @@ fn parse_bytes<const N: usize>(word: &[u8]) -> Option<[u8; N]> {
         return None;
     }
     if N <= 32 {
-        parse_short(word)
+        parse_in_vectors(word)
     } else {
-        parse_long(word)
+        parse_in_turn(word)
     }
 }
 
@@ -162,7 +162,7 @@ fn parse_bytes<const N: usize>(word: &[u8]) -> Option<[u8; N]> {
 // the compiler makes vectors of both loops. All are read before a wrong one is noticed, so that no
 // step branches on a digit.
 #[inline(always)]
-fn parse_short<const N: usize>(word: &[u8]) -> Option<[u8; N]> {
+pub(crate) fn parse_in_vectors<const N: usize>(word: &[u8]) -> Option<[u8; N]> {
     let mut values = [0; 64];
     if put_values(word, &mut values) >= 16 {
         return None;
@@ -189,7 +189,7 @@ fn put_values(digits: &[u8], values: &mut [u8; 64]) -> u8 {
 }
 
 // The same of any number of bytes. The first byte that is no digit ends it.
-fn parse_long<const N: usize>(word: &[u8]) -> Option<[u8; N]> {
+fn parse_in_turn<const N: usize>(word: &[u8]) -> Option<[u8; N]> {
     if !are_digits(word) {
         return None;
     }

@@ -2,7 +2,7 @@ use Rattle.std.proofs.Common.{◌≡◌, ◌∙◌, ◌*◌, ◌+◌, ◌%◌, �
 use Rattle.std.proofs.lemmas.List.{take_more_set, length-set, get_or_default}
 use Rattle.odht_tool_core.specs.Texts.{WritesBytes}
 use Rattle.odht_tool_core.proofs.Words.{one_more}
-use Rattle.odht_tool_core.proofs.text.parse_short.Goals as goal
+use Rattle.odht_tool_core.proofs.text.parse_in_vectors.Goals as goal
 
 pub loop-at-preserved : goal.loop-at-preserved
 loop-at-preserved g c =
