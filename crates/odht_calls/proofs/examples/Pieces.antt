@@ -2,7 +2,7 @@
 use Rattle.std.proofs.Common.{◌≡◌, ℕ, List, [], ◌∷◌, refl, lit≤, arith}
 use Rattle.odht_calls.specs.declared.any.AnyLayout.{AnyLayout}
 use Rattle.odht_calls.specs.Layouts.{IsLayout}
-use Rattle.odht_calls.specs.Pieces.{pieces, ArePieces, AnyWalkAnswers, AnyGetAllAnswers, AnyInsertAllAnswers, AnyBuildAnswers}
+use Rattle.odht_calls.specs.Pieces.{pieces, ArePieces, AnyWalkAnswers, AnyGetAllAnswers, AnyInsertAllAnswers, AnyBuildAnswers, AnyViewGetAllAnswers, AnyBuildGrowingAnswers}
 use Rattle.odht_calls.proofs.lemmas.Layouts.{by_fx}
 
 -- keys of three bytes with values of one byte
@@ -41,7 +41,7 @@ one_refused h = absurd (omega (arith, h.keys))
 pub short_keys_refused : ArePieces 3 1 2 values values → ⊥
 short_keys_refused h = absurd (omega (arith, h.keys))
 
--- ---- AnyWalkAnswers, AnyGetAllAnswers, AnyInsertAllAnswers, AnyBuildAnswers
+-- ---- AnyWalkAnswers, AnyGetAllAnswers, AnyViewGetAllAnswers, AnyInsertAllAnswers, AnyBuildAnswers, AnyBuildGrowingAnswers
 -- to too few keys each call answers ODHT_BAD_LENGTHS, and writes nothing
 pub short_walk : (B : List ℕ) → AnyWalkAnswers layout B 4 2 values values 9 35 4 values values 9
 short_walk B = by_fx _ _ _ _ (refl, lit≤ tt) (record { lengths = λ other. (refl, (refl, refl, refl, refl)); answers = λ long. absurd (short_keys_refused long) })
@@ -67,3 +67,16 @@ short_lookups_done_refused B h = absurd (let status = ((h.answers is_layout).len
 
 pub short_build_done_refused : AnyBuildAnswers layout 2 values values 87 [] 9 0 [] 9 → ⊥
 short_build_done_refused h = absurd (let status = ((h.answers is_layout).lengths short_keys_refused).0 in omega (arith, status))
+
+-- so it is in an opened table, and of a table that grows
+pub short_view_lookups : (B : List ℕ) → AnyViewGetAllAnswers layout B 2 values values (0 ∷ 0 ∷ []) 35 values (0 ∷ 0 ∷ [])
+short_view_lookups B = by_fx _ _ _ _ (refl, lit≤ tt) (record { lengths = λ other. (refl, (refl, refl)); answers = λ long. absurd (short_keys_refused long.0) })
+
+pub short_view_lookups_done_refused : (B : List ℕ) → AnyViewGetAllAnswers layout B 2 values values (0 ∷ 0 ∷ []) 0 values (0 ∷ 0 ∷ []) → ⊥
+short_view_lookups_done_refused B h = absurd (let status = ((h.answers is_layout).lengths (λ long. absurd (short_keys_refused long.0))).0 in omega (arith, status))
+
+pub short_growing_build : AnyBuildGrowingAnswers layout 2 values values [] 9 35 [] 9
+short_growing_build = by_fx _ _ _ _ (refl, lit≤ tt) (record { lengths = λ other. (refl, (refl, refl)); answers = λ long. absurd (short_keys_refused long) })
+
+pub short_growing_build_done_refused : AnyBuildGrowingAnswers layout 2 values values [] 9 0 [] 9 → ⊥
+short_growing_build_done_refused h = absurd (let status = ((h.answers is_layout).lengths short_keys_refused).0 in omega (arith, status))

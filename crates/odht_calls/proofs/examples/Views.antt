@@ -1,14 +1,18 @@
 -- Worked examples: calls on opened tables. Views are slices at the address 640, openings are of slices at 64.
 --     at640, at64      the slice of these bytes at either address
-use Rattle.std.proofs.Common.{◌≡◌, ℕ, zero, suc, refl, sym, List, [], ◌∷◌, Option, Some, None, IfSome, lit<, ap, length, slice_get, subst}
+use Rattle.std.proofs.Common.{◌≡◌, ◌∙◌, ℕ, zero, suc, refl, sym, List, [], ◌∷◌, Option, Some, None, IfSome, lit<, ap, length, slice_get, subst}
 use Rattle.std.proofs.lemmas.Option.{none-some}
 use Rattle.std.specs.Borrow.{Bor}
+use Rattle.odht_base.specs.Decoded.{header_count}
 use Rattle.odht_base.specs.Numbers.{le_bytes}
 use Rattle.odht_base.specs.Table.{Table, count}
+use Rattle.odht_base.proofs.lemmas.Fits.{IsSized-IsPlaced}
+use Rattle.odht_base.proofs.lemmas.Image.{header_count-image}
 use Rattle.odht_base.proofs.lemmas.Options.{some_same}
 use Rattle.odht_header.specs.Coding.{value_for, HasStored}
 use Rattle.odht_header.proofs.examples.Apart.{unequal, unequal_lists}
 use Rattle.odht_header.proofs.examples.Opened.{opened}
+use Rattle.odht_calls.specs.Layouts.{AnyViewLenAnswers, any_coding}
 use Rattle.odht_calls.specs.Reads.{IsGot, IsGotAt}
 use Rattle.odht_calls.specs.Views.{OpenViewAnswers, ViewGetAnswers, ViewGetAllAnswers, ViewLenAnswers}
 use Rattle.odht_calls.proofs.examples.Tables.{direct_coding, one_item, one_bytes, no_bytes, miscounted, one_image, same_table, not_stored}
@@ -123,6 +127,18 @@ view_recounted_refused h = unequal 0 5 refl h.by_header
 pub view_uncounted_refused : ViewLenAnswers direct_coding one_bytes 0 → ⊥
 unfolding opened
 view_uncounted_refused h = unequal 0 1 refl (h.on_valid one_item one_image)
+
+-- ---- AnyViewLenAnswers
+-- whatever the layout, the number is that in the header, and of a valid table its count
+pub any_view_one_len : AnyViewLenAnswers one_bytes 1
+unfolding opened
+any_view_one_len l =
+    let F = (any_coding l).format in
+    record { by_header = refl; on_valid = λ P is. ap header_count is.bytes ∙ header_count-image F P (IsSized-IsPlaced F P is.valid.placed) }
+
+pub any_view_recounted_refused : AnyViewLenAnswers miscounted 0 → ⊥
+unfolding opened
+any_view_recounted_refused h = unequal 0 5 refl (h (record { key_len = 8; value_len = 4; hash = 0 })).by_header
 
 -- ---- ViewGetAllAnswers, here of one key, into the arrays 9 ∷ [] and 3 ∷ []
 -- arrays of two lengths are answered with ODHT_BAD_LENGTHS, and are unchanged

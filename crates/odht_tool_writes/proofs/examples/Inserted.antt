@@ -8,9 +8,11 @@ use Rattle.odht_base.proofs.examples.Configs.{direct_config}
 use Rattle.odht_base.proofs.lemmas.Options.{some_same}
 use Rattle.odht_header.proofs.examples.Apart.{unequal_lists}
 use Rattle.odht_header.proofs.examples.Opened.{opened}
+use Rattle.odht_header.specs.declared.error.Error.TheVariants.{TooShort}
 use Rattle.odht.proofs.lemmas.ListInserts.{inserted_none}
-use Rattle.odht_tool_writes.specs.Inserted.{AreInserted, IsLineTaken, IsNewInsert}
+use Rattle.odht_tool_writes.specs.Inserted.{AreInserted, IsLineTaken, IsNewInsert, copy_failure}
 use Rattle.odht_tool_tables.proofs.examples.OneTable.{C, one_image, same_table}
+use Rattle.odht_tool_core.specs.declared.failure.Failure.TheVariants.{Memory, Refused}
 use Rattle.odht_tool_core.proofs.examples.Shapes.{one_item, one_bytes}
 
 -- no pairs leave the bytes
@@ -41,3 +43,8 @@ known_changes_nothing h = unequal_lists _ _ refl (sym (h one_item one_image).1)
 pub known_is_refused : (B : List ℕ) → IsLineTaken C one_bytes 5 9 true B → ⊥
 known_is_refused B (true, h, once) = known_is_not_new B h
 known_is_refused B (false, h, once) = let no : false ≡ true = once refl in cc
+
+-- a copy of bytes that break a rule fails by the first one, and of others for want of memory alone
+pub copies_fail : (copy_failure direct_config None [] ≡ Refused (TooShort 0)) × (copy_failure direct_config None one_bytes ≡ Memory)
+unfolding opened
+copies_fail = (refl, refl)
