@@ -87,7 +87,7 @@ fn write_at<O: Write>(at: Option<usize>, output: &mut O) -> io::Result<()>
         (Appends (O.contents output.old) (O.contents output.new) (at_line at)) }
 {
     match at {
-        Some(at) => write_number("at byte       ", at as u128, "", output),
+        Some(at) => write_number_line("at byte       ", at as u128, "", output),
         None => Ok(()),
     }
 }
@@ -132,10 +132,10 @@ fn write_lengths<O: Write>(numbers: &Numbers, output: &mut O) -> io::Result<()>
     ensures { OnOk result
         (Appends (O.contents output.old) (O.contents output.new) (lengths_text numbers.now)) }
 {
-    write_number("key bytes     ", numbers.key_size as u128, "", output)?;
-    write_number("value bytes   ", numbers.value_size as u128, "", output)?;
-    write_number("header bytes  ", HEADER_SIZE as u128, "", output)?;
-    write_number("all bytes     ", numbers.len as u128, "", output)
+    write_number_line("key bytes     ", numbers.key_size as u128, "", output)?;
+    write_number_line("value bytes   ", numbers.value_size as u128, "", output)?;
+    write_number_line("header bytes  ", HEADER_SIZE as u128, "", output)?;
+    write_number_line("all bytes     ", numbers.len as u128, "", output)
 }
 
 // The lines that do not depend on the hash function.
@@ -144,11 +144,11 @@ fn write_sizes<O: Write>(numbers: &Numbers, output: &mut O) -> io::Result<()>
         (Appends (O.contents output.old) (O.contents output.new) (sizes_text numbers.now)) }
 {
     write_lengths(numbers, output)?;
-    write_number("items         ", numbers.item_count as u128, "", output)?;
-    write_number("slots         ", numbers.slot_count as u128, "", output)?;
-    write_number("maximum       ", numbers.max_item_count as u128, "", output)?;
-    write_number("load          ", numbers.load, " percent", output)?;
-    write_number(
+    write_number_line("items         ", numbers.item_count as u128, "", output)?;
+    write_number_line("slots         ", numbers.slot_count as u128, "", output)?;
+    write_number_line("maximum       ", numbers.max_item_count as u128, "", output)?;
+    write_number_line("load          ", numbers.load, " percent", output)?;
+    write_number_line(
         "maximum load  ",
         numbers.max_load as u128,
         " percent",
@@ -185,7 +185,7 @@ fn write_longest<O: Write>(
 {
     match bound {
         Some(bound) if bound < groups => { writeln!(output, "{label}more than {bound} groups") }
-        _ => write_number(label, groups as u128, " groups", output),
+        _ => write_number_line(label, groups as u128, " groups", output),
     }
 }
 
@@ -200,7 +200,12 @@ pub fn name_of(hash: Hash) -> &'static str
 }
 
 // Writes a line of a label and a number, with `end` after it.
-fn write_number<O: Write>(label: &str, number: u128, end: &str, output: &mut O) -> io::Result<()>
+fn write_number_line<O: Write>(
+    label: &str,
+    number: u128,
+    end: &str,
+    output: &mut O,
+) -> io::Result<()>
     ensures { OnOk result (Appends (O.contents output.old) (O.contents output.new)
         (number_line label.now number end.now)) }
 {

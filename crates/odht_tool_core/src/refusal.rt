@@ -40,22 +40,22 @@ fn write_foreign<W: fmt::Write>(found: &[u8; 4], f: &mut fmt::Formatter<W>) -> f
     ensures { WritesOnOk W.write_str_gives f.old result (foreign_text found.now) f.new }
 {
     write!(f, "not an odht table: it begins with")?;
-    write_numbers(found, f)?;
+    write_all_spaced(found, f)?;
     let shown = Shown(found);
     write!(f, ", {shown}")
 }
 
 // Writes a space and two digits in base 16 for each byte.
-fn write_numbers<W: fmt::Write>(bytes: &[u8], f: &mut fmt::Formatter<W>) -> fmt::Result
+fn write_all_spaced<W: fmt::Write>(bytes: &[u8], f: &mut fmt::Formatter<W>) -> fmt::Result
     ensures { WritesOnOk W.write_str_gives f.old result (flat_map spaced_digits bytes.now) f.new }
 {
     for byte in bytes {
-        write_number(*byte, f)?;
+        write_spaced_digits(*byte, f)?;
     }
     Ok(())
 }
 
-fn write_number<W: fmt::Write>(byte: u8, f: &mut fmt::Formatter<W>) -> fmt::Result
+fn write_spaced_digits<W: fmt::Write>(byte: u8, f: &mut fmt::Formatter<W>) -> fmt::Result
     ensures { WritesOnOk W.write_str_gives f.old result (spaced_digits byte) f.new }
 {
     write!(f, " {byte:02x}")

@@ -55,11 +55,11 @@ fn write_byte<W: fmt::Write>(byte: u8, f: &mut fmt::Formatter<W>) -> fmt::Result
         b'"' => f.write_str("\\\""),
         b'\\' => f.write_str("\\\\"),
         b' '..=b'~' => f.write_char(char::from(byte)),
-        _ => write_number(byte, f),
+        _ => write_escape(byte, f),
     }
 }
 
-fn write_number<W: fmt::Write>(byte: u8, f: &mut fmt::Formatter<W>) -> fmt::Result
+fn write_escape<W: fmt::Write>(byte: u8, f: &mut fmt::Formatter<W>) -> fmt::Result
     ensures { WritesOnOk W.write_str_gives f.old result (codes "\\x" ++ hex_digits byte) f.new }
 {
     write!(f, "\\x{byte:02x}")

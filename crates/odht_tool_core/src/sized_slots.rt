@@ -32,13 +32,13 @@ pub fn write_slots<H: HashFn, O: Write>(
         (slots_as is_json (sized_format table.now H.hash) texts T T.entries.slots)) }
 {
     for slot in 0..table.len() {
-        write_slot(texts, is_json, table, slot, output)?;
+        write_sized_slot(texts, is_json, table, slot, output)?;
     }
     Ok(())
 }
 
 // Writes the line of a slot, where it is occupied.
-fn write_slot<H: HashFn, O: Write>(
+fn write_sized_slot<H: HashFn, O: Write>(
     texts: Texts,
     is_json: bool,
     table: &SizedTable<'_, H>,

@@ -66,7 +66,7 @@ impl<'a> StoredTable<'a> {
         ensures long { OnOk result (32 ≤ length bytes.now) }
     {
         check_first(bytes)?;
-        check_rest(bytes)?;
+        check_after_sizes(bytes)?;
         Ok(StoredTable::cut(bytes))
     }
 
@@ -231,7 +231,7 @@ impl<'a> StoredTable<'a> {
 }
 
 // The errors of opening that come after those of the key and value sizes.
-fn check_rest(bytes: &[u8]) -> Result<(), Error>
+fn check_after_sizes(bytes: &[u8]) -> Result<(), Error>
     requires { 32 ≤ length bytes.now }
     ensures { result ≡ checked (rest_refusal bytes.now) }
 {

@@ -134,13 +134,13 @@ fn write_pairs<K: Stored, V: Stored, H: HashFn, O: Write>(
         (pairs_text (K.text keys) (V.text values) (bare_pairs pairs.entry))) }
 {
     for (key, value) in pairs {
-        write_pair(keys, values, key, value, output)?;
+        write_pair_line(keys, values, key, value, output)?;
     }
     Ok(())
 }
 
 #[inline(always)]
-fn write_pair<K: Stored, V: Stored, O: Write>(
+fn write_pair_line<K: Stored, V: Stored, O: Write>(
     keys: K,
     values: V,
     key: &[u8],

@@ -61,7 +61,7 @@ fn order_pairs<H: HashFn, O: Write>(
         in IsOrdered F texts bytes.now (O.contents output.old) (O.contents output.new) result }
 {
     let layout = lengths_of(texts.key, texts.value);
-    match find_order::<H>(alloc, layout, bytes)? {
+    match order_of_slots::<H>(alloc, layout, bytes)? {
         Some(order) => {
             let order = order.as_slice();
             of_output(write_order::<H, O>(texts, layout, bytes, order, output))
@@ -71,7 +71,7 @@ fn order_pairs<H: HashFn, O: Write>(
 }
 
 // The slots of a valid table of these lengths in an insert order. None where no inserts make it.
-fn find_order<H: HashFn>(
+fn order_of_slots<H: HashFn>(
     alloc: Global,
     layout: Layout,
     bytes: &[u8],

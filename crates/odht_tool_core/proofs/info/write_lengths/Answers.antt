@@ -15,9 +15,9 @@ returns g c =
     let b = number_line (codes "value bytes   ") n.value_size [] in
     let d = number_line (codes "header bytes  ") 32 [] in
     let e = number_line (codes "all bytes     ") n.len [] in
-    let p1 = o c.write_number.new.output in
-    let p2 = o c.write_number-2.new.output in
-    let p3 = o c.write_number-3.new.output in
-    let q2 = Appends-trans old p1 p2 a b c.in_ok-write_number.ensures c.in_ok-write_number-2.ensures in
-    let q3 = Appends-trans old p2 p3 (a ++ b) d q2 c.in_ok-write_number-3.ensures in
-    then_appends c.write_number-4.result old p3 (o c.write_number-4.new.output) (a ++ b ++ d) e q3 c.write_number-4.ensures
+    let p1 = o c.write_number_line.new.output in
+    let p2 = o c.write_number_line-2.new.output in
+    let p3 = o c.write_number_line-3.new.output in
+    let q2 = Appends-trans old p1 p2 a b c.in_ok-write_number_line.ensures c.in_ok-write_number_line-2.ensures in
+    let q3 = Appends-trans old p2 p3 (a ++ b) d q2 c.in_ok-write_number_line-3.ensures in
+    then_appends c.write_number_line-4.result old p3 (o c.write_number_line-4.new.output) (a ++ b ++ d) e q3 c.write_number_line-4.ensures

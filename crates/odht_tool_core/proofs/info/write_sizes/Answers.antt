@@ -18,12 +18,12 @@ returns g c =
     let j = number_line (codes "load          ") n.load (codes " percent") in
     let k = number_line (codes "maximum load  ") n.max_load (codes " percent") in
     let p1 = o c.write_lengths.new.output in
-    let p2 = o c.write_number.new.output in
-    let p3 = o c.write_number-2.new.output in
-    let p4 = o c.write_number-3.new.output in
-    let p5 = o c.write_number-4.new.output in
-    let q2 = Appends-trans old p1 p2 a f c.in_ok-write_lengths.ensures c.in_ok-write_number.ensures in
-    let q3 = Appends-trans old p2 p3 (a ++ f) h q2 c.in_ok-write_number-2.ensures in
-    let q4 = Appends-trans old p3 p4 (a ++ f ++ h) i q3 c.in_ok-write_number-3.ensures in
-    let q5 = Appends-trans old p4 p5 (a ++ f ++ h ++ i) j q4 c.in_ok-write_number-4.ensures in
-    then_appends c.write_number-5.result old p5 (o c.write_number-5.new.output) (a ++ f ++ h ++ i ++ j) k q5 c.write_number-5.ensures
+    let p2 = o c.write_number_line.new.output in
+    let p3 = o c.write_number_line-2.new.output in
+    let p4 = o c.write_number_line-3.new.output in
+    let p5 = o c.write_number_line-4.new.output in
+    let q2 = Appends-trans old p1 p2 a f c.in_ok-write_lengths.ensures c.in_ok-write_number_line.ensures in
+    let q3 = Appends-trans old p2 p3 (a ++ f) h q2 c.in_ok-write_number_line-2.ensures in
+    let q4 = Appends-trans old p3 p4 (a ++ f ++ h) i q3 c.in_ok-write_number_line-3.ensures in
+    let q5 = Appends-trans old p4 p5 (a ++ f ++ h ++ i) j q4 c.in_ok-write_number_line-4.ensures in
+    then_appends c.write_number_line-5.result old p5 (o c.write_number_line-5.new.output) (a ++ f ++ h ++ i ++ j) k q5 c.write_number_line-5.ensures

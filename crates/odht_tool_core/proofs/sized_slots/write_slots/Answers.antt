@@ -13,6 +13,6 @@ loop-slot-preserved g c =
     let line = slot_as c.args.is_json F c.args.texts S.parts in
     let n = c.loop-slot.slot in
     let old = g.O.Write.contents c.args.output.now in
-    let new = g.O.Write.contents c.write_slot.new.output in
+    let new = g.O.Write.contents c.write_sized_slot.new.output in
     subst (Appends old new) (sym (written_more line n))
-    (Appends-trans old (g.O.Write.contents c.loop-slot.output) new (slots_as c.args.is_json F c.args.texts S.parts n) (line n) c.loop-slot.invariant c.in_ok-write_slot.ensures)
+    (Appends-trans old (g.O.Write.contents c.loop-slot.output) new (slots_as c.args.is_json F c.args.texts S.parts n) (line n) c.loop-slot.invariant c.in_ok-write_sized_slot.ensures)

@@ -70,7 +70,7 @@ fn write_place<O: Write>(
 // The line of the byte at which the table stands in the file, where that is told.
 fn write_at<O: Write>(at: Option<usize>, output: &mut O) -> io::Result<()> {
     match at {
-        Some(at) => write_number("at byte       ", at as u128, "", output),
+        Some(at) => write_number_line("at byte       ", at as u128, "", output),
         None => Ok(()),
     }
 }
@@ -98,20 +98,20 @@ fn write_hash<O: Write>(numbers: &Numbers, output: &mut O) -> io::Result<()> {
 
 // The lines of the sizes of keys, values and header, and of all bytes.
 fn write_lengths<O: Write>(numbers: &Numbers, output: &mut O) -> io::Result<()> {
-    write_number("key bytes     ", numbers.key_size as u128, "", output)?;
-    write_number("value bytes   ", numbers.value_size as u128, "", output)?;
-    write_number("header bytes  ", HEADER_SIZE as u128, "", output)?;
-    write_number("all bytes     ", numbers.len as u128, "", output)
+    write_number_line("key bytes     ", numbers.key_size as u128, "", output)?;
+    write_number_line("value bytes   ", numbers.value_size as u128, "", output)?;
+    write_number_line("header bytes  ", HEADER_SIZE as u128, "", output)?;
+    write_number_line("all bytes     ", numbers.len as u128, "", output)
 }
 
 // The lines that do not depend on the hash function.
 fn write_sizes<O: Write>(numbers: &Numbers, output: &mut O) -> io::Result<()> {
     write_lengths(numbers, output)?;
-    write_number("items         ", numbers.item_count as u128, "", output)?;
-    write_number("slots         ", numbers.slot_count as u128, "", output)?;
-    write_number("maximum       ", numbers.max_item_count as u128, "", output)?;
-    write_number("load          ", numbers.load, " percent", output)?;
-    write_number("maximum load  ", numbers.max_load as u128, " percent", output)
+    write_number_line("items         ", numbers.item_count as u128, "", output)?;
+    write_number_line("slots         ", numbers.slot_count as u128, "", output)?;
+    write_number_line("maximum       ", numbers.max_item_count as u128, "", output)?;
+    write_number_line("load          ", numbers.load, " percent", output)?;
+    write_number_line("maximum load  ", numbers.max_load as u128, " percent", output)
 }
 
 // The lines of the hash function and of the histogram.
@@ -138,7 +138,7 @@ fn write_longest<O: Write>(
         Some(bound) if bound < groups => {
             writeln!(output, "{label}more than {bound} groups")
         }
-        _ => write_number(label, groups as u128, " groups", output),
+        _ => write_number_line(label, groups as u128, " groups", output),
     }
 }
 
@@ -151,6 +151,11 @@ pub fn name_of(hash: Hash) -> &'static str {
 }
 
 // Writes a line of a label and a number, with `end` after it.
-fn write_number<O: Write>(label: &str, number: u128, end: &str, output: &mut O) -> io::Result<()> {
+fn write_number_line<O: Write>(
+    label: &str,
+    number: u128,
+    end: &str,
+    output: &mut O,
+) -> io::Result<()> {
     writeln!(output, "{label}{number}{end}")
 }

@@ -33,19 +33,19 @@ fn advice_of(error: &Error) -> &'static str {
 // Writes that these are not the first bytes of a table.
 fn write_foreign(found: &[u8; 4], f: &mut fmt::Formatter<'_>) -> fmt::Result {
     write!(f, "not an odht table: it begins with")?;
-    write_numbers(found, f)?;
+    write_all_spaced(found, f)?;
     let shown = Shown(found);
     write!(f, ", {shown}")
 }
 
 // Writes a space and two digits in base 16 for each byte.
-fn write_numbers(bytes: &[u8], f: &mut fmt::Formatter<'_>) -> fmt::Result {
+fn write_all_spaced(bytes: &[u8], f: &mut fmt::Formatter<'_>) -> fmt::Result {
     for byte in bytes {
-        write_number(*byte, f)?;
+        write_spaced_digits(*byte, f)?;
     }
     Ok(())
 }
 
-fn write_number(byte: u8, f: &mut fmt::Formatter<'_>) -> fmt::Result {
+fn write_spaced_digits(byte: u8, f: &mut fmt::Formatter<'_>) -> fmt::Result {
     write!(f, " {byte:02x}")
 }

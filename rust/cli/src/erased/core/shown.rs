@@ -45,11 +45,11 @@ fn write_byte(byte: u8, f: &mut fmt::Formatter<'_>) -> fmt::Result {
         b'"' => f.write_str("\\\""),
         b'\\' => f.write_str("\\\\"),
         b' '..=b'~' => f.write_char(char::from(byte)),
-        _ => write_number(byte, f),
+        _ => write_escape(byte, f),
     }
 }
 
-fn write_number(byte: u8, f: &mut fmt::Formatter<'_>) -> fmt::Result {
+fn write_escape(byte: u8, f: &mut fmt::Formatter<'_>) -> fmt::Result {
     write!(f, "\\x{byte:02x}")
 }
 

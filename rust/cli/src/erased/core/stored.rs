@@ -28,7 +28,7 @@ impl<'a> StoredTable<'a> {
     /// [`Header::sanity_check`] does for the key and value sizes in the header.
     pub fn open(bytes: &'a [u8]) -> Result<Self, Error> {
         check_first(bytes)?;
-        check_rest(bytes)?;
+        check_after_sizes(bytes)?;
         Ok(StoredTable::cut(bytes))
     }
 
@@ -157,7 +157,7 @@ impl<'a> StoredTable<'a> {
 }
 
 // The errors of opening that come after those of the key and value sizes.
-fn check_rest(bytes: &[u8]) -> Result<(), Error> {
+fn check_after_sizes(bytes: &[u8]) -> Result<(), Error> {
     let header = Header::of(bytes);
     header.check_header_size()?;
     header.check_slot_count()?;

@@ -86,7 +86,7 @@ fn fill<T: Inserts, F: Forms, R: AllocGlobal + Clock, I: BufRead, E: Write>(
         let pair = match read_pair_as::<T::Key, T::Value, F, I>(input, &mut line, number, forms) {
             Ok(Some(pair)) => pair,
             Ok(None) => {
-                insert_batch(table, &mut pairs)?;
+                insert_and_clear(table, &mut pairs)?;
                 report_all(rt, progress, number, table.pair_count(), bytes, errors);
                 break;
             }
@@ -98,11 +98,11 @@ fn fill<T: Inserts, F: Forms, R: AllocGlobal + Clock, I: BufRead, E: Write>(
         pairs.try_push(pair).or(Err(Failure::Memory))?;
         bytes = with_line(bytes, line.as_slice());
         if pairs.len() >= BATCH {
-            insert_batch(table, &mut pairs)?;
+            insert_and_clear(table, &mut pairs)?;
             report(rt, &mut progress, number, table.pair_count(), bytes, errors);
         }
     }
-    insert_batch(table, &mut pairs)
+    insert_and_clear(table, &mut pairs)
 }
 
 // Reports how far the run is: how many lines were read, of so many bytes, and how many pairs there
@@ -166,7 +166,7 @@ fn told<K: Text, V: Text, F: Forms>(
 }
 
 // Inserts the pairs, and drops them.
-fn insert_batch<T: Inserts>(
+fn insert_and_clear<T: Inserts>(
     table: &mut T,
     pairs: &mut Vec<(T::Key, T::Value)>,
 ) -> Result<(), Failure> {

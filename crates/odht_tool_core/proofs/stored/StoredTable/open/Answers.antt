@@ -9,12 +9,12 @@ returns-in_err-check_first-clause-err c =
     let failed : c.from_residual.result ≡ Err x = search rules in
     ap result_err failed ∙ sym (early_error c.args.bytes.now x (sym c.in_err-check_first.was ∙ c.check_first.ensures.first))
 
-pub returns-in_err-check_rest-clause-err : goal.returns-in_err-check_rest-clause-err
-returns-in_err-check_rest-clause-err c =
-    let x = c.in_err-check_rest.field-0.0 in
-    let failed : c.from_residual-in_err-check_rest.result ≡ Err x = search rules in
-    ap result_err failed ∙ sym (late_error c.args.bytes.now x (sym c.in_ok-check_first.was ∙ c.check_first.ensures.first) (sym c.in_err-check_rest.was ∙ c.check_rest.ensures))
+pub returns-in_err-check_after_sizes-clause-err : goal.returns-in_err-check_after_sizes-clause-err
+returns-in_err-check_after_sizes-clause-err c =
+    let x = c.in_err-check_after_sizes.field-0.0 in
+    let failed : c.from_residual-in_err-check_after_sizes.result ≡ Err x = search rules in
+    ap result_err failed ∙ sym (late_error c.args.bytes.now x (sym c.in_ok-check_first.was ∙ c.check_first.ensures.first) (sym c.in_err-check_after_sizes.was ∙ c.check_after_sizes.ensures))
 
 pub returns-clause-err : goal.returns-clause-err
 returns-clause-err c =
-    sym (no_error c.args.bytes.now (sym c.in_ok-check_first.was ∙ c.check_first.ensures.first) (sym c.in_ok-check_rest.was ∙ c.check_rest.ensures))
+    sym (no_error c.args.bytes.now (sym c.in_ok-check_first.was ∙ c.check_first.ensures.first) (sym c.in_ok-check_after_sizes.was ∙ c.check_after_sizes.ensures))

@@ -31,9 +31,9 @@ loop-key-preserved g c =
     let more : text (map pair_of (items ++ (c.in-Some.key, c.in-Some.value) ∷ [])) ≡ text done ++ pair_line f v (bare here) = ap text all ∙ ap (pairs_text f v) (map-append bare done (here ∷ [])) ∙ sym (flat_map_more (pair_line f v) [] (bare_pairs done) (bare here)) in
     let old = g.O.Write.contents c.args.output.now in
     let before = g.O.Write.contents c.loop-key.output in
-    let new = g.O.Write.contents c.write_pair.new.output in
+    let new = g.O.Write.contents c.write_pair_line.new.output in
     record {
-      written = subst (Appends old new) (sym more) (appends_more old before new (text done) (pair_line f v (bare here)) c.loop-key.invariant.written c.in_ok-write_pair.ensures);
+      written = subst (Appends old new) (sym more) (appends_more old before new (text done) (pair_line f v (bare here)) c.loop-key.invariant.written c.in_ok-write_pair_line.ensures);
       lengths = all_tail fits here c.next.new.self (subst (All fits) c.in-Some.ensures.steps c.loop-key.invariant.lengths);
       pairs = c.loop-key.invariant.pairs ∙ ap (λ xs. done ++ xs) c.in-Some.ensures.steps
           ∙ sym (append_assoc done (here ∷ []) c.next.new.self) ∙ ap (λ xs. xs ++ c.next.new.self) (sym all);

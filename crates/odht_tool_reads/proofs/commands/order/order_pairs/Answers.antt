@@ -13,8 +13,8 @@ use Rattle.odht_tool_core.specs.StoredTexts.{lines_of}
 use Rattle.odht_tool_reads.proofs.Ordered.{order_told, order_stored, order_within, same_format}
 use Rattle.odht_tool_reads.proofs.commands.order.order_pairs.Goals as goal
 
-pub find_order-requires-clause-valid : goal.find_order-requires-clause-valid
-find_order-requires-clause-valid g c =
+pub order_of_slots-requires-clause-valid : goal.order_of_slots-requires-clause-valid
+order_of_slots-requires-clause-valid g c =
     let layout = c.lengths_of-layout.ensures in
     subst (λ (G : Format). IsValidBytes G c.args.bytes.now) (sym (same_format _ _ _ _ g.H.HashFn.hash layout.key layout.value)) c.requires.valid
 
@@ -68,5 +68,5 @@ pub returns-in-None : goal.returns-in-None
 returns-in-None g c =
     let layout = c.lengths_of-layout.ensures in
     let unmade = subst (λ (G : Format). OfTable G c.args.bytes.now (λ P. IsMade G P → ⊥)) (same_format _ _ _ _ g.H.HashFn.hash layout.key layout.value)
-    (c.find_order.ensures.none (c.in_ok-order.was ∙ ap Ok c.in-None.is)) in
+    (c.order_of_slots.ensures.none (c.in_ok-order.was ∙ ap Ok c.in-None.is)) in
     λ P is. (unmade P is, Keeps-refl (g.O.Write.contents c.args.output.now))

@@ -101,13 +101,13 @@ fn write_pairs<K: Stored, V: Stored, H: HashFn, O: Write>(
     output: &mut O,
 ) -> io::Result<()> {
     for (key, value) in pairs {
-        write_pair(keys, values, key, value, output)?;
+        write_pair_line(keys, values, key, value, output)?;
     }
     Ok(())
 }
 
 #[inline(always)]
-fn write_pair<K: Stored, V: Stored, O: Write>(
+fn write_pair_line<K: Stored, V: Stored, O: Write>(
     keys: K,
     values: V,
     key: &[u8],

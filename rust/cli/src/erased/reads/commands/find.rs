@@ -58,13 +58,13 @@ fn write_tables<O: Write>(
     output: &mut O,
 ) -> Result<(), Failure> {
     for at in tables {
-        write_table(bytes, *at, bound, output)?;
+        write_table_line(bytes, *at, bound, output)?;
     }
     Ok(())
 }
 
 // Writes the line of the table at this offset.
-fn write_table<O: Write>(
+fn write_table_line<O: Write>(
     bytes: &[u8],
     at: usize,
     bound: Option<usize>,

@@ -50,14 +50,14 @@ fn write_item<O: Write>(
     output: &mut O,
 ) -> Result<(), Failure> {
     if index == 0 {
-        return write_table(bytes, tables[index], bound, output);
+        return write_table_object(bytes, tables[index], bound, output);
     }
     output.write_all(b",").map_err(Failure::Output)?;
-    write_table(bytes, tables[index], bound, output)
+    write_table_object(bytes, tables[index], bound, output)
 }
 
 // Writes the object of the table at this offset.
-fn write_table<O: Write>(
+fn write_table_object<O: Write>(
     bytes: &[u8],
     at: usize,
     bound: Option<usize>,

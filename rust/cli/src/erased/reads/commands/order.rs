@@ -44,7 +44,7 @@ fn order_pairs<H: HashFn, O: Write>(
     output: &mut O,
 ) -> Result<Status, Failure> {
     let layout = lengths_of(texts.key, texts.value);
-    match find_order::<H>(alloc, layout, bytes)? {
+    match order_of_slots::<H>(alloc, layout, bytes)? {
         Some(order) => {
             let order = order.as_slice();
             of_output(write_order::<H, O>(texts, layout, bytes, order, output))
@@ -54,7 +54,7 @@ fn order_pairs<H: HashFn, O: Write>(
 }
 
 // The slots of a valid table of these lengths in an insert order. None where no inserts make it.
-fn find_order<H: HashFn>(
+fn order_of_slots<H: HashFn>(
     alloc: Global,
     layout: Layout,
     bytes: &[u8],

@@ -7,7 +7,7 @@ use Rattle.odht_base.specs.Made.{IsMade}
 use Rattle.odht_base.specs.Valid.{IsImage}
 use Rattle.odht_raw.specs.Frame.{IsAccepted}
 use Rattle.odht_raw.proofs.lemmas.Accepted.{IsAccepted-IsValidBytes}
-use Rattle.odht_tool_reads.proofs.commands.order.find_order.Goals as goal
+use Rattle.odht_tool_reads.proofs.commands.order.order_of_slots.Goals as goal
 
 -- valid bytes are accepted
 pub open_unchecked-table-requires-clause-accepted : goal.open_unchecked-table-requires-clause-accepted

@@ -7,7 +7,7 @@ use Rattle.odht_tool_core.specs.Fronts.{offset_failure}
 use Rattle.odht_tool_core.specs.InfoNumbers.{info_refusal}
 use Rattle.odht_tool_core.proofs.Finds.{within_bytes, table_opens}
 use Rattle.odht_tool_reads.proofs.FindEnds.{only_writer}
-use Rattle.odht_tool_reads.proofs.commands.find_json.write_table.Goals as goal
+use Rattle.odht_tool_reads.proofs.commands.find_json.write_table_object.Goals as goal
 
 -- the table begins in the bytes
 pub returns-in_err-table-clause-err : goal.returns-in_err-table-clause-err
