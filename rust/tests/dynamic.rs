@@ -1,26 +1,21 @@
-//! Tables whose lengths of keys and values are known at run time alone: one of each length of keys and of values, beside
-//! a second writing and reading, read and written; what is rejected; and a store that gives other bytes. That their calls
-//! return what those of a configuration do, on any bytes, is seen where those are tested (`common/frame.rs`,
-//! `vectors.rs`).
+//! Tables whose lengths of keys and values are known at run time alone, as they are read: one of each length of keys and of
+//! values, beside a second reading; what is rejected; and a store that gives other bytes. That their calls return what
+//! those of a configuration do, on any bytes, is seen where those are tested (`common/frame.rs`, `vectors.rs`).
 
 mod common;
 
+use common::dynamic::{compare, orders_are_found, some_bytes};
 use common::frame::Named;
-use common::orders::{exchanged, first_order};
+use common::orders::exchanged;
 use common::outcomes::outcome;
 use common::random::Random;
 use common::reading::{Format, Hash, Reading};
 use common::writing::Writing;
 use odht::configs::U64ToU32;
 use odht::dynamic::{DynError, DynTable, Layout};
-use odht::{bytes_needed, Error, FxHashFn, HashFn, HashTable, HashTableOwned, Part, UnHashFn};
+use odht::{Error, FxHashFn, HashFn, HashTableOwned, Part, UnHashFn};
 use std::borrow::{Borrow, BorrowMut};
 use std::cell::Cell;
-
-// So many bytes, which look random.
-fn some_bytes(random: &mut Random, len: usize) -> Vec<u8> {
-    (0..len).map(|_| random.byte()).collect()
-}
 
 // A table of up to 40 pairs.
 fn some_table(format: Format, random: &mut Random) -> Writing {
@@ -30,75 +25,6 @@ fn some_table(format: Format, random: &mut Random) -> Writing {
         table.insert(&key, &value);
     }
     table
-}
-
-// How many groups the search for a key reads.
-fn groups_of(reading: &Reading<'_>, key: &[u8]) -> usize {
-    let order = reading.format.order_of(key, reading.slots());
-    let end = reading.search_end(key);
-    let passed = order.take_while(|slot| Some(*slot) != end).count();
-    (passed / 16 + 1).min(reading.slots() / 16)
-}
-
-// Compares what the calls with a bound of searches say with the second reading.
-fn bound_is_kept<H: HashFn>(table: &DynTable<H, &[u8]>, reading: &Reading<'_>, groups: usize) {
-    let expected = reading.error_within(&reading.check_error(), groups);
-    let found = table.check_rest_within(groups).err().map(|error| error.to_string());
-    assert_eq!(found, expected);
-    assert_eq!(table.verify_within(groups), expected.is_none());
-    assert_eq!(table.searches_within(groups), reading.first_longer(groups).is_none());
-}
-
-// Compares the orders of inserts that are found of a valid table with the first search. Returns whether there is one.
-fn orders_are_found<H: HashFn>(table: &DynTable<H, &[u8]>, reading: &Reading<'_>) -> bool {
-    let mut expected = vec![0; reading.count()];
-    let is_made = first_order(reading, &mut expected);
-    let mut found = vec![usize::MAX; reading.count()];
-    assert_eq!(table.insert_order(&mut found), is_made);
-    assert_eq!(found, expected);
-    let numbers = table.insert_order_scratch();
-    assert_eq!(numbers, 3 * reading.slots());
-    for numbers in [numbers, numbers + 1, numbers - 1] {
-        let mut found = vec![usize::MAX; reading.count()];
-        assert_eq!(table.insert_order_with(&mut found, &mut vec![usize::MAX; numbers]), is_made);
-        assert!(!is_made || found == expected);
-    }
-    assert!(!is_made || reading.is_insert_order(&expected));
-    is_made
-}
-
-// Compares each call with the second reading.
-fn compare<H: HashFn>(table: &DynTable<H, &[u8]>, reading: &Reading<'_>, random: &mut Random) {
-    let Format { key, value, .. } = reading.format;
-    assert_eq!(table.layout(), Layout { key_len: key as u8, value_len: value as u8 });
-    assert_eq!((table.len(), table.is_empty()), (reading.count(), reading.count() == 0));
-    assert_eq!(table.raw_bytes(), reading.bytes);
-    assert_eq!(table.check_rest().err().map(|error| error.to_string()), reading.check_error());
-    assert!(orders_are_found(table, reading));
-    for groups in [0, 1, 2, random.below(reading.slots() / 16 + 2)] {
-        bound_is_kept(table, reading, groups);
-    }
-    let pair = |slot| (slot, (reading.key(slot), reading.value(slot)));
-    let walk: Vec<_> = reading.occupied().map(pair).collect();
-    assert!(table.iter().eq(walk.iter().map(|(_, pair)| *pair)));
-    let from = random.below(reading.slots() + 4);
-    assert!(table.iter_from(from).eq(walk.iter().copied().filter(|(slot, _)| *slot >= from)));
-    for (_, (key, value)) in walk {
-        assert_eq!(table.get_counted(key), (Some(value), groups_of(reading, key)));
-        assert!(table.contains_key(key));
-        assert_eq!(table.get(&[key, &[0]].concat()), None);
-        assert_eq!(
-            table.get_counted(&key[..key.len().saturating_sub(1)]).0.is_some(),
-            key.is_empty()
-        );
-    }
-    for _ in 0..8 {
-        let key = some_bytes(random, key);
-        let there = reading.search_end(&key).filter(|slot| reading.is_occupied(*slot));
-        let value = there.map(|slot| reading.value(slot));
-        assert_eq!(table.get_counted(&key), (value, groups_of(reading, &key)));
-        assert_eq!((table.get(&key), table.contains_key(&key)), (value, value.is_some()));
-    }
 }
 
 // Looks up a list of keys, in turn those of the table and ones of another length.
@@ -319,134 +245,4 @@ fn other_bytes_than_those_that_were_opened() {
     assert_eq!(outcome(|| view.insert(&[0; 8], &[1; 4]).is_ok()), Ok(true));
     assert_eq!(outcome(|| view.grown_len()), Err(others.to_string()));
     assert_eq!(outcome(|| view.get(&[0; 8]) == Some(&[1; 4])), Ok(true));
-}
-
-fn layout_of(format: Format) -> Layout {
-    Layout { key_len: format.key as u8, value_len: format.value as u8 }
-}
-
-// Inserts a pair into a table that cannot grow and into the second writing, and compares what is returned and left.
-fn insert_both<H: HashFn>(
-    table: &mut DynTable<H, Vec<u8>>,
-    writing: &mut Writing,
-    (key, value): (&[u8], &[u8]),
-) {
-    let expected = if writing.is_full_for(key) {
-        Err(DynError::Rejected(Error::Full))
-    } else {
-        Ok(writing.put(key, value).expect("a free slot"))
-    };
-    let former = table.insert(key, value).map(|former| former.map(|it| it.to_vec()));
-    assert_eq!(former, expected);
-    assert_eq!(table.raw_bytes(), writing.bytes);
-}
-
-// Replaces both by the tables that they grow into.
-fn grow_both<H: HashFn>(table: &mut DynTable<H, Vec<u8>>, writing: &mut Writing) {
-    *writing = writing.grown();
-    let mut grown = vec![7; table.grown_len().unwrap()];
-    table.grow_into(&mut grown);
-    assert_eq!(grown, writing.bytes);
-    *table = DynTable::open(table.layout(), grown).unwrap();
-}
-
-// A new table, up to twice as many pairs as it takes, of which some keys come again, a growth, and the same again.
-fn build_both<H: Named>(format: Format, random: &mut Random) {
-    let layout = layout_of(format);
-    let mut writing = Writing::new(format, 3, 87);
-    assert_eq!(layout.bytes_needed(3, 87), Some(writing.bytes.len()));
-    let data = some_bytes(random, writing.bytes.len());
-    let mut table = DynTable::<H, _>::init_in_place(layout, data, 3, 87).unwrap();
-    assert_eq!(table.raw_bytes(), writing.bytes);
-    let keys: Vec<_> = (0..20).map(|_| some_bytes(random, format.key)).collect();
-    for _ in 0..2 {
-        for _ in 0..26 {
-            let key = &keys[random.below(keys.len())];
-            insert_both(&mut table, &mut writing, (key, &some_bytes(random, format.value)));
-        }
-        grow_both(&mut table, &mut writing);
-    }
-    let bytes = table.into_data();
-    let table = DynTable::<H, _>::open_as_stated(&bytes[..]).unwrap();
-    assert!(table.verify());
-    compare(&table, &writing.reading(), random);
-}
-
-fn build_each_length<H: Named>(least: usize) {
-    let mut random = Random(6);
-    for key in least..=255 {
-        for value in [0, 1, 7, 255 - key, 255] {
-            build_both::<H>(Format::new(key, value, H::HASH), &mut random);
-        }
-    }
-}
-
-#[test]
-fn each_length_is_written() {
-    build_each_length::<FxHashFn>(0);
-    build_each_length::<UnHashFn>(4);
-}
-
-// A key or a value of another length is an error, and changes nothing, in a full table too.
-#[test]
-fn other_lengths_are_not_inserted() {
-    let mut table = Writing::new(Format::new(8, 4, FxHashFn::HASH), 3, 87);
-    for number in 0..13_u8 {
-        table.put(&[number; 8], &[number; 4]).expect("a free slot");
-        let mut view = DynTable::<FxHashFn, _>::open_as_stated(table.bytes.clone()).unwrap();
-        for len in (0..300).filter(|len| *len != 8) {
-            let wrong_key = DynError::WrongKeyLength { expected: 8, found: len };
-            assert_eq!(view.insert(&vec![0; len], &[1; 4]), Err(wrong_key));
-        }
-        for len in (0..300).filter(|len| *len != 4) {
-            let wrong_value = DynError::WrongValueLength { expected: 4, found: len };
-            assert_eq!(view.insert(&[0; 8], &vec![1; len]), Err(wrong_value));
-        }
-        let both = DynError::WrongKeyLength { expected: 8, found: 7 };
-        assert_eq!(view.insert(&[0; 7], &[1; 5]), Err(both));
-        assert_eq!(view.raw_bytes(), table.bytes);
-    }
-    let text = DynError::WrongKeyLength { expected: 8, found: 3 }.to_string();
-    assert_eq!(text, "the key has 3 bytes, and those of the table have 8");
-    let text = DynError::WrongValueLength { expected: 4, found: 3 }.to_string();
-    assert_eq!(text, "the value has 3 bytes, and those of the table have 4");
-}
-
-#[test]
-fn new_tables_are_refused() {
-    let new = |key_len, len, items| {
-        let layout = Layout { key_len, value_len: 1 };
-        DynTable::<UnHashFn, _>::init_in_place(layout, vec![7; len], items, 87).err()
-    };
-    assert_eq!(new(3, 0, 1), Some(DynError::KeyTooShort { key_len: 3, least: 4 }));
-    assert_eq!(new(4, 0, usize::MAX), Some(DynError::Rejected(Error::Capacity)));
-    let wrong = Error::InitLength { found: 143, expected: 144 };
-    assert_eq!(new(4, 143, 1), Some(DynError::Rejected(wrong)));
-    assert_eq!(new(4, 144, 1), None);
-    assert_eq!(Layout { key_len: 4, value_len: 1 }.bytes_needed(usize::MAX, 87), None);
-}
-
-// The same list of items into a table of a configuration and one of these lengths leaves the same bytes.
-#[test]
-fn a_configuration_and_its_lengths() {
-    let mut random = Random(7);
-    let layout = Layout::of::<U64ToU32>();
-    for items in [1, 13, 14, 200, 3000] {
-        let len = bytes_needed::<U64ToU32>(items, 87);
-        assert_eq!(layout.bytes_needed(items, 87), Some(len));
-        let mut typed =
-            HashTable::<U64ToU32, _>::try_init_in_place(vec![0; len], items, 87).unwrap();
-        let mut table =
-            DynTable::<FxHashFn, _>::init_in_place(layout, vec![1; len], items, 87).unwrap();
-        for _ in 0..2 * items {
-            let (key, value) = (random.below(2 * items) as u64, random.below(1 << 30) as u32);
-            let expected = typed.try_insert(&key, &value);
-            let found = table.insert(&key.to_le_bytes(), &value.to_le_bytes());
-            let expected = expected.map(|former| former.map(|it| it.to_le_bytes().to_vec()));
-            let found = found.map(|former| former.map(|it| it.to_vec()));
-            assert_eq!(found, expected.map_err(DynError::Rejected));
-        }
-        assert_eq!(table.raw_bytes(), typed.raw_bytes());
-        assert_eq!(table.grown_len(), typed.grown_len());
-    }
 }

@@ -6,6 +6,7 @@ use std::iter::FusedIterator;
 use crate::calls::Calls;
 use crate::error::{Error, OK};
 use crate::shape::Shape;
+use crate::table::Table;
 
 /// How many pairs are read at once.
 const BLOCK: usize = 64;
@@ -87,5 +88,23 @@ impl<S: Shape> fmt::Debug for Iter<'_, S> {
     fn fmt(&self, formatter: &mut fmt::Formatter<'_>) -> fmt::Result {
         let mut iter = formatter.debug_struct("Iter");
         iter.field("shape", &S::default()).field("cursor", &self.cursor).finish_non_exhaustive()
+    }
+}
+
+impl<'a, S: Shape> IntoIterator for Table<'a, S> {
+    type Item = (S::Key, S::Value);
+    type IntoIter = Iter<'a, S>;
+
+    fn into_iter(self) -> Iter<'a, S> {
+        self.iter()
+    }
+}
+
+impl<'a, S: Shape> IntoIterator for &Table<'a, S> {
+    type Item = (S::Key, S::Value);
+    type IntoIter = Iter<'a, S>;
+
+    fn into_iter(self) -> Iter<'a, S> {
+        self.iter()
     }
 }

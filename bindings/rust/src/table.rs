@@ -394,21 +394,3 @@ impl<S: Shape> fmt::Debug for Table<'_, S> {
         table.field("slots", &self.sizes().slots).finish_non_exhaustive()
     }
 }
-
-impl<'a, S: Shape> IntoIterator for Table<'a, S> {
-    type Item = (S::Key, S::Value);
-    type IntoIter = Iter<'a, S>;
-
-    fn into_iter(self) -> Iter<'a, S> {
-        self.iter()
-    }
-}
-
-impl<'a, S: Shape> IntoIterator for &Table<'a, S> {
-    type Item = (S::Key, S::Value);
-    type IntoIter = Iter<'a, S>;
-
-    fn into_iter(self) -> Iter<'a, S> {
-        self.iter()
-    }
-}

@@ -3,6 +3,7 @@
 #![allow(dead_code)]
 
 pub mod configs;
+pub mod dynamic;
 pub mod frame;
 pub mod orders;
 pub mod outcomes;
