@@ -6,9 +6,9 @@
 With --word the gate runs on a copy of the tracked files, outside of the repository, with the word search compiled in.
 The processor time is read once a second from the running checks, so what ends within a second is not counted.
 
-`rt ci` runs as many checks at once as its own estimate of their memory allows, which is four times what they take: two
-or three of the larger crates. Where there are 4 GB for each processor it is told to run one on each (RT_JOBS), where
-the caller has not said how many.
+`rt ci` runs as many checks at once as memory allows by its own estimate. That estimate is four times what checks take,
+so only two or three of the larger crates would run at once. Where there are 4 GB for each processor it is told to run
+one check on each (RT_JOBS), unless the caller has said how many.
 """
 import os
 import subprocess
@@ -103,7 +103,7 @@ class Watch:
 
 
 def pass_on(stream, proved):
-    """Prints what the gate prints, and notes the crates that are proved."""
+    """Prints what the gate prints, and notes the crates that it proved, or that an earlier run has proved of the same files."""
     for line in stream:
         print(line, end="", flush=True)
         is_proved = line.endswith(" proved\n") and "its tests" not in line
@@ -119,21 +119,21 @@ def table(minutes, names):
     return "\n".join(lines)
 
 
-def run(words, tree, at_once, watch, proved, known):
+def run(words, tree, at_once, watch, proved, count, edits):
     """Runs `rt ci`, so many checks at once, and tells each minute how far it is. Returns its status."""
     env = {**os.environ, "TMPDIR": watch.room, "RT_JOBS": at_once}
     how = {"cwd": tree, "env": env, "text": True, "errors": "replace"}
     gate = subprocess.Popen(words, stdout=subprocess.PIPE, stderr=subprocess.STDOUT, **how)
     printing = threading.Thread(target=pass_on, args=(gate.stdout, proved))
     printing.start()
-    watch.gate, began, told, edits = gate.pid, time.monotonic(), 0, sum(known.values())
+    watch.gate, began, told = gate.pid, time.monotonic(), 0
     while gate.poll() is None:
         watch.look()
         minute = int((time.monotonic() - began) // 60)
         if minute > told:
             told = minute
             done = min(watch.edits_begun(), edits)
-            print(f"minute {minute}: {len(proved)} of {len(known)} crates proved, {done} of {edits} edits begun",
+            print(f"minute {minute}: {len(proved)} of {count} crates proved, {done} of {edits} edits begun",
                   flush=True)
         time.sleep(1)
     printing.join()
@@ -147,7 +147,7 @@ def main(*words):
     known = crates()
     edits = sum(known.values())
     at_once = lanes()
-    print(f"proving {len(known)} crates from nothing, and trying {edits} edits that must be refused;")
+    print(f"proving {len(known)} crates, and trying {edits} edits that must be refused;")
     print(f"{at_once or 'as many as memory allows'} at once", flush=True)
     began, proved = time.monotonic(), []
     with tempfile.TemporaryDirectory(prefix="odht-prove-") as room:
@@ -157,7 +157,7 @@ def main(*words):
             print(f"on a copy with the word search compiled in, {tree}", flush=True)
         os.chmod(room, 0o755)
         watch = Watch(room)
-        status = run(words or ["rt", "ci"], tree, at_once, watch, proved, known)
+        status = run(words or ["rt", "ci"], tree, at_once, watch, proved, len(known), edits)
     print(table(watch.minutes(), known))
     print(f"{(time.monotonic() - began) / 60:.1f} minutes")
     return status

@@ -1,5 +1,6 @@
 """What the code of the crates has of each error: its variant, the arm that writes it, its number, slot and kind."""
 import re
+import textwrap
 
 from error_list import by_number, declared, errors, of_kinds
 
@@ -31,8 +32,10 @@ def variant(error):
     """An error in the declaration of `Error`."""
     fields = "".join(f"{ARM}{name}: {type_name},\n" for name, type_name in error.fields.items())
     body = f" {{\n{fields}    }}" if fields else ""
-    comment = "".join(f"    /// {it}\n" for it in error.texts["error.rt"])
-    return f"{comment}    {error.name}{body},\n"
+    mark = "    /// "
+    text = " ".join(error.texts["error.rt"])
+    comment = textwrap.fill(text, LINE - 1, initial_indent=mark, subsequent_indent=mark, break_on_hyphens=False)
+    return f"{comment}\n    {error.name}{body},\n"
 
 
 def taken(error, indent):

@@ -7,7 +7,7 @@ FOLDERS = []
 CORE = "crates/odht_tool_core"
 # the crates that go from a shape to its configuration
 OVER_SHAPES = ["odht_tool_tables", "odht_tool_reads", "odht_tool_writes"]
-MADE = "made of shapes.txt by tools/shapes; `make exports` makes it anew"
+MADE = "made of shapes.txt by `make exports`"
 
 # the functions that go from a shape to its configuration, each by its crate and place, with the function that it calls
 # for that

@@ -4,7 +4,7 @@
 --     IsRebuilding c items n p P   P is valid, the items are in an insert order of it, and a new table for n items at p
 --                          percent has its size
 --     IsBuilt c items n p B    B are the bytes of the fresh table for n items at p percent, after the inserts of the items
---                          into it by the owned table, which may grow (`IsFreshAfterInserts`: of as many items, and it does not)
+--                          into it by the owned table, which may grow; `IsFreshAfterInserts` is of as many items, and of one that does not
 use Rattle.std.specs.Prelude.{◌≡◌, ℕ, List, Some}
 use Rattle.odht_base.specs.Insert.{insert_owned}
 use Rattle.odht_base.specs.Made.{IsInsertOrder, pairs_of}

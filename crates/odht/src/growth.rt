@@ -93,7 +93,7 @@ pub(crate) fn grown_sizes<H: HashFn>(layout: Layout, header: &Header<'_>) -> Opt
 }
 
 /// Writes the pairs of a table, placed in slot order into so many slots, into bytes whose entries
-/// are zeros. The new header has the item count and the load factor of the table's.
+/// are zeros. The new header has the item count and the load factor of the table.
 pub(crate) fn write_moved<C: Config, D: ByteStore>(
     table: &HashTable<C, D>,
     slot_count: usize,

@@ -12,9 +12,9 @@
  * the slot, and by FxHashFn they come from the low bits of a number alone: keys that are
  * all multiples of 4096, as addresses of pages are, begin at few slots, take searches a
  * hundred times as long, and odht_*_check_within may reject their table. Shift such keys
- * right first. Numbers are stored in little-endian order. A table is a slice of bytes that the caller owns: a file's
- * contents, a mapping, a part of either, or allocated memory. It may begin at any
- * address. There is nothing to close or to free.
+ * right first. Numbers are stored in little-endian order. A table is a slice of bytes that
+ * the caller owns: a file's contents, a mapping, a part of either, or allocated memory. It
+ * may begin at any address. There is nothing to close or to free.
  *
  * Rules for callers:
  *

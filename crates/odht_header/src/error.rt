@@ -114,8 +114,8 @@ pub enum Error {
     Unreachable {
         slot: usize,
     },
-    /// A search from the slot `home` may read more than `groups` groups of control bytes: none of those that it would
-    /// read has a byte that counts as free.
+    /// A search from the slot `home` may read more than `groups` groups of control bytes: none of
+    /// those that it would read has a byte that counts as free.
     SearchTooLong {
         home: usize,
         groups: usize,
@@ -125,9 +125,11 @@ pub enum Error {
         found: usize,
         expected: usize,
     },
-    /// No room for a new key: the view is at its maximum item count, or the search met no free slot.
+    /// No room for a new key: the view is at its maximum item count, or the search met no free
+    /// slot.
     Full,
-    /// Out of memory: an allocation failed; or an owned table cannot grow, since no slot count or no length is enough.
+    /// Out of memory: an allocation failed; or an owned table cannot grow, since no slot count or
+    /// no length is enough.
     Memory,
     /// No slot count is large enough, or the length of the table in bytes passes `usize::MAX`.
     Capacity,

@@ -1,13 +1,13 @@
-"""What `odht rebuild`, `delete` and `merge` have to make of tables, by a reading of docs/FORMAT.md and docs/TOOL.md: writes
-the cases of them in tests/tool/tables, and the tables that they make.
+"""What `odht rebuild`, `delete` and `merge` have to make of tables, by a reading of docs/FORMAT.md and docs/TOOL.md:
+writes the cases of them in tests/tool/tables, and the tables that they make.
 
 It shares no code with the programs. Run it anywhere: `python3 changes.py`."""
 import os
 
 from model import Table, fx, unhash
-from tables import HEAD, HERE, block, cases, le, write_test
+from tables import HERE, block, cases, head, le, write_test
 
-OWN_HEAD = HEAD.replace("tables.py", "changes.py").replace("docs/FORMAT.md", "docs/FORMAT.md and docs/TOOL.md")
+HEAD = head("changes.py")
 
 
 def rebuilt(table, hash, percent):
@@ -24,7 +24,7 @@ def write_rebuilt_cases():
     made["one_home"] = Table(4, 4, unhash, 87, 2064)
     for k in range(2064):
         made["one_home"].put(le(4096 * k, 4), le(0, 4))
-    text = OWN_HEAD
+    text = HEAD
     for name, words, hash, percent in [
             ("u64_u32", "", fx, 87), ("u64_u32", "--percent 10", fx, 10), ("u32_u32", "--percent 100", fx, 100),
             ("u32_u32", "--hash unhash --percent 30", unhash, 30), ("direct", "", unhash, 87),
@@ -70,7 +70,7 @@ def write_deleted_cases():
     """What `delete` has to make of tables: of some of their keys, of all, and of absent keys after these; of words, and of
     lines."""
     made = {case.name: case for case in cases()}
-    text = OWN_HEAD
+    text = HEAD
     for name, words, step, absent in [
             ("u64_u32", "", 2, ""), ("u64_u32", "--progress", 1, ""), ("u32_u32", "", 3, ""),
             ("u32_u32", "--hash fx", 2, "9 4294967295"), ("direct", "", 2, ""), ("direct", "--hash=unhash", 7, "1 65"),
@@ -117,7 +117,7 @@ def merged(tables, duplicates, percent):
 def write_merged_cases():
     """What `merge` has to make of tables, with each word of --duplicates: of one, of two, of ten, and of one twice."""
     made = {case.name: case for case in cases()}
-    text = OWN_HEAD
+    text = HEAD
     for names, words, percent in [
             ("u64_u32", "", 87), ("u64_u32 one_pair no_pairs", "", 87), ("one_pair u64_u32", "--percent 20", 20),
             ("u64_u32 i64_i32 u64_u32", "", 87), ("u32_u32 direct", "", 87), ("direct u32_u32", "--percent=100", 100),

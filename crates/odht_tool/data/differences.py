@@ -2,7 +2,7 @@
 the tables that no other case has.
 
 It shares no code with the programs. Run it anywhere: `python3 differences.py`."""
-from tables import HEAD, Case, block, cases, fx, le, unhash, write_test
+from tables import Case, block, cases, fx, head, le, unhash, write_test
 
 
 def differences(table, other, key_text, value_text):
@@ -57,7 +57,7 @@ def main():
     for case in list(others(made)):
         case.write_file()
         made[case.name] = case
-    text = HEAD.replace("tables.py", "differences.py").replace("docs/FORMAT.md", "docs/FORMAT.md and docs/TOOL.md")
+    text = head("differences.py")
     for name, other, words in COMPARED:
         case = made[name]
         lines, status = differences(case.table, made[other].table, case.key_text, case.value_text)

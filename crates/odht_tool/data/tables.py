@@ -1,5 +1,5 @@
-"""A reading of docs/FORMAT.md: writes the tables of this folder, and the cases that say what the commands have to write
-of them: those in tests/tool/tables, and tests/script/hex.cases.
+"""A reading of docs/FORMAT.md and docs/TOOL.md: writes the tables of this folder, and the cases that say what the commands
+have to write of them: those in tests/tool/tables, and tests/script/hex.cases.
 
 It shares no code with the programs. Run it anywhere: `python3 tables.py`."""
 import os
@@ -171,7 +171,14 @@ class Case:
         write_test(f"tool/tables/{self.name}.cases", text)
 
 
-HEAD = "# Written by crates/odht_tool/data/tables.py, which reads docs/FORMAT.md and runs no program.\n\n"
+
+
+def head(script):
+    """The line above the cases that this script writes."""
+    return f"# Written by crates/odht_tool/data/{script}, a reading of docs/FORMAT.md and docs/TOOL.md that runs no program.\n\n"
+
+
+HEAD = head("tables.py")
 
 
 def block(key, text):

@@ -1,12 +1,12 @@
 -- The forms of keys and values: their texts, by form, where those of a number are of a type of the width w.
---     number_part v            the type of the numbers v
+--     number_part v            the type of the stored bytes of numbers of the type v
 --     number_form v            the form of what is of that type
---     number_of_32 f           the numbers of 32 bits that are written as the form f has it
---     number_of_64 f           the numbers of 64 bits that are written as the form f has it
+--     number_type_of_32 f      the numbers of 32 bits that are written as the form f has it
+--     number_type_of_64 f      the numbers of 64 bits that are written as the form f has it
 --     form_of_bytes f k        the form of k stored bytes that are written as the form f has it
 --     bytes_form f p           the form of stored bytes that are of the type p, and are written as the form f has it
 --     part_in f                the type that the form f of stored bytes says that they are of
---     form_in f                the form in which it has them written
+--     form_in f                how the form f of stored bytes has what is of that type written
 --     count_of w               how many numbers the type has
 --     number_text w f n        the text of the number n in the form f
 --     IsNumberText w f word    the word is such a text
@@ -14,8 +14,8 @@
 --     bytes_text f bytes       the text of bytes in the form f
 --     IsBytesText k f word     the word is such a text of k bytes
 --     StandsForBytes f word bytes  it is that of these bytes
--- A number is what its stored bytes say from the lowest one on. No number is of the form of plain texts, no bytes are of a
--- form of numbers, and what says its type itself is of no form of stored bytes: in these cases the texts are its own.
+-- A number is what its stored bytes say from the lowest one on. A number in the form Plain, bytes in Signed or BigEndian,
+-- and either in a form of stored bytes have the texts of Own.
 use Rattle.std.specs.Prelude.{◌≡◌, ℕ, ◌^◌, List, decimal}
 use Rattle.std.specs.Int.{Width, byte_len, swap_bytes}
 use Rattle.std.specs.Str.Parse.{digits_value}
@@ -24,12 +24,12 @@ use Rattle.odht_tool_core.specs.Signed.{IsSignedWord, signed_text, signed_value}
 use Rattle.odht_tool_core.specs.Texts.{IsNumberWord, IsHexWord, WritesBytes, hex_text}
 use Rattle.odht_tool_core.specs.declared.forms.Form.{Form}
 use Rattle.odht_tool_core.specs.declared.forms.Form.TheVariants.{Own, Signed, BigEndian, Plain, OfNumber, OfBytes, OfText}
-use Rattle.odht_tool_core.specs.declared.forms.Number.{Number}
-use Rattle.odht_tool_core.specs.declared.forms.Number.TheVariants.{U32, I32, U32BigEndian, U64, I64, U64BigEndian}
+use Rattle.odht_tool_core.specs.declared.forms.NumberType.{NumberType}
+use Rattle.odht_tool_core.specs.declared.forms.NumberType.TheVariants.{U32, I32, U32BigEndian, U64, I64, U64BigEndian}
 use Rattle.odht_tool_core.specs.declared.shapes.Part.{Part}
 use Rattle.odht_tool_core.specs.declared.shapes.Part.TheVariants.{Nothing, U32 as P32, U64 as P64, Bytes as PBytes}
 
-abbrev pub number_part : Number → Part
+abbrev pub number_part : NumberType → Part
 number_part U32 = P32
 number_part I32 = P32
 number_part U32BigEndian = P32
@@ -37,7 +37,7 @@ number_part U64 = P64
 number_part I64 = P64
 number_part U64BigEndian = P64
 
-abbrev pub number_form : Number → Form
+abbrev pub number_form : NumberType → Form
 number_form U32 = Own
 number_form I32 = Signed
 number_form U32BigEndian = BigEndian
@@ -45,23 +45,23 @@ number_form U64 = Own
 number_form I64 = Signed
 number_form U64BigEndian = BigEndian
 
-abbrev pub number_of_32 : Form → Number
-number_of_32 Own = U32
-number_of_32 Signed = I32
-number_of_32 BigEndian = U32BigEndian
-number_of_32 Plain = U32
-number_of_32 (OfNumber v) = U32
-number_of_32 (OfBytes l) = U32
-number_of_32 (OfText l) = U32
+abbrev pub number_type_of_32 : Form → NumberType
+number_type_of_32 Own = U32
+number_type_of_32 Signed = I32
+number_type_of_32 BigEndian = U32BigEndian
+number_type_of_32 Plain = U32
+number_type_of_32 (OfNumber v) = U32
+number_type_of_32 (OfBytes l) = U32
+number_type_of_32 (OfText l) = U32
 
-abbrev pub number_of_64 : Form → Number
-number_of_64 Own = U64
-number_of_64 Signed = I64
-number_of_64 BigEndian = U64BigEndian
-number_of_64 Plain = U64
-number_of_64 (OfNumber v) = U64
-number_of_64 (OfBytes l) = U64
-number_of_64 (OfText l) = U64
+abbrev pub number_type_of_64 : Form → NumberType
+number_type_of_64 Own = U64
+number_type_of_64 Signed = I64
+number_type_of_64 BigEndian = U64BigEndian
+number_type_of_64 Plain = U64
+number_type_of_64 (OfNumber v) = U64
+number_type_of_64 (OfBytes l) = U64
+number_type_of_64 (OfText l) = U64
 
 abbrev pub form_of_bytes : Form → ℕ → Form
 form_of_bytes Own k = OfBytes k
@@ -74,8 +74,8 @@ form_of_bytes (OfText l) k = OfBytes k
 
 abbrev pub bytes_form : Form → Part → Form
 bytes_form f Nothing = Own
-bytes_form f P32 = OfNumber (number_of_32 f)
-bytes_form f P64 = OfNumber (number_of_64 f)
+bytes_form f P32 = OfNumber (number_type_of_32 f)
+bytes_form f P64 = OfNumber (number_type_of_64 f)
 bytes_form f (PBytes k) = form_of_bytes f k
 
 abbrev pub part_in : Form → Part

@@ -3,7 +3,7 @@
 --     lengths_text n       the lines of the sizes of keys, values and header, and of all bytes
 --     sizes_text n         the lines that do not depend on the hash function
 --     stretch_sign l c     the sign of a stretch of l slots of which c are occupied: `.` where none is, `9` where all are,
---                          else, from `1` on, one more than how many whole eighths of them are
+--                          else the digit of 1 and how many whole eighths of its slots are
 --     stretches_line l cs  the line of these signs
 --     at_line at           the line of the byte at which the table stands in the file, where that is told
 --     aligned w x          the digits of x, after as many spaces as make them w characters

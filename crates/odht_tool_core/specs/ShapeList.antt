@@ -1,4 +1,4 @@
--- The ready shapes: made of shapes.txt by tools/shapes; `make exports` makes it anew.
+-- The ready shapes: made of shapes.txt by `make exports`.
 --     key_part s           the type of the keys of the shape s
 --     value_part s         that of its values
 --     shape_hash s         the name of its hash function

@@ -1,6 +1,6 @@
 //! The forms of keys and values: other texts than those that their shape has for them.
 ghost use Rattle.std.specs.Prelude.{◌≡◌, IsTrue};
-ghost use Rattle.odht_tool_core.specs.Forms.{bytes_form, form_in, form_of_bytes, number_of_32, number_of_64};
+ghost use Rattle.odht_tool_core.specs.Forms.{bytes_form, form_in, form_of_bytes, number_type_of_32, number_type_of_64};
 ghost use Rattle.odht_tool_core.specs.Forms.{number_form, number_part, part_in};
 ghost use Rattle.odht_tool_core.specs.ReadAs.{form_for};
 ghost use Rattle.odht_tool_core.specs.SizedTexts.{sized_forms};
@@ -19,8 +19,8 @@ pub enum Form {
     BigEndian,
     /// Bytes that are a plain text, with zeros behind it.
     Plain,
-    /// Stored bytes that do not say their type: they are of this number.
-    OfNumber(Number),
+    /// Stored bytes that do not say their type: a number of this type.
+    OfNumber(NumberType),
     /// Stored bytes that do not say their type: so many bytes, in hexadecimal digits.
     OfBytes(u8),
     /// Stored bytes that do not say their type: so many bytes, a plain text with zeros behind it.
@@ -29,7 +29,7 @@ pub enum Form {
 
 /// A type of numbers, and how they are written and read.
 #[derive(Clone, Copy)]
-pub enum Number {
+pub enum NumberType {
     /// Of 32 bits.
     U32,
     /// Of 32 bits, with a sign.
@@ -44,14 +44,14 @@ pub enum Number {
     U64BigEndian,
 }
 
-impl Number {
+impl NumberType {
     // The type of its stored bytes.
     fn part(self) -> Part
         ensures { result ≡ number_part self }
     {
         match self {
-            Number::U32 | Number::I32 | Number::U32BigEndian => Part::U32,
-            Number::U64 | Number::I64 | Number::U64BigEndian => Part::U64,
+            NumberType::U32 | NumberType::I32 | NumberType::U32BigEndian => Part::U32,
+            NumberType::U64 | NumberType::I64 | NumberType::U64BigEndian => Part::U64,
         }
     }
 
@@ -60,9 +60,9 @@ impl Number {
         ensures { result ≡ number_form self }
     {
         match self {
-            Number::U32 | Number::U64 => Form::Own,
-            Number::I32 | Number::I64 => Form::Signed,
-            Number::U32BigEndian | Number::U64BigEndian => Form::BigEndian,
+            NumberType::U32 | NumberType::U64 => Form::Own,
+            NumberType::I32 | NumberType::I64 => Form::Signed,
+            NumberType::U32BigEndian | NumberType::U64BigEndian => Form::BigEndian,
         }
     }
 }
@@ -74,31 +74,31 @@ impl Form {
     {
         match part {
             Part::Nothing => Form::Own,
-            Part::U32 => Form::OfNumber(self.number_of_32()),
-            Part::U64 => Form::OfNumber(self.number_of_64()),
+            Part::U32 => Form::OfNumber(self.number_type_of_32()),
+            Part::U64 => Form::OfNumber(self.number_type_of_64()),
             Part::Bytes(len) => self.of_bytes(len),
         }
     }
 
     // The numbers of 32 bits that are written as this form has it.
-    fn number_of_32(self) -> Number
-        ensures { result ≡ number_of_32 self }
+    fn number_type_of_32(self) -> NumberType
+        ensures { result ≡ number_type_of_32 self }
     {
         match self {
-            Form::Signed => Number::I32,
-            Form::BigEndian => Number::U32BigEndian,
-            _ => Number::U32,
+            Form::Signed => NumberType::I32,
+            Form::BigEndian => NumberType::U32BigEndian,
+            _ => NumberType::U32,
         }
     }
 
     // The numbers of 64 bits that are written as this form has it.
-    fn number_of_64(self) -> Number
-        ensures { result ≡ number_of_64 self }
+    fn number_type_of_64(self) -> NumberType
+        ensures { result ≡ number_type_of_64 self }
     {
         match self {
-            Form::Signed => Number::I64,
-            Form::BigEndian => Number::U64BigEndian,
-            _ => Number::U64,
+            Form::Signed => NumberType::I64,
+            Form::BigEndian => NumberType::U64BigEndian,
+            _ => NumberType::U64,
         }
     }
 
@@ -112,7 +112,8 @@ impl Form {
         }
     }
 
-    /// The type that stored bytes are of. Nothing where it is for them to say.
+    /// The type that this form says stored bytes are of; `Part::Nothing` where it says none, as of
+    /// what has no bytes.
     pub(crate) fn part(self) -> Part
         ensures { result ≡ part_in self }
     {

@@ -125,10 +125,11 @@ odht info FILE.. [--whole] [--json] [--at OFFSET]
     (miss), and, where that is above 24, what may help. Above 128 groups it does not
     count further, so that no file takes long; with --whole it does. Along its slots
     there is a sign for each of at most 64 stretches of equal length: . where no
-    slot is occupied, 9 where all are, else one more than how many whole eighths
-    are. Where there are more files, the name of each comes first. The file may have
-    any key and value sizes. Only its header and its length are checked. With --at
-    the table begins at that byte of the file; bytes after its end are not read.
+    slot is occupied, 9 where all are, else a digit, 1 and how many whole eighths of
+    its slots are. Where there are more files, the name of each comes first. The
+    file may have any key and value sizes. Only its header and its length are
+    checked. With --at the table begins at that byte of the file; bytes after its
+    end are not read.
     --json         an object of JSON for each file: file, at (null without --at),
                    key_bytes, value_bytes, header_bytes, all_bytes, items, slots,
                    maximum, load_percent, maximum_load_percent, along_slots (how
@@ -274,7 +275,7 @@ odht build FILE --key SHAPE --value SHAPE [--duplicates last|first|error]
     --check-only   reads all lines, and makes no file: FILE is not looked at
     --percent      the load factor, 1 to 100, else 87
     --capacity     the number of items for which room is made at first, else 12
-    --progress     a line on standard error each second, and a last one of all
+    --progress     a line on standard error each second; the last one has the totals
     --break-links  replaces this name of a file; its other names keep the old one
 ";
 
@@ -292,7 +293,7 @@ odht put FILE [--key SHAPE] [--value SHAPE] [--whole] [--hash fx|unhash]
     Owner, group, permissions and symbolic links of the file are kept; one with hard
     links is not replaced without --break-links, with which its other names keep the
     old file.
-    --progress     a line on standard error each second, and a last one of all
+    --progress     a line on standard error each second; the last one has the totals
 ";
 
 const DELETE: &str = "\
@@ -312,7 +313,7 @@ odht delete FILE KEY.. [--key SHAPE] [--whole] [--hash fx|unhash]
     Owner, group, permissions and symbolic links of the file are kept; one with hard
     links is not replaced without --break-links, with which its other names keep the
     old file.
-    --progress     a line on standard error each second, and a last one of all
+    --progress     a line on standard error each second; the last one has the totals
 ";
 
 const REBUILD: &str = "\
@@ -327,7 +328,7 @@ odht rebuild FILE [--percent P] [--whole] [--hash fx|unhash] [--progress]
     file are kept; one with hard links is not replaced without --break-links.
     --percent      the load factor of the new table, 1 to 100, else 87
     --hash         the hash function of the new table, else that of the file
-    --progress     a line on standard error each second, and a last one of all
+    --progress     a line on standard error each second; the last one has the totals
     --break-links  replaces this name of a file; its other names keep the old one
 ";
 
@@ -349,7 +350,7 @@ odht merge FILE INPUT.. [--duplicates last|first|error] [--key SHAPE]
     --key, --value the types and texts of the first INPUT, as in `odht build`; where
                    --duplicates error fails, the key is told in the text of --key
     --percent      the load factor of the new table, 1 to 100, else 87
-    --progress     a line on standard error each second, and a last one of all
+    --progress     a line on standard error each second; the last one has the totals
     --break-links  replaces this name of a file; its other names keep the old one
 ";
 // end texts

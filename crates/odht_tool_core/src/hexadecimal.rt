@@ -10,7 +10,7 @@ ghost use Rattle.odht_tool_core.specs.Texts.{IsHexWord, WritesBytes, hex_text};
 use crate::text::{digit_value, parse_in_vectors};
 
 /// Whether the word is two hexadecimal digits, of either case, for each of so many bytes as there
-/// are in `bytes`, which then become these; else they are not changed.
+/// are in `bytes`, which then become these.
 pub fn read_digits(word: &[u8], bytes: &mut [u8]) -> bool
     ensures value { IsTrue result → WritesBytes word.now bytes.new }
     ensures word { IsTrue result ↔ IsHexWord (length bytes.old) word.now }
@@ -26,8 +26,8 @@ pub fn read_digits(word: &[u8], bytes: &mut [u8]) -> bool
     }
 }
 
-// The same of at most 32 bytes. There are zeros behind the digits up to those of 32 bytes, so that
-// the compiler knows their number, and makes vectors of the loops.
+// The same of at most 32 bytes. The digit 0 is put behind the word up to 64 digits, so that the
+// compiler knows their number, and makes vectors of the loops.
 fn read_few(word: &[u8], bytes: &mut [u8]) -> bool
     requires few { length bytes.old ≤ 32 }
     requires digits { length word.now ≡ 2 * length bytes.old }
@@ -44,7 +44,7 @@ fn read_few(word: &[u8], bytes: &mut [u8]) -> bool
     }
 }
 
-// These digits, and zeros behind them.
+// These digits, and the digit 0 behind them, 64 in all.
 #[inline(always)]
 fn with_zeros(word: &[u8]) -> [u8; 64]
     requires { length word.now ≤ 64 }
@@ -55,8 +55,8 @@ fn with_zeros(word: &[u8]) -> [u8; 64]
     digits
 }
 
-// The same of any number of bytes. The first byte that is no digit ends it.
-fn read_many(word: &[u8], bytes: &mut [u8]) -> bool
+/// The same of any number of bytes, two digits for each. The first byte that is no digit ends it.
+pub(crate) fn read_many(word: &[u8], bytes: &mut [u8]) -> bool
     requires digits { length word.now ≡ 2 * length bytes.old }
     ensures value { IsTrue result → WritesBytes word.now bytes.new }
     ensures word { IsTrue result ↔ AllPass is_ascii_hexdigit word.now }
@@ -83,8 +83,8 @@ fn put_digits(word: &[u8], bytes: &mut [u8])
     }
 }
 
-/// Whether each byte is a hexadecimal digit, of either case.
-pub(crate) fn are_digits(word: &[u8]) -> bool
+// Whether each byte is a hexadecimal digit, of either case.
+fn are_digits(word: &[u8]) -> bool
     ensures { IsTrue result ↔ AllPass is_ascii_hexdigit word.now }
 {
     word.iter().all(|digit| digit.is_ascii_hexdigit())

@@ -42,8 +42,8 @@ fn write_signs<O: Write>(len: usize, counts: &[usize], output: &mut O) -> io::Re
     Ok(())
 }
 
-// The sign of a stretch: `.` where no slot is occupied, `9` where all are, else, from `1` on, one
-// more than how many whole eighths of them are.
+// The sign of a stretch: `.` where no slot is occupied, `9` where all are, else the digit of 1 and
+// how many whole eighths of its slots are.
 fn sign_of(len: usize, count: usize) -> u8
     requires { 0 < len }
     ensures { result ≡ stretch_sign len count }

@@ -21,7 +21,7 @@ ghost use Rattle.odht_tool_core.specs.Texts.{IsNumberWord, IsHexWord, WritesByte
 
 use crate::digits::{parse_number, write_number};
 use crate::forms::Form;
-use crate::hexadecimal::{are_digits, no_plain_bytes};
+use crate::hexadecimal::{no_plain_bytes, read_many};
 use crate::misread::Wanted;
 use crate::plain::{parse_plain, plain_of, write_plain};
 use crate::signed::{parse_signed, write_signed};
@@ -223,9 +223,9 @@ fn parse_bytes<const N: usize>(word: &[u8]) -> Option<[u8; N]>
     }
 }
 
-// The same of at most 32 bytes: first the value of each digit, then the byte of each two, so that
-// the compiler makes vectors of both loops. All are read before a wrong one is noticed, so that no
-// step branches on a digit.
+/// The bytes, at most 32, with these hexadecimal digits: first the value of each digit, then the
+/// byte of each two, so that the compiler makes vectors of both loops. All are read before a wrong
+/// one is noticed, so that no step branches on a digit.
 #[inline(always)]
 pub(crate) fn parse_in_vectors<const N: usize>(word: &[u8]) -> Option<[u8; N]>
     requires few { N ≤ 32 }
@@ -263,22 +263,18 @@ fn put_values(digits: &[u8], values: &mut [u8; 64]) -> u8
     largest
 }
 
-// The same of any number of bytes. The first byte that is no digit ends it.
+// The same of any number of bytes.
 fn parse_in_turn<const N: usize>(word: &[u8]) -> Option<[u8; N]>
     requires { length word.now ≡ 2 * N }
     ensures value { IfSome result (WritesBytes word.now) }
     ensures some { IsSome result ↔ IsHexWord N word.now }
 {
-    if !are_digits(word) {
-        return None;
-    }
     let mut bytes = [0; N];
-    for at in 0..N {
-        let high = digit_value(word[2 * at]);
-        let low = digit_value(word[2 * at + 1]);
-        bytes[at] = 16 * (high % 16) + low % 16;
+    if read_many(word, &mut bytes) {
+        Some(bytes)
+    } else {
+        None
     }
-    Some(bytes)
 }
 
 fn max_of(a: u8, b: u8) -> u8

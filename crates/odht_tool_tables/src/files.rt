@@ -7,7 +7,7 @@ use std::io::{BufRead, ErrorKind, Write};
 use std::rt::Files;
 
 /// All bytes of the file, or of standard input where the name stands for that. An error where they
-/// cannot be read, or out of memory.
+/// cannot be read, or where memory is lacking.
 pub fn read_bytes<R: Files + AllocGlobal, I: BufRead>(
     rt: &R,
     file: &str,

@@ -1,4 +1,4 @@
-//! The way from a shape to its configuration: made of shapes.txt by tools/shapes; `make exports` makes it anew.
+//! The way from a shape to its configuration: made of shapes.txt by `make exports`.
 
 /// Calls a function for the configuration of a shape, which is its first type parameter:
 /// `for_shape!(shape, function[more, parameters](arguments))`.

@@ -14,7 +14,7 @@ use Rattle.odht_tool_core.specs.SizedTexts.{IsSizedOf, StandsForSized, sized_tex
 use Rattle.odht_tool_core.specs.declared.any.AnyShape.TheVariants.{Other}
 use Rattle.odht_tool_core.specs.declared.failure.Failure.TheVariants.{OtherKey, OtherValue}
 use Rattle.odht_tool_core.specs.declared.forms.Form.TheVariants.{Own, Signed, BigEndian, Plain, OfNumber, OfBytes, OfText}
-use Rattle.odht_tool_core.specs.declared.forms.Number.TheVariants.{U32 as Unsigned32, I32, U64BigEndian}
+use Rattle.odht_tool_core.specs.declared.forms.NumberType.TheVariants.{U32 as Unsigned32, I32, U64BigEndian}
 use Rattle.odht_tool_core.specs.declared.misread.Wanted.TheVariants.{Nothing as WantedNothing, Bytes as WantedBytes, Text as WantedText, I32 as WantedI32}
 use Rattle.odht_tool_core.specs.declared.shapes.Hash.TheVariants.{Unhash}
 use Rattle.odht_tool_core.specs.declared.shapes.Part.TheVariants.{Nothing, U32, U64, Bytes}

@@ -29,7 +29,7 @@ impl Asking {
         ASKING.iter().copied().find(|asking| is_near(asking.name().as_bytes(), word.as_bytes()))
     }
 
-    // Its bytes.
+    // The word.
     fn name(self) -> &'static str
         ensures { result.now ≡ asking_name self }
     {

@@ -1,4 +1,4 @@
-//! The shapes in the help of `build`: made of shapes.txt by tools/shapes; `make exports` makes it anew.
+//! The shapes in the help of `build`: made of shapes.txt by `make exports`.
 
 /// A line for each ready shape.
 pub(super) const READY: &str = "\

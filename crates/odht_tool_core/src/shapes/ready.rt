@@ -1,4 +1,4 @@
-//! The ready shapes: made of shapes.txt by tools/shapes; `make exports` makes it anew.
+//! The ready shapes: made of shapes.txt by `make exports`.
 ghost use Rattle.std.specs.Prelude.{◌≡◌};
 ghost use Rattle.odht_tool_core.specs.ShapeList.{key_part, value_part, shape_hash};
 

@@ -45,7 +45,7 @@ where
     R::File: AsFd,
 {
     let layout = layout_of(shape);
-    let forms = lines_of(shape, options.forms, options.delimiter);
+    let forms = line_forms(shape, options.forms, options.delimiter);
     match shape.hash {
         Hash::Fx => build_lengths::<FxHashFn, R, I, O, E>(
             rt, file, layout, forms, options, input, output, errors,
@@ -56,8 +56,8 @@ where
     }
 }
 
-// The forms of lines of such stored bytes, with this byte between key and value.
-fn lines_of(shape: OtherShape, forms: GivenForms, delimiter: u8) -> LineForms
+// The forms of the lines of a table of this shape, with this byte between key and value.
+fn line_forms(shape: OtherShape, forms: GivenForms, delimiter: u8) -> LineForms
     ensures forms { result.forms ≡ sized_forms shape forms }
     ensures delimiter { result.delimiter ≡ delimiter }
 {

@@ -8,8 +8,9 @@ use crate::proved::tables::load::max_item_count_for;
 use crate::proved::tables::memory_layout::Header;
 
 /// The slot count and the length in bytes of the table that has room for `additional` more items
-/// than one of these lengths and with this header. None where that one has the room; `Capacity`
-/// exactly where it has not, and no slot count is enough, or the length passes `usize`.
+/// than one of these lengths and with this header. Of the header of a valid table: None where that
+/// one has the room; `Capacity` exactly where it has not, and no slot count is enough, or the
+/// length passes `usize`.
 pub(crate) fn sizes_for_more<H: HashFn>(
     layout: Layout,
     header: &Header<'_>,

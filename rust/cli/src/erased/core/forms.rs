@@ -16,8 +16,8 @@ pub enum Form {
     BigEndian,
     /// Bytes that are a plain text, with zeros behind it.
     Plain,
-    /// Stored bytes that do not say their type: they are of this number.
-    OfNumber(Number),
+    /// Stored bytes that do not say their type: a number of this type.
+    OfNumber(NumberType),
     /// Stored bytes that do not say their type: so many bytes, in hexadecimal digits.
     OfBytes(u8),
     /// Stored bytes that do not say their type: so many bytes, a plain text with zeros behind it.
@@ -26,7 +26,7 @@ pub enum Form {
 
 /// A type of numbers, and how they are written and read.
 #[derive(Clone, Copy)]
-pub enum Number {
+pub enum NumberType {
     /// Of 32 bits.
     U32,
     /// Of 32 bits, with a sign.
@@ -41,21 +41,21 @@ pub enum Number {
     U64BigEndian,
 }
 
-impl Number {
+impl NumberType {
     // The type of its stored bytes.
     fn part(self) -> Part {
         match self {
-            Number::U32 | Number::I32 | Number::U32BigEndian => Part::U32,
-            Number::U64 | Number::I64 | Number::U64BigEndian => Part::U64,
+            NumberType::U32 | NumberType::I32 | NumberType::U32BigEndian => Part::U32,
+            NumberType::U64 | NumberType::I64 | NumberType::U64BigEndian => Part::U64,
         }
     }
 
     // The form of what is of that type.
     fn form(self) -> Form {
         match self {
-            Number::U32 | Number::U64 => Form::Own,
-            Number::I32 | Number::I64 => Form::Signed,
-            Number::U32BigEndian | Number::U64BigEndian => Form::BigEndian,
+            NumberType::U32 | NumberType::U64 => Form::Own,
+            NumberType::I32 | NumberType::I64 => Form::Signed,
+            NumberType::U32BigEndian | NumberType::U64BigEndian => Form::BigEndian,
         }
     }
 }
@@ -65,27 +65,27 @@ impl Form {
     pub fn of(self, part: Part) -> Form {
         match part {
             Part::Nothing => Form::Own,
-            Part::U32 => Form::OfNumber(self.number_of_32()),
-            Part::U64 => Form::OfNumber(self.number_of_64()),
+            Part::U32 => Form::OfNumber(self.number_type_of_32()),
+            Part::U64 => Form::OfNumber(self.number_type_of_64()),
             Part::Bytes(len) => self.of_bytes(len),
         }
     }
 
     // The numbers of 32 bits that are written as this form has it.
-    fn number_of_32(self) -> Number {
+    fn number_type_of_32(self) -> NumberType {
         match self {
-            Form::Signed => Number::I32,
-            Form::BigEndian => Number::U32BigEndian,
-            _ => Number::U32,
+            Form::Signed => NumberType::I32,
+            Form::BigEndian => NumberType::U32BigEndian,
+            _ => NumberType::U32,
         }
     }
 
     // The numbers of 64 bits that are written as this form has it.
-    fn number_of_64(self) -> Number {
+    fn number_type_of_64(self) -> NumberType {
         match self {
-            Form::Signed => Number::I64,
-            Form::BigEndian => Number::U64BigEndian,
-            _ => Number::U64,
+            Form::Signed => NumberType::I64,
+            Form::BigEndian => NumberType::U64BigEndian,
+            _ => NumberType::U64,
         }
     }
 
@@ -97,7 +97,8 @@ impl Form {
         }
     }
 
-    /// The type that stored bytes are of. Nothing where it is for them to say.
+    /// The type that this form says stored bytes are of; `Part::Nothing` where it says none, as of
+    /// what has no bytes.
     pub(crate) fn part(self) -> Part {
         match self {
             Form::OfNumber(number) => number.part(),

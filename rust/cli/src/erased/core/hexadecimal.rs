@@ -6,7 +6,7 @@ use crate::erased::core::text::{digit_value, parse_in_vectors};
 use crate::host::prelude::*;
 
 /// Whether the word is two hexadecimal digits, of either case, for each of so many bytes as there
-/// are in `bytes`, which then become these; else they are not changed.
+/// are in `bytes`, which then become these.
 pub fn read_digits(word: &[u8], bytes: &mut [u8]) -> bool {
     if word.len() % 2 != 0 || word.len() / 2 != bytes.len() {
         return false;
@@ -18,8 +18,8 @@ pub fn read_digits(word: &[u8], bytes: &mut [u8]) -> bool {
     }
 }
 
-// The same of at most 32 bytes. There are zeros behind the digits up to those of 32 bytes, so that
-// the compiler knows their number, and makes vectors of the loops.
+// The same of at most 32 bytes. The digit 0 is put behind the word up to 64 digits, so that the
+// compiler knows their number, and makes vectors of the loops.
 fn read_few(word: &[u8], bytes: &mut [u8]) -> bool {
     match parse_in_vectors::<32>(&with_zeros(word)) {
         Some(all) => {
@@ -30,7 +30,7 @@ fn read_few(word: &[u8], bytes: &mut [u8]) -> bool {
     }
 }
 
-// These digits, and zeros behind them.
+// These digits, and the digit 0 behind them, 64 in all.
 #[inline(always)]
 fn with_zeros(word: &[u8]) -> [u8; 64] {
     let mut digits = [b'0'; 64];
@@ -38,8 +38,8 @@ fn with_zeros(word: &[u8]) -> [u8; 64] {
     digits
 }
 
-// The same of any number of bytes. The first byte that is no digit ends it.
-fn read_many(word: &[u8], bytes: &mut [u8]) -> bool {
+/// The same of any number of bytes, two digits for each. The first byte that is no digit ends it.
+pub(crate) fn read_many(word: &[u8], bytes: &mut [u8]) -> bool {
     if !are_digits(word) {
         return false;
     }
@@ -56,8 +56,8 @@ fn put_digits(word: &[u8], bytes: &mut [u8]) {
     }
 }
 
-/// Whether each byte is a hexadecimal digit, of either case.
-pub(crate) fn are_digits(word: &[u8]) -> bool {
+// Whether each byte is a hexadecimal digit, of either case.
+fn are_digits(word: &[u8]) -> bool {
     word.iter().all(|digit| digit.is_ascii_hexdigit())
 }
 

@@ -1,5 +1,5 @@
 // Made by `make rust` of crates/odht_tool_writes/src/shapes.rt.
-//! The way from a shape to its configuration: made of shapes.txt by tools/shapes; `make exports` makes it anew.
+//! The way from a shape to its configuration: made of shapes.txt by `make exports`.
 
 use crate::host::prelude::*;
 

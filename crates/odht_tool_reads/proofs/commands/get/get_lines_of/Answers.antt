@@ -1,4 +1,4 @@
--- An answer for each shape: made of shapes.txt by tools/shapes; `make exports` makes it anew.
+-- An answer for each shape: made of shapes.txt by `make exports`.
 use Rattle.odht_tool_reads.proofs.commands.get.get_lines_of.Goals as goal
 
 pub returns-in-U32ToU32 : goal.returns-in-U32ToU32

@@ -1,4 +1,4 @@
--- An answer for each shape: made of shapes.txt by tools/shapes; `make exports` makes it anew.
+-- An answer for each shape: made of shapes.txt by `make exports`.
 use Rattle.odht_tool_writes.proofs.commands.delete.keys_of_ready.Goals as goal
 
 pub returns-in-U32ToU32 : goal.returns-in-U32ToU32

@@ -127,8 +127,8 @@ fn build_growing_by<H: HashFn>(
 }
 
 /// Builds a table of `count` pairs in memory of its own, which starts with sixteen slots at 87
-/// percent of slots and grows, and copies it to the front of `out`. BAD_LENGTHS and MEMORY leave
-/// `out` and `len` unchanged, TOO_SMALL leaves `out` unchanged.
+/// percent and grows, and copies it to the front of `out`. BAD_LENGTHS and MEMORY leave `out` and
+/// `len` unchanged, TOO_SMALL leaves `out` unchanged.
 pub fn build_growing(
     alloc: Global,
     layout: AnyLayout,

@@ -1,6 +1,5 @@
 // Made by `make rust` of crates/odht_tool_core/src/arguments/topics.rt.
-//! The commands and their options: made of commands.txt by tools/commands; `make manual` makes it
-//! anew.
+//! The commands and their options: made of commands.txt by tools/commands; `make manual` makes it anew.
 
 use crate::erased::core::near::is_near;
 use crate::host::prelude::*;

@@ -1,5 +1,5 @@
 // Made by `make rust` of crates/odht_tool_core/src/help/ready.rt.
-//! The shapes in the help of `build`: made of shapes.txt by tools/shapes; `make exports` makes it anew.
+//! The shapes in the help of `build`: made of shapes.txt by `make exports`.
 
 use crate::host::prelude::*;
 

@@ -1,5 +1,5 @@
 // Made by `make rust` of crates/odht_tool_core/src/shapes/ready.rt.
-//! The ready shapes: made of shapes.txt by tools/shapes; `make exports` makes it anew.
+//! The ready shapes: made of shapes.txt by `make exports`.
 
 use crate::erased::core::shapes::{Hash, Part};
 use crate::host::prelude::*;
