@@ -4,6 +4,7 @@ ended by a signal.
 A command hangs where for so many seconds nothing was printed and none of its processes used processor time. So one that
 works, or prints now and then, is never ended, however busy the machine is. Nor is a loop without end.
 """
+import contextlib
 import os
 import signal
 import subprocess
@@ -121,6 +122,15 @@ def text_of(*files):
     return b"".join(it.read() for it in files).decode(errors="replace")
 
 
+def keep_niceness(process):
+    """Has a command that is in a session of its own give way as this program does. Where the system shares processors
+    among sessions (`autogroup`), the niceness of a process counts only beside those of its own one."""
+    niceness = os.nice(0)
+    if niceness > 0:
+        with contextlib.suppress(OSError), open(f"/proc/{process.pid}/autogroup", "w", encoding="utf-8") as it:
+            it.write(str(niceness))
+
+
 def run(words, limit=LIMIT, **how):
     """Runs a command in a session of its own. Returns its status and what it printed, errors last. Raises Hung."""
     if leaving.is_set():
@@ -131,6 +141,7 @@ def run(words, limit=LIMIT, **how):
             process = subprocess.Popen(words, **how)
         except OSError as error:
             return 1, str(error)
+        keep_niceness(process)
         try:
             is_hung = hangs(process, (output, errors), limit)
         finally:
