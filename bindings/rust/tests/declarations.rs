@@ -1,5 +1,6 @@
-//! The declarations of src/sys.rs are compared with those of include/odht.h: every call of every shape has the same
-//! parameters in the same order, as far as their types at the machine level differ.
+//! The declarations of src/sys.rs and src/sys/any.rs are compared with those of include/odht.h: every call of every
+//! shape, and of tables of any lengths, has the same parameters in the same order, as far as their types at the machine
+//! level differ.
 
 use std::collections::BTreeMap;
 use std::process::Command;
@@ -87,12 +88,12 @@ fn calls_of_shape(template: &str, line: &str) -> BTreeMap<String, Kinds> {
     calls_in(&template, module)
 }
 
-/// The symbols that src/sys.rs declares in the same way, for tables of any lengths and for the shapes of src/shapes.rs,
-/// and the number of shapes.
+/// The symbols that src/sys/any.rs declares in the same way for tables of any lengths, and src/sys.rs for the shapes of
+/// src/shapes.rs, and the number of shapes.
 fn declared_in_rust() -> (usize, BTreeMap<String, Kinds>) {
-    let (before, template) = include_str!("../src/sys.rs").split_once("macro_rules! declare").unwrap();
+    let template = include_str!("../src/sys.rs").split_once("macro_rules! declare").unwrap().1;
     let lines: Vec<&str> = include_str!("../src/shapes.rs").lines().filter(|line| line.ends_with("\";")).collect();
-    let mut declared = calls_in(before.split_once("pub mod any").unwrap().1, "any");
+    let mut declared = calls_in(include_str!("../src/sys/any.rs"), "any");
     declared.extend(lines.iter().flat_map(|line| calls_of_shape(template, line)));
     (lines.len(), declared)
 }
