@@ -254,6 +254,7 @@ impl GivenForms {
     pub fn are_own(self) -> bool
         ensures key { IsTrue result → self.key ≡ Form.Own }
         ensures value { IsTrue result → self.value ≡ Form.Own }
+        ensures own { self.key ≡ Form.Own → self.value ≡ Form.Own → IsTrue result }
     {
         match (self.key, self.value) {
             (Form::Own, Form::Own) => true,
