@@ -21,8 +21,7 @@ use crate::error::Error;
 use crate::hash::HashFn;
 pub use crate::layout::Layout;
 use crate::memory_layout::{
-    HEADER_SIZE, Header, check_by_header, check_opening, check_sized, check_sized_within,
-    sized_parts,
+    self, Header, check_by_header, check_opening, check_sized, check_sized_within, sized_parts,
 };
 pub use crate::raw_table::ShortBytes;
 use crate::raw_table::{SizedIter, SizedSlots, SizedTable};
@@ -110,15 +109,10 @@ fn stated_layout(bytes: &[u8]) -> Result<Layout, DynError>
     ensures short { IfErr result (λ _. length bytes.now < 32) }
     ensures err { IfErr result (λ e. e ≡ Rejected (TooShort (length bytes.now))) }
 {
-    let found = bytes.len();
-    if found < HEADER_SIZE {
-        return Err(DynError::Rejected(Error::TooShort { found }));
+    match memory_layout::stated_layout(bytes) {
+        Ok(layout) => Ok(layout),
+        Err(rejected) => Err(DynError::Rejected(rejected)),
     }
-    let header = Header::of(bytes);
-    Ok(Layout {
-        key_len: header.key_size(),
-        value_len: header.value_size(),
-    })
 }
 
 impl<H: HashFn, D: ByteStore> DynTable<H, D> {

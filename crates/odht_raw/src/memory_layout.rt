@@ -19,7 +19,7 @@ pub use new_tables::{allocate, clear_entries, init_in_place, write_empty};
 pub use odht_header::header::{HEADER_SIZE, Header, LEAST_FACTOR, is_accepted, write_header};
 pub use odht_header::sizes::{bytes_needed, entry_at, layout_for};
 pub use prefix::{sized_table_len, table_len};
-pub use sized::{check_by_header, check_opening, sized_parts};
+pub use sized::{check_by_header, check_opening, sized_parts, stated_layout};
 pub use sized_check::{check_sized, check_sized_within};
 pub use sized_inserts::insert_sized;
 pub use sized_new::init_sized;

@@ -3,7 +3,7 @@
 //! A table is *placed* where no key is in two slots, and the search for each key ends at its slot.
 //! "On the parts of a placed table" is `IsPartsOf` in a clause: control bytes, mirror and entries
 //! are those of such a table.
-ghost use Rattle.std.specs.Prelude.{◌≡◌, ◌+◌, ◌/◌, ◌^◌, ◌<◌, ◌≤◌, length, slice_index, IfOk};
+ghost use Rattle.std.specs.Prelude.{◌≡◌, ◌+◌, ◌-◌, ◌/◌, ◌^◌, ◌<◌, ◌≤◌, length, slice_index, IfOk};
 ghost use Rattle.std.specs.Prelude.{IsFalse, List, ℕ, ⊤};
 ghost use Rattle.std.specs.Result.{result_err};
 ghost use Rattle.odht_base.specs.Format.{format_of};
@@ -21,7 +21,7 @@ use crate::bytes::ByteArray;
 use crate::error::Error;
 use crate::hash::HashFn;
 pub(crate) use crate::swisstable_group_query::is_empty_or_deleted;
-use crate::swisstable_group_query::{Group, GroupQuery};
+use crate::swisstable_group_query::{Group, GroupQuery, REFERENCE_GROUP_SIZE};
 use std::marker::{Model, PhantomData};
 
 mod ahead;
@@ -57,7 +57,7 @@ mod walk;
 
 pub use entries::{Entries, Entry};
 pub use first_look::FirstLook;
-pub(crate) use group_probe::GroupProbe;
+pub use group_probe::GroupProbe;
 pub use group_search::{search, search_hashed};
 pub(crate) use insert::{fill_slot, insert_at, step_end};
 pub use plain::{plain_find, plain_insert};
@@ -91,6 +91,15 @@ pub fn tag_of(hash: u32) -> u8
     ensures { result ≡ hash / 2 ^ 25 }
 {
     (hash >> TAG_SHIFT) as u8
+}
+
+// How many slots have these control bytes, which end with their mirror.
+#[inline(always)]
+fn slot_count_of(control: &[EntryMetadata]) -> usize
+    requires { 16 ≤ length control.now }
+    ensures { result ≡ length control.now - 16 }
+{
+    control.len() - REFERENCE_GROUP_SIZE
 }
 
 /// The parts of a table, borrowed to be read: the control bytes with their mirror, and the entries

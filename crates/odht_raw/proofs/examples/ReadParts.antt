@@ -1,17 +1,14 @@
 -- Worked examples: parts of a table that are read by position, here behind 40 other bytes.
-use Rattle.std.proofs.Common.{◌≡◌, ℕ, ◌+◌, ◌%◌, ◌<◌, ◌≤◌, ◌++◌, refl, List, replicate, length, slice_index, Some, None, lit<, arith, subst, sym}
-use Rattle.odht_base.specs.Decoded.{slot_key, counts_as_free}
+use Rattle.std.proofs.Common.{◌≡◌, ℕ, ◌+◌, ◌%◌, ◌++◌, refl, List, replicate, length, Some, None, lit<, arith}
+use Rattle.odht_base.specs.Decoded.{slot_key}
 use Rattle.odht_base.specs.Format.{IsFormat}
-use Rattle.odht_base.specs.Load.{IsSlotCount, is_power_of_two}
+use Rattle.odht_base.specs.Load.{IsSlotCount}
 use Rattle.odht_base.specs.Table.{Table, slot_count}
 use Rattle.odht_base.proofs.examples.Configs.{direct_config}
 use Rattle.odht_header.specs.Refusals.{lists_differ}
-use Rattle.odht_header.proofs.examples.Apart.{unequal, unequal_lists, tested, untrue}
+use Rattle.odht_header.proofs.examples.Apart.{unequal, unequal_lists, tested}
 use Rattle.odht_header.proofs.examples.Opened.{opened}
-use Rattle.odht_raw.specs.Parts.{EntryBytes}
 use Rattle.odht_raw.specs.Reads.{entry_size, read_entries, read_controls, read_key, read_groups, IsPlaceFitting, IsHeldBy, IsFoundWithin, IsGroupLook, IsLooking}
-use Rattle.odht_raw.specs.SearchEnds.{IsOtherAmong}
-use Rattle.odht_raw.specs.SearchSteps.{IsGroupAt, IsLook}
 use Rattle.odht_raw.specs.declared.raw_table.read_search.ReadPlace.{ReadPlace}
 use Rattle.odht_raw.specs.declared.raw_table.search_result.Search.TheVariants.{Found, Free, Neither}
 use Rattle.odht_raw.proofs.examples.FrameRefusals.{occupied_controls}

@@ -48,6 +48,12 @@ module _ (F : Format) (es ctrl : List ℕ) (i : ℕ) where
       let zeros : list_all is_zero (slot_entry F es i) ≡ true = ap (list_all is_zero) e ∙ list_all-zeros n in
       refusal_is ∙ rw (h, zeros) refl
 
+  -- and one where its entry is not zeros
+  pub other_entry_refusal : counts_as_free (slice_index ctrl i) ≡ true → (slot_entry F es i ≡ replicate (length (slot_entry F es i)) 0 → ⊥) → hashes_refusal_at F es ctrl i ≡ Some (NonZeroEmpty i)
+  other_entry_refusal h other =
+      let zeros : list_all is_zero (slot_entry F es i) ≡ false = false_from_ne_true _ (λ t. other (zeros-list_all _ t)) in
+      refusal_is ∙ rw (h, zeros) refl
+
   -- an entry is zero where both its ends are
   zero_ends : list_all is_zero (slot_entry F es i) ≡ (list_all is_zero (slot_key F es i) && list_all is_zero (slot_value F es i))
   zero_ends = ap (list_all is_zero) (sym (take-append-drop F.key_len (slot_entry F es i))) ∙ list_all-append is_zero (slot_key F es i) (slot_value F es i)

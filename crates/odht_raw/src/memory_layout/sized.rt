@@ -1,5 +1,7 @@
-//! The bytes of a table whose lengths of keys and values are numbers: opening, and the parts.
-ghost use Rattle.std.specs.Prelude.{◌≡◌, ◌≤◌, ℕ, List, length};
+//! The bytes of a table whose lengths of keys and values are numbers: the lengths that a header
+//! states, opening, and the parts.
+ghost use Rattle.std.specs.Prelude.{◌≡◌, ◌≤◌, ◌<◌, ℕ, List, length, slice_index, Err};
+ghost use Rattle.std.specs.Prelude.{IfOk, OnOk, OnErr};
 ghost use Rattle.odht_base.specs.Decoded.{header_slots, entries_of, controls_of};
 ghost use Rattle.odht_base.specs.Format.{format_of};
 ghost use Rattle.odht_base.specs.Image.{image_len};
@@ -7,6 +9,7 @@ ghost use Rattle.odht_base.specs.Load.{IsSlotCount};
 ghost use Rattle.odht_base.specs.Table.{Table};
 ghost use Rattle.odht_base.specs.Valid.{IsImage, IsPartsOf};
 ghost use Rattle.odht_header.specs.Refusals.{checked, opening_refusal, view_refusal};
+ghost use Rattle.odht_header.specs.declared.error.Error.TheVariants.{TooShort};
 ghost use Rattle.odht_raw.specs.Dumps.{parts_of};
 ghost use Rattle.odht_raw.specs.Frame.{IsAccepted};
 
@@ -16,6 +19,27 @@ use crate::error::Error;
 use crate::hash::HashFn;
 use crate::layout::Layout;
 use crate::raw_table::SizedTable;
+
+/// The lengths of keys and values that the header at the front of the bytes states, of which
+/// nothing is checked; `TooShort` where they are too few for one.
+#[inline]
+pub fn stated_layout(bytes: &[u8]) -> Result<Layout, Error>
+    ensures long { OnOk result (32 ≤ length bytes.now) }
+    ensures key { IfOk result (λ l. l.key_len ≡ slice_index bytes.now 5) }
+    ensures value { IfOk result (λ l. l.value_len ≡ slice_index bytes.now 6) }
+    ensures short { OnErr result (length bytes.now < 32) }
+    ensures err { OnErr result (result ≡ Err (TooShort (length bytes.now))) }
+{
+    let found = bytes.len();
+    if found < HEADER_SIZE {
+        return Err(Error::TooShort { found });
+    }
+    let header = Header::of(bytes);
+    Ok(Layout {
+        key_len: header.key_size(),
+        value_len: header.value_size(),
+    })
+}
 
 /// Checks the bytes as those of a table of these lengths by their header and length alone, and
 /// returns the first error: `TooShort`, then those of [`Header::check_layout`]. No slot is read,

@@ -12,11 +12,13 @@ ghost use Rattle.odht_raw.specs.Searches.{IsSearchEnd};
 ghost use Rattle.odht_raw.specs.Steps.{IsStepEnd, IsStepWhere};
 
 use super::insert::insert_at;
-use super::{Entries, EntryMetadata, Scan, Search, is_empty_or_deleted, search_hashed, tag_of};
+use super::{
+    Entries, EntryMetadata, Scan, Search, is_empty_or_deleted, search_hashed, slot_count_of, tag_of,
+};
 use crate::bytes::ByteArray;
 use crate::error::Error;
 use crate::hash::HashFn;
-use crate::swisstable_group_query::{Group, GroupQuery, REFERENCE_GROUP_SIZE};
+use crate::swisstable_group_query::{Group, GroupQuery};
 
 /// The hash of a key, and the slot where a pair with the key is placed, where the first group
 /// search at its home slot finds it; else the slot count: where a key may have to be compared, or
@@ -34,7 +36,7 @@ pub(crate) fn expected_slot<K: ByteArray, V: ByteArray, H: HashFn, Q: Group>(
     requires lengths { ArePairLengths H.MIN_LEN K.LEN V.LEN }
     ensures { IsAhead (format_of K.LEN V.LEN H.hash) control.now (K.bytes key.now) result }
 {
-    let slots = control.len() - REFERENCE_GROUP_SIZE;
+    let slots = slot_count_of(control);
     let mask = slots - 1;
     let hash = H::hash(key.as_slice());
     let home = hash as usize & mask;
@@ -69,7 +71,7 @@ pub(crate) fn insert_ahead<K: ByteArray, V: ByteArray, H: HashFn>(
         in IsStepWhere (λ P. EndsIfFree F P p.key slot) F V.of_bytes room
         (entries.old, control.old) p result (entries.new, control.new) }
 {
-    let slots = control.len() - REFERENCE_GROUP_SIZE;
+    let slots = slot_count_of(control);
     let end = expected_end::<K, V, H>(control, entries, slots, &key, hash, slot, room);
     insert_at::<K, V, H>(
         control,

@@ -14,7 +14,7 @@ use std::marker::Model;
 /// In a contract it is the control bytes, how many groups of them were read, the home slot, and
 /// the position of the group's first slot in the order.
 #[derive(Drop)]
-pub(crate) struct GroupProbe<'a> {
+pub struct GroupProbe<'a> {
     scan: Scan<'a>,
     probe: ProbeSeq<REFERENCE_GROUP_SIZE>,
 }
@@ -43,7 +43,7 @@ impl<'a> GroupProbe<'a> {
     /// The first group of the probe order of a hash, or of a home slot, in the control bytes of
     /// `slots` slots.
     #[inline(always)]
-    pub(crate) fn new(control: &'a [EntryMetadata], slots: usize, hash: usize) -> Self
+    pub fn new(control: &'a [EntryMetadata], slots: usize, hash: usize) -> Self
         requires slots { IsSlotCount slots }
         requires control { length control.now ≡ slots + 16 }
         ensures { result ≡ record {
@@ -58,7 +58,7 @@ impl<'a> GroupProbe<'a> {
 
     /// `new` in the control bytes of a scan, which goes on counting.
     #[inline(always)]
-    pub(crate) fn over(scan: Scan<'a>, hash: usize) -> Self
+    pub fn over(scan: Scan<'a>, hash: usize) -> Self
         ensures { result ≡ record {
           control = scan.entry.control;
           groups = scan.entry.groups;
@@ -75,7 +75,7 @@ impl<'a> GroupProbe<'a> {
 
     /// How many groups were read.
     #[inline(always)]
-    pub(crate) fn groups(&self) -> usize
+    pub fn groups(&self) -> usize
         ensures { result ≡ self.now.groups }
     {
         self.scan.groups()
@@ -83,7 +83,7 @@ impl<'a> GroupProbe<'a> {
 
     /// The first slot of the group.
     #[inline(always)]
-    pub(crate) fn start(&self) -> usize
+    pub fn start(&self) -> usize
         ensures slot { result
             ≡ probe_slot self.now.home (length self.now.control - 16) self.now.position }
         ensures count { IsSlotCount (length self.now.control - 16) }
@@ -96,7 +96,7 @@ impl<'a> GroupProbe<'a> {
 
     /// The sixteen control bytes of the group. Counts one group more.
     #[inline(always)]
-    pub(crate) fn read(&mut self) -> &'a [EntryMetadata]
+    pub fn read(&mut self) -> &'a [EntryMetadata]
         ensures bytes { let slots = length self.old.control - 16
             in result.now
             ≡ bytes_at self.old.control (probe_slot self.old.home slots self.old.position) 16 }
@@ -113,7 +113,7 @@ impl<'a> GroupProbe<'a> {
 
     /// Whether it is the last group.
     #[inline(always)]
-    pub(crate) fn is_last(&self) -> bool
+    pub fn is_last(&self) -> bool
         ensures { IsTrue result ↔ (self.now.position + 16 ≡ length self.now.control - 16) }
     {
         self.probe.is_last_of(self.scan.slots() - 1)
@@ -121,7 +121,7 @@ impl<'a> GroupProbe<'a> {
 
     /// Goes on to the next group.
     #[inline(always)]
-    pub(crate) fn advance(&mut self)
+    pub fn advance(&mut self)
         requires { self.old.position + 16 < length self.old.control - 16 }
         ensures { self.new ≡ record {
           control = self.old.control;

@@ -14,7 +14,7 @@ ghost use Rattle.odht_raw.specs.Parts.{stored_in};
 ghost use Rattle.odht_raw.specs.Searches.{IsSearchEnd};
 ghost use Rattle.odht_raw.specs.Steps.{IsStep, IsStepWhere, IsTaggedEnd};
 
-use super::{Entries, EntryMetadata, Scan, Search, search_hashed, tag_of};
+use super::{Entries, EntryMetadata, Scan, Search, search_hashed, slot_count_of, tag_of};
 use crate::bytes::{ByteArray, write_slice};
 use crate::error::Error;
 use crate::hash::HashFn;
@@ -37,7 +37,7 @@ pub(crate) fn insert_step<K: ByteArray, V: ByteArray, H: HashFn, Q: Group>(
         in IsStep (format_of K.LEN V.LEN H.hash) V.of_bytes room (entries.old, control.old) p result
         (entries.new, control.new) }
 {
-    let slots = control.len() - REFERENCE_GROUP_SIZE;
+    let slots = slot_count_of(control);
     let end = step_end::<K, V, H, Q>(control, entries, slots, &key);
     insert_at::<K, V, H>(control, entries, slots, key, value, end, room)
 }

@@ -14,7 +14,7 @@ ghost use Rattle.odht_raw.specs.SearchEnds.{IsPlainEnd};
 ghost use Rattle.odht_raw.specs.Finds.{IsFind};
 
 use super::insert::insert_at;
-use super::{Entries, EntryMetadata, Search, SlotKeys, is_empty_or_deleted, tag_of};
+use super::{Entries, EntryMetadata, Search, SlotKeys, is_empty_or_deleted, slot_count_of, tag_of};
 use crate::bytes::ByteArray;
 use crate::error::Error;
 use crate::hash::HashFn;
@@ -68,7 +68,7 @@ pub fn plain_insert<K: ByteArray, V: ByteArray, H: HashFn>(
         in IsInsertChange (format_of K.LEN V.LEN H.hash) V.of_bytes entries.old control.old p result
         entries.new control.new }
 {
-    let slots = control.len() - REFERENCE_GROUP_SIZE;
+    let slots = slot_count_of(control);
     let hash = H::hash(key.as_slice());
     let stored: Entries<'_, K, V> = Entries::new(entries, slots);
     let end = plain_search::<K, V, H>(control, &stored, &key, hash);

@@ -38,7 +38,7 @@ impl Model for ShortBytes {
 
 impl ShortBytes {
     /// A copy of the bytes, of which there are at most 255.
-    #[inline]
+    #[inline(always)]
     pub fn of(slice: &[u8]) -> Self
         requires { length slice.now ≤ 255 }
         ensures { result ≡ slice.now }

@@ -1,7 +1,7 @@
 //! The parts of a table whose lengths of keys and values are numbers, known at run time alone.
-ghost use Rattle.std.specs.Prelude.{◌≡◌, ◌==◌, ◌+◌, ◌*◌, ◌^◌, ◌<◌, ◌≤◌, ◌↔◌, All, drop, length};
+ghost use Rattle.std.specs.Prelude.{◌≡◌, ◌+◌, ◌*◌, ◌^◌, ◌<◌, ◌≤◌, ◌↔◌, All, drop, length};
 ghost use Rattle.std.specs.Prelude.{slice_index, IfOk, IsTrue};
-ghost use Rattle.std.specs.List.{filter_map, list_all};
+ghost use Rattle.std.specs.List.{filter_map};
 ghost use Rattle.std.specs.Option.{option_copied};
 ghost use Rattle.std.specs.Result.{result_err};
 ghost use Rattle.odht_base.specs.Decoded.{slot_entry, slot_key, slot_value};
@@ -19,7 +19,7 @@ use super::group_search::search_keys;
 use super::{
     EntryMetadata, Scan, Search, SizedIter, SizedSlots, SlotKeys, is_empty_or_deleted, tag_of,
 };
-use crate::bytes::is_same_word;
+use crate::bytes::{is_same_word, is_zeros};
 use crate::error::Error;
 use crate::hash::HashFn;
 use crate::layout::Layout;
@@ -162,6 +162,15 @@ impl<'a, H: HashFn> SizedTable<'a, H> {
         ensures sized { IsSized H.MIN_LEN self.now }
     {
         self.slots
+    }
+
+    /// The lengths of keys and values.
+    #[inline(always)]
+    pub fn layout(&self) -> Layout
+        ensures key { result.key_len ≡ self.now.key_len }
+        ensures value { result.value_len ≡ self.now.value_len }
+    {
+        self.layout
     }
 
     /// The control byte of a slot, or for an index from the slot count on of its mirror.
@@ -324,7 +333,7 @@ impl<'a, H: HashFn> SizedTable<'a, H> {
     {
         let found = self.control(slot);
         if is_empty_or_deleted(found) {
-            if is_all_zeros(self.entry(slot)) {
+            if is_zeros(self.entry(slot)) {
                 return Ok(None);
             }
             return Err(Error::NonZeroEmpty { slot });
@@ -340,14 +349,6 @@ impl<'a, H: HashFn> SizedTable<'a, H> {
         }
         Ok(Some(hash))
     }
-}
-
-// Whether each byte is zero.
-#[inline(always)]
-fn is_all_zeros(bytes: &[u8]) -> bool
-    ensures { result ≡ list_all (λ byte. byte == 0) bytes.now }
-{
-    bytes.iter().all(|byte| *byte == 0)
 }
 
 // Whether two lists of the same length are equal. From 8 to 64 bytes are compared where they are,

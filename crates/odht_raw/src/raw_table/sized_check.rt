@@ -1,6 +1,6 @@
 //! The whole check of the parts of a table whose lengths are numbers: each slot, the mirror, and
 //! that the search for each key ends at its slot.
-ghost use Rattle.std.specs.Prelude.{◌≡◌, ◌<◌, ◌≤◌, ◌↔◌, length, slice_index, option_map, IfOk, IsFalse};
+ghost use Rattle.std.specs.Prelude.{◌≡◌, ◌<◌, ◌≤◌, ◌↔◌, slice_index, option_map, IfOk, IsFalse};
 ghost use Rattle.std.specs.Prelude.{IsTrue, None};
 ghost use Rattle.std.specs.Result.{result_err};
 ghost use Rattle.odht_base.specs.Bytes.{bytes_at};
@@ -9,7 +9,8 @@ ghost use Rattle.odht_base.specs.Format.{tag as key_tag};
 ghost use Rattle.odht_base.specs.Search.{search_end, is_at};
 ghost use Rattle.odht_header.specs.Refusals.{checked, bad_free_control, slots_refusal};
 ghost use Rattle.odht_header.specs.Refusals.{mirror_refusal, reach_refusal};
-ghost use Rattle.odht_raw.specs.Checks.{cells_of, decoded_count, IsFitting, ArePassed};
+ghost use Rattle.odht_raw.specs.Checks.{cells_of, decoded_count, ArePassed, IsFitting};
+ghost use Rattle.odht_raw.specs.Checks.{IsGroupSearch};
 ghost use Rattle.odht_raw.specs.Sized.{sized_format};
 
 use super::check::SlotSummary;
@@ -20,18 +21,6 @@ use crate::swisstable_group_query::lanes::GroupQuery;
 use crate::swisstable_group_query::{Group, REFERENCE_GROUP_SIZE};
 
 impl<'a, H: HashFn> SizedTable<'a, H> {
-    // The sixteen control bytes from that of slot `start` on, which run into the mirror after the
-    // last slot.
-    #[inline(always)]
-    fn group(&self, start: usize) -> &'a [u8]
-        requires { start < self.now.parts.entries.slots }
-        ensures bytes { result.now ≡ bytes_at self.now.parts.control start 16 }
-        ensures len { length result.now ≡ 16 }
-    {
-        let control = self.controls();
-        &control[start..start + REFERENCE_GROUP_SIZE]
-    }
-
     /// Checks each slot once, in slot order, and returns the first error: `NonZeroEmpty`, then
     /// `BadFreeControl`, of a slot that counts as free, `ControlMismatch` of any other.
     ///
@@ -104,11 +93,12 @@ impl<'a, H: HashFn> SizedTable<'a, H> {
         let mut probe = GroupProbe::new(self.controls(), slots, hash as usize);
         'groups: loop {
             let start = probe.start();
+            let group = GroupQuery::of(probe.read(), tag);
             let before = (slot + slots - start) & (slots - 1);
             if before < REFERENCE_GROUP_SIZE {
-                return self.are_passed(start, before, slot, tag);
+                return self.are_passed(group, start, before, slot);
             }
-            if !self.are_passed(start, REFERENCE_GROUP_SIZE, slot, tag) {
+            if !self.are_passed(group, start, REFERENCE_GROUP_SIZE, slot) {
                 return false;
             }
             probe.advance();
@@ -116,28 +106,31 @@ impl<'a, H: HashFn> SizedTable<'a, H> {
     }
 
     // Whether each of the `count` slots from `start` on, modulo the slot count, is occupied by
-    // another key than that of `slot`, whose tag is `tag`.
+    // another key than that of `slot`. The group is that of these slots, searched for the tag of
+    // this key.
     #[inline]
-    fn are_passed(&self, start: usize, count: usize, slot: usize, tag: u8) -> bool
+    fn are_passed(&self, group: GroupQuery, start: usize, count: usize, slot: usize) -> bool
         requires start { start < self.now.parts.entries.slots }
         requires count { count ≤ 16 }
         requires slot { slot < self.now.parts.entries.slots }
-        requires tag { let F = sized_format self.now H.hash
-            in tag ≡ key_tag F (slot_key F self.now.parts.entries.bytes slot) }
-        requires small { tag < 128 }
+        requires group { let F = sized_format self.now H.hash
+            in IsGroupSearch (bytes_at self.now.parts.control start 16)
+            (key_tag F (slot_key F self.now.parts.entries.bytes slot)) group }
         ensures { let F = sized_format self.now H.hash
             in IsFitting F self.now.parts
             → IsTrue result
             ↔ ArePassed F self.now.parts (slot_key F self.now.parts.entries.bytes slot) start count }
     {
         let mask = self.len() - 1;
-        let control = self.group(start);
-        let mut group = GroupQuery::of(control, tag);
+        let mut group = group;
         if group.first_empty().unwrap_or(REFERENCE_GROUP_SIZE) < count {
             return false;
         }
         'matches: while let Some(index) = group.first_match() {
-            if index < count && self.have_same_key((start + index) & mask, slot) {
+            if index >= count {
+                return true;
+            }
+            if self.have_same_key((start + index) & mask, slot) {
                 return false;
             }
             group.drop_match();

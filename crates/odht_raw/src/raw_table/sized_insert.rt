@@ -1,5 +1,7 @@
 //! The insert of a pair that is given as bytes into the parts of a table: one search, and the
 //! write where it ends.
+//!
+//! These functions take the slot count, which is worked out once for an insert.
 ghost use Rattle.std.specs.Prelude.{◌≡◌, ◌+◌, ◌-◌, ◌*◌, ◌<◌, ◌++◌, length};
 ghost use Rattle.odht_base.specs.Bytes.{overwritten_at};
 ghost use Rattle.odht_base.specs.Format.{format_of, tag as key_tag};
@@ -26,18 +28,19 @@ use crate::swisstable_group_query::REFERENCE_GROUP_SIZE;
 pub(crate) fn sized_step_end<H: HashFn>(
     control: &[EntryMetadata],
     entries: &[u8],
+    slots: usize,
     layout: Layout,
     key: &[u8],
 ) -> (Search, u8)
     requires lengths { ArePartLengths H.MIN_LEN layout.key_len layout.value_len
         (length entries.now) (length control.now) }
+    requires slots { slots ≡ length control.now - 16 }
     requires key { length key.now ≡ layout.key_len }
     ensures end { let F = format_of layout.key_len layout.value_len H.hash
         in IsSearchEnd F (stored_in entries.now control.now) control.now key.now result.0 }
     ensures tag { let F = format_of layout.key_len layout.value_len H.hash
         in result.1 ≡ key_tag F key.now }
 {
-    let slots = control.len() - REFERENCE_GROUP_SIZE;
     let table: SizedTable<'_, H> = SizedTable::new(control, entries, slots, layout);
     match key.len() {
         4 => table.search_end(&key[..4]),
@@ -56,6 +59,7 @@ pub(crate) fn sized_step_end<H: HashFn>(
 pub(crate) fn sized_insert_at<H: HashFn>(
     control: &mut [EntryMetadata],
     entries: &mut [u8],
+    slots: usize,
     layout: Layout,
     key: &[u8],
     value: &[u8],
@@ -64,6 +68,7 @@ pub(crate) fn sized_insert_at<H: HashFn>(
 ) -> Result<Option<ShortBytes>, Error>
     requires lengths { ArePartLengths H.MIN_LEN layout.key_len layout.value_len
         (length entries.old) (length control.old) }
+    requires slots { slots ≡ length control.old - 16 }
     requires key { IsBytes layout.key_len key.now }
     requires value { IsBytes layout.value_len value.now }
     requires end { let F = format_of layout.key_len layout.value_len H.hash
@@ -73,7 +78,6 @@ pub(crate) fn sized_insert_at<H: HashFn>(
         in IsStepWhere (λ P. end.0 ≡ answer F P.cells p.key) F (λ b. b) room
         (entries.old, control.old) p result (entries.new, control.new) }
 {
-    let slots = control.len() - REFERENCE_GROUP_SIZE;
     let (end, tag) = end;
     match end {
         Search::Found(slot) => {
@@ -87,7 +91,7 @@ pub(crate) fn sized_insert_at<H: HashFn>(
             if room == 0 {
                 return Err(Error::Full);
             }
-            fill_sized_slot(control, entries, layout, key, value, tag, slot);
+            fill_sized_slot(control, entries, slots, layout, key, value, tag, slot);
             Ok(None)
         }
         Search::Neither => Err(Error::Full),
@@ -99,23 +103,23 @@ pub(crate) fn sized_insert_at<H: HashFn>(
 pub(super) fn fill_sized_slot(
     control: &mut [EntryMetadata],
     entries: &mut [u8],
+    slots: usize,
     layout: Layout,
     key: &[u8],
     value: &[u8],
     tag: u8,
     slot: usize,
 )
-    requires slots { IsSlotCount (length control.old - 16) }
-    requires entries { length entries.old
-        ≡ (length control.old - 16) * (layout.key_len + layout.value_len) }
+    requires slots { IsSlotCount slots }
+    requires control { length control.old ≡ slots + 16 }
+    requires entries { length entries.old ≡ slots * (layout.key_len + layout.value_len) }
     requires key { length key.now ≡ layout.key_len }
     requires value { length value.now ≡ layout.value_len }
-    requires slot { slot < length control.old - 16 }
+    requires slot { slot < slots }
     ensures entries { let at = slot * (layout.key_len + layout.value_len)
         in entries.new ≡ overwritten_at entries.old at (key.now ++ value.now) }
     ensures control { control.new ≡ tagged control.old slot tag }
 {
-    let slots = control.len() - REFERENCE_GROUP_SIZE;
     let at = slot * layout.entry_len();
     write_slice(entries, at, key);
     write_slice(entries, at + layout.key_len as usize, value);

@@ -5,7 +5,7 @@ ghost use Rattle.odht_raw.specs.PartLengths.{ArePartLengths};
 
 use super::free_search::first_free;
 use super::sized_insert::{fill_sized_slot, sized_insert_at, sized_step_end};
-use super::{EntryMetadata, ShortBytes, tag_of};
+use super::{EntryMetadata, ShortBytes, slot_count_of, tag_of};
 use crate::error::Error;
 use crate::hash::HashFn;
 use crate::layout::Layout;
@@ -68,9 +68,10 @@ impl<'c, 'e, H: HashFn> SizedTableMut<'c, 'e, H> {
         hold_bytes(value);
         let layout = self.layout;
         let (control, entries) = (&mut *self.control, &mut *self.entries);
-        let end = sized_step_end::<H>(control, entries, layout, key);
+        let slots = slot_count_of(control);
+        let end = sized_step_end::<H>(control, entries, slots, layout, key);
         // As many entries may be added as there are free slots.
-        sized_insert_at::<H>(control, entries, layout, key, value, end, usize::MAX)
+        sized_insert_at::<H>(control, entries, slots, layout, key, value, end, usize::MAX)
     }
 
     /// Writes the pair into the first free slot of its key's probe order. No key is compared, so
@@ -94,6 +95,7 @@ impl<'c, 'e, H: HashFn> SizedTableMut<'c, 'e, H> {
         fill_sized_slot(
             control,
             entries,
+            slot_count_of(control),
             self.layout,
             key,
             value,

@@ -5,11 +5,11 @@ ghost use Rattle.odht_raw.specs.PartLengths.{ArePartLengths};
 
 use super::free_search::first_free;
 use super::insert::{fill_slot, insert_step};
-use super::{Entries, EntryMetadata, RawTable, tag_of};
+use super::{Entries, EntryMetadata, RawTable, slot_count_of, tag_of};
 use crate::bytes::ByteArray;
 use crate::error::Error;
 use crate::hash::HashFn;
-use crate::swisstable_group_query::{Group, GroupQuery, REFERENCE_GROUP_SIZE};
+use crate::swisstable_group_query::{Group, GroupQuery};
 use std::fmt;
 use std::marker::PhantomData;
 
@@ -101,7 +101,7 @@ impl<'c, 'e, K: ByteArray, V: ByteArray, H: HashFn> RawTableMut<'c, 'e, K, V, H>
         let Some(slot) = first_free::<Q>(control, hash) else {
             return Err(Error::Full);
         };
-        let slots = control.len() - REFERENCE_GROUP_SIZE;
+        let slots = slot_count_of(control);
         fill_slot::<K, V, H>(control, entries, slots, &key, &value, tag_of(hash), slot);
         Ok(())
     }
@@ -118,7 +118,7 @@ impl<'c, 'e, K: ByteArray, V: ByteArray, H: HashFn> fmt::Debug for RawTableMut<'
 
     // The same text as that of the `RawTable` of these parts.
     fn fmt<W: fmt::Write>(&self, f: &mut fmt::Formatter<W>) -> fmt::Result {
-        let slots = self.control.len() - REFERENCE_GROUP_SIZE;
+        let slots = slot_count_of(self.control);
         let entries = Entries::new(self.entries, slots);
         let table: RawTable<'_, K, V, H> = RawTable::new(self.control, entries);
         write!(f, "{table:?}")

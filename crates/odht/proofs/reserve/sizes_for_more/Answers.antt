@@ -1,5 +1,4 @@
-use Rattle.std.proofs.Common.{◌≡◌, ◌<◌, ◌+◌, ◌^◌, ◌∙◌, ap, subst, refl, arith, ℕ}
-use Rattle.odht_base.specs.Decoded.{header_count, header_factor, header_slots}
+use Rattle.std.proofs.Common.{◌≡◌, ◌<◌, ◌+◌, ◌^◌, ◌∙◌, subst, refl, arith}
 use Rattle.odht_base.specs.Format.{Format, format_of}
 use Rattle.odht_base.specs.Load.{max_items}
 use Rattle.odht_base.specs.Table.{Table, count, slot_count}

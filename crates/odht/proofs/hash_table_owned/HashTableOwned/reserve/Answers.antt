@@ -1,10 +1,9 @@
-use Rattle.std.proofs.Common.{◌≡◌, ◌∙◌, sym, ap, subst, Ok, Some, arith}
+use Rattle.std.proofs.Common.{◌∙◌, sym, ap, subst, Ok, Some, arith}
 use Rattle.odht_base.specs.Format.{Format, format_of}
 use Rattle.odht_base.specs.Table.{Table}
 use Rattle.odht_base.specs.Valid.{IsImage}
-use Rattle.odht_header.specs.Coding.{coding_of}
 use Rattle.odht.specs.Reserves.{IsMoveFor}
-use Rattle.odht.proofs.lemmas.Moves.{reserve-stays, reserve-moves, reserve-no_memory, reserve-large, reserved-room}
+use Rattle.odht.proofs.lemmas.Moves.{reserve-stays, reserve-moves, reserved-room}
 use Rattle.odht.proofs.lemmas.ViewInserts.{factor_header}
 use Rattle.odht.proofs.hash_table_owned.HashTableOwned.reserve.Given.{Over}
 use Rattle.odht.proofs.hash_table_owned.HashTableOwned.reserve.Goals.{After-sizes_for_more, After-moved}

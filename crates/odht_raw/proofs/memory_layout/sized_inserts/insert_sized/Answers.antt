@@ -74,6 +74,12 @@ lengths_are g c =
       entries = cut.long ∙ ap (λ s. s * entry_len (F g c.args.layout)) (cut.slots ∙ sym slots);
     }
 
+pub sized_step_end-end-requires-clause-slots : goal.sized_step_end-end-requires-clause-slots
+sized_step_end-end-requires-clause-slots g c = slots_are g (goal.at.sized_step_end-end-requires-clause-slots g c).After-split_at_mut-front
+
+pub sized_insert_at-requires-clause-slots : goal.sized_insert_at-requires-clause-slots
+sized_insert_at-requires-clause-slots g c = slots_are g (goal.at.sized_insert_at-requires-clause-slots g c).After-split_at_mut-front
+
 pub sized_step_end-end-requires-clause-lengths : goal.sized_step_end-end-requires-clause-lengths
 sized_step_end-end-requires-clause-lengths g c = lengths_are g (goal.at.sized_step_end-end-requires-clause-lengths g c).After-split_at_mut-front
 

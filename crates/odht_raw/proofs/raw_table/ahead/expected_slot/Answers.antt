@@ -23,7 +23,7 @@ returns-then-is_some g c =
     let f = IsFormat-format_of _ _ _ _ c.requires.lengths.key c.requires.lengths.value c.requires.lengths.hashes g.met.H.HashFn.fits in
     record {
       hash = c.hash-hash.ensures ∙ ap g.H.HashFn.hash c.as_slice.ensures.value;
-      expected = λ P es h. no_slot F P es c.args.control.now (g.K.ByteArray.bytes c.args.key.now) f h c.requires.slots;
+      expected = λ P es h. rw c.slot_count_of-slots.ensures (no_slot F P es c.args.control.now (g.K.ByteArray.bytes c.args.key.now) f h c.requires.slots);
     }
 
 pub returns-in-Some : goal.returns-in-Some
@@ -36,19 +36,20 @@ returns-in-Some g c =
     let hash = c.hash-hash.ensures ∙ ap g.H.HashFn.hash c.as_slice.ensures.value in
     let small = size_fits g.Q.Group.SIZE g.met.Q.Group.divides in
     let masked : bit_and c.hash-hash.result (s - 1) ≡ home F k s = bit_and-slots c.hash-hash.result s c.requires.slots ∙ ap (λ x. x % s) hash in
+    let home_is : bit_and c.hash-hash.result (c.slot_count_of-slots.result - 1) ≡ bit_and c.hash-hash.result (s - 1) = ap (λ n. bit_and c.hash-hash.result (n - 1)) c.slot_count_of-slots.ensures in
     let into = bit_and-slots (bit_and c.hash-hash.result (s - 1) + c.in-Some.index) s c.requires.slots in
     let tag_is = c.tag_of.ensures ∙ ap (λ x. x / 2 ^ 25) hash in
     let xs = g.Q.Group.matches c.of-group.result in
     let report : IsReport (bytes_at ctrl (home F k s) g.Q.Group.SIZE) (tag F k) xs =
-    subst (λ (x : ℕ × ℕ × ℕ). IsReport (bytes_at ctrl x.0 x.1) x.2 xs) (λ i. (masked i, c.SIZE.ensures i, tag_is i)) c.of-group.ensures.matches in
+    subst (λ (x : ℕ × ℕ × ℕ). IsReport (bytes_at ctrl x.0 x.1) x.2 xs) (λ i. ((home_is ∙ masked) i, c.SIZE.ensures i, tag_is i)) c.of-group.ensures.matches in
     let free : first_free (bytes_at ctrl (home F k s) g.Q.Group.SIZE) ≡ Some c.in-Some.index =
-    (λ i. first_free (bytes_at ctrl (sym masked i) (sym c.SIZE.ensures i))) ∙ sym (c.in-Some.ensures ∙ c.of-group.ensures.free) in
+    (λ i. first_free (bytes_at ctrl (sym (home_is ∙ masked) i) (sym c.SIZE.ensures i))) ∙ sym (c.in-Some.ensures ∙ c.of-group.ensures.free) in
     let none = no_match (g.Q.Group.matches c.of-group.result) c.first_match.result c.is_some.result c.first_match.ensures c.is_some.ensures c.if-is_some.false in
     record {
       hash = hash;
       expected = λ P es h low.
-          ap Free (into ∙ ap (λ x. (x + c.in-Some.index) % s) masked)
-          ∙ home_free F P es ctrl k f h c.requires.slots g.Q.Group.SIZE c.in-Some.index xs small report none free;
+          rw c.slot_count_of-slots.ensures (ap Free (into ∙ ap (λ x. (x + c.in-Some.index) % s) masked)
+          ∙ home_free F P es ctrl k f h c.requires.slots g.Q.Group.SIZE c.in-Some.index xs small report none free);
     }
 
 pub returns : goal.returns
@@ -57,5 +58,5 @@ returns g c =
     let f = IsFormat-format_of _ _ _ _ c.requires.lengths.key c.requires.lengths.value c.requires.lengths.hashes g.met.H.HashFn.fits in
     record {
       hash = c.hash-hash.ensures ∙ ap g.H.HashFn.hash c.as_slice.ensures.value;
-      expected = λ P es h. no_slot F P es c.args.control.now (g.K.ByteArray.bytes c.args.key.now) f h c.requires.slots;
+      expected = λ P es h. rw c.slot_count_of-slots.ensures (no_slot F P es c.args.control.now (g.K.ByteArray.bytes c.args.key.now) f h c.requires.slots);
     }

@@ -16,7 +16,7 @@ returns-clause-placed g c P h =
     let ctrl = c.args.control.now in
     let some : 0 < 18446744073709551615 = omega arith in
     let long : length ctrl ≡ length ctrl - 16 + 16 = omega (arith, c.requires.slots.least) in
-    let known = rw c.new-stored.ensures at c.plain_search-end.ensures in
+    let known = rw c.slot_count_of-slots.ensures at (rw c.new-stored.ensures at c.plain_search-end.ensures) in
     step-insert F g.V.ByteArray.of_bytes 18446744073709551615 p c.insert_at.result some P c.args.entries.now ctrl c.insert_at.new.entries c.insert_at.new.control
     (length ctrl - 16) f long h (c.insert_at.ensures.placed P h (known.on_placed P h)) c.insert_at.ensures.any
 
@@ -31,7 +31,7 @@ pub insert_at-requires-clause-end : goal.insert_at-requires-clause-end
 insert_at-requires-clause-end g c κs within =
     let F : Format = format_of g.K.ByteArray.LEN g.V.ByteArray.LEN g.H.HashFn.hash in
     let ctrl = c.args.control.now in
-    let end = rw c.new-stored.ensures at c.plain_search-end.ensures.slot in
+    let end = rw c.slot_count_of-slots.ensures at (rw c.new-stored.ensures at c.plain_search-end.ensures.slot) in
     record {
       end = record {
         slot = plain-end F (stored_in c.args.entries.now ctrl) ctrl (g.K.ByteArray.bytes c.args.key) c.plain_search-end.result (omega (arith, c.requires.slots.least)) end;

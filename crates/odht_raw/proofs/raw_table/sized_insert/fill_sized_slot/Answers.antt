@@ -1,4 +1,4 @@
-use Rattle.std.proofs.Common.{◌≡◌, ◌∙◌, ◌+◌, ◌*◌, ◌-◌, ◌<◌, ◌≤◌, ◌++◌, ℕ, List, ap, length, arith}
+use Rattle.std.proofs.Common.{◌≡◌, ◌∙◌, ◌+◌, ◌*◌, ◌<◌, ◌≤◌, ◌++◌, ℕ, List, ap, length, arith}
 use Rattle.odht_base.specs.Bytes.{overwritten_at}
 use Rattle.odht_base.proofs.lemmas.ByteRanges.{length-overwritten_at, overwritten_at-twice}
 use Rattle.odht_base.proofs.lemmas.PartsOf.{slot_within}
@@ -6,14 +6,14 @@ use Rattle.odht_raw.proofs.raw_table.sized_insert.fill_sized_slot.Goals.{After-w
 use Rattle.odht_raw.proofs.raw_table.sized_insert.fill_sized_slot.Goals as goal
 
 -- a slot's entry lies within the bytes of the entries
-within : (es ctrl : List ℕ) (i n : ℕ) → length es ≡ (length ctrl - 16) * n → i < length ctrl - 16 → i * n + n ≤ length es
-within es ctrl i n long low = omega (arith, long, slot_within i (length ctrl - 16) n low)
+within : (es : List ℕ) (s i n : ℕ) → length es ≡ s * n → i < s → i * n + n ≤ length es
+within es s i n long low = omega (arith, long, slot_within i s n low)
 
 pub write_slice-requires-2 : goal.write_slice-requires-2
 write_slice-requires-2 c =
     let es = c.args.entries.now in
     let n : ℕ = c.args.layout.key_len + c.args.layout.value_len in
-    let fits = within es c.args.control.now c.args.slot n c.requires.entries c.requires.slot in
+    let fits = within es c.args.slots c.args.slot n c.requires.entries c.requires.slot in
     let at : c.args.slot * c.entry_len.result ≡ c.args.slot * n = ap (λ m. c.args.slot * m) c.entry_len.ensures in
     let first = ap length c.write_slice.ensures ∙ length-overwritten_at es (c.args.slot * c.entry_len.result) c.args.key.now (omega (arith, at, fits, c.requires.key)) in
     omega (arith, at, fits, first, c.requires.value)
@@ -24,7 +24,7 @@ written c =
     let es = c.args.entries.now in
     let n : ℕ = c.args.layout.key_len + c.args.layout.value_len in
     let at : ℕ = c.args.slot * n in
-    let fits = within es c.args.control.now c.args.slot n c.requires.entries c.requires.slot in
+    let fits = within es c.args.slots c.args.slot n c.requires.entries c.requires.slot in
     let first : c.write_slice.new.all ≡ overwritten_at es at c.args.key.now = c.write_slice.ensures ∙ ap (λ m. overwritten_at es (c.args.slot * m) c.args.key.now) c.entry_len.ensures in
     c.write_slice-2.ensures
     ∙ (λ i. overwritten_at (first i) (c.args.slot * c.entry_len.ensures i + c.args.layout.key_len) c.args.value.now)

@@ -39,7 +39,7 @@ free_low F es ctrl k r i is known = (subst (IsEnd F (stored_in es ctrl) ctrl k) 
 pub fill_sized_slot-requires-clause-slot : goal.fill_sized_slot-requires-clause-slot
 fill_sized_slot-requires-clause-slot g c =
     let F : Format = format_of c.args.layout.key_len c.args.layout.value_len g.H.HashFn.hash in
-    free_low F c.args.entries.now c.args.control.now c.args.key.now c.args.end.0 c.in-Free.slot c.in-Free.is c.requires.end.end.slot
+    rw c.requires.slots (free_low F c.args.entries.now c.args.control.now c.args.key.now c.args.end.0 c.in-Free.slot c.in-Free.is c.requires.end.end.slot)
 
 pub returns-in-Found : goal.returns-in-Found
 returns-in-Found g c =

@@ -23,31 +23,31 @@ search_end-requires-in-32 g c = ap length (whole c.args.key.now 32 c.in-32.is) â
 pub returns-in-4-clause-end : goal.returns-in-4-clause-end
 returns-in-4-clause-end g c =
     let F : Format = format_of c.args.layout.key_len c.args.layout.value_len g.H.HashFn.hash in
-    let end = rw c.new-table.ensures at c.search_end.ensures.end in
+    let end = rw c.requires.slots at (rw c.new-table.ensures at c.search_end.ensures.end) in
     ends F (stored_in c.args.entries.now c.args.control.now) c.args.control.now c.args.key.now 4 c.search_end.result.0 c.in-4.is end
 
 pub returns-in-8-clause-end : goal.returns-in-8-clause-end
 returns-in-8-clause-end g c =
     let F : Format = format_of c.args.layout.key_len c.args.layout.value_len g.H.HashFn.hash in
-    let end = rw c.new-table.ensures at c.search_end-in-8.ensures.end in
+    let end = rw c.requires.slots at (rw c.new-table.ensures at c.search_end-in-8.ensures.end) in
     ends F (stored_in c.args.entries.now c.args.control.now) c.args.control.now c.args.key.now 8 c.search_end-in-8.result.0 c.in-8.is end
 
 pub returns-in-16-clause-end : goal.returns-in-16-clause-end
 returns-in-16-clause-end g c =
     let F : Format = format_of c.args.layout.key_len c.args.layout.value_len g.H.HashFn.hash in
-    let end = rw c.new-table.ensures at c.search_end-in-16.ensures.end in
+    let end = rw c.requires.slots at (rw c.new-table.ensures at c.search_end-in-16.ensures.end) in
     ends F (stored_in c.args.entries.now c.args.control.now) c.args.control.now c.args.key.now 16 c.search_end-in-16.result.0 c.in-16.is end
 
 pub returns-in-20-clause-end : goal.returns-in-20-clause-end
 returns-in-20-clause-end g c =
     let F : Format = format_of c.args.layout.key_len c.args.layout.value_len g.H.HashFn.hash in
-    let end = rw c.new-table.ensures at c.search_end-in-20.ensures.end in
+    let end = rw c.requires.slots at (rw c.new-table.ensures at c.search_end-in-20.ensures.end) in
     ends F (stored_in c.args.entries.now c.args.control.now) c.args.control.now c.args.key.now 20 c.search_end-in-20.result.0 c.in-20.is end
 
 pub returns-in-32-clause-end : goal.returns-in-32-clause-end
 returns-in-32-clause-end g c =
     let F : Format = format_of c.args.layout.key_len c.args.layout.value_len g.H.HashFn.hash in
-    let end = rw c.new-table.ensures at c.search_end-in-32.ensures.end in
+    let end = rw c.requires.slots at (rw c.new-table.ensures at c.search_end-in-32.ensures.end) in
     ends F (stored_in c.args.entries.now c.args.control.now) c.args.control.now c.args.key.now 32 c.search_end-in-32.result.0 c.in-32.is end
 
 pub returns-in-32-clause-tag : goal.returns-in-32-clause-tag

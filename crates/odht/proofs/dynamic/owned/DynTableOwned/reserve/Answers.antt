@@ -1,12 +1,11 @@
 use Rattle.std.proofs.Common.{◌≡◌, ◌∙◌, sym, ap, subst, refl, inl, inr, ℕ, List, Result, Ok, Err, Some, arith}
-use Rattle.odht_base.specs.Format.{Format, format_of}
 use Rattle.odht_base.specs.Table.{Table}
 use Rattle.odht_base.specs.Valid.{IsImage, IsValidBytes}
 use Rattle.odht_header.specs.declared.error.Error.{Error}
 use Rattle.odht_header.specs.declared.error.Error.TheVariants.{Capacity, Memory}
 use Rattle.odht.specs.Dynamic.{DynStore, dyn_coding, dyn_format}
 use Rattle.odht.specs.Reserves.{IsMoveFor, IsReserve}
-use Rattle.odht.proofs.lemmas.Moves.{reserve-stays, reserve-moves, reserve-no_memory, reserve-large, reserved-room}
+use Rattle.odht.proofs.lemmas.Moves.{reserve-stays, reserve-moves, reserve-no_memory, reserve-large}
 use Rattle.odht.proofs.lemmas.ViewInserts.{factor_header}
 use Rattle.odht.proofs.dynamic.owned.DynTableOwned.reserve.Given.{Over}
 use Rattle.odht.proofs.dynamic.owned.DynTableOwned.reserve.Goals.{After-sizes_for_more, After-moved}

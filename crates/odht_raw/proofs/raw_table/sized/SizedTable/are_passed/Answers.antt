@@ -1,94 +1,78 @@
-use Rattle.std.proofs.Common.{rules, ◌≡◌, ◌∙◌, ◌+◌, ◌-◌, ◌%◌, ◌^◌, ◌<◌, ◌≤◌, ℕ, List, false, true≢false, bit_and, length, sym, ap, subst, arith, slice_index, refl}
+use Rattle.std.proofs.Common.{◌≡◌, ◌∙◌, ◌+◌, ◌-◌, ◌%◌, ◌<◌, ◌≤◌, ℕ, List, true≢false, bit_and, sym, ap, subst, arith, refl, inl, inr}
 use Rattle.std.specs.Option.{unwrap_or}
-use Rattle.odht_base.specs.Bytes.{bytes_at}
-use Rattle.odht_base.specs.Format.{Format, tag}
-use Rattle.odht_base.specs.Groups.{IsReport, first_free}
-use Rattle.odht_base.specs.Decoded.{counts_as_free, slot_key}
-use Rattle.odht_base.proofs.lemmas.ByteRanges.{length-bytes_at}
+use Rattle.odht_base.specs.Format.{Format}
+use Rattle.odht_base.specs.Decoded.{slot_key}
 use Rattle.odht_base.proofs.lemmas.SlotCounts.{bit_and-slots}
+use Rattle.odht_raw.specs.Parts.{TableParts, IsTableParts}
 use Rattle.odht_raw.specs.Sized.{sized_format}
-use Rattle.odht_raw.proofs.lemmas.KeyPasses.{stopped_free, stopped_key, passes}
-use Rattle.odht_raw.proofs.lemmas.GroupLooks.{taken-next, taken-all}
-use Rattle.odht_raw.proofs.lemmas.SlotFits.{IsMirrored-mirror_refusal, AllFit-slots_refusal}
+use Rattle.odht_raw.proofs.lemmas.GroupLooks.{taken-next, taken-all, rising-first, rising-rest}
+use Rattle.odht_raw.proofs.lemmas.PartLooks.{are_passed, not_passed_free, not_passed_key}
 use Rattle.odht_raw.proofs.raw_table.sized.SizedTable.are_passed.Given.{Over}
-use Rattle.odht_raw.proofs.raw_table.sized.SizedTable.are_passed.Goals.{After-of-group, else-index-count-via-then-index-count+else-have_same_key, else-index-count-via-else-index-count}
+use Rattle.odht_raw.proofs.raw_table.sized.SizedTable.are_passed.Goals.{After-unwrap_or}
 use Rattle.odht_raw.proofs.raw_table.sized.SizedTable.are_passed.Goals as goal
 
--- what is read: the control bytes of the group, for the tag of the key
-module _ (g : Over) (c : After-of-group g) where
+-- what is known of the parts, and of the look at the group
+module _ (g : Over) (c : After-unwrap_or g) where
   abbrev F : Format
   F = sized_format c.args.self.now g.H.HashFn.hash
 
-  abbrev es : List ℕ
-  es = c.args.self.now.parts.entries.bytes
+  abbrev T : TableParts
+  T = c.args.self.now.parts
 
-  abbrev ctrl : List ℕ
-  ctrl = c.args.self.now.parts.control
+  parts : IsTableParts g.H.HashFn.MIN_LEN c.args.self.now.key_len c.args.self.now.value_len T
+  parts = c.len-mask.ensures.sized
 
-  abbrev s : ℕ
-  s = c.args.self.now.parts.entries.slots
+  abbrev key : List ℕ
+  key = slot_key F T.entries.bytes c.args.slot
 
-  abbrev k : List ℕ
-  k = slot_key F es c.args.slot
+  masked : (x : ℕ) → bit_and x (c.len-mask.result - 1) ≡ x % T.entries.slots
+  masked x = ap (λ n. bit_and x (n - 1)) c.len-mask.ensures.value ∙ bit_and-slots x T.entries.slots parts.slots
 
-  report : IsReport (bytes_at ctrl c.args.start 16) (tag F k) c.of-group.result.matches
-  report =
-      subst (λ h. IsReport (bytes_at ctrl c.args.start 16) h c.of-group.result.matches) c.requires.tag
-      (subst (λ b. IsReport b c.args.tag c.of-group.result.matches) c.group-control.ensures.bytes c.of-group.ensures.matches)
-
-  -- the index of the first byte that counts as free
-  free : c.of-group.result.free ≡ first_free (bytes_at ctrl c.args.start 16)
-  free = c.of-group.ensures.free ∙ ap first_free c.group-control.ensures.bytes
-
-  masked : (n : ℕ) → bit_and n (c.len-mask.result - 1) ≡ n % s
-  masked n = ap (λ m. bit_and n (m - 1)) c.len-mask.ensures.value ∙ bit_and-slots n s c.len-mask.ensures.sized.slots
-
-pub overflow_add-start : goal.overflow_add-start
-overflow_add-start g c =
-    let few = c.len-mask.ensures.few in
-    let sum : c.args.start + c.in-Some.index < 2 ^ 64 = omega (arith, few, c.len-mask.ensures.value, c.requires.start, c.if-index-count.true, c.requires.count) in
-    search rules
+  first : c.unwrap_or.result ≡ unwrap_or c.args.group.free 16
+  first = c.unwrap_or.ensures ∙ ap (λ o. unwrap_or o 16) c.first_empty.ensures
 
 pub returns-then-unwrap_or-count : goal.returns-then-unwrap_or-count
 returns-then-unwrap_or-count g c fitting =
-    let at = (goal.at.returns-then-unwrap_or-count g c).After-of-group in
-    let v = c.len-mask.ensures.sized in
-    let before : unwrap_or (first_free (bytes_at (ctrl g at) c.args.start 16)) 16 < c.args.count = subst (λ n. n < c.args.count) (c.unwrap_or.ensures ∙ ap (λ o. unwrap_or o 16) (c.first_empty.ensures ∙ free g at)) c.if-unwrap_or-count.true in (
+    let at = (goal.at.returns-then-unwrap_or-count g c).After-unwrap_or in (
       λ t. absurd (true≢false (sym t)),
-      λ passed. absurd (stopped_free (F g at) (es g at) (ctrl g at) (s g at) v.mirrored v.slots.least (IsMirrored-mirror_refusal (ctrl g at) fitting.mirror) c.args.start c.requires.start
-          (k g at) _ (report g at) c.args.count c.requires.count before passed),
+      λ passed. absurd (not_passed_free (F g at) (T g at) (parts g at).mirrored (parts g at).slots.least fitting c.args.start c.requires.start (key g at) c.args.group c.requires.group
+          c.args.count c.requires.count (subst (λ n. n < c.args.count) (first g at) c.if-unwrap_or-count.true) passed),
+    )
+
+pub returns-then-index-count : goal.returns-then-index-count
+returns-then-index-count g c fitting =
+    let at = (goal.at.returns-then-index-count g c).After-unwrap_or in (
+      λ t. are_passed (F g at) (T g at) (parts g at).mirrored (parts g at).slots.least fitting c.args.start c.requires.start (key g at) c.args.group c.requires.group
+          c.args.count c.requires.count (subst (λ n. c.args.count ≤ n) (first g at) c.if-unwrap_or-count.false)
+          (λ x all low. elim (c.matches.invariant.1.others x all) [
+            | inl left ↦ λ same. omega (arith, low, c.if-index-count.true, rising-first c.matches.group.matches c.in-Some.index x c.matches.invariant.0 c.in-Some.ensures left)
+            | inr taken ↦ taken low
+          ]),
+      λ passed. refl,
     )
 
 pub returns-then-have_same_key : goal.returns-then-have_same_key
 returns-then-have_same_key g c fitting =
-    let at = (goal.at.returns-then-have_same_key g c).After-of-group in
-    let v = c.len-mask.ensures.sized in
-    let index = c.in-Some.index in
-    let same = ap (slot_key (F g at) (es g at)) (sym (masked g at (c.args.start + index))) ∙ c.have_same_key.ensures.0 c.if-have_same_key.true in (
+    let at = (goal.at.returns-then-have_same_key g c).After-unwrap_or in (
       λ t. absurd (true≢false (sym t)),
-      λ passed. absurd (stopped_key (F g at) (es g at) (ctrl g at) (s g at) v.mirrored v.slots.least (IsMirrored-mirror_refusal (ctrl g at) fitting.mirror) c.args.start c.requires.start
-          (k g at) _ (report g at) c.args.count index c.if-index-count.true same passed),
+      λ passed. absurd (not_passed_key (F g at) (T g at) (parts g at).mirrored (parts g at).slots.least fitting c.args.start c.requires.start (key g at) c.args.group c.requires.group
+          c.args.count c.requires.count c.in-Some.index (omega (arith, c.if-index-count.false))
+          (ap (slot_key (F g at) (T g at).entries.bytes) (sym (masked g at (c.args.start + c.in-Some.index))) ∙ c.have_same_key.ensures.0 c.if-have_same_key.true) passed),
     )
 
 pub matches-preserved : goal.matches-preserved
 matches-preserved g c =
-    let at = (goal.at.matches-preserved g c).After-of-group in
-    let index = c.in-Some.index in
-    taken-next _ _ _ _ index c.matches.invariant c.in-Some.ensures c.drop_match.ensures.rest (λ low same. elim c.else-index-count.branch [
-      | else-index-count-via-then-index-count+else-have_same_key w ↦
-          true≢false (sym (w.have_same_key.ensures.1 (ap (slot_key (F g at) (es g at)) (masked g at (c.args.start + index)) ∙ same)) ∙ w.if-have_same_key.false)
-      | else-index-count-via-else-index-count w ↦ omega (arith, low, w.if-index-count.false)
-    ])
+    let at = (goal.at.matches-preserved g c).After-unwrap_or in (
+      rising-rest c.matches.group.matches c.drop_match.new.self.matches c.drop_match.ensures.rest c.matches.invariant.0,
+      taken-next _ _ _ _ c.in-Some.index c.matches.invariant.1 c.in-Some.ensures c.drop_match.ensures.rest (λ low same.
+          true≢false (sym (c.have_same_key.ensures.1 (ap (slot_key (F g at) (T g at).entries.bytes) (masked g at (c.args.start + c.in-Some.index)) ∙ same)) ∙ c.if-have_same_key.false)),
+    )
 
 pub returns : goal.returns
 returns g c fitting =
-    let at = (goal.at.returns g c).After-of-group in
-    let v = c.len-mask.ensures.sized in
-    let mirror = IsMirrored-mirror_refusal (ctrl g at) fitting.mirror in
-    let tags : (i : ℕ) → i < s g at → counts_as_free (slice_index (ctrl g at) i) ≡ false → slice_index (ctrl g at) i ≡ tag (F g at) (slot_key (F g at) (es g at) i) =
-    λ i l. (AllFit-slots_refusal (F g at) (es g at) (ctrl g at) fitting.slots i (omega (arith, l, v.mirrored))).occupied_tag in
-    let within : length (bytes_at (ctrl g at) c.args.start 16) ≡ 16 = length-bytes_at (ctrl g at) c.args.start 16 (omega (arith, c.requires.start, v.mirrored)) in
-    let after : c.args.count ≤ unwrap_or (first_free (bytes_at (ctrl g at) c.args.start 16)) 16 = subst (λ n. c.args.count ≤ n) (c.unwrap_or.ensures ∙ ap (λ o. unwrap_or o 16) (c.first_empty.ensures ∙ free g at)) c.if-unwrap_or-count.false in (
-      λ t. passes (F g at) (es g at) (ctrl g at) (s g at) v.mirrored v.slots.least mirror c.args.start c.requires.start (k g at) _ (report g at) tags within c.args.count c.requires.count after (taken-all _ _ _ c.matches.invariant c.in_default.ensures),
+    let at = (goal.at.returns g c).After-unwrap_or in (
+      λ t. are_passed (F g at) (T g at) (parts g at).mirrored (parts g at).slots.least fitting c.args.start c.requires.start (key g at) c.args.group c.requires.group
+          c.args.count c.requires.count (subst (λ n. c.args.count ≤ n) (first g at) c.if-unwrap_or-count.false)
+          (λ x all low. taken-all _ _ _ c.matches.invariant.1 c.in_default.ensures x all low),
       λ passed. refl,
     )

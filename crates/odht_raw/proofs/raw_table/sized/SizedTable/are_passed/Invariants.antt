@@ -1,15 +1,16 @@
 use Rattle.std.proofs.Common.{◌≡◌, ◌<◌, ◌+◌, ◌%◌, length}
-use Rattle.odht_raw.specs.Sized.{sized_format}
+use Rattle.std.specs.List.Sorted.{IsStrictlyIncreasing}
 use Rattle.odht_base.specs.Decoded.{slot_key}
+use Rattle.odht_raw.specs.Sized.{sized_format}
 use Rattle.odht_raw.proofs.lemmas.GroupLooks.{IsTaken}
 use Rattle.odht_raw.proofs.raw_table.sized.SizedTable.are_passed.Given as goal
 
--- each match that was taken is behind the slots in question, or has another key
+-- the matches rise, and each that was taken is behind the slots in question, or has another key
 abbrev pub invariant-matches : goal.invariant-matches
 invariant-matches g l =
     let F = sized_format l.self g.H.HashFn.hash in
     let es = l.self.parts.entries.bytes in
-    IsTaken l.initial.group.matches l.group.matches (λ x. x < l.count → slot_key F es ((l.start + x) % l.self.parts.entries.slots) ≡ slot_key F es l.slot → ⊥)
+    IsStrictlyIncreasing l.group.matches × IsTaken l.initial.group.matches l.group.matches (λ x. x < l.count → slot_key F es ((l.start + x) % l.self.parts.entries.slots) ≡ slot_key F es l.slot → ⊥)
 
 abbrev pub decreases-matches : goal.decreases-matches
 decreases-matches g l = length l.group.matches

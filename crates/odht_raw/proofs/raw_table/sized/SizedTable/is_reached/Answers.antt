@@ -32,9 +32,13 @@ module _ (g : Over) (c : After-start-start g) where
   behind_is : bit_and (c.args.slot + c.len-slots.result - c.start-start.result) (c.len-slots.result - 1) ≡ (c.args.slot + s - c.start-start.result) % s
   behind_is = ap (λ n. bit_and (c.args.slot + n - c.start-start.result) (n - 1)) slots ∙ bit_and-slots (c.args.slot + s - c.start-start.result) s count
 
+  -- the probe goes over so many slots
+  probed : length c.groups.probe.control - 16 ≡ s
+  probed = omega (arith, ap length c.groups.invariant.control, mirrored)
+
   -- which is that of the position in the order
   first_is : c.start-start.result ≡ probe_slot (c.args.hash % s) s c.groups.probe.position
-  first_is = c.start-start.ensures.slot ∙ (λ i. probe_slot (c.groups.invariant.home i) (c.groups.invariant.mask i) c.groups.probe.position)
+  first_is = c.start-start.ensures.slot ∙ (λ i. probe_slot (c.groups.invariant.home i) (probed i) c.groups.probe.position)
 
   cells : length (cells_of (sized_format c.args.self.now g.H.HashFn.hash) c.args.self.now.parts) ≡ s
   cells = slots_decoded (sized_format c.args.self.now g.H.HashFn.hash) c.args.self.now.parts.entries.bytes c.args.self.now.parts.control s mirrored
@@ -79,7 +83,8 @@ advance-requires g c =
     let n = own_later g at c.if-before-lt-REFERENCE_GROUP_SIZE.false in
     let v = c.groups.invariant in
     let least = (count g at).least in
-    omega (arith, v.mask, n.1, n.3, least)
+    let read = c.read.ensures.counted in
+    omega (arith, probed g at, ap (λ q. q.position) read, ap (λ q. length q.control) read, n.1, n.3, least)
 
 pub groups-preserved : goal.groups-preserved
 groups-preserved g c =
@@ -87,12 +92,12 @@ groups-preserved g c =
     let F : Format = sized_format c.args.self.now g.H.HashFn.hash in
     let k = slot_key F c.args.self.now.parts.entries.bytes c.args.slot in
     let v = c.groups.invariant in
-    let place : c.advance.new.self.position ≡ c.groups.probe.position + 16 = ap (λ q. q.position) c.advance.ensures in
+    let place : c.advance.new.self.position ≡ c.groups.probe.position + 16 = ap (λ q. q.position) c.advance.ensures ∙ ap (λ q. q.position + 16) c.read.ensures.counted in
     let n = own_later g at c.if-before-lt-REFERENCE_GROUP_SIZE.false in
     let sixteen = sixteens (s g at) (count g at) in
     record {
-      home = ap (λ q. q.home) c.advance.ensures ∙ v.home;
-      mask = ap (λ q. length q.control - 16) c.advance.ensures ∙ v.mask;
+      home = ap (λ q. q.home) c.advance.ensures ∙ ap (λ q. q.home) c.read.ensures.counted ∙ v.home;
+      control = ap (λ q. q.control) c.advance.ensures ∙ ap (λ q. q.control) c.read.ensures.counted ∙ v.control;
       aligned = omega (arith, place, v.aligned);
       within = omega (arith, place, v.aligned, sixteen.2, n.1, n.3);
       others = λ q l e. elim (cases_lt q c.groups.probe.position) [

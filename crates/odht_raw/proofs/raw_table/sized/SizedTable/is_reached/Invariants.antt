@@ -1,4 +1,4 @@
-use Rattle.std.proofs.Common.{◌≡◌, ◌<◌, ◌≤◌, ◌+◌, ◌-◌, ◌%◌, ℕ, length}
+use Rattle.std.proofs.Common.{◌≡◌, ◌<◌, ◌≤◌, ◌+◌, ◌-◌, ◌%◌, ℕ}
 use Rattle.std.specs.Prelude.{IsFalse}
 use Rattle.odht_raw.specs.Sized.{sized_format}
 use Rattle.odht_base.specs.Probe.{probe_slot}
@@ -14,7 +14,7 @@ invariant-groups g l =
     let s = l.self.parts.entries.slots in
     record {
       home : l.probe.home ≡ l.hash % s;
-      mask : length l.probe.control - 16 ≡ s;
+      control : l.probe.control ≡ l.self.parts.control;
       aligned : l.probe.position % 16 ≡ 0;
       within : l.probe.position + 16 ≤ s;
       others : (q : ℕ) → q < l.probe.position → probe_slot (l.hash % s) s q ≡ l.fn.slot → ⊥;

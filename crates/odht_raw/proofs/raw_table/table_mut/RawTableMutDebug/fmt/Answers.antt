@@ -1,4 +1,4 @@
-use Rattle.std.proofs.Common.{◌≡◌, ◌∙◌, ◌-◌, length, subst}
+use Rattle.std.proofs.Common.{◌≡◌, ◌∙◌, ◌-◌, length, subst, ap}
 use Rattle.std.specs.Fmt.{DisplaysOnOk}
 use Rattle.odht_raw.specs.Parts.{TableParts, entry_format}
 use Rattle.odht_raw.specs.Dumps.{dump_text}
@@ -9,7 +9,8 @@ pub returns : goal.returns
 returns g c =
     let control = mut_control c.args.self.now in
     let parts : c.new-table.result ≡ record { control = control; entries = record { slots = length control - 16; bytes = mut_entries c.args.self.now } } =
-    c.new-table.ensures ∙ (λ i. record { control = control; entries = c.new-entries.ensures i }) in
+    c.new-table.ensures ∙ (λ i. record { control = control; entries = c.new-entries.ensures i })
+    ∙ ap (λ s. record { control = control; entries = record { slots = s; bytes = mut_entries c.args.self.now } }) c.slot_count_of-slots.ensures in
     record {
       writes =
           subst (λ (T : TableParts).
