@@ -6,14 +6,14 @@ use Rattle.std.proofs.lemmas.List.{get_or-take, get_or-drop, get_or_past, map-ap
 use Rattle.std.proofs.lemmas.List.Sums.{fold-append}
 use Rattle.odht_base.specs.Bytes.{bytes_at}
 use Rattle.odht_base.specs.Decoded.{header_slots}
-use Rattle.odht_header.specs.Refusals.{lists_differ, tag_refusal}
+use Rattle.odht_header.specs.Refusals.{lists_differ}
 use Rattle.odht_header.specs.declared.error.Error.{Error}
 use Rattle.odht_header.specs.declared.error.Error.TheVariants.{WrongTag}
-use Rattle.odht_header.proofs.lemmas.FirstErrors.{option_or-None, gives-None, lists_differ-false}
+use Rattle.odht_header.proofs.lemmas.FirstErrors.{gives-None, lists_differ-false}
 use Rattle.odht_tool_core.specs.Finds.{has_fields, has_front, has_controls, is_table, is_false, AreNone, AreTables, false_slots_at, false_between, false_slots}
 use Rattle.odht_tool_core.specs.InfoNumbers.{info_refusal}
 use Rattle.odht_tool_core.specs.Fronts.{stated_len, front_refusal, table_front}
-use Rattle.odht_tool_core.specs.ReadyShapes.{early_refusal}
+use Rattle.odht_tool_core.proofs.Fronts.{front_tag}
 use Rattle.odht_tool_core.proofs.Counting.{range_more}
 
 -- ---- what bytes begin with
@@ -36,11 +36,9 @@ other_first B at other = no_front (drop at B) (ap (λ b. b && has_fields (drop a
     go : (o : Option Error) → front_refusal (drop at B) ≡ o → is_none (front_refusal (drop at B)) ≡ false
     go (Some x) e = ap is_none e
     go None e =
-        let early = option_or-None (early_refusal (drop at B)) _ e in
-        let first = option_or-None _ _ early.0 in
-        let tag = option_or-None (tag_refusal (drop at B)) _ first.1 in
+        let tag = front_tag (drop at B) e in
         let word = bytes_at (drop at B) 0 4 in
-        let same = lists_differ-false word (79 ∷ 68 ∷ 72 ∷ 84 ∷ []) (gives-None (lists_differ word (79 ∷ 68 ∷ 72 ∷ 84 ∷ [])) (WrongTag word) tag.0) in
+        let same = lists_differ-false word (79 ∷ 68 ∷ 72 ∷ 84 ∷ []) (gives-None (lists_differ word (79 ∷ 68 ∷ 72 ∷ 84 ∷ [])) (WrongTag word) tag) in
         let here : at + 0 ≡ at = omega arith in
         absurd (other (sym (ap (λ i. get_or B i 0) here) ∙ sym (get_or-drop at B 0 0) ∙ sym (get_or-take 4 (drop at B) 0 0 (omega arith)) ∙ ap (λ w. get_or w 0 0) same))
 

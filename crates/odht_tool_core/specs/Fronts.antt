@@ -1,20 +1,15 @@
 -- The table that begins with the bytes B, whatever comes after it.
 --     stated_len B         how many bytes it has, by the slot count and the sizes in the header
---     short_refusal B      there are fewer bytes than that
 --     front_refusal B      the error of opening, but that a length which differs is one only where there are fewer bytes
 --     table_front B        the first stated_len B bytes; with an error all bytes, which opening rejects with the same one
 --     offset_failure B at  the offset `at` is past the end of the bytes B
-use Rattle.std.specs.Prelude.{ℕ, List, [], ◌∷◌, length, take, nat_lt, is_none, Option, if◌then◌else◌}
+use Rattle.std.specs.Prelude.{ℕ, List, length, take, nat_lt, is_none, Option, if◌then◌else◌}
 use Rattle.std.specs.Bool.{then_some}
-use Rattle.std.specs.Option.{option_or}
 use Rattle.odht_base.specs.Decoded.{header_slots}
 use Rattle.odht_base.specs.Image.{image_len}
-use Rattle.odht_header.specs.Refusals.{◌gives◌, first_of, wrong_size, power_refusal, few_slots_refusal}
+use Rattle.odht_header.specs.Refusals.{prefix_refusal}
 use Rattle.odht_header.specs.declared.error.Error.{Error}
-use Rattle.odht_header.specs.declared.error.Error.TheVariants.{WrongLength}
-use Rattle.odht_header.specs.declared.error.Part.TheVariants.{Header}
 use Rattle.odht_tool_core.specs.InfoNumbers.{format_by}
-use Rattle.odht_tool_core.specs.ReadyShapes.{early_refusal}
 use Rattle.odht_tool_core.specs.declared.failure.Failure.{Failure}
 use Rattle.odht_tool_core.specs.declared.failure.Failure.TheVariants.{PastEnd}
 use Rattle.odht_tool_core.specs.declared.shapes.Hash.TheVariants.{Fx}
@@ -22,12 +17,8 @@ use Rattle.odht_tool_core.specs.declared.shapes.Hash.TheVariants.{Fx}
 abbrev pub stated_len : List ℕ → ℕ
 stated_len B = image_len (format_by B Fx) (header_slots B)
 
-abbrev pub short_refusal : List ℕ → Option Error
-short_refusal B = nat_lt (length B) (stated_len B) gives WrongLength (header_slots B) (length B) (stated_len B)
-
 abbrev pub front_refusal : List ℕ → Option Error
-front_refusal B =
-    option_or (early_refusal B) (first_of (wrong_size B 7 Header 32 ∷ power_refusal B ∷ few_slots_refusal B ∷ short_refusal B ∷ []))
+front_refusal B = prefix_refusal (format_by B Fx) B
 
 abbrev pub table_front : List ℕ → List ℕ
 table_front B = if is_none (front_refusal B) then take (stated_len B) B else B

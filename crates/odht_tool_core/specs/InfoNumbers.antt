@@ -4,7 +4,6 @@
 --     sized_parts B        the parts of B
 --     sized_format T h     the format of the sizes of the parts T, and of the hash function h
 --     info_refusal B       the error of opening by header and length for the header's sizes, if there is one
---     rest_refusal B       that error, where it comes after those of the sizes of keys and values
 --     least_key_len h      how many bytes the hash function h needs at least
 --     agrees T h           keys are long enough for h, and no control byte below 128 differs from the tag of its key
 --     found_hash T         the first of fx and unhash that agrees
@@ -27,9 +26,8 @@ use Rattle.std.specs.Option.{option_map_or}
 use Rattle.odht_base.specs.Decoded.{header_count, header_slots, header_factor, entries_of, controls_of, slot_key, counts_as_free}
 use Rattle.odht_base.specs.Format.{Format, format_of}
 use Rattle.odht_base.specs.Load.{max_items}
-use Rattle.odht_header.specs.Refusals.{first_of, first_slot, wrong_size, power_refusal, few_slots_refusal, length_refusal, control_mismatch, opening_refusal}
+use Rattle.odht_header.specs.Refusals.{first_slot, control_mismatch, opening_refusal}
 use Rattle.odht_header.specs.declared.error.Error.{Error}
-use Rattle.odht_header.specs.declared.error.Part.TheVariants.{Header}
 use Rattle.odht_tool_core.specs.GroupNumbers.{groups_to, groups_to_free, capped}
 use Rattle.odht_tool_core.specs.ReadyShapes.{hash_of}
 use Rattle.odht_tool_core.specs.declared.failure.Failure.{Failure}
@@ -64,10 +62,6 @@ sized_format T h = format_of T.key_len T.value_len (hash_of h)
 -- ---- opening; the sizes of keys and values are as expected, whatever they are
 abbrev pub info_refusal : List ℕ → Option Error
 info_refusal B = opening_refusal (format_by B Fx) B
-
-abbrev pub rest_refusal : List ℕ → Option Error
-rest_refusal B =
-    first_of (wrong_size B 7 Header 32 ∷ power_refusal B ∷ few_slots_refusal B ∷ length_refusal (format_by B Fx) (length B) B ∷ [])
 
 -- ---- the hash function
 abbrev pub least_key_len : Hash → ℕ

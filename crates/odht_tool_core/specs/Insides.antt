@@ -2,19 +2,12 @@
 --     is_foreign B         B has as many bytes as a header has, and the first of them are not the tag
 --     IsFirstInside B o    o is the offset of the first table in B, where B is so and has one
 --     inside_text file at  the line that tells of the table at the offset `at`
-use Rattle.std.specs.Prelude.{◌≡◌, ◌⊎◌, ℕ, List, [], ◌∷◌, ◌++◌, Bool, true, false, codes, decimal, Option, Some, None, Result, Err}
-use Rattle.odht_header.specs.Refusals.{checked}
-use Rattle.odht_header.specs.declared.error.Error.{Error}
-use Rattle.odht_header.specs.declared.error.Error.TheVariants.{WrongTag}
+use Rattle.std.specs.Prelude.{◌≡◌, ◌⊎◌, ℕ, nat_le, List, [], ◌∷◌, ◌++◌, length, Bool, true, false, ◌&&◌, codes, decimal, is_some, Option, Some, None}
+use Rattle.odht_header.specs.Refusals.{tag_refusal}
 use Rattle.odht_tool_core.specs.Finds.{AreTables}
-use Rattle.odht_tool_core.specs.ReadyShapes.{early_refusal}
-
-abbrev pub is_wrong_tag : Result (Unit {0}) Error → Bool
-is_wrong_tag (Err (WrongTag found)) = true
-is_wrong_tag _ = false
 
 abbrev pub is_foreign : List ℕ → Bool
-is_foreign B = is_wrong_tag (checked (early_refusal B))
+is_foreign B = nat_le 32 (length B) && is_some (tag_refusal B)
 
 abbrev pub IsFirstInside : List ℕ → Option ℕ → Type 0
 IsFirstInside B None = (is_foreign B ≡ false) ⊎ AreTables B 0 []

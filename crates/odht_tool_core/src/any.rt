@@ -1,21 +1,20 @@
 //! The shape of a table of any sizes: a ready one, or the types of keys and values and the hash
 //! function.
-ghost use Rattle.std.specs.Prelude.{◌≡◌, ◌≤◌, IfOk, IfSome};
+ghost use Rattle.std.specs.Prelude.{◌≡◌, ◌≤◌, IfOk, IfSome, IsFalse, is_some, length};
 ghost use Rattle.odht_tool_core.specs.AnyShapes.{HasLongKeys, any_of_kinds, any_of_sizes, other_of};
 ghost use Rattle.odht_tool_core.specs.AnyShapes.{any_hash, any_key, any_value, kind_of_size};
 ghost use Rattle.odht_tool_core.specs.AnyShapes.{named_any, read_any, with_kinds, with_ready_forms};
 ghost use Rattle.odht_tool_core.specs.InfoNumbers.{least_key_len};
 ghost use Rattle.odht_tool_core.specs.ReadAs.{form_for};
-ghost use Rattle.odht_tool_core.specs.ReadyShapes.{typed_len};
+ghost use Rattle.odht_tool_core.specs.ReadyShapes.{early_refusal, typed_len};
 ghost use Rattle.odht_tool_core.specs.ShapeList.{key_part, value_part};
 
-use crate::early::check_first;
 use crate::failure::Failure;
 use crate::forms::{Form, GivenForms, Kind, Kinds, form_for};
 use crate::found::found_any;
 use crate::shapes::{Hash, Part, Shape};
 use crate::stored::least_key_size;
-use odht_header::header::Header;
+use odht_header::header::{HEADER_SIZE, Header};
 
 /// Keys and values of these types, which no ready shape has, and the hash function.
 #[derive(Clone, Copy)]
@@ -119,12 +118,27 @@ pub fn named_any(bytes: &[u8], hash: Option<Hash>) -> Result<AnyShape, Failure>
     ensures shape { result ≡ named_any bytes.now hash }
     ensures long { IfOk result HasLongKeys }
 {
-    if check_first(bytes).is_err() {
+    if has_early_refusal(bytes) {
         return Ok(AnyShape::Ready(Shape::U64ToU32));
     }
     let header = Header::of(bytes);
     let key = Part::Bytes(header.key_size());
     AnyShape::of_sizes(key, Part::Bytes(header.value_size()), hash)
+}
+
+// Whether the check fails before it comes to the sizes: for too few bytes, or the tag, the version
+// or the size of a control byte.
+fn has_early_refusal(bytes: &[u8]) -> bool
+    ensures refused { result ≡ is_some (early_refusal bytes.now) }
+    ensures long { IsFalse result → 32 ≤ length bytes.now }
+{
+    if bytes.len() < HEADER_SIZE {
+        return true;
+    }
+    let header = Header::of(bytes);
+    header.check_tag().is_err()
+        || header.check_version().is_err()
+        || header.check_metadata_size().is_err()
 }
 
 /// The shape that the bytes of a file are read as, as `found_any` finds it, and the forms of its

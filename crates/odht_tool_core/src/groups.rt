@@ -1,13 +1,11 @@
 //! How many groups of control bytes a search reads, up to a bound.
-ghost use Rattle.std.specs.Prelude.{◌≡◌, ◌≤◌, ◌<◌, ◌+◌, ◌%◌, ◌^◌, is_some, length};
-ghost use Rattle.odht_base.specs.Bytes.{bytes_at};
-ghost use Rattle.odht_base.specs.Groups.{first_free};
+ghost use Rattle.std.specs.Prelude.{◌≡◌, ◌≤◌, ◌<◌, ◌+◌, ◌%◌, ◌^◌, length};
 ghost use Rattle.odht_base.specs.Load.{IsSlotCount};
 ghost use Rattle.odht_tool_core.specs.GroupNumbers.{capped, groups_to, groups_to_free, most_groups};
 
+use odht_base::swisstable_group_query::Group;
 use odht_base::swisstable_group_query::lanes::GroupQuery;
-use odht_base::swisstable_group_query::{Group, REFERENCE_GROUP_SIZE};
-use odht_raw::raw_table::ProbeSeq;
+use odht_raw::raw_table::{GroupProbe, ProbeSeq};
 
 /// The number of the group of a key's probe order that contains a slot, from 1 on: as many groups
 /// as a search for the key in that slot reads. Where that is above the bound, one more than the
@@ -46,16 +44,15 @@ pub fn groups_to_free(control: &[u8], home: usize, slot_count: usize, bound: Opt
     requires home { home < slot_count }
     ensures { result ≡ capped bound (groups_to_free control.now home) }
 {
-    let mask = slot_count - 1;
     let groups = slot_count / 16;
     let most = most_groups(groups, bound);
-    let mut probe = ProbeSeq::<16>::new(home, mask);
+    let mut probe = GroupProbe::new(control, slot_count, home);
     for group in 0..most {
-        if has_free(control, probe.index()) {
+        if GroupQuery::of(probe.read(), 0).any_empty() {
             return group + 1;
         }
         if group + 1 < groups {
-            probe.advance(mask);
+            probe.advance();
         }
     }
     groups.min(most + 1)
@@ -69,15 +66,6 @@ fn most_groups(groups: usize, bound: Option<usize>) -> usize
         None => groups,
         Some(bound) => bound.min(groups),
     }
-}
-
-// Whether one of the sixteen control bytes from `start` on counts as free.
-fn has_free(control: &[u8], start: usize) -> bool
-    requires { start + 16 ≤ length control.now }
-    ensures { result ≡ is_some (first_free (bytes_at control.now start 16)) }
-{
-    let group = &control[start..start + REFERENCE_GROUP_SIZE];
-    GroupQuery::of(group, 0).first_empty().is_some()
 }
 
 // How many slots a slot is behind another one, around the end.

@@ -2,12 +2,11 @@
 ghost use Rattle.std.specs.Prelude.{◌≡◌, IfOk, IfErr, OnOk};
 ghost use Rattle.std.specs.Io.KnownBytes.{Appends};
 ghost use Rattle.odht_tool_core.specs.Finds.{IsFindFailure};
-ghost use Rattle.odht_tool_core.specs.Insides.{IsFirstInside, inside_text, is_foreign, is_wrong_tag};
+ghost use Rattle.odht_tool_core.specs.Insides.{IsFirstInside, inside_text, is_foreign};
 
-use crate::early::check_first;
 use crate::failure::Failure;
 use crate::find::find_tables;
-use odht_header::error::Error;
+use odht_header::header::{HEADER_SIZE, Header};
 use std::alloc::Global;
 use std::io::{self, Write};
 
@@ -28,16 +27,7 @@ pub fn first_inside(alloc: Global, bytes: &[u8]) -> Result<Option<usize>, Failur
 fn is_foreign(bytes: &[u8]) -> bool
     ensures { result ≡ is_foreign bytes.now }
 {
-    is_wrong_tag(&check_first(bytes))
-}
-
-fn is_wrong_tag(checked: &Result<(), Error>) -> bool
-    ensures { result ≡ is_wrong_tag checked.now }
-{
-    match checked {
-        Err(Error::WrongTag { .. }) => true,
-        _ => false,
-    }
+    bytes.len() >= HEADER_SIZE && Header::of(bytes).check_tag().is_err()
 }
 
 /// Writes a line that tells of the table at this offset.

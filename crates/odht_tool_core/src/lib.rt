@@ -8,7 +8,6 @@ pub mod answers;
 pub mod any;
 pub mod arguments;
 mod digits;
-mod early;
 pub mod failure;
 pub mod files;
 pub mod find;

@@ -132,6 +132,7 @@ pub fn read_pair<K: Text, V: Text, I: BufRead>(
 }
 
 /// `read_pair` in texts of these forms.
+#[inline(always)]
 pub fn read_pair_as<K: Text, V: Text, F: Forms, I: BufRead>(
     input: &mut I,
     line: &mut Vec<u8>,
@@ -198,6 +199,7 @@ pub(crate) fn is_left_out<I: BufRead>(input: &mut I, line: &mut Vec<u8>) -> io::
 
 // The key and the value of a line: on either side of the first byte that stands between them, or,
 // where a value is nothing, of a line without that byte.
+#[inline(always)]
 fn parse_pair<K: Text, V: Text, F: Forms>(line: &[u8], forms: F) -> Result<(K, V), LineFault>
     ensures pair { IfOk result (IsPairOf (F.delimiter forms) (V.wants (F.pair forms).1)
         (IsReadAs (K.is_word (F.pair forms).0) (K.stands_for (F.pair forms).0))

@@ -77,7 +77,10 @@ fn wanted_of(part: Part, form: Form) -> Wanted
     }
 }
 
-// The stored bytes of what is of this type, and of which the word is the text in this form.
+// The stored bytes of what is of this type, and of which the word is the text in this form. It is
+// inlined, as `parse_sized` is: what they return has room for 255 bytes, and each call on the way
+// would copy all of it.
+#[inline(always)]
 fn parse_stored(word: &[u8], part: Part, form: Form) -> Option<ShortBytes>
     ensures len { IfSome result (λ b. length b ≡ typed_len part) }
     ensures value { IfSome result (λ b. StandsFor form part word.now (typed_of part b)) }
@@ -111,6 +114,7 @@ fn bytes_of_u64(number: u64) -> ShortBytes
 }
 
 // The bytes, so many, of which the word is the text in this form.
+#[inline(always)]
 fn parse_sized(word: &[u8], len: u8, form: Form) -> Option<ShortBytes>
     ensures len { IfSome result (λ b. length b ≡ len) }
     ensures value { IfSome result (StandsForBytes form word.now) }

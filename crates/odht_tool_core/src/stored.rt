@@ -1,21 +1,17 @@
 //! The bytes of a table of any key and value sizes.
-ghost use Rattle.std.specs.Prelude.{◌≡◌, ◌≤◌, ◌<◌, ◌+◌, ◌*◌, length, not, is_some, IfOk, OnOk};
-ghost use Rattle.std.specs.Prelude.{slice_index};
+ghost use Rattle.std.specs.Prelude.{◌≡◌, ◌≤◌, ◌<◌, ◌+◌, length, not, is_some, slice_index};
+ghost use Rattle.std.specs.Prelude.{IfOk, OnOk};
 ghost use Rattle.std.specs.Result.{result_err};
-ghost use Rattle.odht_base.specs.Decoded.{counts_as_free, header_slots, slot_key};
-ghost use Rattle.odht_base.specs.Image.{image_len};
-ghost use Rattle.odht_base.specs.Load.{IsSlotCount};
-ghost use Rattle.odht_header.specs.Refusals.{checked, control_mismatch, length_refusal};
-ghost use Rattle.odht_tool_core.specs.InfoNumbers.{sized_format, format_by, sized_parts};
-ghost use Rattle.odht_tool_core.specs.InfoNumbers.{info_refusal, rest_refusal, least_key_len};
+ghost use Rattle.odht_base.specs.Decoded.{counts_as_free, slot_key};
+ghost use Rattle.odht_header.specs.Refusals.{control_mismatch};
+ghost use Rattle.odht_tool_core.specs.InfoNumbers.{sized_format, sized_parts};
+ghost use Rattle.odht_tool_core.specs.InfoNumbers.{info_refusal, least_key_len};
 ghost use Rattle.odht_tool_core.specs.InfoNumbers.{agrees, found_hash, group_numbers, IsHistogram, occupied};
 ghost use Rattle.odht_tool_core.specs.InfoNumbers.{occupied_in, stretch_counts};
 ghost use Rattle.odht_tool_core.specs.InfoNumbers.{longest_miss};
 ghost use Rattle.odht_tool_core.specs.Finds.{has_mirror};
-ghost use Rattle.odht_tool_core.specs.Fronts.{stated_len};
 ghost use Rattle.odht_tool_core.specs.ReadyShapes.{hash_of};
 
-use crate::early::check_first;
 use crate::groups::{groups_to, groups_to_free};
 use crate::histogram::Histogram;
 use crate::shapes::Hash;
@@ -23,71 +19,47 @@ use crate::stretches::{STRETCHES, stretch_len};
 use odht_base::hash::{FxHashFn, HashFn, UnHashFn};
 use odht_base::swisstable_group_query::is_empty_or_deleted;
 use odht_header::error::Error;
-use odht_header::header::{HEADER_SIZE, Header};
-use odht_raw::raw_table::tag_of;
+use odht_raw::memory_layout::{self, check_by_header, stated_layout};
+use odht_raw::raw_table::{SizedTable, tag_of};
 use std::alloc::{AllocError, Global};
 use std::marker::Model;
 
 /// The parts of a table whose header and length fit the header's own key and value sizes.
+///
+/// `FxHashFn` stands for any hash function here, since it takes keys of every length.
 #[derive(Drop)]
 pub struct StoredTable<'a> {
-    control: &'a [u8],
-    entries: &'a [u8],
-    key_size: usize,
-    value_size: usize,
-    slot_count: usize,
+    table: SizedTable<'a, FxHashFn>,
 }
 
 impl<'a> Model for StoredTable<'a> {
-    ghost use Rattle.std.specs.Prelude.{◌≡◌, ◌+◌, ◌*◌, length};
-    ghost use Rattle.odht_base.specs.Load.{IsSlotCount};
+    ghost use Rattle.std.specs.Prelude.{◌≡◌};
     ghost use Rattle.odht_tool_core.specs.InfoNumbers.{SizedParts};
 
     ghost Value = { SizedParts };
 
     ghost view = { λ t. record {
-      key_len = t.key_size;
-      value_len = t.value_size;
-      slots = t.slot_count;
-      entries = t.entries.now;
-      control = t.control.now;
+      key_len = t.table.key_len;
+      value_len = t.table.value_len;
+      slots = t.table.parts.entries.slots;
+      entries = t.table.parts.entries.bytes;
+      control = t.table.parts.control;
     } };
-
-    ghost invariant = { λ t. IsSlotCount t.slot_count × (length t.control.now ≡ t.slot_count + 16)
-        × (length t.entries.now ≡ t.slot_count * (t.key_size + t.value_size)) };
 }
 
 impl<'a> StoredTable<'a> {
     /// Checks the header and the length alone, and returns the first error, as
-    /// [`Header::sanity_check`] does for the key and value sizes in the header.
+    /// [`check_by_header`] does for the key and value sizes in the header.
     pub fn open(bytes: &'a [u8]) -> Result<Self, Error>
         ensures err { result_err result ≡ info_refusal bytes.now }
         ensures parts { IfOk result (λ t. t ≡ sized_parts bytes.now) }
         ensures long { OnOk result (32 ≤ length bytes.now) }
     {
-        check_first(bytes)?;
-        check_after_sizes(bytes)?;
-        Ok(StoredTable::cut(bytes))
-    }
-
-    // The parts of bytes that are as long as their header says.
-    fn cut(bytes: &'a [u8]) -> Self
-        requires slots { IsSlotCount (header_slots bytes.now) }
-        requires long { length bytes.now ≡ image_len (format_by bytes.now Hash.Fx)
-            (header_slots bytes.now) }
-        ensures { result ≡ sized_parts bytes.now }
-    {
-        let header = Header::of(bytes);
-        let (key_size, value_size) = (header.key_size() as usize, header.value_size() as usize);
-        let slot_count = header.slot_count();
-        let control_at = HEADER_SIZE + slot_count * (key_size + value_size);
-        StoredTable {
-            control: &bytes[control_at..],
-            entries: &bytes[HEADER_SIZE..control_at],
-            key_size,
-            value_size,
-            slot_count,
-        }
+        let layout = stated_layout(bytes)?;
+        check_by_header(bytes, layout)?;
+        Ok(StoredTable {
+            table: memory_layout::sized_parts(bytes, layout),
+        })
     }
 
     /// The hash function that all control bytes agree with, if there is one.
@@ -108,10 +80,10 @@ impl<'a> StoredTable<'a> {
     pub fn agrees(&self, hash: Hash) -> bool
         ensures { result ≡ agrees self.now hash }
     {
-        if self.key_size < least_key_size(hash) {
+        if (self.table.layout().key_len as usize) < least_key_size(hash) {
             return false;
         }
-        for slot in 0..self.slot_count {
+        for slot in 0..self.table.len() {
             if self.is_mismatch(slot, hash) {
                 return false;
             }
@@ -123,7 +95,7 @@ impl<'a> StoredTable<'a> {
     pub fn count(&self) -> usize
         ensures { result ≡ length (occupied self.now self.now.slots) }
     {
-        self.count_in(0, self.slot_count)
+        self.count_in(0, self.table.len())
     }
 
     // How many of the `len` slots from `first` on are occupied.
@@ -131,7 +103,7 @@ impl<'a> StoredTable<'a> {
         requires { first + len ≤ self.now.slots }
         ensures { result ≡ length (occupied_in self.now first len) }
     {
-        let control = self.control;
+        let control = self.table.controls();
         let mut count = 0_usize;
         for index in 0..len {
             let is_free = is_empty_or_deleted(control[first + index]);
@@ -146,8 +118,9 @@ impl<'a> StoredTable<'a> {
     pub fn stretches(&self, alloc: Global) -> Result<Vec<usize>, AllocError>
         ensures { IfOk result (λ counts. counts.items ≡ stretch_counts self.now) }
     {
-        let len = stretch_len(self.slot_count);
-        let most = self.slot_count.min(STRETCHES);
+        let slots = self.table.len();
+        let len = stretch_len(slots);
+        let most = slots.min(STRETCHES);
         let mut counts = Vec::with_capacity(alloc, most)?;
         for stretch in 0..most {
             counts.push(self.count_in(stretch * len, len))?;
@@ -159,7 +132,7 @@ impl<'a> StoredTable<'a> {
     pub fn has_mirror(&self) -> bool
         ensures { result ≡ has_mirror self.now }
     {
-        let (control, slots) = (self.control, self.slot_count);
+        let (control, slots) = (self.table.controls(), self.table.len());
         control[slots..slots + 16] == control[0..16]
     }
 
@@ -170,7 +143,7 @@ impl<'a> StoredTable<'a> {
         ensures { let T = self.now
             in result ≡ is_some (control_mismatch (sized_format T hash) T.entries T.control slot) }
     {
-        self.is_occupied(slot) && self.control[slot] != tag_of(self.hash_at(slot, hash))
+        self.is_occupied(slot) && self.table.control(slot) != tag_of(self.hash_at(slot, hash))
     }
 
     // Whether the control byte of a slot does not count as free.
@@ -178,7 +151,7 @@ impl<'a> StoredTable<'a> {
         requires { slot < self.now.slots }
         ensures { result ≡ not (counts_as_free (slice_index self.now.control slot)) }
     {
-        !is_empty_or_deleted(self.control[slot])
+        !is_empty_or_deleted(self.table.control(slot))
     }
 
     // The hash of the key of a slot.
@@ -188,10 +161,7 @@ impl<'a> StoredTable<'a> {
         ensures { result ≡ hash_of hash (slot_key (sized_format self.now hash) self.now.entries
             slot) }
     {
-        let entry_size = self.key_size + self.value_size;
-        let at = slot * entry_size;
-        let entry = &self.entries[at..at + entry_size];
-        hash_key(&entry[..self.key_size], hash)
+        hash_key(self.table.key(slot), hash)
     }
 
     /// Counts for each occupied slot how many groups a search reads to find its key, by this hash
@@ -206,10 +176,11 @@ impl<'a> StoredTable<'a> {
         ensures { IfOk result (IsHistogram (group_numbers self.now hash bound self.now.slots)) }
     {
         let mut histogram = Histogram::new(alloc)?;
-        for slot in 0..self.slot_count {
+        let slots = self.table.len();
+        for slot in 0..slots {
             if self.is_occupied(slot) {
                 let hash = self.hash_at(slot, hash);
-                histogram.add(groups_to(hash, slot, self.slot_count, bound));
+                histogram.add(groups_to(hash, slot, slots, bound));
             }
         }
         Ok(histogram)
@@ -221,53 +192,14 @@ impl<'a> StoredTable<'a> {
     pub fn longest_miss(&self, bound: Option<usize>) -> usize
         ensures { result ≡ longest_miss self.now bound }
     {
+        let (control, slots) = (self.table.controls(), self.table.len());
         let mut longest = 0_usize;
-        for home in 0..self.slot_count {
-            let groups = groups_to_free(self.control, home, self.slot_count, bound);
+        for home in 0..slots {
+            let groups = groups_to_free(control, home, slots, bound);
             longest = longest.max(groups);
         }
         longest
     }
-}
-
-// The errors of opening that come after those of the key and value sizes.
-fn check_after_sizes(bytes: &[u8]) -> Result<(), Error>
-    requires { 32 ≤ length bytes.now }
-    ensures { result ≡ checked (rest_refusal bytes.now) }
-{
-    let header = Header::of(bytes);
-    header.check_header_size()?;
-    header.check_slot_count()?;
-    check_length(bytes)
-}
-
-// Whether there are as many bytes as the header's numbers say; else `WrongLength`.
-fn check_length(bytes: &[u8]) -> Result<(), Error>
-    requires { 32 ≤ length bytes.now }
-    ensures { result ≡ checked (length_refusal (format_by bytes.now Hash.Fx)
-        (length bytes.now) bytes.now) }
-{
-    let (found, expected) = (bytes.len(), stated_len(bytes));
-    if found as u128 == expected {
-        Ok(())
-    } else {
-        Err(Error::WrongLength {
-            slot_count: Header::of(bytes).slot_count(),
-            found,
-            expected,
-        })
-    }
-}
-
-/// How many bytes a table of the slot count and the sizes in the header has.
-pub fn stated_len(bytes: &[u8]) -> u128
-    requires { 32 ≤ length bytes.now }
-    ensures { result ≡ stated_len bytes.now }
-{
-    let header = Header::of(bytes);
-    let entry_size = header.key_size() as u128 + header.value_size() as u128;
-    let slots = header.slot_count() as u128;
-    HEADER_SIZE as u128 + slots * entry_size + slots + 16
 }
 
 /// How many bytes the hash function needs at least.

@@ -17,7 +17,7 @@ use Rattle.odht_header.specs.declared.error.Error.{Error}
 use Rattle.odht_header.specs.declared.error.Error.TheVariants.{ControlMismatch, TooShort, WrongSizeOf, WrongTag, WrongVersion}
 use Rattle.odht_header.specs.declared.error.Part.TheVariants.{EntryMetadata}
 use Rattle.odht_header.proofs.lemmas.HeaderFits.{IsHeader-header_refusal}
-use Rattle.odht_header.proofs.lemmas.FirstErrors.{Ok-checked, option_or-None, gives_both-None, None-gives_both, differs-false, false-differs, not-true, first_slot-None}
+use Rattle.odht_header.proofs.lemmas.FirstErrors.{Ok-checked, gives_both-None, None-gives_both, differs-false, false-differs, not-true, first_slot-None}
 use Rattle.odht_tool_core.specs.InfoNumbers.{SizedParts, agrees, found_hash, info_refusal, sized_format, sized_parts, least_key_len}
 use Rattle.odht_tool_core.specs.AnyShapes.{any_of_sizes, fitting_any, found_any, named_any, other_by, other_of, ready_or}
 use Rattle.odht_tool_core.specs.ReadyShapes.{early_refusal, hash_of, is_shape_of, same_hash, typed_len}
@@ -25,7 +25,7 @@ use Rattle.odht_tool_core.specs.ShapeList.{key_part, value_part, shape_hash, rea
 use Rattle.odht_tool_core.specs.FoundShapes.{fits, other_hash}
 use Rattle.odht_tool_core.specs.declared.shapes.Hash.TheVariants.{Fx, Unhash}
 use Rattle.odht_tool_core.specs.declared.failure.Failure.TheVariants.{ShortKeys}
-use Rattle.odht_tool_core.proofs.Refusals.{two_stages}
+use Rattle.odht_tool_core.proofs.Refusals.{early_passes}
 use Rattle.odht_raw.proofs.lemmas.Accepted.{IsAccepted-IsValidBytes, accepted_opening, accepted_len}
 use Rattle.odht_raw.proofs.lemmas.SoundBytes.{IsSound-late_refusal}
 use Rattle.odht_raw.proofs.lemmas.WholeChecks.{late_valid}
@@ -283,7 +283,7 @@ module _ (T : List ℕ) (k v : ℕ) (g : Hash) (f : IsFormat (format_of k v (has
       (subst (λ b. opening_refusal (format_of k b (hash_of Fx)) T ≡ None) (sym header.header.value_len_is) accepted)
 
   early : early_refusal T ≡ None
-  early = (option_or-None _ _ (sym (two_stages T) ∙ opens)).0
+  early = early_passes T opens
 
   pub valid_found : (h name : Option Hash) → IsNamed T h name → found_any T name ≡ found_any T h
   valid_found (Some h) name is = ap (found_any T) is

@@ -7,11 +7,10 @@ use Rattle.odht_base.specs.Bytes.{overwritten_at}
 use Rattle.odht_base.specs.Image.{image}
 use Rattle.odht_base.specs.Load.{factor_of}
 use Rattle.odht_base.specs.Table.{empty}
-use Rattle.odht_header.specs.declared.error.Error.TheVariants.{TooShort, WrongSizeOf, SlotCountTooSmall, WrongLength}
-use Rattle.odht_header.specs.declared.error.Part.TheVariants.{Header}
+use Rattle.odht_header.specs.declared.error.Error.TheVariants.{TooShort, WrongLength}
 use Rattle.odht_header.proofs.examples.Opened.{opened}
 use Rattle.odht_tool_core.specs.GroupNumbers.{groups_to, groups_to_free}
-use Rattle.odht_tool_core.specs.InfoNumbers.{SizedParts, sized_parts, info_refusal, rest_refusal, agrees, found_hash, occupied, occupied_in, group_numbers, found_groups, longest_miss, stretch_len, stretch_counts, tallies, largest, nearest_percent, IsHistogram, AreNumbers, IsInfoFailure}
+use Rattle.odht_tool_core.specs.InfoNumbers.{SizedParts, sized_parts, info_refusal, agrees, found_hash, occupied, occupied_in, group_numbers, found_groups, longest_miss, stretch_len, stretch_counts, tallies, largest, nearest_percent, IsHistogram, AreNumbers, IsInfoFailure}
 use Rattle.odht_tool_core.specs.declared.failure.Failure.TheVariants.{Refused, Memory, NoHash}
 use Rattle.odht_tool_core.specs.declared.histogram.Histogram.{Histogram}
 use Rattle.odht_tool_core.specs.declared.numbers.Numbers.{Numbers}
@@ -30,14 +29,6 @@ pub refusals : (info_refusal one_bytes ≡ None)
     × (info_refusal (overwritten_at one_bytes 5 (6 ∷ 2 ∷ [])) ≡ None)
 unfolding opened
 refusals = (refl, refl, refl, refl)
-
--- what comes after these sizes, where what comes before is not looked at
-pub late : (rest_refusal one_bytes ≡ None)
-    × (rest_refusal (overwritten_at one_bytes 0 (0 ∷ [])) ≡ None)
-    × (rest_refusal (overwritten_at one_bytes 7 (31 ∷ [])) ≡ Some (WrongSizeOf Header 32 31))
-    × (rest_refusal (overwritten_at one_bytes 16 (8 ∷ [])) ≡ Some (SlotCountTooSmall 8))
-unfolding opened
-late = (refl, refl, refl, refl)
 
 -- ---- the hash function
 -- of a table whose hashes are the keys; with another control byte none agrees, and without items fx does

@@ -22,7 +22,7 @@ pub use allocation::Allocation;
 pub use check::{check_all, check_all_within, DEFAULT_GROUPS};
 pub use new_tables::{allocate, clear_entries, init_in_place, write_empty};
 pub use prefix::{sized_table_len, table_len};
-pub use sized::{check_by_header, check_opening, sized_parts};
+pub use sized::{check_by_header, check_opening, sized_parts, stated_layout};
 pub use sized_check::{check_sized, check_sized_within};
 pub use sized_inserts::insert_sized;
 pub use sized_new::init_sized;

@@ -9,7 +9,7 @@ use crate::proved::raw::bytes::ByteArray;
 use crate::proved::raw::error::Error;
 use crate::proved::raw::hash::HashFn;
 pub(crate) use crate::proved::raw::swisstable_group_query::is_empty_or_deleted;
-use crate::proved::raw::swisstable_group_query::{Group, GroupQuery};
+use crate::proved::raw::swisstable_group_query::{Group, GroupQuery, REFERENCE_GROUP_SIZE};
 use std::marker::PhantomData;
 
 mod ahead;
@@ -45,7 +45,7 @@ mod walk;
 
 pub use entries::{Entries, Entry};
 pub use first_look::FirstLook;
-pub(crate) use group_probe::GroupProbe;
+pub use group_probe::GroupProbe;
 pub use group_search::{search, search_hashed};
 pub(crate) use insert::{fill_slot, insert_at, step_end};
 pub use plain::{plain_find, plain_insert};
@@ -77,6 +77,12 @@ const TAG_SHIFT: u32 = 25;
 #[inline]
 pub fn tag_of(hash: u32) -> u8 {
     (hash >> TAG_SHIFT) as u8
+}
+
+// How many slots have these control bytes, which end with their mirror.
+#[inline(always)]
+fn slot_count_of(control: &[EntryMetadata]) -> usize {
+    control.len() - REFERENCE_GROUP_SIZE
 }
 
 /// The parts of a table, borrowed to be read: the control bytes with their mirror, and the entries

@@ -6,8 +6,7 @@ use crate::proved::tables::error::Error;
 use crate::proved::tables::hash::HashFn;
 pub use crate::proved::tables::layout::Layout;
 use crate::proved::tables::memory_layout::{
-    check_by_header, check_opening, check_sized, check_sized_within, sized_parts, Header,
-    HEADER_SIZE,
+    self, check_by_header, check_opening, check_sized, check_sized_within, sized_parts, Header,
 };
 pub use crate::proved::tables::raw_table::ShortBytes;
 use crate::proved::tables::raw_table::{SizedIter, SizedSlots, SizedTable};
@@ -70,12 +69,10 @@ pub struct DynTable<H: HashFn, D: ByteStore> {
 // The lengths of keys and values that the header at the front of the bytes states, or that they
 // are too few for one.
 fn stated_layout(bytes: &[u8]) -> Result<Layout, DynError> {
-    let found = bytes.len();
-    if found < HEADER_SIZE {
-        return Err(DynError::Rejected(Error::TooShort { found }));
+    match memory_layout::stated_layout(bytes) {
+        Ok(layout) => Ok(layout),
+        Err(rejected) => Err(DynError::Rejected(rejected)),
     }
-    let header = Header::of(bytes);
-    Ok(Layout { key_len: header.key_size(), value_len: header.value_size() })
 }
 
 impl<H: HashFn, D: ByteStore> DynTable<H, D> {

@@ -1,4 +1,4 @@
-use Rattle.std.proofs.Common.{◌≡◌, ◌∙◌, ℕ, List, arith, ap, sym, length, replicate}
+use Rattle.std.proofs.Common.{◌∙◌, arith, ap, sym, length, replicate}
 use Rattle.std.proofs.lemmas.List.{length-replicate, take-replicate}
 use Rattle.odht_tool_core.proofs.sized_bytes.parse_sized.Goals as goal
 

@@ -1,4 +1,4 @@
-use Rattle.std.proofs.Common.{◌≡◌, ℕ, IfSome, sym, subst}
+use Rattle.std.proofs.Common.{ℕ, IfSome, sym, subst}
 use Rattle.std.specs.Int.{w32, w64}
 use Rattle.odht_tool_core.specs.Forms.{StandsForNumber}
 use Rattle.odht_tool_core.specs.ReadyShapes.{StandsFor, typed_of}

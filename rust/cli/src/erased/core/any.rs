@@ -2,14 +2,13 @@
 //! The shape of a table of any sizes: a ready one, or the types of keys and values and the hash
 //! function.
 
-use crate::erased::core::early::check_first;
 use crate::erased::core::failure::Failure;
 use crate::erased::core::forms::{form_for, Form, GivenForms, Kind, Kinds};
 use crate::erased::core::found::found_any;
 use crate::erased::core::shapes::{Hash, Part, Shape};
 use crate::erased::core::stored::least_key_size;
 use crate::host::prelude::*;
-use crate::proved::header::header::Header;
+use crate::proved::header::header::{Header, HEADER_SIZE};
 
 /// Keys and values of these types, which no ready shape has, and the hash function.
 #[derive(Clone, Copy)]
@@ -95,12 +94,24 @@ impl AnyShape {
 /// given. Where the check fails before it comes to the sizes, some shape is returned: opening has
 /// the same error for each. `ShortKeys` where the hash function needs longer keys.
 pub fn named_any(bytes: &[u8], hash: Option<Hash>) -> Result<AnyShape, Failure> {
-    if check_first(bytes).is_err() {
+    if has_early_refusal(bytes) {
         return Ok(AnyShape::Ready(Shape::U64ToU32));
     }
     let header = Header::of(bytes);
     let key = Part::Bytes(header.key_size());
     AnyShape::of_sizes(key, Part::Bytes(header.value_size()), hash)
+}
+
+// Whether the check fails before it comes to the sizes: for too few bytes, or the tag, the version
+// or the size of a control byte.
+fn has_early_refusal(bytes: &[u8]) -> bool {
+    if bytes.len() < HEADER_SIZE {
+        return true;
+    }
+    let header = Header::of(bytes);
+    header.check_tag().is_err()
+        || header.check_version().is_err()
+        || header.check_metadata_size().is_err()
 }
 
 /// The shape that the bytes of a file are read as, as `found_any` finds it, and the forms of its

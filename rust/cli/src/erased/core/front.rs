@@ -1,12 +1,10 @@
 // Made by `make rust` of crates/odht_tool_core/src/front.rt.
 //! The table that begins with some bytes, whatever comes after it.
 
-use crate::erased::core::early::check_first;
 use crate::erased::core::failure::Failure;
-use crate::erased::core::stored::stated_len;
 use crate::host::prelude::*;
 use crate::proved::header::error::Error;
-use crate::proved::header::header::Header;
+use crate::proved::raw::memory_layout::{sized_table_len, stated_layout};
 
 /// The table that begins at this byte of a file and ends where its header says; bytes after it are
 /// not looked at. `PastEnd` where the file ends before that byte. Where opening by the header
@@ -24,23 +22,10 @@ pub fn table_at(bytes: &[u8], offset: usize) -> Result<&[u8], Failure> {
     }
 }
 
-/// The table that these bytes begin with. The errors are those of opening by the header, then
-/// `WrongLength` where there are fewer bytes than the header says.
+/// The table that these bytes begin with. The errors are those of opening by the header, but
+/// `WrongLength` only where there are fewer bytes than the header says.
 pub fn front_of(bytes: &[u8]) -> Result<&[u8], Error> {
-    check_front(bytes)?;
-    let len = stated_len(bytes) as usize;
+    let layout = stated_layout(bytes)?;
+    let len = sized_table_len(bytes, layout)?;
     Ok(&bytes[..len])
-}
-
-// The errors of `front_of`.
-fn check_front(bytes: &[u8]) -> Result<(), Error> {
-    check_first(bytes)?;
-    let header = Header::of(bytes);
-    header.check_header_size()?;
-    header.check_slot_count()?;
-    let (found, expected) = (bytes.len(), stated_len(bytes));
-    if (found as u128) < expected {
-        return Err(Error::WrongLength { slot_count: header.slot_count(), found, expected });
-    }
-    Ok(())
 }

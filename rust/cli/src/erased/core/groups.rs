@@ -3,8 +3,8 @@
 
 use crate::host::prelude::*;
 use crate::proved::base::swisstable_group_query::lanes::GroupQuery;
-use crate::proved::base::swisstable_group_query::{Group, REFERENCE_GROUP_SIZE};
-use crate::proved::raw::raw_table::ProbeSeq;
+use crate::proved::base::swisstable_group_query::Group;
+use crate::proved::raw::raw_table::{GroupProbe, ProbeSeq};
 
 /// The number of the group of a key's probe order that contains a slot, from 1 on: as many groups
 /// as a search for the key in that slot reads. Where that is above the bound, one more than the
@@ -38,16 +38,15 @@ pub fn groups_to_free(
     slot_count: usize,
     bound: Option<usize>,
 ) -> usize {
-    let mask = slot_count - 1;
     let groups = slot_count / 16;
     let most = most_groups(groups, bound);
-    let mut probe = ProbeSeq::<16>::new(home, mask);
+    let mut probe = GroupProbe::new(control, slot_count, home);
     for group in 0..most {
-        if has_free(control, probe.index()) {
+        if GroupQuery::of(probe.read(), 0).any_empty() {
             return group + 1;
         }
         if group + 1 < groups {
-            probe.advance(mask);
+            probe.advance();
         }
     }
     groups.min(most + 1)
@@ -59,12 +58,6 @@ fn most_groups(groups: usize, bound: Option<usize>) -> usize {
         None => groups,
         Some(bound) => bound.min(groups),
     }
-}
-
-// Whether one of the sixteen control bytes from `start` on counts as free.
-fn has_free(control: &[u8], start: usize) -> bool {
-    let group = &control[start..start + REFERENCE_GROUP_SIZE];
-    GroupQuery::of(group, 0).first_empty().is_some()
 }
 
 // How many slots a slot is behind another one, around the end.

@@ -1,11 +1,10 @@
 // Made by `make rust` of crates/odht_tool_core/src/inside.rt.
 //! The first table inside a file that begins with other bytes.
 
-use crate::erased::core::early::check_first;
 use crate::erased::core::failure::Failure;
 use crate::erased::core::find::find_tables;
 use crate::host::prelude::*;
-use crate::proved::header::error::Error;
+use crate::proved::header::header::{Header, HEADER_SIZE};
 use crate::shim::Global;
 use std::io::{self, Write};
 
@@ -21,14 +20,7 @@ pub fn first_inside(alloc: Global, bytes: &[u8]) -> Result<Option<usize>, Failur
 
 // Whether there are as many bytes as a header has, and the first of them are not the tag.
 fn is_foreign(bytes: &[u8]) -> bool {
-    is_wrong_tag(&check_first(bytes))
-}
-
-fn is_wrong_tag(checked: &Result<(), Error>) -> bool {
-    match checked {
-        Err(Error::WrongTag { .. }) => true,
-        _ => false,
-    }
+    bytes.len() >= HEADER_SIZE && Header::of(bytes).check_tag().is_err()
 }
 
 /// Writes a line that tells of the table at this offset.

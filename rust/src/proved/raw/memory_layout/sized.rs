@@ -1,5 +1,6 @@
 // Made by `make rust` of crates/odht_raw/src/memory_layout/sized.rt.
-//! The bytes of a table whose lengths of keys and values are numbers: opening, and the parts.
+//! The bytes of a table whose lengths of keys and values are numbers: the lengths that a header
+//! states, opening, and the parts.
 
 use super::allocation::SLOTS_TO_CHECK;
 use super::{Header, HEADER_SIZE};
@@ -7,6 +8,18 @@ use crate::proved::raw::error::Error;
 use crate::proved::raw::hash::HashFn;
 use crate::proved::raw::layout::Layout;
 use crate::proved::raw::raw_table::SizedTable;
+
+/// The lengths of keys and values that the header at the front of the bytes states, of which
+/// nothing is checked; `TooShort` where they are too few for one.
+#[inline]
+pub fn stated_layout(bytes: &[u8]) -> Result<Layout, Error> {
+    let found = bytes.len();
+    if found < HEADER_SIZE {
+        return Err(Error::TooShort { found });
+    }
+    let header = Header::of(bytes);
+    Ok(Layout { key_len: header.key_size(), value_len: header.value_size() })
+}
 
 /// Checks the bytes as those of a table of these lengths by their header and length alone, and
 /// returns the first error: `TooShort`, then those of [`Header::check_layout`]. No slot is read,

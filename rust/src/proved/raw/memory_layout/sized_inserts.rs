@@ -25,12 +25,12 @@ pub fn insert_sized<H: HashFn>(
     let slots = Header::of(bytes).slot_count();
     let (table, control) = bytes.split_at_mut(layout.entry_at(slots));
     let (front, entries) = table.split_at_mut(HEADER_SIZE);
-    let end = sized_step_end::<H>(control, entries, layout, key);
+    let end = sized_step_end::<H>(control, entries, slots, layout, key);
     // The room is that up to the maximum item count.
     let header = Header::of(front);
     let count = header.item_count();
     let room = header.max_load_factor().apply(slots).saturating_sub(count);
-    match sized_insert_at::<H>(control, entries, layout, key, value, end, room) {
+    match sized_insert_at::<H>(control, entries, slots, layout, key, value, end, room) {
         Ok(Some(old)) => Ok(Some(old)),
         Ok(None) => {
             write_count(front, count + 1);

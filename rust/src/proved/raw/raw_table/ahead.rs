@@ -3,11 +3,13 @@
 //! control bytes overlap.
 
 use super::insert::insert_at;
-use super::{is_empty_or_deleted, search_hashed, tag_of, Entries, EntryMetadata, Scan, Search};
+use super::{
+    is_empty_or_deleted, search_hashed, slot_count_of, tag_of, Entries, EntryMetadata, Scan, Search,
+};
 use crate::proved::raw::bytes::ByteArray;
 use crate::proved::raw::error::Error;
 use crate::proved::raw::hash::HashFn;
-use crate::proved::raw::swisstable_group_query::{Group, GroupQuery, REFERENCE_GROUP_SIZE};
+use crate::proved::raw::swisstable_group_query::{Group, GroupQuery};
 
 /// The hash of a key, and the slot where a pair with the key is placed, where the first group
 /// search at its home slot finds it; else the slot count: where a key may have to be compared, or
@@ -21,7 +23,7 @@ pub(crate) fn expected_slot<K: ByteArray, V: ByteArray, H: HashFn, Q: Group>(
     control: &[EntryMetadata],
     key: &K,
 ) -> (u32, usize) {
-    let slots = control.len() - REFERENCE_GROUP_SIZE;
+    let slots = slot_count_of(control);
     let mask = slots - 1;
     let hash = H::hash(key.as_slice());
     let home = hash as usize & mask;
@@ -48,7 +50,7 @@ pub(crate) fn insert_ahead<K: ByteArray, V: ByteArray, H: HashFn>(
     slot: usize,
     room: usize,
 ) -> Result<Option<V>, Error> {
-    let slots = control.len() - REFERENCE_GROUP_SIZE;
+    let slots = slot_count_of(control);
     let end = expected_end::<K, V, H>(control, entries, slots, &key, hash, slot, room);
     insert_at::<K, V, H>(control, entries, slots, key, value, (end, tag_of(hash)), room)
 }

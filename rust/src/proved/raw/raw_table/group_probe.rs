@@ -9,7 +9,7 @@ use crate::proved::raw::swisstable_group_query::REFERENCE_GROUP_SIZE;
 ///
 /// In a contract it is the control bytes, how many groups of them were read, the home slot, and
 /// the position of the group's first slot in the order.
-pub(crate) struct GroupProbe<'a> {
+pub struct GroupProbe<'a> {
     scan: Scan<'a>,
     probe: ProbeSeq<REFERENCE_GROUP_SIZE>,
 }
@@ -18,44 +18,44 @@ impl<'a> GroupProbe<'a> {
     /// The first group of the probe order of a hash, or of a home slot, in the control bytes of
     /// `slots` slots.
     #[inline(always)]
-    pub(crate) fn new(control: &'a [EntryMetadata], slots: usize, hash: usize) -> Self {
+    pub fn new(control: &'a [EntryMetadata], slots: usize, hash: usize) -> Self {
         GroupProbe::over(Scan::new(control, slots), hash)
     }
 
     /// `new` in the control bytes of a scan, which goes on counting.
     #[inline(always)]
-    pub(crate) fn over(scan: Scan<'a>, hash: usize) -> Self {
+    pub fn over(scan: Scan<'a>, hash: usize) -> Self {
         let mask = scan.slots() - 1;
         GroupProbe { scan, probe: ProbeSeq::new(hash, mask) }
     }
 
     /// How many groups were read.
     #[inline(always)]
-    pub(crate) fn groups(&self) -> usize {
+    pub fn groups(&self) -> usize {
         self.scan.groups()
     }
 
     /// The first slot of the group.
     #[inline(always)]
-    pub(crate) fn start(&self) -> usize {
+    pub fn start(&self) -> usize {
         self.probe.index()
     }
 
     /// The sixteen control bytes of the group. Counts one group more.
     #[inline(always)]
-    pub(crate) fn read(&mut self) -> &'a [EntryMetadata] {
+    pub fn read(&mut self) -> &'a [EntryMetadata] {
         self.scan.group(self.probe.index())
     }
 
     /// Whether it is the last group.
     #[inline(always)]
-    pub(crate) fn is_last(&self) -> bool {
+    pub fn is_last(&self) -> bool {
         self.probe.is_last_of(self.scan.slots() - 1)
     }
 
     /// Goes on to the next group.
     #[inline(always)]
-    pub(crate) fn advance(&mut self) {
+    pub fn advance(&mut self) {
         self.probe.advance(self.scan.slots() - 1);
     }
 }

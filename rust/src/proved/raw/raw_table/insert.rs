@@ -4,7 +4,7 @@
 //! These functions take the slot count where their caller has it, though the control bytes have a
 //! length: so the compiler need not keep both.
 
-use super::{search_hashed, tag_of, Entries, EntryMetadata, Scan, Search};
+use super::{search_hashed, slot_count_of, tag_of, Entries, EntryMetadata, Scan, Search};
 use crate::proved::raw::bytes::{write_slice, ByteArray};
 use crate::proved::raw::error::Error;
 use crate::proved::raw::hash::HashFn;
@@ -22,7 +22,7 @@ pub(crate) fn insert_step<K: ByteArray, V: ByteArray, H: HashFn, Q: Group>(
     value: V,
     room: usize,
 ) -> Result<Option<V>, Error> {
-    let slots = control.len() - REFERENCE_GROUP_SIZE;
+    let slots = slot_count_of(control);
     let end = step_end::<K, V, H, Q>(control, entries, slots, &key);
     insert_at::<K, V, H>(control, entries, slots, key, value, end, room)
 }

@@ -4,7 +4,7 @@
 //! them.
 
 use super::insert::insert_at;
-use super::{is_empty_or_deleted, tag_of, Entries, EntryMetadata, Search, SlotKeys};
+use super::{is_empty_or_deleted, slot_count_of, tag_of, Entries, EntryMetadata, Search, SlotKeys};
 use crate::proved::raw::bytes::ByteArray;
 use crate::proved::raw::error::Error;
 use crate::proved::raw::hash::HashFn;
@@ -42,7 +42,7 @@ pub fn plain_insert<K: ByteArray, V: ByteArray, H: HashFn>(
     key: K,
     value: V,
 ) -> Result<Option<V>, Error> {
-    let slots = control.len() - REFERENCE_GROUP_SIZE;
+    let slots = slot_count_of(control);
     let hash = H::hash(key.as_slice());
     let stored: Entries<'_, K, V> = Entries::new(entries, slots);
     let end = plain_search::<K, V, H>(control, &stored, &key, hash);

@@ -5,7 +5,7 @@ use super::group_search::search_keys;
 use super::{
     is_empty_or_deleted, tag_of, EntryMetadata, Scan, Search, SizedIter, SizedSlots, SlotKeys,
 };
-use crate::proved::raw::bytes::is_same_word;
+use crate::proved::raw::bytes::{is_same_word, is_zeros};
 use crate::proved::raw::error::Error;
 use crate::proved::raw::hash::HashFn;
 use crate::proved::raw::layout::Layout;
@@ -89,6 +89,12 @@ impl<'a, H: HashFn> SizedTable<'a, H> {
     #[inline(always)]
     pub fn len(&self) -> usize {
         self.slots
+    }
+
+    /// The lengths of keys and values.
+    #[inline(always)]
+    pub fn layout(&self) -> Layout {
+        self.layout
     }
 
     /// The control byte of a slot, or for an index from the slot count on of its mirror.
@@ -201,7 +207,7 @@ impl<'a, H: HashFn> SizedTable<'a, H> {
     pub(super) fn check_slot(&self, slot: usize) -> Result<Option<u32>, Error> {
         let found = self.control(slot);
         if is_empty_or_deleted(found) {
-            if is_all_zeros(self.entry(slot)) {
+            if is_zeros(self.entry(slot)) {
                 return Ok(None);
             }
             return Err(Error::NonZeroEmpty { slot });
@@ -213,12 +219,6 @@ impl<'a, H: HashFn> SizedTable<'a, H> {
         }
         Ok(Some(hash))
     }
-}
-
-// Whether each byte is zero.
-#[inline(always)]
-fn is_all_zeros(bytes: &[u8]) -> bool {
-    bytes.iter().all(|byte| *byte == 0)
 }
 
 // Whether two lists of the same length are equal. From 8 to 64 bytes are compared where they are,

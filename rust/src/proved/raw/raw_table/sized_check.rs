@@ -10,14 +10,6 @@ use crate::proved::raw::swisstable_group_query::lanes::GroupQuery;
 use crate::proved::raw::swisstable_group_query::{Group, REFERENCE_GROUP_SIZE};
 
 impl<'a, H: HashFn> SizedTable<'a, H> {
-    // The sixteen control bytes from that of slot `start` on, which run into the mirror after the
-    // last slot.
-    #[inline(always)]
-    fn group(&self, start: usize) -> &'a [u8] {
-        let control = self.controls();
-        &control[start..start + REFERENCE_GROUP_SIZE]
-    }
-
     /// Checks each slot once, in slot order, and returns the first error: `NonZeroEmpty`, then
     /// `BadFreeControl`, of a slot that counts as free, `ControlMismatch` of any other.
     ///
@@ -64,11 +56,12 @@ impl<'a, H: HashFn> SizedTable<'a, H> {
         let mut probe = GroupProbe::new(self.controls(), slots, hash as usize);
         loop {
             let start = probe.start();
+            let group = GroupQuery::of(probe.read(), tag);
             let before = (slot + slots - start) & (slots - 1);
             if before < REFERENCE_GROUP_SIZE {
-                return self.are_passed(start, before, slot, tag);
+                return self.are_passed(group, start, before, slot);
             }
-            if !self.are_passed(start, REFERENCE_GROUP_SIZE, slot, tag) {
+            if !self.are_passed(group, start, REFERENCE_GROUP_SIZE, slot) {
                 return false;
             }
             probe.advance();
@@ -76,17 +69,20 @@ impl<'a, H: HashFn> SizedTable<'a, H> {
     }
 
     // Whether each of the `count` slots from `start` on, modulo the slot count, is occupied by
-    // another key than that of `slot`, whose tag is `tag`.
+    // another key than that of `slot`. The group is that of these slots, searched for the tag of
+    // this key.
     #[inline]
-    fn are_passed(&self, start: usize, count: usize, slot: usize, tag: u8) -> bool {
+    fn are_passed(&self, group: GroupQuery, start: usize, count: usize, slot: usize) -> bool {
         let mask = self.len() - 1;
-        let control = self.group(start);
-        let mut group = GroupQuery::of(control, tag);
+        let mut group = group;
         if group.first_empty().unwrap_or(REFERENCE_GROUP_SIZE) < count {
             return false;
         }
         while let Some(index) = group.first_match() {
-            if index < count && self.have_same_key((start + index) & mask, slot) {
+            if index >= count {
+                return true;
+            }
+            if self.have_same_key((start + index) & mask, slot) {
                 return false;
             }
             group.drop_match();

@@ -1,6 +1,8 @@
 // Made by `make rust` of crates/odht_raw/src/raw_table/sized_insert.rt.
 //! The insert of a pair that is given as bytes into the parts of a table: one search, and the
 //! write where it ends.
+//!
+//! These functions take the slot count, which is worked out once for an insert.
 
 use super::{EntryMetadata, Search, ShortBytes, SizedTable};
 use crate::proved::raw::bytes::write_slice;
@@ -15,10 +17,10 @@ use crate::proved::raw::swisstable_group_query::REFERENCE_GROUP_SIZE;
 pub(crate) fn sized_step_end<H: HashFn>(
     control: &[EntryMetadata],
     entries: &[u8],
+    slots: usize,
     layout: Layout,
     key: &[u8],
 ) -> (Search, u8) {
-    let slots = control.len() - REFERENCE_GROUP_SIZE;
     let table: SizedTable<'_, H> = SizedTable::new(control, entries, slots, layout);
     match key.len() {
         4 => table.search_end(&key[..4]),
@@ -37,13 +39,13 @@ pub(crate) fn sized_step_end<H: HashFn>(
 pub(crate) fn sized_insert_at<H: HashFn>(
     control: &mut [EntryMetadata],
     entries: &mut [u8],
+    slots: usize,
     layout: Layout,
     key: &[u8],
     value: &[u8],
     end: (Search, u8),
     room: usize,
 ) -> Result<Option<ShortBytes>, Error> {
-    let slots = control.len() - REFERENCE_GROUP_SIZE;
     let (end, tag) = end;
     match end {
         Search::Found(slot) => {
@@ -57,7 +59,7 @@ pub(crate) fn sized_insert_at<H: HashFn>(
             if room == 0 {
                 return Err(Error::Full);
             }
-            fill_sized_slot(control, entries, layout, key, value, tag, slot);
+            fill_sized_slot(control, entries, slots, layout, key, value, tag, slot);
             Ok(None)
         }
         Search::Neither => Err(Error::Full),
@@ -69,13 +71,13 @@ pub(crate) fn sized_insert_at<H: HashFn>(
 pub(super) fn fill_sized_slot(
     control: &mut [EntryMetadata],
     entries: &mut [u8],
+    slots: usize,
     layout: Layout,
     key: &[u8],
     value: &[u8],
     tag: u8,
     slot: usize,
 ) {
-    let slots = control.len() - REFERENCE_GROUP_SIZE;
     let at = slot * layout.entry_len();
     write_slice(entries, at, key);
     write_slice(entries, at + layout.key_len as usize, value);

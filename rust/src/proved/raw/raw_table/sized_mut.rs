@@ -3,7 +3,7 @@
 
 use super::free_search::first_free;
 use super::sized_insert::{fill_sized_slot, sized_insert_at, sized_step_end};
-use super::{tag_of, EntryMetadata, ShortBytes};
+use super::{slot_count_of, tag_of, EntryMetadata, ShortBytes};
 use crate::proved::raw::error::Error;
 use crate::proved::raw::hash::HashFn;
 use crate::proved::raw::layout::Layout;
@@ -40,9 +40,10 @@ impl<'c, 'e, H: HashFn> SizedTableMut<'c, 'e, H> {
         hold_bytes(value);
         let layout = self.layout;
         let (control, entries) = (&mut *self.control, &mut *self.entries);
-        let end = sized_step_end::<H>(control, entries, layout, key);
+        let slots = slot_count_of(control);
+        let end = sized_step_end::<H>(control, entries, slots, layout, key);
         // As many entries may be added as there are free slots.
-        sized_insert_at::<H>(control, entries, layout, key, value, end, usize::MAX)
+        sized_insert_at::<H>(control, entries, slots, layout, key, value, end, usize::MAX)
     }
 
     /// Writes the pair into the first free slot of its key's probe order. No key is compared, so
@@ -59,7 +60,16 @@ impl<'c, 'e, H: HashFn> SizedTableMut<'c, 'e, H> {
         let Some(slot) = first_free::<GroupQuery>(control, hash) else {
             return Err(Error::Full);
         };
-        fill_sized_slot(control, entries, self.layout, key, value, tag_of(hash), slot);
+        fill_sized_slot(
+            control,
+            entries,
+            slot_count_of(control),
+            self.layout,
+            key,
+            value,
+            tag_of(hash),
+            slot,
+        );
         Ok(())
     }
 }

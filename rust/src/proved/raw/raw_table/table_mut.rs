@@ -3,11 +3,11 @@
 
 use super::free_search::first_free;
 use super::insert::{fill_slot, insert_step};
-use super::{tag_of, Entries, EntryMetadata, RawTable};
+use super::{slot_count_of, tag_of, Entries, EntryMetadata, RawTable};
 use crate::proved::raw::bytes::ByteArray;
 use crate::proved::raw::error::Error;
 use crate::proved::raw::hash::HashFn;
-use crate::proved::raw::swisstable_group_query::{Group, GroupQuery, REFERENCE_GROUP_SIZE};
+use crate::proved::raw::swisstable_group_query::{Group, GroupQuery};
 use std::fmt;
 use std::marker::PhantomData;
 
@@ -72,7 +72,7 @@ impl<'c, 'e, K: ByteArray, V: ByteArray, H: HashFn> RawTableMut<'c, 'e, K, V, H>
         let Some(slot) = first_free::<Q>(control, hash) else {
             return Err(Error::Full);
         };
-        let slots = control.len() - REFERENCE_GROUP_SIZE;
+        let slots = slot_count_of(control);
         fill_slot::<K, V, H>(control, entries, slots, &key, &value, tag_of(hash), slot);
         Ok(())
     }
@@ -81,7 +81,7 @@ impl<'c, 'e, K: ByteArray, V: ByteArray, H: HashFn> RawTableMut<'c, 'e, K, V, H>
 impl<'c, 'e, K: ByteArray, V: ByteArray, H: HashFn> fmt::Debug for RawTableMut<'c, 'e, K, V, H> {
     // The same text as that of the `RawTable` of these parts.
     fn fmt(&self, f: &mut fmt::Formatter<'_>) -> fmt::Result {
-        let slots = self.control.len() - REFERENCE_GROUP_SIZE;
+        let slots = slot_count_of(self.control);
         let entries = Entries::new(self.entries, slots);
         let table: RawTable<'_, K, V, H> = RawTable::new(self.control, entries);
         write!(f, "{table:?}")

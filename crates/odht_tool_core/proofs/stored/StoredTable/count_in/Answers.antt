@@ -11,7 +11,7 @@ loop-index-preserved c =
     let a = c.args.first in
     let n = c.loop-index.index in
     let before = c.loop-index.invariant in
-    let control = ap (λ t. counts_as_free (get_or t.control (a + n) 0)) (sym c.self.view_is) in
+    let control = ap (λ t. counts_as_free (get_or t.control (a + n) 0)) (sym c.self.view_is) ∙ ap (λ b. counts_as_free (get_or b (a + n) 0)) (sym c.controls-control.ensures.value) in
     elim c.if-not-is_free.branch [
       | then-not-is_free w ↦ (
           let held : counts_as_free (get_or T.control (a + n) 0) ≡ false = control ∙ sym c.is_empty_or_deleted-is_free.ensures ∙ w.if-not-is_free.true in

@@ -1,6 +1,5 @@
 use Rattle.std.proofs.Common.{◌≡◌, ◌∙◌, ◌<◌, ◌+◌, ◌++◌, ◌∷◌, [], ◌^◌, true, false, sym, ap, ap₂, subst, length, get_or, arith}
 use Rattle.odht_base.specs.Decoded.{counts_as_free, slot_key}
-use Rattle.odht_base.proofs.lemmas.SlotCounts.{few_slots}
 use Rattle.odht_header.proofs.lemmas.FirstErrors.{not-false, not-true}
 use Rattle.odht_tool_core.specs.GroupNumbers.{capped, groups_to}
 use Rattle.odht_tool_core.specs.InfoNumbers.{IsHistogram, sized_format, group_numbers}
@@ -20,10 +19,10 @@ loop-slot-preserved c =
     let h = c.args.hash in
     let o = c.args.bound in
     let n = c.loop-slot.slot in
-    let slots = ap (λ t. t.slots) c.self.view_is in
+    let slots = c.len-slots.ensures.value ∙ ap (λ t. t.slots) c.self.view_is in
     elim c.if-is_occupied.branch [
       | then-is_occupied w ↦ (
-          let few : length (group_numbers T h o n) < 2 ^ 63 = omega (arith, groups_few T h o n, c.loop-slot-test.true, few_slots c.self.inside.slot_count c.self.invariant.0) in
+          let few : length (group_numbers T h o n) < 2 ^ 63 = omega (arith, groups_few T h o n, c.loop-slot-test.true, c.len-slots.ensures.few) in
           let held : counts_as_free (get_or T.control n 0) ≡ false = not-true (counts_as_free (get_or T.control n 0)) (sym c.is_occupied.ensures ∙ w.if-is_occupied.true) in
           let groups : w.groups_to.result ≡ capped o (groups_to (hash_of h (slot_key (sized_format T h) T.entries n)) T.slots n) =
           w.groups_to.ensures.groups ∙ ap₂ (λ x s. capped o (groups_to x s n)) w.hash_at-hash.ensures slots in

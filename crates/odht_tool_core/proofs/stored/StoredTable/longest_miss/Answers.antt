@@ -13,5 +13,5 @@ loop-home-preserved c =
     let T = c.args.self.now in
     let o = c.args.bound in
     let b = c.loop-home.home in
-    let groups = c.groups_to_free-groups.ensures ∙ ap (λ t. capped o (groups_to_free t.control b)) c.self.view_is in
+    let groups = c.groups_to_free-groups.ensures ∙ ap (λ x. capped o (groups_to_free x b)) (c.controls-control.ensures.value ∙ ap (λ t. t.control) c.self.view_is) in
     c.max-longest.ensures ∙ ap₂ max c.loop-home.invariant groups ∙ sym (misses_more T o b)
