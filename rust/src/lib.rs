@@ -38,7 +38,8 @@ mod view;
     clippy::manual_range_contains,
     clippy::module_inception,
     clippy::needless_range_loop,
-    clippy::question_mark
+    clippy::question_mark,
+    clippy::too_many_arguments
 )]
 #[cfg_attr(not(feature = "fast"), forbid(unsafe_code))]
 #[cfg_attr(feature = "fast", allow(unsafe_code))]

@@ -21,7 +21,8 @@ mod lists;
     clippy::manual_range_contains,
     clippy::module_inception,
     clippy::needless_range_loop,
-    clippy::question_mark
+    clippy::question_mark,
+    clippy::too_many_arguments
 )]
 #[path = "../../src/proved"]
 mod proved {
