@@ -210,8 +210,7 @@ impl<C: Config, D: ByteStore> HashTable<C, D> {
         ensures parts { InTable ⟦<C as Coded>⟧.coding (D.bytes self.now)
             (λ c P. IsPartsOf c.format P result.entries.bytes result.control) }
     {
-        let (control, entries) = self.allocation.data_slices();
-        RawTable::new(control, entries)
+        self.allocation.as_raw()
     }
 }
 

@@ -1,7 +1,7 @@
 //! The header of a table: its fields at their offsets, how it is written, and how it is checked.
 //!
 //! The fields are those of docs/FORMAT.md, "Layout".
-ghost use Rattle.std.specs.Prelude.{◌≡◌, ◌+◌, ◌-◌, ◌*◌, ◌<◌, ◌≤◌, ℕ, List, length, slice_index};
+ghost use Rattle.std.specs.Prelude.{◌≡◌, ◌+◌, ◌*◌, ◌<◌, ◌≤◌, ℕ, List, length, slice_index};
 ghost use Rattle.std.specs.Prelude.{IfOk};
 ghost use Rattle.odht_base.specs.Format.{format_of};
 ghost use Rattle.odht_base.specs.Bytes.{bytes_at};

@@ -1,5 +1,5 @@
 //! How long tables are.
-ghost use Rattle.std.specs.Prelude.{◌≡◌, ◌+◌, ◌-◌, ◌*◌, ◌<◌, ◌≤◌, ◌^◌, ◌↔◌, MatchOption, IfSome};
+ghost use Rattle.std.specs.Prelude.{◌≡◌, ◌+◌, ◌*◌, ◌<◌, ◌≤◌, ◌^◌, ◌↔◌, MatchOption, IfSome};
 ghost use Rattle.std.specs.Prelude.{ℕ, List, IsNone};
 ghost use Rattle.odht_base.specs.Format.{entry_len, format_of};
 ghost use Rattle.odht_base.specs.Image.{image_len};

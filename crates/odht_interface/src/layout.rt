@@ -1,6 +1,5 @@
 //! The names of `memory_layout` as the port promises them (`base` says how). The table is one of
 //! u32 to u32, 16 slots at 87 percent.
-ghost use Rattle.std.specs.Prelude.{◌≡◌, ◌≤◌, length};
 
 use crate::checks::{same, same_bytes};
 use crate::raw::sixteen;

@@ -2,17 +2,16 @@
 --     cells_of F T         the cells that T decodes to
 --     decoded_count F T    how many of these cells hold a pair
 --     IsFitting F T        neither a slot of T nor the mirror gives an error
---     IsSlotHash F T i o   o is the hash of the key in slot i, or none where the slot counts as free
 --     IsHashAt F T i h     h is the hash of the key in slot i
 --     IsReachAnswer F T i b  where neither a slot of T nor the mirror gives an error, b says whether the search for the
 --                          key in slot i ends at this slot
 --     ArePassed F T k b n  none of the n slots from b on, modulo the slot count, is free or holds the key k
 --     IsGroupSearch g h q  q is a search of the group g for the tag h
-use Rattle.std.specs.Prelude.{◌≡◌, ℕ, ◌+◌, ◌%◌, ◌<◌, Bool, List, length, filter_map, slice_index, Option, None, MatchOption, IsTrue, IsFalse}
+use Rattle.std.specs.Prelude.{◌≡◌, ℕ, ◌+◌, ◌%◌, ◌<◌, Bool, List, length, filter_map, None, IsFalse}
 use Rattle.odht_base.specs.Format.{Format}
 use Rattle.odht_base.specs.Groups.{GroupMatches, IsReport, first_free}
 use Rattle.odht_base.specs.Search.{stops_at, search_end, is_at}
-use Rattle.odht_base.specs.Decoded.{counts_as_free, slot_key, decoded_cells}
+use Rattle.odht_base.specs.Decoded.{slot_key, decoded_cells}
 use Rattle.odht_base.specs.Table.{Cells}
 use Rattle.odht_raw.specs.Parts.{TableParts}
 use Rattle.odht_header.specs.Refusals.{slots_refusal, mirror_refusal}
@@ -26,11 +25,6 @@ decoded_count F T = length (filter_map (λ c. c) (cells_of F T))
 pub record IsFitting (F : Format) (T : TableParts) : Type 0 where
   pub slots : slots_refusal F T.entries.bytes T.control ≡ None
   pub mirror : mirror_refusal T.control ≡ None
-
-abbrev pub IsSlotHash : Format → TableParts → ℕ → Option ℕ → Type 0
-IsSlotHash F T i o =
-    let control = slice_index T.control i in
-    MatchOption o (IsTrue (counts_as_free control)) (λ h. IsFalse (counts_as_free control) × (h ≡ F.hash (slot_key F T.entries.bytes i)))
 
 abbrev pub IsHashAt : Format → TableParts → ℕ → ℕ → Type 0
 IsHashAt F T i h = h ≡ F.hash (slot_key F T.entries.bytes i)

@@ -1,4 +1,4 @@
--- What an order of inserts requires of the parts of a table.
+-- What an order of inserts and the whole check require of the parts of a table.
 --     HasHomes F T         keys of the format F have homes among the slots of T: these are a slot count, and there are
 --                          control bytes with their mirror
 use Rattle.std.specs.Prelude.{◌≡◌, ◌+◌, length}

@@ -3,20 +3,18 @@
 //! A table is *placed* where no key is in two slots, and the search for each key ends at its slot.
 //! "On the parts of a placed table" is `IsPartsOf` in a clause: control bytes, mirror and entries
 //! are those of such a table.
-ghost use Rattle.std.specs.Prelude.{◌≡◌, ◌+◌, ◌-◌, ◌/◌, ◌^◌, ◌<◌, ◌≤◌, length, slice_index, IfOk};
-ghost use Rattle.std.specs.Prelude.{IsFalse, List, ℕ, ⊤};
-ghost use Rattle.std.specs.Result.{result_err};
+ghost use Rattle.std.specs.Prelude.{◌≡◌, ◌+◌, ◌-◌, ◌/◌, ◌^◌, ◌<◌, ◌≤◌, length};
+ghost use Rattle.std.specs.Prelude.{List, ℕ, ⊤};
 ghost use Rattle.odht_base.specs.Format.{format_of};
 ghost use Rattle.odht_base.specs.Load.{IsSlotCount};
-ghost use Rattle.odht_base.specs.Decoded.{counts_as_free, slot_key};
 ghost use Rattle.odht_raw.specs.Parts.{entry_format};
-ghost use Rattle.odht_raw.specs.Checks.{IsSlotHash};
 ghost use Rattle.odht_raw.specs.Finds.{IsFind, IsCountedFind};
 ghost use Rattle.odht_raw.specs.SearchResults.{MatchSearchResult};
 ghost use Rattle.odht_raw.specs.Searches.{IsSearchEnd};
 ghost use Rattle.odht_raw.specs.Walks.{items_from};
-ghost use Rattle.odht_header.specs.Refusals.{checked, hashes_refusal, hashes_refusal_at};
+ghost use Rattle.odht_header.specs.Refusals.{checked, hashes_refusal};
 
+use self::slot_checks::check_hashes;
 use crate::bytes::ByteArray;
 use crate::error::Error;
 use crate::hash::HashFn;
@@ -45,16 +43,18 @@ mod scan;
 mod search_result;
 mod short_bytes;
 mod sized;
-mod sized_check;
 mod sized_insert;
 mod sized_mut;
 mod sized_walk;
-mod slot_homes;
+mod slot_checks;
 mod slot_keys;
 mod table_mut;
+mod table_slots;
 mod waiting;
 mod walk;
 
+pub(crate) use bound::longer_refusal;
+pub(crate) use check::{check_mirror, check_slots};
 pub use entries::{Entries, Entry};
 pub use first_look::FirstLook;
 pub use group_probe::GroupProbe;
@@ -71,9 +71,9 @@ pub use sized::SizedTable;
 pub(crate) use sized_insert::{sized_insert_at, sized_step_end};
 pub use sized_mut::SizedTableMut;
 pub use sized_walk::{SizedIter, SizedSlots};
-pub(crate) use slot_homes::SlotHomes;
 pub(crate) use slot_keys::SlotKeys;
 pub use table_mut::RawTableMut;
+pub(crate) use table_slots::TableSlots;
 pub use walk::{RawIter, RawSlots};
 
 /// A control byte: the tag of an occupied slot, which is below 128, or `FREE`.
@@ -212,55 +212,6 @@ impl<'a, K: ByteArray, V: ByteArray, H: HashFn> RawTable<'a, K, V, H> {
             in result ≡ checked
             (hashes_refusal F self.now.entries.bytes self.now.control slots_to_check) }
     {
-        let slots = slots_to_check.min(self.entries.len());
-        for slot in 0..slots {
-            self.check_slot(slot)?;
-        }
-        Ok(())
-    }
-
-    // What opening checks of one slot. Returns the hash of the key where the slot does not count
-    // as free.
-    #[inline(always)]
-    fn check_slot(&self, slot: usize) -> Result<Option<u32>, Error>
-        requires { slot < self.now.entries.slots }
-        ensures err { let F = format_of K.LEN V.LEN H.hash
-            in result_err result
-            ≡ hashes_refusal_at F self.now.entries.bytes self.now.control slot }
-        ensures hash { IfOk result (IsSlotHash (format_of K.LEN V.LEN H.hash) self.now slot) }
-    {
-        if is_empty_or_deleted(self.control[slot]) {
-            let entry = self.entries.get(slot);
-            if entry.key.is_all_zeros() && entry.value.is_all_zeros() {
-                return Ok(None);
-            }
-            return Err(Error::NonZeroEmpty { slot });
-        }
-        Ok(Some(self.check_key(slot)?))
-    }
-
-    // The hash of the key of an occupied slot; `ControlMismatch` where its tag is not the control
-    // byte.
-    #[inline(always)]
-    fn check_key(&self, slot: usize) -> Result<u32, Error>
-        requires slot { slot < self.now.entries.slots }
-        requires occupied { IsFalse (counts_as_free (slice_index self.now.control slot)) }
-        ensures err { let F = format_of K.LEN V.LEN H.hash
-            in result_err result
-            ≡ hashes_refusal_at F self.now.entries.bytes self.now.control slot }
-        ensures hash { IfOk result (λ hash. hash
-            ≡ H.hash (slot_key (format_of K.LEN V.LEN H.hash) self.now.entries.bytes slot)) }
-    {
-        let hash = H::hash(self.entries.key_bytes_of(slot));
-        let found = self.control[slot];
-        let expected = tag_of(hash);
-        if found != expected {
-            return Err(Error::ControlMismatch {
-                slot,
-                expected,
-                found,
-            });
-        }
-        Ok(hash)
+        check_hashes(self, slots_to_check)
     }
 }

@@ -1,10 +1,10 @@
 -- Worked examples: what the whole check reads in the parts of a table, and what it rejects there.
-use Rattle.std.proofs.Common.{◌≡◌, ◌+◌, ◌%◌, ℕ, refl, sym, true≢false, not, List, [], ◌∷◌, Some, None, true, false, replicate, set, lit<}
+use Rattle.std.proofs.Common.{◌≡◌, ◌+◌, ◌%◌, ℕ, refl, sym, true≢false, not, List, [], ◌∷◌, true, false, replicate, set, lit<}
 use Rattle.odht_base.specs.Bytes.{overwritten_at}
 use Rattle.odht_base.specs.Numbers.{le_bytes}
 use Rattle.odht_base.specs.Search.{stops_at}
 use Rattle.odht_base.proofs.examples.Configs.{direct_config}
-use Rattle.odht_raw.specs.Checks.{cells_of, decoded_count, IsFitting, IsSlotHash, IsHashAt, IsReachAnswer, ArePassed}
+use Rattle.odht_raw.specs.Checks.{cells_of, decoded_count, IsFitting, IsHashAt, IsReachAnswer, ArePassed}
 use Rattle.odht_raw.specs.Parts.{TableParts}
 use Rattle.odht_header.proofs.lemmas.FirstErrors.{not-true}
 use Rattle.std.proofs.lemmas.Option.{none-some}
@@ -33,18 +33,6 @@ pub unfitting_refused : (IsFitting direct_config (parts (set (set two 5 1) 21 1)
 unfolding opened
 unfitting_refused =
     (λ h. none-some _ (sym h.slots), λ h. none-some _ (sym h.slots), λ h. none-some _ (sym h.mirror))
-
--- an occupied slot has its key's hash, and a free one none
-pub hashes : IsSlotHash direct_config (parts two) 5 (Some 5) × IsSlotHash direct_config (parts two) 4 None
-unfolding opened
-hashes = ((refl, refl), refl)
-
--- no other hash, none where the slot is occupied, and one only there
-pub other_hash_refused : (IsSlotHash direct_config (parts two) 5 (Some 6) → ⊥)
-    × (IsSlotHash direct_config (parts two) 5 None → ⊥)
-    × (IsSlotHash direct_config (parts two) 4 (Some 0) → ⊥)
-unfolding opened
-other_hash_refused = (λ h. unequal 6 5 refl h.1, λ h. true≢false (sym h), λ h. true≢false h.0)
 
 -- key 5 is its own hash, and has no other; the search for it ends at its slot
 pub key_found : IsHashAt direct_config (parts two) 5 5 × IsReachAnswer direct_config (parts two) 5 true

@@ -1,12 +1,9 @@
 -- Which error a view gives for one slot, by whether the slot counts as free.
-use Rattle.std.proofs.Common.{◌≡◌, ◌<◌, ◌∙◌, ◌*◌, ◌-◌, ◌==◌, ℕ, zero, suc, Bool, true, false, min, not, ◌&&◌, sym, ap, refl, List, [], ◌∷◌, Some, None, length, length-take, length-drop, replicate, slice_index, arith, eqb-true, if◌then◌else◌}
+use Rattle.std.proofs.Common.{◌≡◌, ◌<◌, ◌∙◌, ◌-◌, ◌==◌, ℕ, zero, suc, Bool, true, false, min, not, ◌&&◌, ap, refl, List, [], ◌∷◌, Some, None, length, replicate, slice_index, eqb-true, if◌then◌else◌}
 use Rattle.std.specs.List.{list_all}
 use Rattle.std.proofs.lemmas.Bool.{and_parts, false_from_ne_true}
-use Rattle.std.proofs.lemmas.List.{take-append-drop}
-use Rattle.std.proofs.lemmas.List.Folds.{list_all-append}
-use Rattle.odht_base.specs.Format.{Format, entry_len, tag}
-use Rattle.odht_base.specs.Decoded.{slot_entry, slot_key, slot_value, counts_as_free}
-use Rattle.odht_base.proofs.lemmas.PartsOf.{length-slot_entry}
+use Rattle.odht_base.specs.Format.{Format, tag}
+use Rattle.odht_base.specs.Decoded.{slot_entry, slot_key, counts_as_free}
 use Rattle.odht_header.specs.declared.error.Error.{Error}
 use Rattle.odht_header.specs.declared.error.Error.TheVariants.{NonZeroEmpty, ControlMismatch}
 use Rattle.odht_header.specs.Refusals.{◌gives◌, differs, first_of, first_slot, hashes_refusal_at, hashes_refusal}
@@ -53,39 +50,6 @@ module _ (F : Format) (es ctrl : List ℕ) (i : ℕ) where
   other_entry_refusal h other =
       let zeros : list_all is_zero (slot_entry F es i) ≡ false = false_from_ne_true _ (λ t. other (zeros-list_all _ t)) in
       refusal_is ∙ rw (h, zeros) refl
-
-  -- an entry is zero where both its ends are
-  zero_ends : list_all is_zero (slot_entry F es i) ≡ (list_all is_zero (slot_key F es i) && list_all is_zero (slot_value F es i))
-  zero_ends = ap (list_all is_zero) (sym (take-append-drop F.key_len (slot_entry F es i))) ∙ list_all-append is_zero (slot_key F es i) (slot_value F es i)
-
-  -- so it has none where key and value are zeros
-  pub zeros_pass : (m n : ℕ) → counts_as_free (slice_index ctrl i) ≡ true → slot_key F es i ≡ replicate m 0 → slot_value F es i ≡ replicate n 0 → hashes_refusal_at F es ctrl i ≡ None
-  zeros_pass m n h k v =
-      let key : list_all is_zero (slot_key F es i) ≡ true = ap (list_all is_zero) k ∙ list_all-zeros m in
-      let value : list_all is_zero (slot_value F es i) ≡ true = ap (list_all is_zero) v ∙ list_all-zeros n in
-      refusal_is ∙ rw (h, zero_ends, key, value) refl
-
-  module _ (s : ℕ) (long : length es ≡ s * entry_len F) (within : i < s) where
-    entry_long : length (slot_entry F es i) ≡ entry_len F
-    entry_long = length-slot_entry F es s i long within
-
-    -- otherwise it has one, by its key
-    pub key_refusal : counts_as_free (slice_index ctrl i) ≡ true → (slot_key F es i ≡ replicate F.key_len 0 → ⊥) → hashes_refusal_at F es ctrl i ≡ Some (NonZeroEmpty i)
-    key_refusal h other =
-        let n : length (slot_key F es i) ≡ F.key_len = length-take F.key_len (slot_entry F es i) ∙ omega (arith, entry_long) in
-        let key : list_all is_zero (slot_key F es i) ≡ false = false_from_ne_true _ (λ t. other (zeros-list_all _ t ∙ ap (λ m. replicate m 0) n)) in
-        refusal_is ∙ rw (h, zero_ends, key) refl
-
-    -- or by its value
-    pub value_refusal : counts_as_free (slice_index ctrl i) ≡ true → (slot_value F es i ≡ replicate F.value_len 0 → ⊥) → hashes_refusal_at F es ctrl i ≡ Some (NonZeroEmpty i)
-    value_refusal h other =
-        let n : length (slot_value F es i) ≡ F.value_len = length-drop F.key_len (slot_entry F es i) ∙ omega (arith, entry_long) in
-        let value : list_all is_zero (slot_value F es i) ≡ false = false_from_ne_true _ (λ t. other (zeros-list_all _ t ∙ ap (λ m. replicate m 0) n)) in
-        refusal_is ∙ rw (h, zero_ends ∙ ap (λ b. list_all is_zero (slot_key F es i) && b) value) (go (list_all is_zero (slot_key F es i)))
-      where
-        go : (b : Bool) → (not (b && false) gives NonZeroEmpty i) ≡ Some (NonZeroEmpty i)
-        go true = refl
-        go false = refl
 
 module _ (F : Format) (es ctrl : List ℕ) (n s : ℕ) (slots : min n (length ctrl - 16) ≡ s) where
   -- there is no error where no slot has one

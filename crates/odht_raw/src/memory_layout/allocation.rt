@@ -1,5 +1,5 @@
 //! The bytes of a table in a store: opening and reading.
-ghost use Rattle.std.specs.Prelude.{◌≡◌, ◌+◌, ◌-◌, ◌<◌, ◌^◌, All, length, IfOk, IsOk};
+ghost use Rattle.std.specs.Prelude.{◌≡◌, ◌+◌, ◌<◌, ◌^◌, All, length, IfOk, IsOk};
 ghost use Rattle.odht_base.specs.Load.{IsSlotCount};
 ghost use Rattle.odht_base.specs.Format.{format_of};
 ghost use Rattle.odht_base.specs.Table.{Table};
@@ -7,6 +7,7 @@ ghost use Rattle.odht_base.specs.Image.{image_len};
 ghost use Rattle.odht_base.specs.Valid.{IsImage, IsPartsOf};
 ghost use Rattle.odht_base.specs.Decoded.{header_slots, entries_of, controls_of};
 ghost use Rattle.std.specs.Result.{result_err};
+ghost use Rattle.odht_raw.specs.Dumps.{parts_of};
 ghost use Rattle.odht_raw.specs.Frame.{IsAccepted};
 ghost use Rattle.odht_header.specs.Refusals.{opening_refusal, view_refusal};
 
@@ -60,11 +61,7 @@ impl<C: Config, M: ByteStore> Allocation<C, M> {
             → IsOk result }
     {
         let allocation = Self::from_raw_bytes_by_header(data)?;
-        let (control, entries) = allocation.data_slices();
-        let table: RawTable<'_, C::EncodedKey, C::EncodedValue, C::H> = RawTable::new(
-            control, entries,
-        );
-        table.sanity_check_hashes(SLOTS_TO_CHECK)?;
+        allocation.as_raw().sanity_check_hashes(SLOTS_TO_CHECK)?;
         Ok(allocation)
     }
 
@@ -162,6 +159,18 @@ impl<C: Config, M: ByteStore> Allocation<C, M> {
             &bytes[control..],
             Entries::new(&bytes[HEADER_SIZE..control], slots),
         )
+    }
+
+    /// The parts of the table, to be read.
+    #[inline(always)]
+    pub fn as_raw(&self) -> RawTable<'_, C::EncodedKey, C::EncodedValue, C::H>
+        ensures bytes { result ≡ parts_of ⟦<C as Coded>⟧.coding.format (M.bytes self.now) }
+        ensures parts { (P : Table)
+            → IsImage ⟦<C as Coded>⟧.coding.format P (M.bytes self.now)
+            → IsPartsOf ⟦<C as Coded>⟧.coding.format P result.entries.bytes result.control }
+    {
+        let (control, entries) = self.data_slices();
+        RawTable::new(control, entries)
     }
 }
 

@@ -2,15 +2,16 @@
 ghost use Rattle.std.specs.Prelude.{◌≡◌, ◌↔◌, IsOk, None, Some};
 ghost use Rattle.odht_base.specs.Valid.{IsValidBytes};
 ghost use Rattle.odht_base.specs.Bounds.{first_longer};
-ghost use Rattle.odht_base.specs.Decoded.{controls_of};
+ghost use Rattle.odht_base.specs.Decoded.{controls_of, entries_of};
 ghost use Rattle.odht_header.specs.Refusals.{checked, late_refusal, check_refusal};
 ghost use Rattle.odht_header.specs.Refusals.{late_refusal_by, check_refusal_by};
 
+use super::Header;
 use super::allocation::{Allocation, hold_bytes};
 use crate::bytes::{Borrowed, ByteStore};
 use crate::config::{Coded, Config};
 use crate::error::Error;
-use crate::raw_table::RawTable;
+use crate::raw_table::{TableSlots, check_mirror, check_slots, longer_refusal};
 
 /// A bound of searches, in groups, that tables of hashes that vary keep: about twice the longest
 /// search that was seen in random tables of up to 2^24 slots at 95 percent (docs/FORMAT.md, "How
@@ -71,7 +72,7 @@ impl<C: Config, M: ByteStore> Allocation<C, M> {
         ensures valid { IsOk result ↔ IsValidBytes ⟦<C as Coded>⟧.coding.format (M.bytes self.now) }
     {
         hold_bytes(self.raw_bytes());
-        self.check_late(None)
+        check_late(&self.header(), &self.as_raw(), None)
     }
 
     /// `check_rest` with a bound of searches, as in [`check_all_within`]. Ok exactly for valid
@@ -85,33 +86,35 @@ impl<C: Config, M: ByteStore> Allocation<C, M> {
             × (first_longer (controls_of F (M.bytes self.now)) groups ≡ None)) }
     {
         hold_bytes(self.raw_bytes());
-        self.check_late(Some(groups))
+        check_late(&self.header(), &self.as_raw(), Some(groups))
     }
+}
 
-    // `check_rest` with a bound of searches, where there is one; its contract gives the first
-    // error alone.
-    fn check_late(&self, groups: Option<usize>) -> Result<(), Error>
-        ensures { let F = ⟦<C as Coded>⟧.coding.format
-            in result ≡ checked (late_refusal_by F groups (M.bytes self.now)) }
-    {
-        let header = self.header();
-        header.check_load_factor()?;
-        header.check_padding()?;
-        let (control, entries) = self.data_slices();
-        let table: RawTable<'_, C::EncodedKey, C::EncodedValue, C::H> = RawTable::new(
-            control, entries,
-        );
-        // From control bytes alone, before anything is searched for.
-        let longer = table.longer_refusal(groups);
-        let summary = table.check_slots(longer.is_none())?;
-        table.check_mirror()?;
-        header.check_item_count(summary.occupied)?;
-        if let Some(error) = longer {
-            return Err(error);
-        }
-        match summary.unreachable {
-            Some(slot) => Err(Error::Unreachable { slot }),
-            None => Ok(()),
-        }
+/// What the whole check adds to opening, of a header and the parts behind it, with a bound of
+/// searches where there is one: the first error alone.
+pub(super) fn check_late<S: TableSlots>(
+    header: &Header<'_>,
+    table: &S,
+    groups: Option<usize>,
+) -> Result<(), Error>
+    requires entries { (S.parts table.now).entries.bytes
+        ≡ entries_of (S.format table.now) header.now }
+    requires control { (S.parts table.now).control ≡ controls_of (S.format table.now) header.now }
+    ensures { result ≡ checked (late_refusal_by (S.format table.now) groups header.now) }
+{
+    header.check_load_factor()?;
+    header.check_padding()?;
+    let control = table.control_bytes();
+    // From control bytes alone, before anything is searched for.
+    let longer = longer_refusal(control, groups);
+    let summary = check_slots(table, longer.is_none())?;
+    check_mirror(control)?;
+    header.check_item_count(summary.occupied)?;
+    if let Some(error) = longer {
+        return Err(error);
+    }
+    match summary.unreachable {
+        Some(slot) => Err(Error::Unreachable { slot }),
+        None => Ok(()),
     }
 }

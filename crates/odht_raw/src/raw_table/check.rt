@@ -1,23 +1,24 @@
 //! The whole check of the parts of a table: each slot, the mirror, and that the search for each
 //! key ends at its slot.
-ghost use Rattle.std.specs.Prelude.{◌≡◌, ◌%◌, ◌/◌, ◌^◌, ◌<◌, ◌≤◌, ◌↔◌, slice_index, IfOk};
-ghost use Rattle.std.specs.Prelude.{◌+◌, ℕ, Contains, IsTrue, None, OnErr, option_map};
+ghost use Rattle.std.specs.Prelude.{◌≡◌, ◌%◌, ◌/◌, ◌^◌, ◌<◌, ◌≤◌, ◌↔◌, ◌-◌, IfOk};
+ghost use Rattle.std.specs.Prelude.{◌+◌, ℕ, Contains, IsTrue, None, option_map, length};
 ghost use Rattle.std.specs.Result.{result_err};
 ghost use Rattle.odht_base.specs.Bytes.{bytes_at};
-ghost use Rattle.odht_base.specs.Format.{format_of, tag as key_tag};
+ghost use Rattle.odht_base.specs.Format.{tag as key_tag};
 ghost use Rattle.odht_base.specs.Groups.{free_in, occupied};
-ghost use Rattle.odht_base.specs.Decoded.{counts_as_free, slot_key};
+ghost use Rattle.odht_base.specs.Decoded.{slot_key};
+ghost use Rattle.odht_base.specs.Load.{IsSlotCount};
 ghost use Rattle.odht_raw.specs.Checks.{decoded_count, IsFitting, ArePassed, IsGroupSearch};
 ghost use Rattle.odht_raw.specs.Checks.{IsHashAt, IsReachAnswer};
 ghost use Rattle.odht_raw.specs.Summaries.{IsSummaryOf, IsFirstError, HaveNoError, AreFree, AreRight};
-ghost use Rattle.odht_raw.specs.Summaries.{IsFreeSlot};
 ghost use Rattle.odht_header.specs.Refusals.{checked, bad_free_control, slots_refusal};
 ghost use Rattle.odht_header.specs.Refusals.{mirror_refusal, reach_refusal};
 
-use super::{FREE, GroupProbe, RawTable, is_empty_or_deleted, tag_of};
-use crate::bytes::{ByteArray, is_zeros};
+use super::slot_checks::{check_key, check_slot};
+use super::{
+    EntryMetadata, FREE, GroupProbe, TableSlots, is_empty_or_deleted, slot_count_of, tag_of,
+};
 use crate::error::Error;
-use crate::hash::HashFn;
 use crate::swisstable_group_query::lanes::GroupQuery;
 use crate::swisstable_group_query::{Group, IndexSet, REFERENCE_GROUP_SIZE, free_and_occupied};
 
@@ -30,249 +31,244 @@ pub(crate) struct SlotSummary {
     pub unreachable: Option<usize>,
 }
 
-impl<'a, K: ByteArray, V: ByteArray, H: HashFn> RawTable<'a, K, V, H> {
-    /// Checks all slots, and returns the first error in slot order: `NonZeroEmpty`, then
-    /// `BadFreeControl`, of a slot that counts as free, `ControlMismatch` of any other.
-    ///
-    /// `unreachable` is what its comment says only where searches are made, no slot gives an
-    /// error, and the mirror has no mismatch. The whole check reads it in no other case.
-    // The slots are gone through a span at a time, first the free ones and then the others, so
-    // that what a slot is makes no branch that cannot be predicted. Where a free one has an error,
-    // the slots of its span are gone through in their order instead.
-    //
-    // Inlined next to an opening, it would keep the first ten control bytes in registers.
-    #[inline(never)]
-    pub(crate) fn check_slots(&self, searches: bool) -> Result<SlotSummary, Error>
-        ensures err { let F = format_of K.LEN V.LEN H.hash
-            in result_err result ≡ slots_refusal F self.now.entries.bytes self.now.control }
-        ensures occupied { IfOk result
-            (λ summary. summary.occupied ≡ decoded_count (format_of K.LEN V.LEN H.hash) self.now) }
-        ensures reached { let reach = reach_refusal
-            (format_of K.LEN V.LEN H.hash) self.now.entries.bytes self.now.control
-            in IsTrue searches
-            → mirror_refusal self.now.control ≡ None
-            → IfOk result (λ summary. option_map Error.Unreachable summary.unreachable ≡ reach) }
-    {
-        let slots = self.entries.len();
-        let mut summary = SlotSummary {
-            occupied: 0,
-            unreachable: None,
-        };
-        let mut start = 0;
-        'spans: while start < slots {
-            let size = (slots - start).min(IndexSet::CAPACITY);
-            let (free, others) = free_and_occupied(&self.control[start..start + size]);
-            if !self.are_free(start, free) {
-                self.check_in_order(start, size)?;
-            }
-            summary = self.take_others(start, size, others, searches, summary)?;
-            start += size;
+/// Checks all slots, and returns the first error in slot order: `NonZeroEmpty`, then
+/// `BadFreeControl`, of a slot that counts as free, `ControlMismatch` of any other.
+///
+/// `unreachable` is what its comment says only where searches are made, no slot gives an error,
+/// and the mirror has no mismatch. The whole check reads it in no other case.
+// The slots are gone through a span at a time, first the free ones and then the others, so that
+// what a slot is makes no branch that cannot be predicted. Where a free one has an error, the
+// slots of its span are gone through in their order instead.
+//
+// Inlined next to an opening, it would keep the first ten control bytes in registers.
+#[inline(never)]
+pub(crate) fn check_slots<S: TableSlots>(table: &S, searches: bool) -> Result<SlotSummary, Error>
+    ensures err { let T = S.parts table.now
+        in result_err result ≡ slots_refusal (S.format table.now) T.entries.bytes T.control }
+    ensures occupied { let count = decoded_count (S.format table.now) (S.parts table.now)
+        in IfOk result (λ summary. summary.occupied ≡ count) }
+    ensures reached { let T = S.parts table.now
+        in let reach = reach_refusal (S.format table.now) T.entries.bytes T.control
+        in IsTrue searches
+        → mirror_refusal T.control ≡ None
+        → IfOk result (λ summary. option_map Error.Unreachable summary.unreachable ≡ reach) }
+{
+    let slots = table.slots();
+    let mut summary = SlotSummary {
+        occupied: 0,
+        unreachable: None,
+    };
+    let mut start = 0;
+    'spans: while start < slots {
+        let size = (slots - start).min(IndexSet::CAPACITY);
+        let control = table.control_bytes();
+        let (free, others) = free_and_occupied(&control[start..start + size]);
+        if !are_free(table, start, free) {
+            check_in_order(table, start, size)?;
         }
-        Ok(summary)
+        summary = take_others(table, start, size, others, searches, summary)?;
+        start += size;
     }
+    Ok(summary)
+}
 
-    // The first error of the `size` slots from `start` on, each looked at in its order. Those
-    // before have none.
-    #[inline(never)]
-    fn check_in_order(&self, start: usize, size: usize) -> Result<(), Error>
-        requires size { start + size ≤ self.now.entries.slots }
-        requires before { HaveNoError (format_of K.LEN V.LEN H.hash) self.now start }
-        ensures err { IsFirstError (format_of K.LEN V.LEN H.hash) self.now result }
-        ensures ok { let F = format_of K.LEN V.LEN H.hash
-            in IfOk result (λ _. HaveNoError F self.now (start + size)) }
-    {
-        // Its invariant is used: slots and control bytes are as many as fit in a `usize`.
-        let _ = &self.control;
-        for slot in start..start + size {
-            self.check_slot(slot)?;
-            self.check_free_control(slot)?;
-        }
-        Ok(())
+// The first error of the `size` slots from `start` on, each looked at in its order. Those before
+// have none.
+#[inline(never)]
+fn check_in_order<S: TableSlots>(table: &S, start: usize, size: usize) -> Result<(), Error>
+    requires size { start + size ≤ (S.parts table.now).entries.slots }
+    requires before { HaveNoError (S.format table.now) (S.parts table.now) start }
+    ensures err { IsFirstError (S.format table.now) (S.parts table.now) result }
+    ensures ok { let F = S.format table.now
+        in IfOk result (λ _. HaveNoError F (S.parts table.now) (start + size)) }
+{
+    // A slice has at most as many bytes as a `usize` counts, so that `start + size` fits.
+    let control = table.control_bytes();
+    for slot in start..start + size {
+        check_slot(table, slot)?;
+        check_free_control(control, slot)?;
     }
+    Ok(())
+}
 
-    // What is known after a span of `size` slots from `start` on, of which the free ones have no
-    // error, from what is known before it. The others are taken in their order.
-    #[inline(always)]
-    fn take_others(
-        &self,
-        start: usize,
-        size: usize,
-        others: IndexSet,
-        searches: bool,
-        before: SlotSummary,
-    ) -> Result<SlotSummary, Error>
-        requires size { start + size ≤ self.now.entries.slots }
-        requires others { others ≡ occupied (bytes_at self.now.control start size) }
-        requires free { AreRight (format_of K.LEN V.LEN H.hash) self.now start
-            (free_in (bytes_at self.now.control start size)) }
-        requires known { IsSummaryOf (format_of K.LEN V.LEN H.hash) self.now searches start before }
-        ensures err { IsFirstError (format_of K.LEN V.LEN H.hash) self.now result }
-        ensures ok { let F = format_of K.LEN V.LEN H.hash
-            in IfOk result (IsSummaryOf F self.now searches (start + size)) }
-    {
-        // Its invariant is used: slots and control bytes are as many as fit in a `usize`.
-        let _ = &self.control;
-        let mut others = others;
-        let mut occupied = before.occupied;
-        let mut unreachable = before.unreachable;
-        let mut searching = searches && unreachable.is_none();
-        'slots: while let Some(index) = others.take() {
-            let slot = start + index;
-            let hash = self.check_key(slot)?;
-            occupied += 1;
-            if searching && !self.is_reached(slot, hash) {
-                unreachable = Some(slot);
-                searching = false;
-            }
-        }
-        Ok(SlotSummary {
-            occupied,
-            unreachable,
-        })
-    }
-
-    // Whether the slots whose indices from `start` on are marked are free, with no error.
-    #[inline(always)]
-    fn are_free(&self, start: usize, free: IndexSet) -> bool
-        requires within { (i : ℕ) → Contains free i → start + i < self.now.entries.slots }
-        ensures { IsTrue result ↔ AreFree (format_of K.LEN V.LEN H.hash) self.now start free }
-    {
-        // Its invariant is used: slots and control bytes are as many as fit in a `usize`.
-        let _ = &self.control;
-        let mut free = free;
-        'slots: while let Some(index) = free.take() {
-            if !self.is_free(start + index) {
-                return false;
-            }
-        }
-        true
-    }
-
-    // Whether a slot is free, and has no error.
-    #[inline(always)]
-    fn is_free(&self, slot: usize) -> bool
-        requires { slot < self.now.entries.slots }
-        ensures { IsTrue result ↔ IsFreeSlot (format_of K.LEN V.LEN H.hash) self.now slot }
-    {
-        self.control[slot] == FREE && is_zeros(self.entries.bytes_of(slot))
-    }
-
-    // `BadFreeControl` where the control byte of a slot counts as free and is not `FREE`.
-    #[inline]
-    fn check_free_control(&self, slot: usize) -> Result<(), Error>
-        requires { slot < self.now.entries.slots }
-        ensures { result ≡ checked (bad_free_control self.now.control slot) }
-    {
-        let found = self.control[slot];
-        if found == FREE || !is_empty_or_deleted(found) {
-            Ok(())
-        } else {
-            Err(Error::BadFreeControl { slot, found })
+// What is known after a span of `size` slots from `start` on, of which the free ones have no
+// error, from what is known before it. The others are taken in their order.
+#[inline(always)]
+fn take_others<S: TableSlots>(
+    table: &S,
+    start: usize,
+    size: usize,
+    others: IndexSet,
+    searches: bool,
+    before: SlotSummary,
+) -> Result<SlotSummary, Error>
+    requires size { start + size ≤ (S.parts table.now).entries.slots }
+    requires others { others ≡ occupied (bytes_at (S.parts table.now).control start size) }
+    requires free { AreRight (S.format table.now) (S.parts table.now) start
+        (free_in (bytes_at (S.parts table.now).control start size)) }
+    requires known { IsSummaryOf (S.format table.now) (S.parts table.now) searches start before }
+    ensures err { IsFirstError (S.format table.now) (S.parts table.now) result }
+    ensures ok { let F = S.format table.now
+        in IfOk result (IsSummaryOf F (S.parts table.now) searches (start + size)) }
+{
+    // A slice has at most as many bytes as a `usize` counts, so that `start + index` fits.
+    let _ = table.control_bytes();
+    let mut others = others;
+    let mut occupied = before.occupied;
+    let mut unreachable = before.unreachable;
+    let mut searching = searches && unreachable.is_none();
+    'slots: while let Some(index) = others.take() {
+        let slot = start + index;
+        let hash = check_key(table, slot)?;
+        occupied += 1;
+        if searching && !is_reached(table, slot, hash) {
+            unreachable = Some(slot);
+            searching = false;
         }
     }
+    Ok(SlotSummary {
+        occupied,
+        unreachable,
+    })
+}
 
-    // Whether the search for the key of an occupied slot, slot by slot along the probe order, ends
-    // at that slot. The key is compared only with keys at earlier positions that have its tag.
-    //
-    // This asks for more than `IsReached` does: the second copy of a key may be reached, but no
-    // search ends at it.
-    //
-    // Most keys are in the group of their home, with no free byte and no match before them: then
-    // this is all.
-    #[inline]
-    fn is_reached(&self, slot: usize, hash: u32) -> bool
-        requires slot { slot < self.now.entries.slots }
-        requires hash { IsHashAt (format_of K.LEN V.LEN H.hash) self.now slot hash }
-        ensures { IsReachAnswer (format_of K.LEN V.LEN H.hash) self.now slot result }
-    {
-        let slots = self.entries.len();
-        let mut probe = GroupProbe::new(self.control, slots, hash as usize);
-        let before = slot.wrapping_sub(probe.start()) & (slots - 1);
-        let group = GroupQuery::of(probe.read(), tag_of(hash));
-        if before < REFERENCE_GROUP_SIZE
-            && group.first_empty().unwrap_or(REFERENCE_GROUP_SIZE) >= before
-            && group.first_match().unwrap_or(REFERENCE_GROUP_SIZE) >= before
-        {
-            return true;
-        }
-        self.is_reached_late(slot, hash, group)
-    }
-
-    // The same, group by group. The first group is at hand.
-    //
-    // Inlined, it would take registers from the look at the first group.
-    #[inline(never)]
-    fn is_reached_late(&self, slot: usize, hash: u32, first: GroupQuery) -> bool
-        requires slot { slot < self.now.entries.slots }
-        requires hash { IsHashAt (format_of K.LEN V.LEN H.hash) self.now slot hash }
-        requires group { IsGroupSearch (bytes_at self.now.control (hash % self.now.entries.slots) 16)
-            (hash / 2 ^ 25) first }
-        ensures { IsReachAnswer (format_of K.LEN V.LEN H.hash) self.now slot result }
-    {
-        let slots = self.entries.len();
-        let mask = slots - 1;
-        let tag = tag_of(hash);
-        let mut probe = GroupProbe::new(self.control, slots, hash as usize);
-        let mut group = first;
-        'groups: loop {
-            let start = probe.start();
-            let before = slot.wrapping_sub(start) & mask;
-            if before < REFERENCE_GROUP_SIZE {
-                return self.are_passed(group, start, before, slot);
-            }
-            if !self.are_passed(group, start, REFERENCE_GROUP_SIZE, slot) {
-                return false;
-            }
-            probe.advance();
-            group = GroupQuery::of(probe.read(), tag);
-        }
-    }
-
-    // Whether each of the `count` slots from `start` on, modulo the slot count, is occupied by
-    // another key than that of `slot`. The group is that of these slots, searched for the tag of
-    // this key.
-    #[inline]
-    fn are_passed(&self, group: GroupQuery, start: usize, count: usize, slot: usize) -> bool
-        requires start { start < self.now.entries.slots }
-        requires count { count ≤ 16 }
-        requires slot { slot < self.now.entries.slots }
-        requires group { let F = format_of K.LEN V.LEN H.hash
-            in IsGroupSearch (bytes_at self.now.control start 16)
-            (key_tag F (slot_key F self.now.entries.bytes slot)) group }
-        ensures { let F = format_of K.LEN V.LEN H.hash
-            in IsFitting F self.now
-            → IsTrue result
-            ↔ ArePassed F self.now (slot_key F self.now.entries.bytes slot) start count }
-    {
-        let mask = self.entries.len() - 1;
-        let mut group = group;
-        if group.first_empty().unwrap_or(REFERENCE_GROUP_SIZE) < count {
+// Whether the slots whose indices from `start` on are marked are free, with no error.
+#[inline(always)]
+fn are_free<S: TableSlots>(table: &S, start: usize, free: IndexSet) -> bool
+    requires within { (i : ℕ) → Contains free i → start + i < (S.parts table.now).entries.slots }
+    ensures { IsTrue result ↔ AreFree (S.format table.now) (S.parts table.now) start free }
+{
+    let control = table.control_bytes();
+    let mut free = free;
+    'slots: while let Some(index) = free.take() {
+        let slot = start + index;
+        if control[slot] != FREE || !table.has_zeros(slot) {
             return false;
         }
-        'matches: while let Some(index) = group.first_match() {
-            if index >= count {
-                return true;
-            }
-            if self.entries.have_same_key((start + index) & mask, slot) {
-                return false;
-            }
-            group.drop_match();
-        }
-        true
     }
+    true
+}
 
-    /// Compares the mirror with the control bytes of the first sixteen slots; `MirrorMismatch` of
-    /// the first index that differs.
-    #[inline]
-    pub(crate) fn check_mirror(&self) -> Result<(), Error>
-        ensures { result ≡ checked (mirror_refusal self.now.control) }
-    {
-        let slots = self.entries.len();
-        for index in 0..REFERENCE_GROUP_SIZE {
-            if self.control[slots + index] != self.control[index] {
-                return Err(Error::MirrorMismatch { index });
-            }
-        }
+// `BadFreeControl` where the control byte of a slot counts as free and is not `FREE`.
+#[inline]
+fn check_free_control(control: &[EntryMetadata], slot: usize) -> Result<(), Error>
+    requires { slot < length control.now }
+    ensures { result ≡ checked (bad_free_control control.now slot) }
+{
+    let found = control[slot];
+    if found == FREE || !is_empty_or_deleted(found) {
         Ok(())
+    } else {
+        Err(Error::BadFreeControl { slot, found })
     }
+}
+
+// Whether the search for the key of an occupied slot, slot by slot along the probe order, ends at
+// that slot. The key is compared only with keys at earlier positions that have its tag.
+//
+// This asks for more than `IsReached` does: the second copy of a key may be reached, but no search
+// ends at it.
+//
+// Most keys are in the group of their home, with no free byte and no match before them: then this
+// is all.
+#[inline]
+fn is_reached<S: TableSlots>(table: &S, slot: usize, hash: u32) -> bool
+    requires slot { slot < (S.parts table.now).entries.slots }
+    requires hash { IsHashAt (S.format table.now) (S.parts table.now) slot hash }
+    ensures { IsReachAnswer (S.format table.now) (S.parts table.now) slot result }
+{
+    let slots = table.slots();
+    let mut probe = GroupProbe::new(table.control_bytes(), slots, hash as usize);
+    let before = slot.wrapping_sub(probe.start()) & (slots - 1);
+    let group = GroupQuery::of(probe.read(), tag_of(hash));
+    if before < REFERENCE_GROUP_SIZE
+        && group.first_empty().unwrap_or(REFERENCE_GROUP_SIZE) >= before
+        && group.first_match().unwrap_or(REFERENCE_GROUP_SIZE) >= before
+    {
+        return true;
+    }
+    is_reached_late(table, slot, hash, group)
+}
+
+// The same, group by group. The first group is at hand.
+//
+// Inlined, it would take registers from the look at the first group.
+#[inline(never)]
+fn is_reached_late<S: TableSlots>(table: &S, slot: usize, hash: u32, first: GroupQuery) -> bool
+    requires slot { slot < (S.parts table.now).entries.slots }
+    requires hash { IsHashAt (S.format table.now) (S.parts table.now) slot hash }
+    requires group { let T = S.parts table.now
+        in IsGroupSearch (bytes_at T.control (hash % T.entries.slots) 16) (hash / 2 ^ 25) first }
+    ensures { IsReachAnswer (S.format table.now) (S.parts table.now) slot result }
+{
+    let slots = table.slots();
+    let mask = slots - 1;
+    let tag = tag_of(hash);
+    let mut probe = GroupProbe::new(table.control_bytes(), slots, hash as usize);
+    let mut group = first;
+    'groups: loop {
+        let start = probe.start();
+        let before = slot.wrapping_sub(start) & mask;
+        if before < REFERENCE_GROUP_SIZE {
+            return are_passed(table, group, start, before, slot);
+        }
+        if !are_passed(table, group, start, REFERENCE_GROUP_SIZE, slot) {
+            return false;
+        }
+        probe.advance();
+        group = GroupQuery::of(probe.read(), tag);
+    }
+}
+
+// Whether each of the `count` slots from `start` on, modulo the slot count, is occupied by another
+// key than that of `slot`. The group is that of these slots, searched for the tag of this key.
+#[inline]
+fn are_passed<S: TableSlots>(
+    table: &S,
+    group: GroupQuery,
+    start: usize,
+    count: usize,
+    slot: usize,
+) -> bool
+    requires start { start < (S.parts table.now).entries.slots }
+    requires count { count ≤ 16 }
+    requires slot { slot < (S.parts table.now).entries.slots }
+    requires group { let F = S.format table.now in let T = S.parts table.now
+        in IsGroupSearch (bytes_at T.control start 16)
+        (key_tag F (slot_key F T.entries.bytes slot)) group }
+    ensures { let F = S.format table.now in let T = S.parts table.now
+        in IsFitting F T
+        → IsTrue result ↔ ArePassed F T (slot_key F T.entries.bytes slot) start count }
+{
+    let mask = table.slots() - 1;
+    let mut group = group;
+    if group.first_empty().unwrap_or(REFERENCE_GROUP_SIZE) < count {
+        return false;
+    }
+    'matches: while let Some(index) = group.first_match() {
+        if index >= count {
+            return true;
+        }
+        if table.have_same_key((start + index) & mask, slot) {
+            return false;
+        }
+        group.drop_match();
+    }
+    true
+}
+
+/// Compares the mirror with the control bytes of the first sixteen slots; `MirrorMismatch` of the
+/// first index that differs.
+#[inline]
+pub(crate) fn check_mirror(control: &[EntryMetadata]) -> Result<(), Error>
+    requires { IsSlotCount (length control.now - 16) }
+    ensures { result ≡ checked (mirror_refusal control.now) }
+{
+    let slots = slot_count_of(control);
+    for index in 0..REFERENCE_GROUP_SIZE {
+        if control[slots + index] != control[index] {
+            return Err(Error::MirrorMismatch { index });
+        }
+    }
+    Ok(())
 }

@@ -1,7 +1,7 @@
 //! An order of inserts that makes a table, found within the buffer that it is written to.
 ghost use Rattle.std.specs.Prelude.{◌≡◌, ◌≤◌, ◌<◌, ◌+◌, ◌^◌, ◌%◌, ◌↔◌, ℕ, List, ◌++◌, length, drop};
 ghost use Rattle.std.specs.Prelude.{slice_index};
-ghost use Rattle.std.specs.Prelude.{IsTrue, All, AllPairs, Contains, IsPermutation};
+ghost use Rattle.std.specs.Prelude.{IsTrue, All, AllPairs, IsPermutation};
 ghost use Rattle.odht_base.specs.Load.{IsSlotCount};
 ghost use Rattle.odht_base.specs.Ready.{IsReady};
 ghost use Rattle.odht_base.specs.Table.{Table, Pair};
@@ -12,7 +12,8 @@ ghost use Rattle.odht_raw.specs.Waiting.{placed_of, IsWaiting, AreRising, IsPend
 ghost use Rattle.odht_raw.specs.Waiting.{IsWhole, IsOrderAnswer, AreListed, IsBegun, IsFar, IsPass};
 ghost use Rattle.odht_raw.specs.Waiting.{IsLeft, IsNext, IsFrontier, IsUnblocked, WaitsWithin, WaitsBehind};
 
-use super::SlotHomes;
+use super::TableSlots;
+use super::table_slots::home_of;
 use super::waiting::{WAITING, list_occupied};
 use crate::swisstable_group_query::REFERENCE_GROUP_SIZE;
 
@@ -36,7 +37,7 @@ struct Frontier {
 ///
 /// It goes through the slots once, up to the first that is not near its home, and then pass by
 /// pass.
-pub(super) fn find_order<S: SlotHomes>(table: &S, out: &mut [usize]) -> bool
+pub(super) fn find_order<S: TableSlots>(table: &S, out: &mut [usize]) -> bool
     requires homes { HasHomes (S.format table.now) (S.parts table.now) }
     requires whole { IsWhole (S.format table.now) (S.parts table.now) (length out.old) }
     ensures { let F = S.format table.now
@@ -52,7 +53,7 @@ pub(super) fn find_order<S: SlotHomes>(table: &S, out: &mut [usize]) -> bool
 
 // Places slots in their order, as long as each is near its home. None that waits is before it in
 // the probe order of its key then, so that it is ready. Returns how many were placed.
-fn place_near<S: SlotHomes>(table: &S, slots: &mut [usize]) -> usize
+fn place_near<S: TableSlots>(table: &S, slots: &mut [usize]) -> usize
     requires homes { HasHomes (S.format table.now) (S.parts table.now) }
     requires whole { IsWhole (S.format table.now) (S.parts table.now) (length slots.old) }
     requires begun { IsBegun (S.format table.now) (S.parts table.now) slots.old 0 }
@@ -62,7 +63,7 @@ fn place_near<S: SlotHomes>(table: &S, slots: &mut [usize]) -> usize
 {
     for at in 0..slots.len() {
         let slot = slots[at] - WAITING;
-        if !is_near(slot, table.home_of(slot)) {
+        if !is_near(slot, home_of(table, slot)) {
             return at;
         }
         slots[at] = slot;
@@ -75,7 +76,7 @@ fn place_near<S: SlotHomes>(table: &S, slots: &mut [usize]) -> usize
 // It is a call of its own, since it sets the frontiers up, and most tables with few pairs need
 // none.
 #[inline(never)]
-fn place_others<S: SlotHomes>(table: &S, out: &mut [usize], placed: usize) -> bool
+fn place_others<S: TableSlots>(table: &S, out: &mut [usize], placed: usize) -> bool
     requires homes { HasHomes (S.format table.now) (S.parts table.now) }
     requires whole { IsWhole (S.format table.now) (S.parts table.now) (length out.old) }
     requires begun { IsBegun (S.format table.now) (S.parts table.now) out.old placed }
@@ -96,7 +97,7 @@ fn place_others<S: SlotHomes>(table: &S, out: &mut [usize], placed: usize) -> bo
 
 // Goes once through the slots that wait, and places each that is ready by then. At the end the
 // placed slots come first, in slot order, and after them the others. Returns how many were placed.
-fn place_ready<S: SlotHomes>(
+fn place_ready<S: TableSlots>(
     table: &S,
     slots: &mut [usize],
     frontiers: &mut [Frontier; FRONTIERS],
@@ -134,7 +135,7 @@ fn place_ready<S: SlotHomes>(
 // before it begin at its home and end next to it, so that all of them were looked at before in the
 // pass.
 #[inline]
-fn is_ready<S: SlotHomes>(
+fn is_ready<S: TableSlots>(
     table: &S,
     slot: usize,
     left: usize,
@@ -153,7 +154,7 @@ fn is_ready<S: SlotHomes>(
         → HoldsPair P slot p
         → (IsTrue result ↔ IsReady F P (done ++ placed_of slots.now) slot) }
 {
-    let home = table.home_of(slot);
+    let home = home_of(table, slot);
     if is_near(slot, home) {
         left <= home
     } else {

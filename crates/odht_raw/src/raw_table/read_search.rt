@@ -1,7 +1,6 @@
 //! The search in the parts of a table that are read by position, such as those of a file.
 ghost use Rattle.std.specs.Prelude.{◌≡◌, ◌↔◌, ℕ, ◌/◌, ◌<◌, ◌≤◌, List, length, IfErr, IfOk, IsTrue};
 ghost use Rattle.std.specs.Prelude.{IfSome};
-ghost use Rattle.odht_base.specs.Bytes.{bytes_at};
 ghost use Rattle.odht_base.specs.Format.{format_of};
 ghost use Rattle.odht_base.specs.Load.{IsSlotCount};
 ghost use Rattle.odht_raw.specs.Reads.{read_entries, read_groups, read_key};

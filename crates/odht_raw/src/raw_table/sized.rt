@@ -1,25 +1,23 @@
 //! The parts of a table whose lengths of keys and values are numbers, known at run time alone.
 ghost use Rattle.std.specs.Prelude.{◌≡◌, ◌+◌, ◌*◌, ◌^◌, ◌<◌, ◌≤◌, ◌↔◌, All, drop, length};
-ghost use Rattle.std.specs.Prelude.{slice_index, IfOk, IsTrue};
+ghost use Rattle.std.specs.Prelude.{slice_index, IsTrue};
 ghost use Rattle.std.specs.List.{filter_map};
 ghost use Rattle.std.specs.Option.{option_copied};
-ghost use Rattle.std.specs.Result.{result_err};
 ghost use Rattle.odht_base.specs.Decoded.{slot_entry, slot_key, slot_value};
 ghost use Rattle.odht_base.specs.Format.{tag as key_tag};
 ghost use Rattle.odht_base.specs.Load.{IsSlotCount};
 ghost use Rattle.odht_base.specs.SlotWalks.{numbered};
-ghost use Rattle.odht_header.specs.Refusals.{checked, hashes_refusal, hashes_refusal_at};
-ghost use Rattle.odht_raw.specs.Checks.{cells_of, IsSlotHash};
+ghost use Rattle.odht_header.specs.Refusals.{checked, hashes_refusal};
+ghost use Rattle.odht_raw.specs.Checks.{cells_of};
 ghost use Rattle.odht_raw.specs.Finds.{IsFind, IsCountedFind};
 ghost use Rattle.odht_raw.specs.Parts.{entry_format};
 ghost use Rattle.odht_raw.specs.Searches.{IsSearchEnd};
 ghost use Rattle.odht_raw.specs.Sized.{HasLengthsOf, sized_format, sized_parts, IsSized};
 
 use super::group_search::search_keys;
-use super::{
-    EntryMetadata, Scan, Search, SizedIter, SizedSlots, SlotKeys, is_empty_or_deleted, tag_of,
-};
-use crate::bytes::{is_same_word, is_zeros};
+use super::slot_checks::check_hashes;
+use super::{EntryMetadata, Scan, Search, SizedIter, SizedSlots, SlotKeys, tag_of};
+use crate::bytes::is_same_word;
 use crate::error::Error;
 use crate::hash::HashFn;
 use crate::layout::Layout;
@@ -150,6 +148,7 @@ impl<'a, H: HashFn> SizedTable<'a, H> {
     pub fn controls(&self) -> &'a [EntryMetadata]
         ensures value { result.now ≡ self.now.parts.control }
         ensures len { length result.now ≡ self.now.parts.entries.slots + 16 }
+        ensures sized { IsSized H.MIN_LEN self.now }
     {
         self.control
     }
@@ -314,40 +313,7 @@ impl<'a, H: HashFn> SizedTable<'a, H> {
             in result ≡ checked
             (hashes_refusal F self.now.parts.entries.bytes self.now.parts.control slots_to_check) }
     {
-        let slots = slots_to_check.min(self.len());
-        for slot in 0..slots {
-            self.check_slot(slot)?;
-        }
-        Ok(())
-    }
-
-    // What opening checks of one slot. Returns the hash of the key where the slot does not count
-    // as free.
-    #[inline(always)]
-    pub(super) fn check_slot(&self, slot: usize) -> Result<Option<u32>, Error>
-        requires { slot < self.now.parts.entries.slots }
-        ensures err { let F = sized_format self.now H.hash
-            in result_err result
-            ≡ hashes_refusal_at F self.now.parts.entries.bytes self.now.parts.control slot }
-        ensures hash { IfOk result (IsSlotHash (sized_format self.now H.hash) self.now.parts slot) }
-    {
-        let found = self.control(slot);
-        if is_empty_or_deleted(found) {
-            if is_zeros(self.entry(slot)) {
-                return Ok(None);
-            }
-            return Err(Error::NonZeroEmpty { slot });
-        }
-        let hash = H::hash(self.key(slot));
-        let expected = tag_of(hash);
-        if found != expected {
-            return Err(Error::ControlMismatch {
-                slot,
-                expected,
-                found,
-            });
-        }
-        Ok(Some(hash))
+        check_hashes(self, slots_to_check)
     }
 }
 

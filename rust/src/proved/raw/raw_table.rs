@@ -5,6 +5,7 @@
 //! "On the parts of a placed table" is `IsPartsOf` in a clause: control bytes, mirror and entries
 //! are those of such a table.
 
+use self::slot_checks::check_hashes;
 use crate::proved::raw::bytes::ByteArray;
 use crate::proved::raw::error::Error;
 use crate::proved::raw::hash::HashFn;
@@ -33,16 +34,18 @@ mod scan;
 mod search_result;
 mod short_bytes;
 mod sized;
-mod sized_check;
 mod sized_insert;
 mod sized_mut;
 mod sized_walk;
-mod slot_homes;
+mod slot_checks;
 mod slot_keys;
 mod table_mut;
+mod table_slots;
 mod waiting;
 mod walk;
 
+pub(crate) use bound::longer_refusal;
+pub(crate) use check::{check_mirror, check_slots};
 pub use entries::{Entries, Entry};
 pub use first_look::FirstLook;
 pub use group_probe::GroupProbe;
@@ -59,9 +62,9 @@ pub use sized::SizedTable;
 pub(crate) use sized_insert::{sized_insert_at, sized_step_end};
 pub use sized_mut::SizedTableMut;
 pub use sized_walk::{SizedIter, SizedSlots};
-pub(crate) use slot_homes::SlotHomes;
 pub(crate) use slot_keys::SlotKeys;
 pub use table_mut::RawTableMut;
+pub(crate) use table_slots::TableSlots;
 pub use walk::{RawIter, RawSlots};
 
 /// A control byte: the tag of an occupied slot, which is below 128, or `FREE`.
@@ -151,37 +154,6 @@ impl<'a, K: ByteArray, V: ByteArray, H: HashFn> RawTable<'a, K, V, H> {
     /// A mismatch can mean that the bytes were written with another hash function.
     #[inline(always)]
     pub fn sanity_check_hashes(&self, slots_to_check: usize) -> Result<(), Error> {
-        let slots = slots_to_check.min(self.entries.len());
-        for slot in 0..slots {
-            self.check_slot(slot)?;
-        }
-        Ok(())
-    }
-
-    // What opening checks of one slot. Returns the hash of the key where the slot does not count
-    // as free.
-    #[inline(always)]
-    fn check_slot(&self, slot: usize) -> Result<Option<u32>, Error> {
-        if is_empty_or_deleted(index!(self.control[slot])) {
-            let entry = self.entries.get(slot);
-            if entry.key.is_all_zeros() && entry.value.is_all_zeros() {
-                return Ok(None);
-            }
-            return Err(Error::NonZeroEmpty { slot });
-        }
-        Ok(Some(self.check_key(slot)?))
-    }
-
-    // The hash of the key of an occupied slot; `ControlMismatch` where its tag is not the control
-    // byte.
-    #[inline(always)]
-    fn check_key(&self, slot: usize) -> Result<u32, Error> {
-        let hash = H::hash(self.entries.key_bytes_of(slot));
-        let found = index!(self.control[slot]);
-        let expected = tag_of(hash);
-        if found != expected {
-            return Err(Error::ControlMismatch { slot, expected, found });
-        }
-        Ok(hash)
+        check_hashes(self, slots_to_check)
     }
 }

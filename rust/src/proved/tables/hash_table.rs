@@ -147,8 +147,7 @@ impl<C: Config, D: ByteStore> HashTable<C, D> {
     /// The raw table of these bytes. A caller that looks up many keys calls this once.
     #[inline]
     pub fn as_raw(&self) -> RawTable<'_, C::EncodedKey, C::EncodedValue, C::H> {
-        let (control, entries) = self.allocation.data_slices();
-        RawTable::new(control, entries)
+        self.allocation.as_raw()
     }
 }
 

@@ -1,6 +1,6 @@
 //! Inserts into the bytes of a table: the parts are written, and last the item count: by a single
 //! insert where it added an entry, by a list in any case.
-ghost use Rattle.std.specs.Prelude.{◌≡◌, ◌-◌, ◌≤◌, length, IfOk};
+ghost use Rattle.std.specs.Prelude.{◌≡◌, ◌≤◌, length, IfOk};
 ghost use Rattle.odht_base.specs.Table.{Table};
 ghost use Rattle.odht_base.specs.Valid.{IsImage};
 ghost use Rattle.odht_base.specs.Writes.{with_count};

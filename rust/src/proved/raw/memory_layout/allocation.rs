@@ -31,10 +31,7 @@ impl<C: Config, M: ByteStore> Allocation<C, M> {
     #[inline(always)]
     pub fn from_raw_bytes(data: M) -> Result<Self, Error> {
         let allocation = Self::from_raw_bytes_by_header(data)?;
-        let (control, entries) = allocation.data_slices();
-        let table: RawTable<'_, C::EncodedKey, C::EncodedValue, C::H> =
-            RawTable::new(control, entries);
-        table.sanity_check_hashes(SLOTS_TO_CHECK)?;
+        allocation.as_raw().sanity_check_hashes(SLOTS_TO_CHECK)?;
         Ok(allocation)
     }
 
@@ -88,6 +85,13 @@ impl<C: Config, M: ByteStore> Allocation<C, M> {
         let slots = Header::of(bytes).slot_count();
         let control = entry_at::<C>(slots);
         (&index!(bytes[control..]), Entries::new(&index!(bytes[HEADER_SIZE..control]), slots))
+    }
+
+    /// The parts of the table, to be read.
+    #[inline(always)]
+    pub fn as_raw(&self) -> RawTable<'_, C::EncodedKey, C::EncodedValue, C::H> {
+        let (control, entries) = self.data_slices();
+        RawTable::new(control, entries)
     }
 }
 

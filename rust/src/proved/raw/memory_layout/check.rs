@@ -2,10 +2,11 @@
 //! The whole check of the bytes of a table.
 
 use super::allocation::{hold_bytes, Allocation};
+use super::Header;
 use crate::proved::raw::bytes::{Borrowed, ByteStore};
 use crate::proved::raw::config::Config;
 use crate::proved::raw::error::Error;
-use crate::proved::raw::raw_table::RawTable;
+use crate::proved::raw::raw_table::{check_mirror, check_slots, longer_refusal, TableSlots};
 
 /// A bound of searches, in groups, that tables of hashes that vary keep: about twice the longest
 /// search that was seen in random tables of up to 2^24 slots at 95 percent (docs/FORMAT.md, "How
@@ -53,7 +54,7 @@ impl<C: Config, M: ByteStore> Allocation<C, M> {
     /// earlier positions that have its tag.
     pub fn check_rest(&self) -> Result<(), Error> {
         hold_bytes(self.raw_bytes());
-        self.check_late(None)
+        check_late(&self.header(), &self.as_raw(), None)
     }
 
     /// `check_rest` with a bound of searches, as in [`check_all_within`]. Ok exactly for valid
@@ -61,29 +62,30 @@ impl<C: Config, M: ByteStore> Allocation<C, M> {
     /// byte that counts as free.
     pub fn check_rest_within(&self, groups: usize) -> Result<(), Error> {
         hold_bytes(self.raw_bytes());
-        self.check_late(Some(groups))
+        check_late(&self.header(), &self.as_raw(), Some(groups))
     }
+}
 
-    // `check_rest` with a bound of searches, where there is one; its contract gives the first
-    // error alone.
-    fn check_late(&self, groups: Option<usize>) -> Result<(), Error> {
-        let header = self.header();
-        header.check_load_factor()?;
-        header.check_padding()?;
-        let (control, entries) = self.data_slices();
-        let table: RawTable<'_, C::EncodedKey, C::EncodedValue, C::H> =
-            RawTable::new(control, entries);
-        // From control bytes alone, before anything is searched for.
-        let longer = table.longer_refusal(groups);
-        let summary = table.check_slots(longer.is_none())?;
-        table.check_mirror()?;
-        header.check_item_count(summary.occupied)?;
-        if let Some(error) = longer {
-            return Err(error);
-        }
-        match summary.unreachable {
-            Some(slot) => Err(Error::Unreachable { slot }),
-            None => Ok(()),
-        }
+/// What the whole check adds to opening, of a header and the parts behind it, with a bound of
+/// searches where there is one: the first error alone.
+pub(super) fn check_late<S: TableSlots>(
+    header: &Header<'_>,
+    table: &S,
+    groups: Option<usize>,
+) -> Result<(), Error> {
+    header.check_load_factor()?;
+    header.check_padding()?;
+    let control = table.control_bytes();
+    // From control bytes alone, before anything is searched for.
+    let longer = longer_refusal(control, groups);
+    let summary = check_slots(table, longer.is_none())?;
+    check_mirror(control)?;
+    header.check_item_count(summary.occupied)?;
+    if let Some(error) = longer {
+        return Err(error);
+    }
+    match summary.unreachable {
+        Some(slot) => Err(Error::Unreachable { slot }),
+        None => Ok(()),
     }
 }

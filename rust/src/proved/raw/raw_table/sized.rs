@@ -2,10 +2,9 @@
 //! The parts of a table whose lengths of keys and values are numbers, known at run time alone.
 
 use super::group_search::search_keys;
-use super::{
-    is_empty_or_deleted, tag_of, EntryMetadata, Scan, Search, SizedIter, SizedSlots, SlotKeys,
-};
-use crate::proved::raw::bytes::{is_same_word, is_zeros};
+use super::slot_checks::check_hashes;
+use super::{tag_of, EntryMetadata, Scan, Search, SizedIter, SizedSlots, SlotKeys};
+use crate::proved::raw::bytes::is_same_word;
 use crate::proved::raw::error::Error;
 use crate::proved::raw::hash::HashFn;
 use crate::proved::raw::layout::Layout;
@@ -194,30 +193,7 @@ impl<'a, H: HashFn> SizedTable<'a, H> {
     /// A mismatch can mean that the bytes were written with another hash function.
     #[inline(always)]
     pub fn sanity_check_hashes(&self, slots_to_check: usize) -> Result<(), Error> {
-        let slots = slots_to_check.min(self.len());
-        for slot in 0..slots {
-            self.check_slot(slot)?;
-        }
-        Ok(())
-    }
-
-    // What opening checks of one slot. Returns the hash of the key where the slot does not count
-    // as free.
-    #[inline(always)]
-    pub(super) fn check_slot(&self, slot: usize) -> Result<Option<u32>, Error> {
-        let found = self.control(slot);
-        if is_empty_or_deleted(found) {
-            if is_zeros(self.entry(slot)) {
-                return Ok(None);
-            }
-            return Err(Error::NonZeroEmpty { slot });
-        }
-        let hash = H::hash(self.key(slot));
-        let expected = tag_of(hash);
-        if found != expected {
-            return Err(Error::ControlMismatch { slot, expected, found });
-        }
-        Ok(Some(hash))
+        check_hashes(self, slots_to_check)
     }
 }
 

@@ -1,9 +1,11 @@
-use Rattle.std.proofs.Common.{rules, ◌≤◌, Some, ap, sym, subst, option_map}
+use Rattle.std.proofs.Common.{rules, ◌≡◌, ◌∙◌, ◌≤◌, Some, ap, sym, subst, option_map}
 use Rattle.std.specs.Prelude.{IsOk}
 use Rattle.odht_base.specs.Format.{Format, format_of}
 use Rattle.odht_header.specs.declared.error.Error.TheVariants.{SearchTooLong}
+use Rattle.odht_header.specs.Refusals.{checked, late_refusal_by}
 use Rattle.odht_header.proofs.lemmas.FirstErrors.{IsOk-checked, checked-IsOk}
 use Rattle.odht_header.proofs.lemmas.Formats.{IsFormat-format_of}
+use Rattle.odht_raw.specs.Sized.{sized_format}
 use Rattle.odht_raw.proofs.lemmas.WholeChecks.{valid_late, late_valid, longer_refusal-None}
 use Rattle.odht_raw.proofs.memory_layout.sized_check.check_sized_within.Goals as goal
 
@@ -12,9 +14,11 @@ returns-clause-valid g c =
     let F : Format = format_of c.args.layout.key_len c.args.layout.value_len g.H.HashFn.hash in
     let key : c.args.layout.key_len ≤ 255 = search rules in
     let value : c.args.layout.value_len ≤ 255 = search rules in
+    let first : c.check_late.result ≡ checked (late_refusal_by F (Some c.args.groups) c.args.bytes.now) =
+    c.check_late.ensures ∙ (λ i. checked (late_refusal_by (sized_format (c.sized_parts-table.ensures.parts i) g.H.HashFn.hash) (Some c.args.groups) (c.of.ensures i))) in
     let f = IsFormat-format_of _ _ _ _ key value c.requires.hashes g.met.H.HashFn.fits in (
-      λ ok. let late = valid_late F (Some c.args.groups) _ c.hold_bytes.ensures c.requires.accepted (IsOk-checked _ (subst IsOk c.check_late_sized.ensures ok)) in
+      λ ok. let late = valid_late F (Some c.args.groups) _ c.hold_bytes.ensures c.requires.accepted (IsOk-checked _ (subst IsOk first ok)) in
           (late.0, longer_refusal-None _ c.args.groups late.1),
-      λ valid. subst IsOk (sym c.check_late_sized.ensures)
+      λ valid. subst IsOk (sym first)
           (checked-IsOk _ (late_valid F (Some c.args.groups) _ f valid.0 (ap (option_map (λ home. SearchTooLong home c.args.groups)) valid.1))),
     )

@@ -6,10 +6,10 @@ use Rattle.odht_raw.proofs.raw_table.insert_order.place_others.Given as goal
 -- the first slots are placed, and the others wait; the frontiers are those of the others
 abbrev pub invariant-loop-placed : goal.invariant-loop-placed
 invariant-loop-placed g l =
-    let F = g.S.SlotHomes.format l.table in
+    let F = g.S.TableSlots.format l.table in
     record {
-      begun : IsBegun F (g.S.SlotHomes.parts l.table) l.out l.placed;
-      frontiers : AreFrontiers (drop l.placed l.out) (g.S.SlotHomes.parts l.table).entries.slots l.frontiers;
+      begun : IsBegun F (g.S.TableSlots.parts l.table) l.out l.placed;
+      frontiers : AreFrontiers (drop l.placed l.out) (g.S.TableSlots.parts l.table).entries.slots l.frontiers;
     }
 
 abbrev pub decreases-loop-placed : goal.decreases-loop-placed

@@ -25,10 +25,8 @@ returns-in_err-sanity_check_hashes-clause-err g c =
     let B = g.M.ByteStore.bytes c.args.data in
     let is : IsAccepted F B = sym c.from_raw_bytes_by_header.ensures.err ∙ ap result_err c.in_ok-allocation.was in
     let same = ap g.M.ByteStore.bytes c.in_ok-allocation.ensures.ok in
-    let parts = c.data_slices-entries.ensures in
     let slots : c.sanity_check_hashes.result ≡ checked (hashes_refusal F (entries_of F B) (controls_of F B) 10) =
-    c.sanity_check_hashes.ensures ∙ ap (λ (t : TableParts). checked (hashes_refusal F t.entries.bytes t.control 10)) c.new-table.ensures
-    ∙ (λ i. checked (hashes_refusal F (parts.entries i) (parts.control i) 10)) ∙ ap (λ b. checked (hashes_refusal F (entries_of F b) (controls_of F b) 10)) same in
+    c.sanity_check_hashes.ensures ∙ ap (λ (t : TableParts). checked (hashes_refusal F t.entries.bytes t.control 10)) c.as_raw.ensures.bytes ∙ ap (λ b. checked (hashes_refusal F (entries_of F b) (controls_of F b) 10)) same in
     let x = c.in_err-sanity_check_hashes.field-0.0 in
     let refusal : c.from_residual-in_err-sanity_check_hashes.result ≡ Err x = search rules in
     ap result_err refusal ∙ sym (view_refusal-slots F B is ∙ Err-checked _ x (sym c.in_err-sanity_check_hashes.was ∙ slots))
@@ -39,10 +37,8 @@ returns-clause-err g c =
     let B = g.M.ByteStore.bytes c.args.data in
     let is : IsAccepted F B = sym c.from_raw_bytes_by_header.ensures.err ∙ ap result_err c.in_ok-allocation.was in
     let same = ap g.M.ByteStore.bytes c.in_ok-allocation.ensures.ok in
-    let parts = c.data_slices-entries.ensures in
     let slots : c.sanity_check_hashes.result ≡ checked (hashes_refusal F (entries_of F B) (controls_of F B) 10) =
-    c.sanity_check_hashes.ensures ∙ ap (λ (t : TableParts). checked (hashes_refusal F t.entries.bytes t.control 10)) c.new-table.ensures
-    ∙ (λ i. checked (hashes_refusal F (parts.entries i) (parts.control i) 10)) ∙ ap (λ b. checked (hashes_refusal F (entries_of F b) (controls_of F b) 10)) same in
+    c.sanity_check_hashes.ensures ∙ ap (λ (t : TableParts). checked (hashes_refusal F t.entries.bytes t.control 10)) c.as_raw.ensures.bytes ∙ ap (λ b. checked (hashes_refusal F (entries_of F b) (controls_of F b) 10)) same in
     sym (view_refusal-slots F B is ∙ Ok-checked _ (sym c.in_ok-sanity_check_hashes.was ∙ slots))
 
 pub returns-in_err-allocation-clause-valid : goal.returns-in_err-allocation-clause-valid
