@@ -6,20 +6,11 @@ FOLDERS = []
 
 CORE = "crates/odht_tool_core"
 # the crates that go from a shape to its configuration
-OVER_SHAPES = ["odht_tool_tables", "odht_tool_reads", "odht_tool_writes"]
+OVER_SHAPES = ["odht_tool_reads", "odht_tool_writes"]
 MADE = "made of shapes.txt by `make exports`"
 
-# the functions that go from a shape to its configuration, each by its crate and place, with the function that it calls
-# for that
-DISPATCHERS = {
-    ("odht_tool_reads", "commands/get/get_words_of"): "get_words",
-    ("odht_tool_reads", "commands/get/get_lines_of"): "get_lines",
-    ("odht_tool_writes", "commands/delete/keys_of_ready"): "keys_of",
-    ("odht_tool_writes", "commands/delete_lines/keys_of_ready"): "keys_of",
-    ("odht_tool_reads", "positions/shaped/words_of"): "words_typed",
-}
-# those of them without type parameters
-PLAIN = {"commands/delete/keys_of_ready"}
+# the function that goes from a shape to its configuration and has a contract, by its crate and place, and what it calls
+DISPATCHER = ("odht_tool_reads", "commands/get/get_lines_of", "get_lines")
 
 
 def number_part(type_name):
@@ -171,11 +162,10 @@ def answers(shapes, crate, dispatcher, called):
     """What the prover asks for of a function that goes from a shape to its configuration: an answer for each."""
     text = f"-- An answer for each shape: {MADE}.\n"
     text += f"use Rattle.{crate}.proofs.{dispatcher.replace('/', '.')}.Goals as goal\n"
-    given = "c" if dispatcher in PLAIN else "g c"
     for at, shape in enumerate(shapes):
         goal = f"returns-in-{shape.configuration}"
         call = f"c.{called}" if at == 0 else f"c.{called}-in-{shape.configuration}"
-        text += f"\npub {goal} : goal.{goal}\n{goal} {given} = rw c.in-{shape.configuration}.is {call}.ensures\n"
+        text += f"\npub {goal} : goal.{goal}\n{goal} g c = rw c.in-{shape.configuration}.is {call}.ensures\n"
     return text
 
 
@@ -189,6 +179,6 @@ def files(shapes):
     }
     for crate in OVER_SHAPES:
         texts[f"crates/{crate}/src/shapes.rt"] = macro(shapes)
-    for (crate, dispatcher), called in DISPATCHERS.items():
-        texts[f"crates/{crate}/proofs/{dispatcher}/Answers.antt"] = answers(shapes, crate, dispatcher, called)
+    crate, dispatcher, called = DISPATCHER
+    texts[f"crates/{crate}/proofs/{dispatcher}/Answers.antt"] = answers(shapes, crate, dispatcher, called)
     return texts

@@ -1,5 +1,5 @@
 -- The first place of a byte, in lanes and after parts where it is not.
-use Rattle.std.proofs.Common.{◌≡◌, ◌∙◌, ℕ, ◌+◌, ◌-◌, ◌^◌, ◌%◌, ◌<◌, ◌≤◌, ◌≢◌, ◌==◌, Bool, cond, not, All, List, ◌++◌, length, map, replicate, take, drop, get_or, nat_eq, sym, ap, subst, arith, w8, take_all, take-append-drop, eq-eqb, ne_eqb, eqb, length-drop, length-take-le, get_or-take}
+use Rattle.std.proofs.Common.{◌≡◌, ◌∙◌, ℕ, ◌+◌, ◌-◌, ◌^◌, ◌%◌, ◌<◌, ◌≤◌, ◌≢◌, ◌==◌, Bool, true, false, true≢false, refl, cond, not, All, List, ◌++◌, length, map, replicate, take, drop, get_or, nat_eq, sym, ap, subst, arith, w8, take_all, take-append-drop, eq-eqb, ne_eqb, eqb, length-drop, length-take-le, get_or-take}
 use Rattle.std.specs.Io.{StopsAt, IsEmptyOrEndsWith}
 use Rattle.std.specs.List.{prefix_len, position_or_len}
 use Rattle.std.proofs.Transfers.{StopsAt-take}
@@ -40,6 +40,29 @@ module _ (p : ℕ → Bool) (xs : List ℕ) (at : ℕ) where
       let sum : prefix_len q (drop at xs) ≡ length part + prefix_len q rest = sym whole ∙ parts ∙ cond-true (eqb (prefix_len q part) (length part)) (length part + prefix_len q rest) (prefix_len q part) (eq-eqb _ _ full) in
       let behind : prefix_len q rest ≡ prefix_len q (drop (at + 16) xs) = ap (prefix_len q) (drop-drop 16 at xs) in
       omega (arith, h, sum, long, behind)
+
+  -- the place is as far behind the first bytes, where it is not before their end
+  pub place_behind : at ≤ position_or_len p xs → position_or_len p xs ≡ at + position_or_len p (drop at xs)
+  place_behind behind = go (eqb (prefix_len q front) (length front)) refl
+    where
+      q : ℕ → Bool
+      q x = not (p x)
+
+      front : List ℕ
+      front = take at xs
+
+      long : length front ≡ at
+      long = length-take-le at xs (omega (arith, behind, prefix_len-le-length q xs))
+
+      parts : prefix_len q xs ≡ cond (eqb (prefix_len q front) (length front)) (length front + prefix_len q (drop at xs)) (prefix_len q front)
+      parts = sym (ap (prefix_len q) (take-append-drop at xs)) ∙ prefix_len-append q front (drop at xs)
+
+      go : (b : Bool) → eqb (prefix_len q front) (length front) ≡ b → prefix_len q xs ≡ at + prefix_len q (drop at xs)
+      go true e = parts ∙ cond-true _ (length front + prefix_len q (drop at xs)) (prefix_len q front) e ∙ ap (λ n. n + prefix_len q (drop at xs)) long
+      go false e =
+          let short : prefix_len q xs ≡ prefix_len q front = parts ∙ cond-false _ (length front + prefix_len q (drop at xs)) (prefix_len q front) e in
+          let same : prefix_len q front ≡ length front = omega (arith, short, behind, long, prefix_len-le-length q front) in
+          absurd (true≢false (sym (eq-eqb _ _ same) ∙ e))
 
 -- the bytes through the first line feed
 pub through_place : (shown : List ℕ) (place : ℕ) → place ≡ position_or_len (λ x. x == 10) shown → place < length shown → StopsAt (take (place + 1) shown) 10 × IsEmptyOrEndsWith (take (place + 1) shown) 10

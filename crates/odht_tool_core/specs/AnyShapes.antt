@@ -1,11 +1,12 @@
 -- The shape of a table of any sizes: a ready one, or the types of keys and values and the hash function.
---     other_format o       the format of the tables of the shape o, which is no ready one
+--     other_format o       the format of the tables of the types o
 --     HasLongKeys s        the keys of s, where it is no ready shape, are long enough for its hash function
 --     any_key s            the type of its keys
 --     any_value s          that of its values
 --     any_format s         the format of its tables
 --     any_hash s           its hash function
---     other_coding o       how the tables of the shape o, which is no ready one, have keys and values: bytes as they are
+--     types_of s           the types of its keys and values, and its hash function
+--     other_coding o       how tables of the types o have keys and values: bytes as they are
 --     other_of p q h       the shape of keys of the type p and values of the type q, and of the hash function h; or the
 --                          failure that it needs longer keys
 --     any_of_sizes p q h   the first ready shape of the lengths of these types and of the hash function h, where one is named;
@@ -71,6 +72,9 @@ any_format (Other o) = other_format o
 abbrev pub any_hash : AnyShape → Hash
 any_hash (Ready s) = shape_hash s
 any_hash (Other o) = o.hash
+
+abbrev pub types_of : AnyShape → OtherShape
+types_of s = record { key = any_key s; value = any_value s; hash = any_hash s }
 
 abbrev pub other_coding : OtherShape → Coding (List ℕ) (List ℕ)
 other_coding o = bytes_coding (other_format o)

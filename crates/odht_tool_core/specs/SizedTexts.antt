@@ -4,8 +4,7 @@
 --     StandsForSized f w b     it is that of the bytes b, of which there are as many as the type has
 --     IsSizedOf f w b      the word w is a text, and that of the bytes b
 --     sized_wanted f       what is wanted of such a text: nothing of no bytes
---     sized_forms o fs     the forms of stored bytes of the shape o, which is no ready one, whose keys and values are written
---                          in the forms fs
+--     sized_forms o fs     the forms of stored bytes of the types o that are written in the forms fs
 use Rattle.std.specs.Prelude.{◌≡◌, ℕ, ◌==◌, List, length, if◌then◌else◌}
 use Rattle.odht_tool_core.specs.Forms.{bytes_form, form_in, part_in}
 use Rattle.odht_tool_core.specs.Keys.{IsReadAs}

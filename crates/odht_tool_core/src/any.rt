@@ -3,6 +3,7 @@
 ghost use Rattle.std.specs.Prelude.{◌≡◌, ◌≤◌, IfOk, IfSome, IsFalse, is_some, length};
 ghost use Rattle.odht_tool_core.specs.AnyShapes.{HasLongKeys, any_of_kinds, any_of_sizes, other_of};
 ghost use Rattle.odht_tool_core.specs.AnyShapes.{any_hash, any_key, any_value, kind_of_size};
+ghost use Rattle.odht_tool_core.specs.AnyShapes.{types_of};
 ghost use Rattle.odht_tool_core.specs.AnyShapes.{named_any, read_any, with_kinds, with_ready_forms};
 ghost use Rattle.odht_tool_core.specs.InfoNumbers.{least_key_len};
 ghost use Rattle.odht_tool_core.specs.ReadAs.{form_for};
@@ -16,7 +17,8 @@ use crate::shapes::{Hash, Part, Shape};
 use crate::stored::least_key_size;
 use odht_header::header::{HEADER_SIZE, Header};
 
-/// Keys and values of these types, which no ready shape has, and the hash function.
+/// The types of keys and values, and the hash function: those of a table of any shape, or a shape
+/// that is no ready one.
 #[derive(Clone, Copy)]
 pub struct OtherShape {
     /// The type of keys: bytes, where nothing else is said.
@@ -64,6 +66,17 @@ impl AnyShape {
         match self {
             AnyShape::Ready(shape) => shape.value(),
             AnyShape::Other(other) => other.value,
+        }
+    }
+
+    /// Its types and its hash function.
+    pub fn types(self) -> OtherShape
+        ensures { result ≡ types_of self }
+    {
+        OtherShape {
+            key: self.key(),
+            value: self.value(),
+            hash: self.hash(),
         }
     }
 

@@ -240,7 +240,7 @@ impl Forms for LineForms {
 }
 
 impl GivenForms {
-    /// The forms of stored bytes of another shape, whose keys and values are written in these.
+    /// The forms of stored bytes of these types that are written in these forms.
     pub fn of(self, shape: OtherShape) -> GivenForms
         ensures { result ≡ sized_forms shape self }
     {

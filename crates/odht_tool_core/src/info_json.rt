@@ -1,7 +1,7 @@
 //! `odht info --json`: the numbers of a table file as an object of JSON.
 ghost use Rattle.std.specs.Prelude.{◌≡◌, ◌∷◌, OnOk, codes, length};
 ghost use Rattle.std.specs.Io.KnownBytes.{Appends};
-ghost use Rattle.odht_tool_core.specs.InfoJson.{at_fields, advice_fields, count_fields, group_fields};
+ghost use Rattle.odht_tool_core.specs.InfoJson.{count_fields, group_fields};
 ghost use Rattle.odht_tool_core.specs.InfoJson.{hash_fields, info_object, length_fields, longest_hit};
 ghost use Rattle.odht_tool_core.specs.InfoJson.{hash_or_null};
 ghost use Rattle.odht_tool_core.specs.Json.{json_field, more_fields};

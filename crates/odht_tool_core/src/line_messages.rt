@@ -1,7 +1,5 @@
 //! What is said of a line of standard input of which no pair is inserted.
 ghost use Rattle.std.specs.Prelude.{◌≡◌, IfOk, Some, string_bytes};
-ghost use Rattle.std.specs.Fmt.{WritesOnOk};
-ghost use Rattle.odht_tool_core.specs.Misreads.{place_text};
 ghost use Rattle.odht_tool_core.specs.PairLines.{line_text, no_delimiter_text, repeated_text};
 ghost use Rattle.odht_tool_core.specs.PairLines.{earlier_text};
 

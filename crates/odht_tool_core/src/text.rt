@@ -1,14 +1,13 @@
 //! Keys and values as text: a number in decimal digits, with a sign or without, bytes in
 //! hexadecimal digits or as plain text, and nothing at all.
-ghost use Rattle.std.specs.Prelude.{◌≡◌, ◌↔◌, ◌<◌, ◌≤◌, ◌*◌, ◌%◌, ◌^◌, ℕ};
+ghost use Rattle.std.specs.Prelude.{◌≡◌, ◌↔◌, ◌<◌, ◌≤◌, ◌*◌, ◌%◌, ℕ};
 ghost use Rattle.std.specs.Prelude.{List, [], length, take, max, slice_index, Some};
 ghost use Rattle.std.specs.Prelude.{IfErr, IfSome, IsFalse, IsNone, IsOk, IsSome, IsTrue, OnOk};
-ghost use Rattle.std.specs.Prelude.{decimal, false};
+ghost use Rattle.std.specs.Prelude.{false};
 ghost use Rattle.std.specs.Char.{is_ascii_hexdigit, to_ascii_lowercase};
 ghost use Rattle.std.specs.Fmt.{digit_glyph};
 ghost use Rattle.std.specs.List.{AllPass};
 ghost use Rattle.std.specs.Io.KnownBytes.{Appends};
-ghost use Rattle.std.specs.Str.Parse.{digits_value};
 ghost use Rattle.odht_tool_core.specs.Digits.{IsValueOf};
 ghost use Rattle.std.specs.Int.{w32, w64};
 ghost use Rattle.odht_tool_core.specs.Forms.{number_text, IsNumberText, StandsForNumber};
@@ -17,7 +16,7 @@ ghost use Rattle.odht_tool_core.specs.Json.{is_simple};
 ghost use Rattle.odht_tool_core.specs.Misreads.{IsWanted, bytes_wanted, number_wanted};
 ghost use Rattle.odht_tool_core.specs.declared.misread.Wanted.{Wanted};
 ghost use Rattle.odht_tool_core.specs.declared.misread.Wanted.TheVariants.{Nothing, U32, U64, I32, I64};
-ghost use Rattle.odht_tool_core.specs.Texts.{IsNumberWord, IsHexWord, WritesBytes, hex_text};
+ghost use Rattle.odht_tool_core.specs.Texts.{IsHexWord, WritesBytes, hex_text};
 
 use crate::digits::{parse_number, write_number};
 use crate::forms::Form;

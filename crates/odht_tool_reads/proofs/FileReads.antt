@@ -39,13 +39,13 @@ use Rattle.odht.specs.Files.{table_place}
 use Rattle.odht_raw.specs.declared.raw_table.read_search.ReadPlace.{ReadPlace}
 use Rattle.std.specs.Io.KnownBytes.{Keeps}
 use Rattle.std.specs.Prelude.{Result, Err, MatchResult}
-use Rattle.odht_tool_core.specs.AnyShapes.{any_formed, read_any}
+use Rattle.odht_tool_core.specs.AnyShapes.{any_formed, read_any, types_of}
 use Rattle.odht_tool_core.specs.declared.any.AnyShape.{AnyShape}
 use Rattle.odht_tool_core.specs.declared.failure.Failure.{Failure}
 use Rattle.odht_tool_core.specs.declared.forms.GivenForms.{GivenForms}
 use Rattle.odht_tool_core.specs.declared.forms.Kinds.{Kinds}
 use Rattle.odht_tool_core.specs.declared.status.Status.{Status}
-use Rattle.odht_tool_reads.specs.Gets.{AreFileWordsGot, words_of_any, words_of_forms}
+use Rattle.odht_tool_reads.specs.Gets.{AreFileWordsGot, words_of_types, words_of_forms}
 use Rattle.odht_tool_reads.proofs.Shaped.{with_shape_said}
 use Rattle.odht_tool_reads.specs.Positions.{ByPosition, IsAnsweredBy, IsTableIn, IsNamed, IsStartOf, slots_parts}
 use Rattle.odht_tool_reads.specs.declared.positions.Start.{Start}
@@ -201,11 +201,11 @@ counted_none B start is long e = sym (counted B start is long) ∙ e
 -- with this shape the words are those of a named hash function
 pub named_words : (B : List ℕ) (start : Start) → IsStartOf B start → 32 ≤ start.len → (h name : Option Hash) (ks : Kinds) (j : Bool) (ws : List (List ℕ)) (old new : Option (List ℕ))
     (x : AnyShape × GivenForms) → IsNamed (bytes_at B start.at start.len) h name → Ok x ≡ read_any start.header name ks
-    → (r : Result (Option Status) Failure) → ByPosition old new (λ r. words_of_any (x.1.key, x.1.value) j (bytes_at B start.at start.len) ws old new r x.0) r
+    → (r : Result (Option Status) Failure) → ByPosition old new (λ r. words_of_types (x.1.key, x.1.value) j (bytes_at B start.at start.len) ws old new r (types_of x.0)) r
     → ByPosition old new (IsAnsweredBy (bytes_at B start.at start.len) h ks j ws old new) r
 named_words B start is long h name ks j ws old new x named found r said = go r said
   where
-    answered : (r : Result Status Failure) → words_of_any (x.1.key, x.1.value) j (bytes_at B start.at start.len) ws old new r x.0 → IsAnsweredBy (bytes_at B start.at start.len) h ks j ws old new r
+    answered : (r : Result Status Failure) → words_of_types (x.1.key, x.1.value) j (bytes_at B start.at start.len) ws old new r (types_of x.0) → IsAnsweredBy (bytes_at B start.at start.len) h ks j ws old new r
     answered r w = record {
       named = name;
       is = named;
@@ -214,7 +214,7 @@ named_words B start is long h name ks j ws old new x named found r said = go r s
           (found ∙ ap (any_formed ks) (found_same (bytes_at B start.at start.len) start.header (started_long B start is long) (started B start is long) h name named)) w;
     }
 
-    go : (r : Result (Option Status) Failure) → ByPosition old new (λ r. words_of_any (x.1.key, x.1.value) j (bytes_at B start.at start.len) ws old new r x.0) r
+    go : (r : Result (Option Status) Failure) → ByPosition old new (λ r. words_of_types (x.1.key, x.1.value) j (bytes_at B start.at start.len) ws old new r (types_of x.0)) r
         → ByPosition old new (IsAnsweredBy (bytes_at B start.at start.len) h ks j ws old new) r
     go (Ok None) w = w
     go (Ok (Some s)) w = answered (Ok s) w

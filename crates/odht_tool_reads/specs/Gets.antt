@@ -5,10 +5,8 @@
 --     IsAnswered c l R B ws old new status the answers to the words ws were written, which took the writer from the bytes
 --                          old to new; l is the line of a key and its value
 --     AreWordsGot c l R p B ws old new r   what `get` returns, r, and writes for the words ws, where p is wanted of keys
---     words_of_shape fs j B ws old new r s the same of bytes of the shape s in the forms fs of keys and of values, with j as
+--     words_of_types fs j B ws old new r o the same of bytes of the types o in the forms fs of keys and of values, with j as
 --                          objects of JSON
---     words_of_other fs j B ws old new r o the same of bytes of the shape o, which is no ready one
---     words_of_any fs j B ws old new r s   the same of any shape
 --     AreFileWordsGot B h ks j ws old new r    the same of the bytes of a file, where the hash function h, or none, is named,
 --                          and ks is said of keys and values
 use Rattle.std.specs.Prelude.{◌≡◌, Bool, ℕ, List, length, map, is_some, Option, Some, None, Result, Ok, Err, MatchResult}
@@ -21,15 +19,11 @@ use Rattle.odht_header.specs.Coding.{Coding, value_for}
 use Rattle.odht_header.specs.Refusals.{view_refusal}
 use Rattle.odht_tool_core.specs.JsonAnswers.{answer_in}
 use Rattle.odht_tool_core.specs.Keys.{TellsFault}
-use Rattle.odht_tool_core.specs.AnyShapes.{read_any, other_coding}
-use Rattle.odht_tool_core.specs.ReadyShapes.{typed_text, shape_coding}
-use Rattle.odht_tool_core.specs.ShapeList.{key_part, value_part}
-use Rattle.odht_tool_core.specs.Misreads.{typed_wanted}
+use Rattle.odht_tool_core.specs.AnyShapes.{read_any, other_coding, types_of}
 use Rattle.odht_tool_core.specs.Forms.{bytes_form}
 use Rattle.odht_tool_core.specs.SizedTexts.{IsSizedOf, sized_text, sized_wanted}
 use Rattle.odht_tool_core.specs.Texts.{answers_by}
 use Rattle.odht_tool_core.specs.declared.any.AnyShape.{AnyShape}
-use Rattle.odht_tool_core.specs.declared.any.AnyShape.TheVariants.{Ready, Other}
 use Rattle.odht_tool_core.specs.declared.any.OtherShape.{OtherShape}
 use Rattle.odht_tool_core.specs.declared.failure.Failure.{Failure}
 use Rattle.odht_tool_core.specs.declared.failure.Failure.TheVariants.{Refused, Output, Memory, Misread}
@@ -38,9 +32,8 @@ use Rattle.odht_tool_core.specs.declared.forms.GivenForms.{GivenForms}
 use Rattle.odht_tool_core.specs.declared.forms.Kinds.{Kinds}
 use Rattle.odht_tool_core.specs.declared.misread.Wanted.{Wanted}
 use Rattle.odht_tool_core.specs.declared.shapes.Hash.{Hash}
-use Rattle.odht_tool_core.specs.declared.shapes.ready.Shape.{Shape}
 use Rattle.odht_tool_core.specs.declared.status.Status.{Status}
-use Rattle.odht_tool_tables.specs.KeyTexts.{IsTextOf, found_status}
+use Rattle.odht_tool_tables.specs.KeyTexts.{found_status}
 
 pub record AreAnswers {K V : Type 0} (c : Coding K V) (B : List ℕ) (ks : List K) (os : List (Option V)) : Type 0 where
   pub each : length os ≡ length ks
@@ -69,26 +62,17 @@ module _ {K V : Type 0} (c : Coding K V) (l : K × Option V → List ℕ) (R : L
   AreWordsGot ws old new (Err _) = ⊥
 
 -- ---- of a file
-abbrev pub words_of_shape : Form × Form → Bool → List ℕ → List (List ℕ) → Option (List ℕ) → Option (List ℕ) → Result Status Failure → Shape → Type 0
-words_of_shape fs j B ws old new r s =
-    let k = key_part s in
-    AreWordsGot (shape_coding s) (answer_in j (typed_text fs.0 k) (typed_text fs.1 (value_part s))) (IsTextOf fs.0 k) (typed_wanted fs.0 k) B ws old new r
-
-abbrev pub words_of_other : Form × Form → Bool → List ℕ → List (List ℕ) → Option (List ℕ) → Option (List ℕ) → Result Status Failure → OtherShape → Type 0
-words_of_other fs j B ws old new r o =
+abbrev pub words_of_types : Form × Form → Bool → List ℕ → List (List ℕ) → Option (List ℕ) → Option (List ℕ) → Result Status Failure → OtherShape → Type 0
+words_of_types fs j B ws old new r o =
     let k = bytes_form fs.0 o.key in
     AreWordsGot (other_coding o) (answer_in j (sized_text k) (sized_text (bytes_form fs.1 o.value))) (IsSizedOf k) (sized_wanted k) B ws old new r
-
-abbrev pub words_of_any : Form × Form → Bool → List ℕ → List (List ℕ) → Option (List ℕ) → Option (List ℕ) → Result Status Failure → AnyShape → Type 0
-words_of_any fs j B ws old new r (Ready s) = words_of_shape fs j B ws old new r s
-words_of_any fs j B ws old new r (Other o) = words_of_other fs j B ws old new r o
 
 -- with no shape there is its failure
 abbrev pub by_shape : List ℕ → Option Hash → Kinds → Option (List ℕ) → Option (List ℕ) → Result Status Failure → (AnyShape × GivenForms → Type 0) → Type 0
 by_shape B h ks old new r P = MatchResult (read_any B h ks) P (λ failure. (r ≡ Err failure) × Keeps old new)
 
 abbrev pub words_of_forms : Bool → List ℕ → List (List ℕ) → Option (List ℕ) → Option (List ℕ) → Result Status Failure → AnyShape × GivenForms → Type 0
-words_of_forms j B ws old new r x = words_of_any (x.1.key, x.1.value) j B ws old new r x.0
+words_of_forms j B ws old new r x = words_of_types (x.1.key, x.1.value) j B ws old new r (types_of x.0)
 
 abbrev pub AreFileWordsGot : List ℕ → Option Hash → Kinds → Bool → List (List ℕ) → Option (List ℕ) → Option (List ℕ) → Result Status Failure → Type 0
 AreFileWordsGot B h ks j ws old new r = by_shape B h ks old new r (words_of_forms j B ws old new r)

@@ -4,6 +4,5 @@
 
 pub mod checks;
 pub mod files;
-mod shapes;
 pub mod sized;
 pub mod whole;

@@ -6,8 +6,6 @@ ghost use Rattle.odht_base.specs.Decoded.{decoded_pairs};
 ghost use Rattle.odht_base.specs.Format.{format_of};
 ghost use Rattle.odht_base.specs.Valid.{IsValidBytes};
 ghost use Rattle.odht_header.specs.Refusals.{checked, check_refusal_by, view_refusal};
-ghost use Rattle.odht_tool_core.specs.AnyShapes.{other_format};
-ghost use Rattle.odht_tool_core.specs.InfoNumbers.{least_key_len};
 ghost use Rattle.odht_tool_core.specs.ReadyShapes.{typed_len};
 ghost use Rattle.odht_tool_tables.specs.Openings.{FitTexts, IsOpenFailure};
 
@@ -16,22 +14,9 @@ use odht::dynamic::{DynTable, Layout};
 use odht::error::Error;
 use odht::hash::HashFn;
 use odht::memory_layout::{check_opening, check_sized, check_sized_within};
-use odht::{FxHashFn, UnHashFn};
-use odht_tool_core::any::OtherShape;
 use odht_tool_core::failure::Failure;
-use odht_tool_core::shapes::{Hash, Part};
+use odht_tool_core::shapes::Part;
 use odht_tool_core::typed::Texts;
-
-/// The lengths of a shape.
-pub fn layout_of(shape: OtherShape) -> Layout
-    ensures key { result.key_len ≡ typed_len shape.key }
-    ensures value { result.value_len ≡ typed_len shape.value }
-{
-    Layout {
-        key_len: shape.key.size(),
-        value_len: shape.value.size(),
-    }
-}
 
 /// The lengths of keys and values of these types.
 pub fn lengths_of(key: Part, value: Part) -> Layout
@@ -44,21 +29,8 @@ pub fn lengths_of(key: Part, value: Part) -> Layout
     }
 }
 
-/// The first rule that the bytes break, as a table of this shape, the bound of searches among them
-/// where there is one. Bytes without an error are valid.
-pub fn check_other(shape: OtherShape, bytes: &[u8], bound: Option<usize>) -> Result<(), Error>
-    requires { least_key_len shape.hash ≤ typed_len shape.key }
-    ensures first { result ≡ checked (check_refusal_by (other_format shape) bound bytes.now) }
-    ensures valid { OnOk result (IsValidBytes (other_format shape) bytes.now) }
-{
-    let layout = layout_of(shape);
-    match shape.hash {
-        Hash::Fx => check_lengths::<FxHashFn>(layout, bytes, bound),
-        Hash::Unhash => check_lengths::<UnHashFn>(layout, bytes, bound),
-    }
-}
-
-/// The same of these lengths and of a hash function.
+/// The first rule that the bytes break, as a table of these lengths and of a hash function, the
+/// bound of searches among them where there is one. Bytes without an error are valid.
 pub fn check_lengths<H: HashFn>(
     layout: Layout,
     bytes: &[u8],
@@ -105,9 +77,6 @@ pub fn open_valid<H: HashFn>(texts: Texts, bytes: &[u8]) -> DynTable<H, Borrowed
     ensures pairs { let F = format_of (typed_len texts.key) (typed_len texts.value) H.hash
         in decoded_pairs (dyn_format result H.hash) result.store.0.now ≡ decoded_pairs F bytes.now }
 {
-    let layout = Layout {
-        key_len: texts.key.size(),
-        value_len: texts.value.size(),
-    };
+    let layout = lengths_of(texts.key, texts.value);
     DynTable::open_unchecked(layout, Borrowed::new(bytes))
 }

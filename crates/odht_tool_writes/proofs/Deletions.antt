@@ -1,8 +1,6 @@
 -- The tables that `delete` makes.
-use Rattle.std.proofs.Common.{◌≡◌, ◌≤◌, ◌∙◌, ◌++◌, ◌||◌, ℕ, suc, Bool, true, false, cond, IsTrue, List, [], ◌∷◌, Option, Some, None, Result, Ok, Err, sym, ap, refl, arith, length, map, subst, bytes_eq, append-nil}
-use Rattle.std.specs.Prelude.{◌↔◌, not, is_some, IfErr, IfOk, IsSome, MatchResult, OnErr}
-use Rattle.std.specs.List.{AllZip}
-use Rattle.std.proofs.lemmas.List.{length-map}
+use Rattle.std.proofs.Common.{◌≡◌, ◌≤◌, ◌∙◌, ◌++◌, ◌||◌, ℕ, suc, Bool, true, false, cond, IsTrue, List, [], ◌∷◌, Option, Some, None, Result, Ok, Err, sym, ap, refl, arith, length, subst, bytes_eq, append-nil}
+use Rattle.std.specs.Prelude.{◌↔◌, not, is_some, IfErr, IsSome, MatchResult, OnErr}
 use Rattle.std.specs.Option.{option_or}
 use Rattle.std.proofs.lemmas.List.Elements.{filter-append}
 use Rattle.odht_base.specs.Format.{Format, format_of}
@@ -23,24 +21,18 @@ use Rattle.odht.specs.Inserts.{IsFresh}
 use Rattle.odht.specs.Lists.{IsAfterInserts}
 use Rattle.odht.proofs.lemmas.ListInserts.{inserted_none}
 use Rattle.odht.proofs.lemmas.NewRefusals.{default_fits}
-use Rattle.odht_tool_writes.specs.Deletes.{AreKeysOf, AreNamed, IsDeleted, IsDeleteFailure, are_keys, cleared, fails_by_words, is_among, is_fault, without}
-use Rattle.odht_tool_tables.specs.KeyTexts.{IsTextOf}
+use Rattle.odht_tool_writes.specs.Deletes.{AreNamed, IsDeleted, IsDeleteFailure, are_keys, cleared, fails_by_words, is_among, is_fault, without}
 use Rattle.odht_tool_writes.specs.Rebuilds.{IsNewFailure}
 use Rattle.odht_tool_core.specs.AnyShapes.{any_format, any_hash, any_key, any_value, read_any}
-use Rattle.odht_tool_core.specs.Keys.{TellsFault}
 use Rattle.odht_tool_core.specs.Forms.{bytes_form}
-use Rattle.odht_tool_core.specs.SizedTexts.{IsSizedOf, sized_wanted}
-use Rattle.odht_tool_core.specs.ReadyShapes.{hash_of, typed_bytes, typed_len}
-use Rattle.odht_tool_core.specs.ShapeList.{key_part}
+use Rattle.odht_tool_core.specs.SizedTexts.{IsSizedOf}
+use Rattle.odht_tool_core.specs.ReadyShapes.{hash_of, typed_len}
 use Rattle.odht_tool_core.specs.declared.any.AnyShape.{AnyShape}
-use Rattle.odht_tool_core.specs.declared.any.AnyShape.TheVariants.{Ready, Other}
-use Rattle.odht_tool_core.specs.declared.any.OtherShape.{OtherShape}
 use Rattle.odht_tool_core.specs.declared.failure.Failure.{Failure}
 use Rattle.odht_tool_core.specs.declared.failure.Failure.TheVariants.{Read, Write, Obstacle, Beside, Refused, ShortKeys, NoHash, OtherKey, OtherValue, PastEnd, Forged, Input, Line, Output, Memory, Misread}
 use Rattle.odht_tool_core.specs.declared.forms.Form.{Form}
 use Rattle.odht_tool_core.specs.declared.forms.GivenForms.{GivenForms}
 use Rattle.odht_tool_core.specs.declared.forms.Kinds.{Kinds}
-use Rattle.odht_tool_core.specs.declared.misread.Wanted.{Wanted}
 use Rattle.odht_tool_core.specs.declared.shapes.Hash.{Hash}
 use Rattle.odht_tool_writes.proofs.AbsentKeys.{is_there}
 use Rattle.odht_tool_tables.proofs.Lines.{AllZip-length}
@@ -193,27 +185,9 @@ memory_alone {X = X} (Err failure) ml F long key value h = go failure h
     go (Misread m) h = absurd h
 
 -- ---- the keys of the words
--- the bytes of keys of which the words are texts
-pub keys_encoded : {K A : Type 0} (items : A → List (List ℕ)) (b : K → List ℕ) (R : List ℕ → K → Type 0) (p : Wanted) (ws : List (List ℕ)) (xs : List K) (r : Result A Failure) → AllZip R ws xs
-    → IfOk r (λ a. items a ≡ map b xs) → OnErr r (r ≡ Err Memory) → MatchResult r (λ a. AreKeysOf b R ws (items a)) (TellsFault R p ws)
-keys_encoded items b R p ws xs (Ok a) texts bytes memory = (xs, texts, bytes)
-keys_encoded {A = A} items b R p ws xs (Err f) texts bytes memory =
-    let is : f ≡ Memory = same_error f memory in
-    subst (TellsFault R p ws) (sym is) tt
-  where
-    same_error : (f : Failure) → ◌≡◌ {A = Result A Failure} (Err f) (Err Memory) → f ≡ Memory
-    same_error f e = cc
-
--- bytes that are read as a type of another shape
-pub keys_of_sized : {A : Type 0} (items : A → List (List ℕ)) (f : Form) (o : OtherShape) (ws : List (List ℕ)) (r : Result A Failure) → IfOk r (λ a. AllZip (IsSizedOf (bytes_form f o.key)) ws (items a))
-    → IfErr r (TellsFault (IsSizedOf (bytes_form f o.key)) (sized_wanted (bytes_form f o.key)) ws) → MatchResult r (λ a. are_keys f ws (Other o) (items a)) (is_fault f ws (Other o))
-keys_of_sized items f o ws (Ok a) keys fault = keys
-keys_of_sized items f o ws (Err e) keys fault = fault
-
 -- there are as many as words
 pub as_many : (f : Form) (ws : List (List ℕ)) (s : AnyShape) (ks : List (List ℕ)) → are_keys f ws s ks → length ws ≡ length ks
-as_many f ws (Ready s) ks are = AllZip-length (IsTextOf f (key_part s)) ws are.0 are.1 ∙ sym (ap length are.2 ∙ length-map are.0 (typed_bytes (key_part s)))
-as_many f ws (Other o) ks are = AllZip-length (IsSizedOf (bytes_form f o.key)) ws ks are
+as_many f ws s ks are = AllZip-length (IsSizedOf (bytes_form f (any_key s))) ws ks are
 
 -- ---- of a file
 -- the format of a shape
@@ -244,8 +218,7 @@ failed_shape B h ks o ws f found =
 
 -- no memory is a failure of keys
 pub no_memory : (f : Form) (ws : List (List ℕ)) (s : AnyShape) → is_fault f ws s Memory
-no_memory f ws (Ready s) = tt
-no_memory f ws (Other o) = tt
+no_memory f ws s = tt
 
 -- what holds of the failure of no memory holds where there is no other
 pub failed_memory : {X : Type 0} (r : Result X Failure) (S : Failure → Type 0) → S Memory → OnErr r (r ≡ Err Memory) → IfErr r S

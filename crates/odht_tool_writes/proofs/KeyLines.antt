@@ -11,7 +11,6 @@ use Rattle.odht_tool_core.specs.InputLines.{AreLeft}
 use Rattle.odht_tool_core.specs.Keys.{IsNoKeyLine}
 use Rattle.odht_tool_core.specs.Misreads.{misread_text}
 use Rattle.odht_tool_core.specs.declared.any.AnyShape.{AnyShape}
-use Rattle.odht_tool_core.specs.declared.any.AnyShape.TheVariants.{Ready, Other}
 use Rattle.odht_tool_core.specs.declared.failure.Failure.{Failure}
 use Rattle.odht_tool_core.specs.declared.failure.Failure.TheVariants.{Memory, Input, Misread}
 use Rattle.odht_tool_core.specs.declared.failure.LineFault.TheVariants.{Key}
@@ -27,8 +26,7 @@ either (Err f) P Q ok err = err
 
 -- the keys are those of these lines as of words
 pub lines_are_keys : (f : Form) (input : Option (List ℕ)) (ws : List (List ℕ)) (s : AnyShape) (ks : List (List ℕ)) → are_lines_keys f input ws s ks → are_keys f ws s ks
-lines_are_keys f input ws (Ready s) ks h = h.0
-lines_are_keys f input ws (Other o) ks h = h.0
+lines_are_keys f input ws s ks h = h.0
 
 -- the next line is no key
 pub no_key : {K : Type 0} (R : List ℕ → K → Type 0) (p : Wanted) (n : ℕ) (old new : Option (List ℕ)) (line : List ℕ) (f : Failure) → IsNoKeyLine R old new line → TellsNumbered p n line f → IsNextFailure R p n old f
@@ -67,7 +65,7 @@ module _ {K : Type 0} (R : List ℕ → K → Type 0) (input : Option (List ℕ)
             (n.0, n.1, r.2 ∙ ap (λ ls. ws ++ ls) n.2 ∙ sym (append_assoc ws (m.line ∷ []) (lines n.0)) ∙ ap (λ w. w ++ lines n.0) (sym m.lines_are))
 
     -- at the end they are all
-    pub all_read : (ws' : List (List ℕ)) (ks' : List K) → IsLinesEnd R now ws ws' ks ks' → AreLinesKeys R (AllZip R) input ws' ks'
+    pub all_read : (ws' : List (List ℕ)) (ks' : List K) → IsLinesEnd R now ws ws' ks ks' → AreLinesKeys R input ws' ks'
     all_read ws' ks' e = (
       subst (AllZip R ws') (sym e.keys_are) (subst (λ w. AllZip R w ks) (sym e.lines_are) h.texts),
       if_some input _ _ whole h.read,

@@ -1,6 +1,6 @@
 -- What `delete -` makes of the bytes B of a file, and of the lines of an input. R says which line is a text of which key.
---     AreLinesKeys R T o ws ks ws are the lines of an input with the bytes o, where they are known, but that an empty last one
---                          that is a text of no key may be left out; T says that they are texts of the keys ks
+--     AreLinesKeys R o ws ks   ws are the lines of an input with the bytes o, where they are known, but that an empty last one
+--                          that is a text of no key may be left out; and they are texts of the keys ks
 --     are_lines_keys f o ws s ks   the same of keys of the shape s, in the form f
 --     IsFirstNoKey R p bytes t one of the lines of these bytes is the first that is a text of no key, where p is wanted, and no
 --                          empty last one; the text t tells it with its number, counted from 1
@@ -24,18 +24,15 @@ use Rattle.std.specs.List.{AllZip}
 use Rattle.std.specs.Str.Lines.{lines}
 use Rattle.odht_header.specs.Refusals.{check_refusal_by}
 use Rattle.odht_header.specs.declared.error.Error.{Error}
-use Rattle.odht_tool_writes.specs.Deletes.{AreKeysOf, IsDeletedOf}
-use Rattle.odht_tool_tables.specs.KeyTexts.{AreLinesOf, IsTextOf}
-use Rattle.odht_tool_core.specs.AnyShapes.{any_format, read_any}
+use Rattle.odht_tool_writes.specs.Deletes.{IsDeletedOf}
+use Rattle.odht_tool_tables.specs.KeyTexts.{AreLinesOf}
+use Rattle.odht_tool_core.specs.AnyShapes.{any_format, any_key, read_any}
 use Rattle.odht_tool_core.specs.InputLines.{AreLeft, IsNextLine}
 use Rattle.odht_tool_core.specs.Keys.{IsLeftOut, IsTextOfNone}
 use Rattle.odht_tool_core.specs.Forms.{bytes_form}
-use Rattle.odht_tool_core.specs.Misreads.{misread_text, typed_wanted}
-use Rattle.odht_tool_core.specs.ReadyShapes.{typed_bytes}
-use Rattle.odht_tool_core.specs.ShapeList.{key_part}
+use Rattle.odht_tool_core.specs.Misreads.{misread_text}
 use Rattle.odht_tool_core.specs.SizedTexts.{IsSizedOf, sized_wanted}
 use Rattle.odht_tool_core.specs.declared.any.AnyShape.{AnyShape}
-use Rattle.odht_tool_core.specs.declared.any.AnyShape.TheVariants.{Ready, Other}
 use Rattle.odht_tool_core.specs.declared.failure.Failure.{Failure}
 use Rattle.odht_tool_core.specs.declared.failure.Failure.TheVariants.{Input, Memory, Misread, Refused}
 use Rattle.odht_tool_core.specs.declared.failure.LineFault.TheVariants.{Key}
@@ -46,16 +43,11 @@ use Rattle.odht_tool_core.specs.declared.shapes.Hash.{Hash}
 use Rattle.odht_tool_core.specs.declared.status.Status.{Status}
 
 -- ---- the keys of the lines
-abbrev pub AreLinesKeys : {K X : Type 0} → (List ℕ → K → Type 0) → (List (List ℕ) → List X → Type 0) → Option (List ℕ) → List (List ℕ) → List X → Type 0
-AreLinesKeys R T input ws ks = T ws ks × IfSome input (λ bytes. AreLinesOf R bytes ws)
+abbrev pub AreLinesKeys : {K : Type 0} → (List ℕ → K → Type 0) → Option (List ℕ) → List (List ℕ) → List K → Type 0
+AreLinesKeys R input ws ks = AllZip R ws ks × IfSome input (λ bytes. AreLinesOf R bytes ws)
 
 abbrev pub are_lines_keys : Form → Option (List ℕ) → List (List ℕ) → AnyShape → List (List ℕ) → Type 0
-are_lines_keys f input ws (Ready s) ks =
-    let R = IsTextOf f (key_part s) in
-    AreLinesKeys R (AreKeysOf (typed_bytes (key_part s)) R) input ws ks
-are_lines_keys f input ws (Other o) ks =
-    let R = IsSizedOf (bytes_form f o.key) in
-    AreLinesKeys R (AllZip R) input ws ks
+are_lines_keys f input ws s ks = AreLinesKeys (IsSizedOf (bytes_form f (any_key s))) input ws ks
 
 pub record IsFirstNoKey {K : Type 0} (R : List ℕ → K → Type 0) (p : Wanted) (bytes text : List ℕ) : Type 0 where
   pub before : List (List ℕ)
@@ -75,8 +67,9 @@ TellsLine R p input Memory = ⊤
 TellsLine R p input _ = ⊥
 
 abbrev pub is_line_fault : Form → Option (List ℕ) → AnyShape → Failure → Type 0
-is_line_fault f input (Ready s) failure = TellsLine (IsTextOf f (key_part s)) (typed_wanted f (key_part s)) input failure
-is_line_fault f input (Other o) failure = TellsLine (IsSizedOf (bytes_form f o.key)) (sized_wanted (bytes_form f o.key)) input failure
+is_line_fault f input s failure =
+    let k = bytes_form f (any_key s) in
+    TellsLine (IsSizedOf k) (sized_wanted k) input failure
 
 -- ---- of a file
 pub record IsDeletedByLines (B : List ℕ) (h : Option Hash) (ks : Kinds) (o : Option ℕ) (input : Option (List ℕ)) (B' : List ℕ) (status : Status) : Type 0 where

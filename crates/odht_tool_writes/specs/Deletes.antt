@@ -1,7 +1,5 @@
--- What `delete` makes of the bytes B of a file, and of the words ws of the command line, which are keys. R says which word
--- is a text of which key.
---     AreKeysOf b R ws ks  ks are the bytes, by b, of the keys that the words ws are texts of
---     are_keys f ws s ks   the same of the keys of the shape s, in the form f
+-- What `delete` makes of the bytes B of a file, and of the words ws of the command line, which are keys.
+--     are_keys f ws s ks   ks are the bytes of the keys of the shape s that the words ws are texts of, in the form f
 --     is_fault f ws s g    the failure g tells of the first of the words ws that is a text of no key, or there was no memory
 --     is_among ks k        k is one of the keys ks
 --     AreNamed F ks B      B are the bytes of a table that has values for the keys ks alone
@@ -18,7 +16,7 @@
 --                          the bound of searches
 --     IsDeleteFailure B h ks o ws f   f is the failure of the shape, or else the first rule that B breaks, or else tells of
 --                          the first word that is no key, or that there was no memory
-use Rattle.std.specs.Prelude.{◌≡◌, ℕ, Bool, not, List, [], ◌∷◌, ◌++◌, map, filter, is_some, bytes_eq, Option, None, Some, Ok, MatchResult, if◌then◌else◌}
+use Rattle.std.specs.Prelude.{◌≡◌, ℕ, Bool, not, List, [], ◌∷◌, ◌++◌, filter, is_some, bytes_eq, Option, None, Some, Ok, MatchResult, if◌then◌else◌}
 use Rattle.std.specs.List.{AllZip, list_all, list_any}
 use Rattle.odht_base.specs.Format.{Format}
 use Rattle.odht_base.specs.Insert.{insert_owned}
@@ -28,16 +26,13 @@ use Rattle.odht_base.specs.Valid.{IsImage}
 use Rattle.odht_header.specs.Refusals.{check_refusal_by}
 use Rattle.odht_header.specs.declared.error.Error.{Error}
 use Rattle.odht.specs.Lists.{HasSizeOf, IsAfterInserts}
-use Rattle.odht_tool_tables.specs.KeyTexts.{IsTextOf, found_status}
-use Rattle.odht_tool_core.specs.AnyShapes.{any_format, read_any}
+use Rattle.odht_tool_tables.specs.KeyTexts.{found_status}
+use Rattle.odht_tool_core.specs.AnyShapes.{any_format, any_key, read_any}
 use Rattle.odht_tool_core.specs.Forms.{bytes_form}
 use Rattle.odht_tool_core.specs.Keys.{TellsFault}
-use Rattle.odht_tool_core.specs.Misreads.{absent_line, typed_wanted}
-use Rattle.odht_tool_core.specs.ReadyShapes.{typed_bytes}
-use Rattle.odht_tool_core.specs.ShapeList.{key_part}
+use Rattle.odht_tool_core.specs.Misreads.{absent_line}
 use Rattle.odht_tool_core.specs.SizedTexts.{IsSizedOf, sized_wanted}
 use Rattle.odht_tool_core.specs.declared.any.AnyShape.{AnyShape}
-use Rattle.odht_tool_core.specs.declared.any.AnyShape.TheVariants.{Ready, Other}
 use Rattle.odht_tool_core.specs.declared.failure.Failure.{Failure}
 use Rattle.odht_tool_core.specs.declared.failure.Failure.TheVariants.{Refused}
 use Rattle.odht_tool_core.specs.declared.forms.Form.{Form}
@@ -47,16 +42,13 @@ use Rattle.odht_tool_core.specs.declared.shapes.Hash.{Hash}
 use Rattle.odht_tool_core.specs.declared.status.Status.{Status}
 
 -- ---- the keys of the words
-abbrev pub AreKeysOf : {K : Type 0} → (K → List ℕ) → (List ℕ → K → Type 0) → List (List ℕ) → List (List ℕ) → Type 0
-AreKeysOf {K = K} b R ws ks = (xs : List K) × AllZip R ws xs × (ks ≡ map b xs)
-
 abbrev pub are_keys : Form → List (List ℕ) → AnyShape → List (List ℕ) → Type 0
-are_keys f ws (Ready s) ks = AreKeysOf (typed_bytes (key_part s)) (IsTextOf f (key_part s)) ws ks
-are_keys f ws (Other o) ks = AllZip (IsSizedOf (bytes_form f o.key)) ws ks
+are_keys f ws s ks = AllZip (IsSizedOf (bytes_form f (any_key s))) ws ks
 
 abbrev pub is_fault : Form → List (List ℕ) → AnyShape → Failure → Type 0
-is_fault f ws (Ready s) failure = TellsFault (IsTextOf f (key_part s)) (typed_wanted f (key_part s)) ws failure
-is_fault f ws (Other o) failure = TellsFault (IsSizedOf (bytes_form f o.key)) (sized_wanted (bytes_form f o.key)) ws failure
+is_fault f ws s failure =
+    let k = bytes_form f (any_key s) in
+    TellsFault (IsSizedOf k) (sized_wanted k) ws failure
 
 -- ---- the new table
 abbrev pub is_among : List (List ℕ) → List ℕ → Bool

@@ -1,5 +1,5 @@
 //! Pairs as objects of JSON, each on a line.
-ghost use Rattle.std.specs.Prelude.{◌≡◌, ◌∷◌, OnOk, length};
+ghost use Rattle.std.specs.Prelude.{◌≡◌, OnOk, length};
 ghost use Rattle.std.specs.Io.KnownBytes.{Appends};
 ghost use Rattle.odht_tool_core.specs.Json.{json_field, pair_fields_text, pair_object, text_field};
 ghost use Rattle.odht_tool_core.specs.ReadyShapes.{typed_len};

@@ -5,8 +5,8 @@ use Rattle.odht_header.specs.Refusals.{view_refusal}
 use Rattle.odht_header.proofs.examples.Apart.{unequal_lists}
 use Rattle.odht_header.proofs.examples.Opened.{opened}
 use Rattle.odht_tool_reads.specs.GetLines.{lines_of_any, lines_of_other}
-use Rattle.odht_tool_reads.specs.Gets.{answered_status, words_of_any, words_of_other, words_of_shape}
-use Rattle.odht_tool_core.specs.AnyShapes.{other_format}
+use Rattle.odht_tool_reads.specs.Gets.{answered_status, words_of_types}
+use Rattle.odht_tool_core.specs.AnyShapes.{other_format, types_of}
 use Rattle.odht_tool_core.specs.ReadyShapes.{shape_format}
 use Rattle.odht_tool_core.specs.declared.any.AnyShape.TheVariants.{Ready, Other}
 use Rattle.odht_tool_core.specs.declared.forms.Form.TheVariants.{Own}
@@ -29,10 +29,10 @@ unfolding opened
 no_refusal = refl
 
 -- so without memory nothing is written, and no error of opening is returned
-pub no_memory : words_of_shape (Own, Own) false one_bytes (codes "5" ∷ []) (Some (codes "a")) (Some (codes "a")) (Err Memory) DirectU32ToU32
+pub no_memory : words_of_types (Own, Own) false one_bytes (codes "5" ∷ []) (Some (codes "a")) (Some (codes "a")) (Err Memory) (types_of (Ready DirectU32ToU32))
 no_memory = (no_refusal, refl)
 
-pub written_without_memory : words_of_shape (Own, Own) false one_bytes (codes "5" ∷ []) (Some (codes "a")) (Some (codes "ab")) (Err Memory) DirectU32ToU32 → ⊥
+pub written_without_memory : words_of_types (Own, Own) false one_bytes (codes "5" ∷ []) (Some (codes "a")) (Some (codes "ab")) (Err Memory) (types_of (Ready DirectU32ToU32)) → ⊥
 written_without_memory h = unequal_lists (codes "ab") (codes "a") refl h.1
 
 -- ---- of other sizes
@@ -42,15 +42,10 @@ unfolding opened
 other_opens = refl
 
 -- so without memory nothing is written, for words as for lines
-pub other_without_memory : words_of_other (Own, Own) false other_bytes (codes "5" ∷ []) (Some (codes "a")) (Some (codes "a")) (Err Memory) (other 6 2 Unhash)
-    × words_of_any (Own, Own) false other_bytes (codes "5" ∷ []) (Some (codes "a")) (Some (codes "a")) (Err Memory) (Other (other 6 2 Unhash))
+pub other_without_memory : words_of_types (Own, Own) false other_bytes (codes "5" ∷ []) (Some (codes "a")) (Some (codes "a")) (Err Memory) (other 6 2 Unhash)
     × lines_of_other (Own, Own) false other_bytes None (Some (codes "a")) (Some (codes "a")) (Err Memory) (other 6 2 Unhash)
     × lines_of_any (Own, Own) false other_bytes None (Some (codes "a")) (Some (codes "a")) (Err Memory) (Other (other 6 2 Unhash))
-other_without_memory = ((other_opens, refl), (other_opens, refl), (other_opens, tt), (other_opens, tt))
+other_without_memory = ((other_opens, refl), (other_opens, tt), (other_opens, tt))
 
--- and of a ready shape it is what is said of this
-pub ready_without_memory : words_of_any (Own, Own) false one_bytes (codes "5" ∷ []) (Some (codes "a")) (Some (codes "a")) (Err Memory) (Ready DirectU32ToU32)
-ready_without_memory = no_memory
-
-pub other_written_without_memory : words_of_other (Own, Own) false other_bytes (codes "5" ∷ []) (Some (codes "a")) (Some (codes "ab")) (Err Memory) (other 6 2 Unhash) → ⊥
+pub other_written_without_memory : words_of_types (Own, Own) false other_bytes (codes "5" ∷ []) (Some (codes "a")) (Some (codes "ab")) (Err Memory) (other 6 2 Unhash) → ⊥
 other_written_without_memory h = unequal_lists (codes "ab") (codes "a") refl h.1

@@ -4,12 +4,12 @@ ghost use Rattle.odht_header.specs.Refusals.{view_refusal};
 ghost use Rattle.odht_tool_core.specs.JsonAnswers.{answer_in};
 ghost use Rattle.odht_tool_core.specs.Keys.{IsReadAs};
 ghost use Rattle.odht_tool_reads.specs.GetLines.{AreLinesGot, AreFileLinesGot, lines_of_shape};
-ghost use Rattle.odht_tool_reads.specs.Gets.{AreWordsGot, AreFileWordsGot, words_of_shape};
+ghost use Rattle.odht_tool_reads.specs.Gets.{AreFileWordsGot};
 ghost use Rattle.odht_tool_tables.specs.Openings.{IsOpenFailure};
 
-use crate::lookups::{answer_lines, answer_words};
+use crate::lookups::answer_lines;
 use crate::shapes::for_shape;
-use crate::sized::gets::{get_lines_other, get_words_other};
+use crate::sized::gets::{get_lines_other, get_words_of};
 use odht::HashTable;
 use odht::bytes::Borrowed;
 use odht::config::{Coded, Config};
@@ -39,54 +39,7 @@ pub fn get_file_words<O: Write>(
 {
     let found = read_any(bytes, hash, kinds)?;
     let (shape, forms) = found;
-    match shape {
-        AnyShape::Ready(shape) => get_words_ready(
-            alloc, shape, forms, is_json, bytes, words, output,
-        ),
-        AnyShape::Other(shape) => get_words_other(
-            alloc, shape, forms, is_json, bytes, words, output,
-        ),
-    }
-}
-
-// The same of a ready shape, in these forms.
-fn get_words_ready<O: Write>(
-    alloc: Global,
-    shape: Shape,
-    forms: GivenForms,
-    is_json: bool,
-    bytes: &[u8],
-    words: &[String],
-    output: &mut O,
-) -> Result<Status, Failure>
-    ensures { words_of_shape (forms.key, forms.value) is_json bytes.now (map string_bytes words.now)
-        (O.contents output.old) (O.contents output.new) result shape }
-{
-    if forms.are_own() {
-        let own = AnswerStyle {
-            forms: OwnForms,
-            is_json,
-        };
-        get_words_of(alloc, shape, own, bytes, words, output)
-    } else {
-        let style = AnswerStyle { forms, is_json };
-        get_words_of(alloc, shape, style, bytes, words, output)
-    }
-}
-
-fn get_words_of<F: Forms, O: Write>(
-    alloc: Global,
-    shape: Shape,
-    style: AnswerStyle<F>,
-    bytes: &[u8],
-    words: &[String],
-    output: &mut O,
-) -> Result<Status, Failure>
-    ensures { words_of_shape (F.pair style.forms) style.is_json bytes.now
-        (map string_bytes words.now)
-        (O.contents output.old) (O.contents output.new) result shape }
-{
-    for_shape!(shape, get_words[F, O](alloc, bytes, style, words, output))
+    get_words_of(alloc, shape.types(), forms, is_json, bytes, words, output)
 }
 
 /// `odht get` of the bytes of a file, for the lines of an input.
@@ -151,28 +104,6 @@ fn get_lines_of<F: Forms, I: BufRead, O: Write>(
         (O.contents output.old) (O.contents output.new) result shape }
 {
     for_shape!(shape, get_lines[F, I, O](alloc, bytes, style, input, output))
-}
-
-// Looks up the keys of the words.
-fn get_words<C: Config, F: Forms, O: Write>(
-    alloc: Global,
-    bytes: &[u8],
-    style: AnswerStyle<F>,
-    words: &[String],
-    output: &mut O,
-) -> Result<Status, Failure>
-where
-    C::Key: Text,
-    C::Value: Text,
-    ensures { AreWordsGot ⟦<C as Coded>⟧.coding
-        (answer_in style.is_json (C.Key.text (F.pair style.forms).0)
-        (C.Value.text (F.pair style.forms).1))
-        (IsReadAs (C.Key.is_word (F.pair style.forms).0) (C.Key.stands_for (F.pair style.forms).0))
-        (C.Key.wants (F.pair style.forms).0) bytes.now (map string_bytes words.now)
-        (O.contents output.old) (O.contents output.new) result }
-{
-    let table = open::<C>(bytes)?;
-    answer_words(alloc, &table, style, words, output)
 }
 
 // Looks up the keys of the lines, a batch at a time.

@@ -1,4 +1,4 @@
-//! The table that is read by position, of a ready shape or of another one.
+//! The table that is read by position, of its types and its hash function.
 ghost use Rattle.std.specs.Prelude.{◌≡◌, ◌≤◌, ◌+◌, ◌<◌, ◌^◌, ℕ, List, length, map, string_bytes};
 ghost use Rattle.std.specs.Prelude.{IfSome, None, OnSome};
 ghost use Rattle.odht_base.specs.Bytes.{bytes_at};
@@ -7,113 +7,30 @@ ghost use Rattle.odht_header.specs.Refusals.{view_refusal};
 ghost use Rattle.odht_raw.specs.Sized.{bytes_coding};
 ghost use Rattle.odht_tool_core.specs.InfoNumbers.{least_key_len};
 ghost use Rattle.odht_tool_core.specs.JsonAnswers.{answer_in};
-ghost use Rattle.odht_tool_core.specs.Keys.{IsReadAs};
 ghost use Rattle.odht_tool_core.specs.ReadyShapes.{typed_len};
 ghost use Rattle.odht_tool_core.specs.SizedTexts.{IsSizedOf, sized_text, sized_wanted};
-ghost use Rattle.odht_tool_reads.specs.Gets.{AreWordsGot, words_of_other, words_of_shape};
+ghost use Rattle.odht_tool_reads.specs.Gets.{AreWordsGot, words_of_types};
 ghost use Rattle.odht_tool_reads.specs.Positions.{ByPosition, IsTableAt};
 
-use super::lookups::{TypedFile, answer_words_at};
-use crate::shapes::for_shape;
-use odht::config::{Coded, Config};
+use super::lookups::answer_words_at;
 use odht::dynamic::{FileTable, Layout};
 use odht::hash::HashFn;
 use odht::read_at::ReadAt;
 use odht::{FxHashFn, UnHashFn};
 use odht_tool_core::any::OtherShape;
 use odht_tool_core::failure::Failure;
-use odht_tool_core::forms::{Forms, GivenForms, OwnForms};
+use odht_tool_core::forms::GivenForms;
 use odht_tool_core::json::answers::AnswerStyle;
-use odht_tool_core::shapes::{Hash, Shape};
+use odht_tool_core::shapes::Hash;
 use odht_tool_core::status::Status;
-use odht_tool_core::text::Text;
-use odht_tool_tables::sized::layout_of;
+use odht_tool_tables::sized::lengths_of;
 use std::alloc::Global;
 use std::io::Write;
 
-/// `odht get` for the words of the command line, of the bytes of a ready shape in these forms, of
+/// `odht get` for the words of the command line, of the bytes of these types, in these forms, of
 /// which there are `len` from an offset on. None where a read failed, or they are not opened:
 /// nothing was written then.
-pub(super) fn words_ready<S: ReadAt + Drop, O: Write>(
-    alloc: Global,
-    source: S,
-    at: u64,
-    len: usize,
-    shape: Shape,
-    forms: GivenForms,
-    is_json: bool,
-    words: &[String],
-    output: &mut O,
-) -> Result<Option<Status>, Failure>
-    ensures { (B : List ℕ) → S.gives source B → at + len ≤ length B → at + len < 2 ^ 64
-        → (let old = O.contents output.old in let new = O.contents output.new
-        in ByPosition old new (λ r. words_of_shape (forms.key, forms.value) is_json
-        (bytes_at B at len)
-        (map string_bytes words.now) old new r shape) result) }
-{
-    if forms.are_own() {
-        let own = AnswerStyle {
-            forms: OwnForms,
-            is_json,
-        };
-        words_of(alloc, source, at, len, shape, own, words, output)
-    } else {
-        let style = AnswerStyle { forms, is_json };
-        words_of(alloc, source, at, len, shape, style, words, output)
-    }
-}
-
-fn words_of<F: Forms, S: ReadAt + Drop, O: Write>(
-    alloc: Global,
-    source: S,
-    at: u64,
-    len: usize,
-    shape: Shape,
-    style: AnswerStyle<F>,
-    words: &[String],
-    output: &mut O,
-) -> Result<Option<Status>, Failure>
-    ensures { (B : List ℕ) → S.gives source B → at + len ≤ length B → at + len < 2 ^ 64
-        → (let old = O.contents output.old in let new = O.contents output.new
-        in ByPosition old new (λ r. words_of_shape (F.pair style.forms) style.is_json
-        (bytes_at B at len)
-        (map string_bytes words.now) old new r shape) result) }
-{
-    for_shape!(shape, words_typed[F, S, O](alloc, source, at, len, style, words, output))
-}
-
-fn words_typed<C: Config, F: Forms, S: ReadAt + Drop, O: Write>(
-    alloc: Global,
-    source: S,
-    at: u64,
-    len: usize,
-    style: AnswerStyle<F>,
-    words: &[String],
-    output: &mut O,
-) -> Result<Option<Status>, Failure>
-where
-    C::Key: Text,
-    C::Value: Text,
-    ensures { (B : List ℕ) → S.gives source B → at + len ≤ length B → at + len < 2 ^ 64
-        → (let old = O.contents output.old in let new = O.contents output.new
-        in ByPosition old new (AreWordsGot ⟦<C as Coded>⟧.coding
-        (answer_in style.is_json (C.Key.text (F.pair style.forms).0)
-        (C.Value.text (F.pair style.forms).1))
-        (IsReadAs (C.Key.is_word (F.pair style.forms).0) (C.Key.stands_for (F.pair style.forms).0))
-        (C.Key.wants (F.pair style.forms).0) (bytes_at B at len) (map string_bytes words.now)
-        old new) result) }
-{
-    match open_file::<C::H, S>(Layout::of::<C>(), source, at, len) {
-        Some(table) => {
-            let table = TypedFile::<C, S> { table };
-            answer_words_at(alloc, &table, style, words, output)
-        }
-        None => Ok(None),
-    }
-}
-
-/// The same of the bytes of another shape.
-pub(super) fn words_other<S: ReadAt + Drop, O: Write>(
+pub(super) fn words_of<S: ReadAt + Drop, O: Write>(
     alloc: Global,
     source: S,
     at: u64,
@@ -127,11 +44,11 @@ pub(super) fn words_other<S: ReadAt + Drop, O: Write>(
     requires { least_key_len shape.hash ≤ typed_len shape.key }
     ensures { (B : List ℕ) → S.gives source B → at + len ≤ length B → at + len < 2 ^ 64
         → (let old = O.contents output.old in let new = O.contents output.new
-        in ByPosition old new (λ r. words_of_other (forms.key, forms.value) is_json
+        in ByPosition old new (λ r. words_of_types (forms.key, forms.value) is_json
         (bytes_at B at len)
         (map string_bytes words.now) old new r shape) result) }
 {
-    let (layout, forms) = (layout_of(shape), forms.of(shape));
+    let (layout, forms) = (lengths_of(shape.key, shape.value), forms.of(shape));
     match shape.hash {
         Hash::Fx => words_sized::<FxHashFn, S, O>(
             alloc, source, at, len, layout, forms, is_json, words, output,

@@ -1,4 +1,4 @@
-//! `odht get` of tables of other sizes than the ready shapes have.
+//! `odht get` of tables whose lengths are numbers.
 ghost use Rattle.std.specs.Prelude.{◌≤◌, map, string_bytes};
 ghost use Rattle.odht_base.specs.Format.{format_of};
 ghost use Rattle.odht_raw.specs.Sized.{bytes_coding};
@@ -7,7 +7,7 @@ ghost use Rattle.odht_tool_core.specs.JsonAnswers.{answer_in};
 ghost use Rattle.odht_tool_core.specs.ReadyShapes.{typed_len};
 ghost use Rattle.odht_tool_core.specs.SizedTexts.{IsSizedOf, sized_text, sized_wanted};
 ghost use Rattle.odht_tool_reads.specs.GetLines.{AreLinesGot, lines_of_other};
-ghost use Rattle.odht_tool_reads.specs.Gets.{AreWordsGot, words_of_other};
+ghost use Rattle.odht_tool_reads.specs.Gets.{AreWordsGot, words_of_types};
 
 use crate::lookups::{answer_lines, answer_words};
 use odht::dynamic::Layout;
@@ -19,12 +19,12 @@ use odht_tool_core::forms::GivenForms;
 use odht_tool_core::json::answers::AnswerStyle;
 use odht_tool_core::shapes::Hash;
 use odht_tool_core::status::Status;
-use odht_tool_tables::sized::{layout_of, open_lengths};
+use odht_tool_tables::sized::{lengths_of, open_lengths};
 use std::alloc::Global;
 use std::io::{BufRead, Write};
 
-/// `odht get` of bytes of a shape, for the words of the command line.
-pub fn get_words_other<O: Write>(
+/// `odht get` of bytes of these types, for the words of the command line.
+pub fn get_words_of<O: Write>(
     alloc: Global,
     shape: OtherShape,
     forms: GivenForms,
@@ -34,10 +34,10 @@ pub fn get_words_other<O: Write>(
     output: &mut O,
 ) -> Result<Status, Failure>
     requires { least_key_len shape.hash ≤ typed_len shape.key }
-    ensures { words_of_other (forms.key, forms.value) is_json bytes.now (map string_bytes words.now)
+    ensures { words_of_types (forms.key, forms.value) is_json bytes.now (map string_bytes words.now)
         (O.contents output.old) (O.contents output.new) result shape }
 {
-    let (layout, forms) = (layout_of(shape), forms.of(shape));
+    let (layout, forms) = (lengths_of(shape.key, shape.value), forms.of(shape));
     match shape.hash {
         Hash::Fx => get_words_sized::<FxHashFn, O>(
             alloc, layout, forms, is_json, bytes, words, output,
@@ -62,7 +62,7 @@ pub fn get_lines_other<I: BufRead, O: Write>(
     ensures { lines_of_other (forms.key, forms.value) is_json bytes.now (I.remaining input.old)
         (O.contents output.old) (O.contents output.new) result shape }
 {
-    let (layout, forms) = (layout_of(shape), forms.of(shape));
+    let (layout, forms) = (lengths_of(shape.key, shape.value), forms.of(shape));
     match shape.hash {
         Hash::Fx => get_lines_sized::<FxHashFn, I, O>(
             alloc, layout, forms, is_json, bytes, input, output,

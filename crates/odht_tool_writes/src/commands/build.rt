@@ -10,6 +10,7 @@ use crate::shapes::for_shape;
 use crate::sized::builds::{build_other, put_other};
 use odht::HashTableOwned;
 use odht::config::{Coded, Config};
+use odht::dynamic::Layout;
 use odht::load::Percent;
 use odht_tool_core::any::{AnyShape, read_any};
 use odht_tool_core::arguments::BuildOptions;
@@ -20,7 +21,7 @@ use odht_tool_core::shapes::{Hash, Shape};
 use odht_tool_core::status::Status;
 use odht_tool_core::targets::Target;
 use odht_tool_core::text::Text;
-use odht_tool_tables::checks::check_bytes;
+use odht_tool_tables::sized::check_lengths;
 use std::alloc::Global;
 use std::io::{BufRead, Write};
 use std::os::fd::AsFd;
@@ -211,6 +212,6 @@ fn copy_table<C: Config>(
         in failure ≡ copy_failure F bound bytes.items) }
 {
     let bytes = bytes.as_slice();
-    check_bytes::<C>(bytes, bound).map_err(Failure::Refused)?;
+    check_lengths::<C::H>(Layout::of::<C>(), bytes, bound).map_err(Failure::Refused)?;
     HashTableOwned::from_raw_bytes_unchecked(alloc, bytes).map_err(Failure::of_table)
 }

@@ -4,30 +4,26 @@ ghost use Rattle.std.specs.Prelude.{length, map, string_bytes};
 ghost use Rattle.odht_base.specs.Valid.{IsValidBytes};
 ghost use Rattle.odht.specs.Tables.{OfTable};
 ghost use Rattle.odht_tool_core.specs.AnyShapes.{HasLongKeys, any_format};
-ghost use Rattle.odht_tool_core.specs.Keys.{IsReadAs, TellsFault};
 ghost use Rattle.odht_tool_core.specs.declared.failure.Failure.TheVariants.{Memory};
-ghost use Rattle.odht_tool_writes.specs.Deletes.{AreKeysOf, IsDeleteFailure, IsDeletedOf, IsLeft};
+ghost use Rattle.odht_tool_writes.specs.Deletes.{IsDeleteFailure, IsDeletedOf, IsLeft};
 ghost use Rattle.odht_tool_writes.specs.Deletes.{are_keys, is_fault};
 
 use crate::commands::delete_lines::deleted_by_lines;
-use crate::shapes::for_shape;
 use crate::sized::deletes::delete_lengths;
-use odht::bytes::ByteArray;
-use odht::config::{Coded, Config};
-use odht::dynamic::{Layout, ShortBytes};
+use odht::dynamic::ShortBytes;
 use odht::{FxHashFn, UnHashFn};
-use odht_tool_core::any::{AnyShape, OtherShape, read_any};
+use odht_tool_core::any::{AnyShape, read_any};
 use odht_tool_core::arguments::{DeleteOptions, Keys};
 use odht_tool_core::failure::Failure;
 use odht_tool_core::files::{read_file, replace_file};
 use odht_tool_core::forms::Form;
-use odht_tool_core::keys::{Word, parse_keys, push_key};
+use odht_tool_core::keys::{Word, parse_keys};
 use odht_tool_core::progress::{Progress, Watch};
-use odht_tool_core::shapes::{Hash, Shape};
+use odht_tool_core::shapes::Hash;
 use odht_tool_core::status::Status;
 use odht_tool_core::targets::Target;
-use odht_tool_core::text::Text;
 use odht_tool_tables::checks::check_any;
+use odht_tool_tables::sized::lengths_of;
 use std::alloc::Global;
 use std::io::{BufRead, Write};
 use std::os::fd::AsFd;
@@ -93,7 +89,7 @@ fn deleted<R: AllocGlobal + Clock, E: Write>(
     }
 }
 
-// The same of valid bytes of a shape, and of the keys of these words or lines.
+/// The same of valid bytes of a shape, and of the keys of these words or lines.
 pub fn deleted_for<W: Word, R: AllocGlobal + Clock, E: Write>(
     rt: &R,
     file: &str,
@@ -111,10 +107,7 @@ pub fn deleted_for<W: Word, R: AllocGlobal + Clock, E: Write>(
         (λ P. IfOk result (λ x. IsLeft (any_format shape) keys.now P x.0.items x.1)) }
     ensures memory { OnErr result (result ≡ Err Memory) }
 {
-    let layout = Layout {
-        key_len: shape.key().size(),
-        value_len: shape.value().size(),
-    };
+    let layout = lengths_of(shape.key(), shape.value());
     match shape.hash() {
         Hash::Fx => delete_lengths::<FxHashFn, W, R, E>(
             rt, file, layout, bytes, words, keys, progress, errors,
@@ -135,65 +128,5 @@ fn keys_of_words(
     ensures { let ws = map string_bytes words.now in MatchResult result
         (λ keys. are_keys form ws shape keys.items) (is_fault form ws shape) }
 {
-    match shape {
-        AnyShape::Ready(shape) => keys_of_ready(alloc, shape, form, words),
-        AnyShape::Other(shape) => keys_of_other(alloc, shape, form, words),
-    }
-}
-
-fn keys_of_ready(
-    alloc: Global,
-    shape: Shape,
-    form: Form,
-    words: &[String],
-) -> Result<Vec<ShortBytes>, Failure>
-    ensures { let ws = map string_bytes words.now in MatchResult result
-        (λ keys. are_keys form ws (AnyShape.Ready shape) keys.items)
-        (is_fault form ws (AnyShape.Ready shape)) }
-{
-    for_shape!(shape, keys_of[](alloc, form, words))
-}
-
-fn keys_of_other(
-    alloc: Global,
-    shape: OtherShape,
-    form: Form,
-    words: &[String],
-) -> Result<Vec<ShortBytes>, Failure>
-    ensures { let ws = map string_bytes words.now in MatchResult result
-        (λ keys. are_keys form ws (AnyShape.Other shape) keys.items)
-        (is_fault form ws (AnyShape.Other shape)) }
-{
-    parse_keys(alloc, words, form.of(shape.key))
-}
-
-// The same of a configuration.
-fn keys_of<C: Config>(
-    alloc: Global,
-    form: Form,
-    words: &[String],
-) -> Result<Vec<ShortBytes>, Failure>
-where
-    C::Key: Text,
-    ensures { let ws = map string_bytes words.now
-        in let R = IsReadAs (C.Key.is_word form) (C.Key.stands_for form) in MatchResult result
-        (λ keys. AreKeysOf ⟦<C as Coded>⟧.coding.key_bytes R ws keys.items)
-        (TellsFault R (C.Key.wants form) ws) }
-{
-    let keys = parse_keys::<C::Key>(alloc, words, form)?;
-    encoded_keys::<C>(alloc, keys.as_slice())
-}
-
-/// The bytes of the keys.
-pub fn encoded_keys<C: Config>(alloc: Global, keys: &[C::Key]) -> Result<Vec<ShortBytes>, Failure>
-    ensures ok { IfOk result
-        (λ all. all.items ≡ map ⟦<C as Coded>⟧.coding.key_bytes keys.now) }
-    ensures memory { OnErr result (result ≡ Err Memory) }
-{
-    let mut all = Vec::new(alloc);
-    for key in keys {
-        let key = C::encode_key(key);
-        push_key(&mut all, ShortBytes::of(key.as_slice()))?;
-    }
-    Ok(all)
+    parse_keys(alloc, words, form.of(shape.key()))
 }

@@ -1,28 +1,21 @@
 //! `odht delete FILE -`: the keys are the lines of standard input.
-ghost use Rattle.std.specs.Prelude.{◌≡◌, [], ◌++◌, ◌∷◌, IfErr, IfOk, IfSome, IsFalse, IsTrue};
-ghost use Rattle.std.specs.Prelude.{MatchResult, OnOk, Some, map, string_bytes};
-ghost use Rattle.std.specs.List.{AllZip};
+ghost use Rattle.std.specs.Prelude.{IfErr, IfOk, IsFalse, IsTrue};
+ghost use Rattle.std.specs.Prelude.{MatchResult, Some, map};
 ghost use Rattle.odht_tool_core.specs.Keys.{IsReadAs};
-ghost use Rattle.odht_tool_core.specs.Misreads.{misread_text};
-ghost use Rattle.odht_tool_tables.specs.KeyTexts.{AreLinesOf};
 ghost use Rattle.odht_tool_writes.specs.DeleteLines.{AreLinesKeys, IsDeletedByLines, IsLinesFailure};
 ghost use Rattle.odht_tool_writes.specs.DeleteLines.{IsNextFailure, IsOneLineMore, IsLinesEnd};
 ghost use Rattle.odht_tool_writes.specs.DeleteLines.{TellsLine, TellsNumbered, are_lines_keys};
 ghost use Rattle.odht_tool_writes.specs.DeleteLines.{is_line_fault};
-ghost use Rattle.odht_tool_writes.specs.Deletes.{AreKeysOf};
 
-use crate::commands::delete::{deleted_for, encoded_keys};
-use crate::shapes::for_shape;
-use odht::config::{Coded, Config};
+use crate::commands::delete::deleted_for;
 use odht::dynamic::ShortBytes;
-use odht_tool_core::any::{AnyShape, OtherShape, read_any};
+use odht_tool_core::any::{AnyShape, read_any};
 use odht_tool_core::arguments::DeleteOptions;
 use odht_tool_core::failure::{Failure, LineFault};
 use odht_tool_core::forms::Form;
 use odht_tool_core::keys::{NextKey, next_key_as, push_key};
 use odht_tool_core::misread::Misread;
 use odht_tool_core::progress::{Progress, Watch};
-use odht_tool_core::shapes::Shape;
 use odht_tool_core::status::Status;
 use odht_tool_core::text::Text;
 use odht_tool_tables::checks::check_any;
@@ -79,57 +72,7 @@ fn keys_of_lines<I: BufRead>(
         (map (λ line. line.items) x.lines.items) shape x.keys.items)
         (is_line_fault form (I.remaining input.old) shape) }
 {
-    match shape {
-        AnyShape::Ready(shape) => keys_of_ready(alloc, shape, form, input),
-        AnyShape::Other(shape) => keys_of_other(alloc, shape, form, input),
-    }
-}
-
-fn keys_of_ready<I: BufRead>(
-    alloc: Global,
-    shape: Shape,
-    form: Form,
-    input: &mut I,
-) -> Result<KeyLines<ShortBytes>, Failure>
-    ensures { MatchResult result (λ x. are_lines_keys form (I.remaining input.old)
-        (map (λ line. line.items) x.lines.items) (AnyShape.Ready shape) x.keys.items)
-        (is_line_fault form (I.remaining input.old) (AnyShape.Ready shape)) }
-{
-    for_shape!(shape, keys_of[I](alloc, form, input))
-}
-
-fn keys_of_other<I: BufRead>(
-    alloc: Global,
-    shape: OtherShape,
-    form: Form,
-    input: &mut I,
-) -> Result<KeyLines<ShortBytes>, Failure>
-    ensures { MatchResult result (λ x. are_lines_keys form (I.remaining input.old)
-        (map (λ line. line.items) x.lines.items) (AnyShape.Other shape) x.keys.items)
-        (is_line_fault form (I.remaining input.old) (AnyShape.Other shape)) }
-{
-    read_lines(alloc, form.of(shape.key), input)
-}
-
-// The same of a configuration.
-fn keys_of<C: Config, I: BufRead>(
-    alloc: Global,
-    form: Form,
-    input: &mut I,
-) -> Result<KeyLines<ShortBytes>, Failure>
-where
-    C::Key: Text,
-    ensures { let R = IsReadAs (C.Key.is_word form) (C.Key.stands_for form)
-        in MatchResult result (λ x. AreLinesKeys R (AreKeysOf ⟦<C as Coded>⟧.coding.key_bytes R)
-        (I.remaining input.old) (map (λ line. line.items) x.lines.items) x.keys.items)
-        (TellsLine R (C.Key.wants form) (I.remaining input.old)) }
-{
-    let read = read_lines::<C::Key, I>(alloc, form, input)?;
-    let keys = encoded_keys::<C>(alloc, read.keys.as_slice())?;
-    Ok(KeyLines {
-        lines: read.lines,
-        keys,
-    })
+    read_lines(alloc, form.of(shape.key()), input)
 }
 
 // The lines of an input, but for an empty last one that is no key, and their keys; or the first
@@ -140,7 +83,7 @@ fn read_lines<K: Text, I: BufRead>(
     input: &mut I,
 ) -> Result<KeyLines<K>, Failure>
     ensures ok { let R = IsReadAs (K.is_word form) (K.stands_for form)
-        in IfOk result (λ x. AreLinesKeys R (AllZip R) (I.remaining input.old)
+        in IfOk result (λ x. AreLinesKeys R (I.remaining input.old)
         (map (λ line. line.items) x.lines.items) x.keys.items) }
     ensures err { IfErr result (TellsLine (IsReadAs (K.is_word form) (K.stands_for form))
         (K.wants form) (I.remaining input.old)) }

@@ -25,7 +25,7 @@ use odht_tool_core::progress::Watch;
 use odht_tool_core::shapes::Hash;
 use odht_tool_core::status::Status;
 use odht_tool_core::targets::Target;
-use odht_tool_tables::sized::{check_lengths, layout_of};
+use odht_tool_tables::sized::{check_lengths, lengths_of};
 use std::alloc::Global;
 use std::io::{BufRead, Write};
 use std::os::fd::AsFd;
@@ -44,7 +44,7 @@ pub fn build_other<R: Files + AllocGlobal + Clock, I: BufRead, O: Write, E: Writ
 where
     R::File: AsFd,
 {
-    let layout = layout_of(shape);
+    let layout = lengths_of(shape.key, shape.value);
     let forms = line_forms(shape, options.forms, options.delimiter);
     match shape.hash {
         Hash::Fx => build_lengths::<FxHashFn, R, I, O, E>(
@@ -132,7 +132,7 @@ where
     R::File: AsFd,
     requires { least_key_len shape.hash ≤ typed_len shape.key }
 {
-    let (layout, forms) = (layout_of(shape), forms.of(shape));
+    let (layout, forms) = (lengths_of(shape.key, shape.value), forms.of(shape));
     match shape.hash {
         Hash::Fx => put_lengths::<FxHashFn, R, I, E>(
             rt, target, layout, forms, bytes, bound, watch, input, errors,

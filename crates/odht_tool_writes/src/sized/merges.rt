@@ -1,5 +1,5 @@
 //! `odht merge` of tables of any lengths of keys and values.
-ghost use Rattle.std.specs.Prelude.{◌≡◌, ◌≤◌, ◌++◌, ◌∷◌, [], List, ℕ, IfErr, IfOk, IfSome, Err};
+ghost use Rattle.std.specs.Prelude.{◌≡◌, ◌≤◌, ◌++◌, ◌∷◌, [], List, IfErr, IfOk, IfSome, Err};
 ghost use Rattle.std.specs.Prelude.{OnErr, OnOk, All, length, map, option_map};
 ghost use Rattle.odht_base.specs.Decoded.{decoded_pairs};
 ghost use Rattle.odht_base.specs.Format.{format_of};

@@ -6,6 +6,5 @@ use crate::host::prelude::*;
 
 pub mod checks;
 pub mod files;
-mod shapes;
 pub mod sized;
 pub mod whole;

@@ -12,9 +12,9 @@ pub open_unchecked-requires-clause-accepted : goal.open_unchecked-requires-claus
 open_unchecked-requires-clause-accepted g c =
     let h = g.H.HashFn.hash in
     let F : Format = format_of (typed_len c.args.texts.key) (typed_len c.args.texts.value) h in
-    let key = sym c.size.ensures in
-    let value = sym c.size-2.ensures in
-    let formats : F ≡ format_of c.size.result c.size-2.result h = λ i. format_of (key i) (value i) h in
+    let key = sym c.lengths_of-layout.ensures.key in
+    let value = sym c.lengths_of-layout.ensures.value in
+    let formats : F ≡ format_of c.lengths_of-layout.result.key_len c.lengths_of-layout.result.value_len h = λ i. format_of (key i) (value i) h in
     subst (λ (X : Format). IsAccepted X c.new.result.0.now) formats (subst (IsAccepted F) (sym c.new.ensures) (IsAccepted-IsValidBytes F c.args.bytes.now c.requires.valid))
 
 pub returns-clause-fits : goal.returns-clause-fits
@@ -22,10 +22,10 @@ returns-clause-fits g c =
     let h = g.H.HashFn.hash in
     let t = c.open_unchecked.result in
     let F : Format = format_of (typed_len c.args.texts.key) (typed_len c.args.texts.value) h in
-    let sized_key : t.key_len ≡ c.size.result = search rules in
-    let sized_value : t.value_len ≡ c.size-2.result = search rules in
-    let key : t.key_len ≡ typed_len c.args.texts.key = sized_key ∙ c.size.ensures in
-    let value : t.value_len ≡ typed_len c.args.texts.value = sized_value ∙ c.size-2.ensures in
+    let sized_key : t.key_len ≡ c.lengths_of-layout.result.key_len = search rules in
+    let sized_value : t.value_len ≡ c.lengths_of-layout.result.value_len = search rules in
+    let key : t.key_len ≡ typed_len c.args.texts.key = sized_key ∙ c.lengths_of-layout.ensures.key in
+    let value : t.value_len ≡ typed_len c.args.texts.value = sized_value ∙ c.lengths_of-layout.ensures.value in
     let bytes : t.store.0.now ≡ c.args.bytes.now = search rules in
     let formats : F ≡ dyn_format t h = λ i. format_of (sym key i) (sym value i) h in
     record {
@@ -38,9 +38,9 @@ pub returns-clause-pairs : goal.returns-clause-pairs
 returns-clause-pairs g c =
     let h = g.H.HashFn.hash in
     let t = c.open_unchecked.result in
-    let sized_key : t.key_len ≡ c.size.result = search rules in
-    let sized_value : t.value_len ≡ c.size-2.result = search rules in
-    let key : t.key_len ≡ typed_len c.args.texts.key = sized_key ∙ c.size.ensures in
-    let value : t.value_len ≡ typed_len c.args.texts.value = sized_value ∙ c.size-2.ensures in
+    let sized_key : t.key_len ≡ c.lengths_of-layout.result.key_len = search rules in
+    let sized_value : t.value_len ≡ c.lengths_of-layout.result.value_len = search rules in
+    let key : t.key_len ≡ typed_len c.args.texts.key = sized_key ∙ c.lengths_of-layout.ensures.key in
+    let value : t.value_len ≡ typed_len c.args.texts.value = sized_value ∙ c.lengths_of-layout.ensures.value in
     let bytes : t.store.0.now ≡ c.args.bytes.now = search rules in
     λ i. decoded_pairs (format_of (key i) (value i) h) (bytes i)

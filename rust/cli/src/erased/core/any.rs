@@ -10,7 +10,8 @@ use crate::erased::core::stored::least_key_size;
 use crate::host::prelude::*;
 use crate::proved::header::header::{Header, HEADER_SIZE};
 
-/// Keys and values of these types, which no ready shape has, and the hash function.
+/// The types of keys and values, and the hash function: those of a table of any shape, or a shape
+/// that is no ready one.
 #[derive(Clone, Copy)]
 pub struct OtherShape {
     /// The type of keys: bytes, where nothing else is said.
@@ -53,6 +54,11 @@ impl AnyShape {
             AnyShape::Ready(shape) => shape.value(),
             AnyShape::Other(other) => other.value,
         }
+    }
+
+    /// Its types and its hash function.
+    pub fn types(self) -> OtherShape {
+        OtherShape { key: self.key(), value: self.value(), hash: self.hash() }
     }
 
     /// The shape of keys and values that are said to be these, and of the hash function, where one

@@ -14,7 +14,15 @@ pub(crate) fn place_of(bytes: &[u8], byte: u8) -> usize {
         }
         at += 16;
     }
-    at + place_in_few(&bytes[at..], byte)
+    if at == bytes.len() {
+        return at;
+    }
+    if at == 0 {
+        return place_in_few(bytes, byte);
+    }
+    // The last sixteen, of which some were looked at before.
+    let last = bytes.len() - 16;
+    last + place_in_lanes(&bytes[last..], byte)
 }
 
 // The same of sixteen bytes.

@@ -25,7 +25,7 @@ mod shaped;
 mod source;
 
 use names::found_name;
-use shaped::{words_other, words_ready};
+use shaped::words_of;
 use source::FileSource;
 
 /// `odht get` of a file, for the words of the command line. None where it is not read by position:
@@ -143,13 +143,5 @@ fn get_table_words<S: ReadAt, O: Write>(
         return Ok(None);
     };
     let (shape, forms) = found;
-    let (at, len) = (start.at, start.len);
-    match shape {
-        AnyShape::Ready(shape) => {
-            words_ready(alloc, source, at, len, shape, forms, is_json, words, output)
-        }
-        AnyShape::Other(shape) => {
-            words_other(alloc, source, at, len, shape, forms, is_json, words, output)
-        }
-    }
+    words_of(alloc, source, start.at, start.len, shape.types(), forms, is_json, words, output)
 }

@@ -2,9 +2,8 @@
 //! Tables of lengths that are numbers: keys and values are bytes, of lengths that the header
 //! states.
 
-use crate::erased::core::any::OtherShape;
 use crate::erased::core::failure::Failure;
-use crate::erased::core::shapes::{Hash, Part};
+use crate::erased::core::shapes::Part;
 use crate::erased::core::typed::Texts;
 use crate::host::prelude::*;
 use crate::proved::tables::bytes::Borrowed;
@@ -12,29 +11,14 @@ use crate::proved::tables::dynamic::{DynTable, Layout};
 use crate::proved::tables::error::Error;
 use crate::proved::tables::hash::HashFn;
 use crate::proved::tables::memory_layout::{check_opening, check_sized, check_sized_within};
-use crate::proved::tables::{FxHashFn, UnHashFn};
-
-/// The lengths of a shape.
-pub fn layout_of(shape: OtherShape) -> Layout {
-    Layout { key_len: shape.key.size(), value_len: shape.value.size() }
-}
 
 /// The lengths of keys and values of these types.
 pub fn lengths_of(key: Part, value: Part) -> Layout {
     Layout { key_len: key.size(), value_len: value.size() }
 }
 
-/// The first rule that the bytes break, as a table of this shape, the bound of searches among them
-/// where there is one. Bytes without an error are valid.
-pub fn check_other(shape: OtherShape, bytes: &[u8], bound: Option<usize>) -> Result<(), Error> {
-    let layout = layout_of(shape);
-    match shape.hash {
-        Hash::Fx => check_lengths::<FxHashFn>(layout, bytes, bound),
-        Hash::Unhash => check_lengths::<UnHashFn>(layout, bytes, bound),
-    }
-}
-
-/// The same of these lengths and of a hash function.
+/// The first rule that the bytes break, as a table of these lengths and of a hash function, the
+/// bound of searches among them where there is one. Bytes without an error are valid.
 pub fn check_lengths<H: HashFn>(
     layout: Layout,
     bytes: &[u8],
@@ -58,6 +42,6 @@ pub fn open_lengths<H: HashFn>(
 
 /// The table of valid bytes.
 pub fn open_valid<H: HashFn>(texts: Texts, bytes: &[u8]) -> DynTable<H, Borrowed<'_>> {
-    let layout = Layout { key_len: texts.key.size(), value_len: texts.value.size() };
+    let layout = lengths_of(texts.key, texts.value);
     DynTable::open_unchecked(layout, Borrowed::new(bytes))
 }

@@ -1,7 +1,7 @@
 use Rattle.std.proofs.Common.{rules, ◌≡◌, ◌∙◌, Err, map, sym, subst}
 use Rattle.std.specs.Prelude.{string_bytes}
 use Rattle.std.specs.Io.KnownBytes.{Keeps}
-use Rattle.odht_tool_reads.specs.Gets.{words_of_any, words_of_forms}
+use Rattle.odht_tool_reads.specs.Gets.{words_of_types, words_of_forms}
 use Rattle.odht_tool_core.specs.AnyShapes.{read_any}
 use Rattle.odht_tool_reads.proofs.Shaped.{without_shape_said, with_shape_said}
 use Rattle.odht_tool_reads.proofs.commands.get.get_file_words.Goals as goal
@@ -14,24 +14,13 @@ returns-in_err-found g c =
     let failed : c.from_residual.result ≡ Err x = search rules in
     rw failed (without_shape_said (read_any B c.args.hash c.args.kinds) x old (words_of_forms c.args.is_json B (map string_bytes c.args.words.now) old old (Err x)) (sym c.in_err-found.was ∙ c.read_any.ensures.forms))
 
-pub returns-in-Ready : goal.returns-in-Ready
-returns-in-Ready g c =
+pub returns : goal.returns
+returns g c =
     let B = c.args.bytes.now in
     let old = g.O.Write.contents c.args.output.now in
-    let new = g.O.Write.contents c.get_words_ready.new.output in
-    let r = c.get_words_ready.result in
+    let new = g.O.Write.contents c.get_words_of.new.output in
+    let r = c.get_words_of.result in
     let found = c.in_ok-found.found in
     with_shape_said (read_any B c.args.hash c.args.kinds) found (words_of_forms c.args.is_json B (map string_bytes c.args.words.now) old new r) (λ x. (r ≡ Err x) × Keeps old new)
     (sym c.in_ok-found.was ∙ c.read_any.ensures.forms)
-    (subst (words_of_any (found.1.key, found.1.value) c.args.is_json B (map string_bytes c.args.words.now) old new r) (sym c.in-Ready.is) c.get_words_ready.ensures)
-
-pub returns-in-Other : goal.returns-in-Other
-returns-in-Other g c =
-    let B = c.args.bytes.now in
-    let old = g.O.Write.contents c.args.output.now in
-    let new = g.O.Write.contents c.get_words_other.new.output in
-    let r = c.get_words_other.result in
-    let found = c.in_ok-found.found in
-    with_shape_said (read_any B c.args.hash c.args.kinds) found (words_of_forms c.args.is_json B (map string_bytes c.args.words.now) old new r) (λ x. (r ≡ Err x) × Keeps old new)
-    (sym c.in_ok-found.was ∙ c.read_any.ensures.forms)
-    (subst (words_of_any (found.1.key, found.1.value) c.args.is_json B (map string_bytes c.args.words.now) old new r) (sym c.in-Other.is) c.get_words_other.ensures)
+    (subst (words_of_types (found.1.key, found.1.value) c.args.is_json B (map string_bytes c.args.words.now) old new r) c.types.ensures c.get_words_of.ensures)

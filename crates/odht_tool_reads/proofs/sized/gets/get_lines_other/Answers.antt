@@ -17,9 +17,9 @@ returns-in-Fx g c =
     c.args.bytes.now (g.I.Read.remaining c.args.input.now) (g.O.Write.contents c.args.output.now) (g.O.Write.contents c.get_lines_sized.new.output) c.get_lines_sized.result in
     let o = c.args.shape in
     let fs = sized_forms o c.args.forms in
-    let made = c.layout_of-layout.result in
-    subst (λ (k : ℕ). got k (typed_len o.value) (hash_of o.hash) fs) c.layout_of-layout.ensures.key
-    (subst (λ (v : ℕ). got made.key_len v (hash_of o.hash) fs) c.layout_of-layout.ensures.value
+    let made = c.lengths_of-layout.result in
+    subst (λ (k : ℕ). got k (typed_len o.value) (hash_of o.hash) fs) c.lengths_of-layout.ensures.key
+    (subst (λ (v : ℕ). got made.key_len v (hash_of o.hash) fs) c.lengths_of-layout.ensures.value
     (subst (λ (h : Hash). got made.key_len made.value_len (hash_of h) fs) (sym c.in-Fx.is)
     (subst (λ (f : GivenForms). got made.key_len made.value_len (hash_of Fx) f) c.of-forms.ensures c.get_lines_sized.ensures)))
 
@@ -29,8 +29,8 @@ returns-in-Unhash g c =
     c.args.bytes.now (g.I.Read.remaining c.args.input.now) (g.O.Write.contents c.args.output.now) (g.O.Write.contents c.get_lines_sized-in-Unhash.new.output) c.get_lines_sized-in-Unhash.result in
     let o = c.args.shape in
     let fs = sized_forms o c.args.forms in
-    let made = c.layout_of-layout.result in
-    subst (λ (k : ℕ). got k (typed_len o.value) (hash_of o.hash) fs) c.layout_of-layout.ensures.key
-    (subst (λ (v : ℕ). got made.key_len v (hash_of o.hash) fs) c.layout_of-layout.ensures.value
+    let made = c.lengths_of-layout.result in
+    subst (λ (k : ℕ). got k (typed_len o.value) (hash_of o.hash) fs) c.lengths_of-layout.ensures.key
+    (subst (λ (v : ℕ). got made.key_len v (hash_of o.hash) fs) c.lengths_of-layout.ensures.value
     (subst (λ (h : Hash). got made.key_len made.value_len (hash_of h) fs) (sym c.in-Unhash.is)
     (subst (λ (f : GivenForms). got made.key_len made.value_len (hash_of Unhash) f) c.of-forms.ensures c.get_lines_sized-in-Unhash.ensures)))

@@ -11,15 +11,15 @@ use Rattle.odht_tool_writes.proofs.commands.delete.deleted_for.Goals as goal
 
 pub returns-in-Fx-clause-ok : goal.returns-in-Fx-clause-ok
 returns-in-Fx-clause-ok g c =
-    let format = format_as c.args.shape c.size.result c.size-2.result Fx (c.size.ensures ∙ ap typed_len c.key.ensures) (c.size-2.ensures ∙ ap typed_len c.value.ensures) (sym c.hash.ensures ∙ c.in-Fx.is) in
+    let format = format_as c.args.shape c.lengths_of-layout.result.key_len c.lengths_of-layout.result.value_len Fx (c.lengths_of-layout.ensures.key ∙ ap typed_len c.key.ensures) (c.lengths_of-layout.ensures.value ∙ ap typed_len c.value.ensures) (sym c.hash.ensures ∙ c.in-Fx.is) in
     subst (λ (F : Format). OfTable F c.args.bytes.now (λ P. IfOk c.delete_lengths.result (λ x. IsLeft F c.args.keys.now P x.0.items x.1))) format c.delete_lengths.ensures.ok
 
 pub delete_lengths-requires-in-Unhash-clause-valid : goal.delete_lengths-requires-in-Unhash-clause-valid
 delete_lengths-requires-in-Unhash-clause-valid g c =
-    let format = format_as c.args.shape c.size.result c.size-2.result Unhash (c.size.ensures ∙ ap typed_len c.key.ensures) (c.size-2.ensures ∙ ap typed_len c.value.ensures) (sym c.hash.ensures ∙ c.in-Unhash.is) in
+    let format = format_as c.args.shape c.lengths_of-layout.result.key_len c.lengths_of-layout.result.value_len Unhash (c.lengths_of-layout.ensures.key ∙ ap typed_len c.key.ensures) (c.lengths_of-layout.ensures.value ∙ ap typed_len c.value.ensures) (sym c.hash.ensures ∙ c.in-Unhash.is) in
     subst (λ (F : Format). IsValidBytes F c.args.bytes.now) (sym format) c.requires.valid
 
 pub returns-in-Unhash-clause-ok : goal.returns-in-Unhash-clause-ok
 returns-in-Unhash-clause-ok g c =
-    let format = format_as c.args.shape c.size.result c.size-2.result Unhash (c.size.ensures ∙ ap typed_len c.key.ensures) (c.size-2.ensures ∙ ap typed_len c.value.ensures) (sym c.hash.ensures ∙ c.in-Unhash.is) in
+    let format = format_as c.args.shape c.lengths_of-layout.result.key_len c.lengths_of-layout.result.value_len Unhash (c.lengths_of-layout.ensures.key ∙ ap typed_len c.key.ensures) (c.lengths_of-layout.ensures.value ∙ ap typed_len c.value.ensures) (sym c.hash.ensures ∙ c.in-Unhash.is) in
     subst (λ (F : Format). OfTable F c.args.bytes.now (λ P. IfOk c.delete_lengths-in-Unhash.result (λ x. IsLeft F c.args.keys.now P x.0.items x.1))) format c.delete_lengths-in-Unhash.ensures.ok

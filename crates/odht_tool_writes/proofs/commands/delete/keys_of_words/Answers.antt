@@ -1,7 +1,19 @@
+use Rattle.std.proofs.Common.{map, IfOk, subst, ◌∙◌, ap}
+use Rattle.std.specs.Prelude.{IfErr, string_bytes}
+use Rattle.std.specs.List.{AllZip}
+use Rattle.odht_tool_core.specs.Forms.{bytes_form}
+use Rattle.odht_tool_core.specs.Keys.{TellsFault}
+use Rattle.odht_tool_core.specs.SizedTexts.{IsSizedOf, sized_wanted}
+use Rattle.odht_tool_core.specs.declared.forms.Form.{Form}
+use Rattle.odht_tool_writes.proofs.KeyLines.{either}
+use Rattle.odht_tool_writes.specs.Deletes.{are_keys, is_fault}
 use Rattle.odht_tool_writes.proofs.commands.delete.keys_of_words.Goals as goal
 
-pub returns-in-Ready : goal.returns-in-Ready
-returns-in-Ready c = rw c.in-Ready.is c.keys_of_ready.ensures
-
-pub returns-in-Other : goal.returns-in-Other
-returns-in-Other c = rw c.in-Other.is c.keys_of_other.ensures
+pub returns : goal.returns
+returns c =
+    let of = c.of.ensures ∙ ap (bytes_form c.args.form) c.key.ensures in
+    let ws = map string_bytes c.args.words.now in
+    let r = c.parse_keys.result in
+    either r (λ keys. are_keys c.args.form ws c.args.shape keys.items) (is_fault c.args.form ws c.args.shape)
+    (subst (λ (f : Form). IfOk r (λ keys. AllZip (IsSizedOf f) ws keys.items)) of c.parse_keys.ensures.keys)
+    (subst (λ (f : Form). IfErr r (TellsFault (IsSizedOf f) (sized_wanted f) ws)) of c.parse_keys.ensures.fault)

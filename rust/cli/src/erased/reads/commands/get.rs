@@ -8,9 +8,9 @@ use crate::erased::core::json::answers::AnswerStyle;
 use crate::erased::core::shapes::{Hash, Shape};
 use crate::erased::core::status::Status;
 use crate::erased::core::text::Text;
-use crate::erased::reads::lookups::{answer_lines, answer_words};
+use crate::erased::reads::lookups::answer_lines;
 use crate::erased::reads::shapes::for_shape;
-use crate::erased::reads::sized::gets::{get_lines_other, get_words_other};
+use crate::erased::reads::sized::gets::{get_lines_other, get_words_of};
 use crate::host::prelude::*;
 use crate::proved::tables::bytes::Borrowed;
 use crate::proved::tables::config::Config;
@@ -31,44 +31,7 @@ pub fn get_file_words<O: Write>(
 ) -> Result<Status, Failure> {
     let found = read_any(bytes, hash, kinds)?;
     let (shape, forms) = found;
-    match shape {
-        AnyShape::Ready(shape) => {
-            get_words_ready(alloc, shape, forms, is_json, bytes, words, output)
-        }
-        AnyShape::Other(shape) => {
-            get_words_other(alloc, shape, forms, is_json, bytes, words, output)
-        }
-    }
-}
-
-// The same of a ready shape, in these forms.
-fn get_words_ready<O: Write>(
-    alloc: Global,
-    shape: Shape,
-    forms: GivenForms,
-    is_json: bool,
-    bytes: &[u8],
-    words: &[String],
-    output: &mut O,
-) -> Result<Status, Failure> {
-    if forms.are_own() {
-        let own = AnswerStyle { forms: OwnForms, is_json };
-        get_words_of(alloc, shape, own, bytes, words, output)
-    } else {
-        let style = AnswerStyle { forms, is_json };
-        get_words_of(alloc, shape, style, bytes, words, output)
-    }
-}
-
-fn get_words_of<F: Forms, O: Write>(
-    alloc: Global,
-    shape: Shape,
-    style: AnswerStyle<F>,
-    bytes: &[u8],
-    words: &[String],
-    output: &mut O,
-) -> Result<Status, Failure> {
-    for_shape!(shape, get_words[F, O](alloc, bytes, style, words, output))
+    get_words_of(alloc, shape.types(), forms, is_json, bytes, words, output)
 }
 
 /// `odht get` of the bytes of a file, for the lines of an input.
@@ -121,22 +84,6 @@ fn get_lines_of<F: Forms, I: BufRead, O: Write>(
     output: &mut O,
 ) -> Result<Status, Failure> {
     for_shape!(shape, get_lines[F, I, O](alloc, bytes, style, input, output))
-}
-
-// Looks up the keys of the words.
-fn get_words<C: Config, F: Forms, O: Write>(
-    alloc: Global,
-    bytes: &[u8],
-    style: AnswerStyle<F>,
-    words: &[String],
-    output: &mut O,
-) -> Result<Status, Failure>
-where
-    C::Key: Text,
-    C::Value: Text,
-{
-    let table = open::<C>(bytes)?;
-    answer_words(alloc, &table, style, words, output)
 }
 
 // Looks up the keys of the lines, a batch at a time.

@@ -1,5 +1,5 @@
 // Made by `make rust` of crates/odht_tool_reads/src/sized/gets.rt.
-//! `odht get` of tables of other sizes than the ready shapes have.
+//! `odht get` of tables whose lengths are numbers.
 
 use crate::erased::core::any::OtherShape;
 use crate::erased::core::failure::Failure;
@@ -8,7 +8,7 @@ use crate::erased::core::json::answers::AnswerStyle;
 use crate::erased::core::shapes::Hash;
 use crate::erased::core::status::Status;
 use crate::erased::reads::lookups::{answer_lines, answer_words};
-use crate::erased::tables::sized::{layout_of, open_lengths};
+use crate::erased::tables::sized::{lengths_of, open_lengths};
 use crate::host::prelude::*;
 use crate::proved::tables::dynamic::Layout;
 use crate::proved::tables::hash::HashFn;
@@ -16,8 +16,8 @@ use crate::proved::tables::{FxHashFn, UnHashFn};
 use crate::shim::Global;
 use std::io::{BufRead, Write};
 
-/// `odht get` of bytes of a shape, for the words of the command line.
-pub fn get_words_other<O: Write>(
+/// `odht get` of bytes of these types, for the words of the command line.
+pub fn get_words_of<O: Write>(
     alloc: Global,
     shape: OtherShape,
     forms: GivenForms,
@@ -26,7 +26,7 @@ pub fn get_words_other<O: Write>(
     words: &[String],
     output: &mut O,
 ) -> Result<Status, Failure> {
-    let (layout, forms) = (layout_of(shape), forms.of(shape));
+    let (layout, forms) = (lengths_of(shape.key, shape.value), forms.of(shape));
     match shape.hash {
         Hash::Fx => {
             get_words_sized::<FxHashFn, O>(alloc, layout, forms, is_json, bytes, words, output)
@@ -47,7 +47,7 @@ pub fn get_lines_other<I: BufRead, O: Write>(
     input: &mut I,
     output: &mut O,
 ) -> Result<Status, Failure> {
-    let (layout, forms) = (layout_of(shape), forms.of(shape));
+    let (layout, forms) = (lengths_of(shape.key, shape.value), forms.of(shape));
     match shape.hash {
         Hash::Fx => {
             get_lines_sized::<FxHashFn, I, O>(alloc, layout, forms, is_json, bytes, input, output)

@@ -10,7 +10,7 @@ use crate::erased::core::shapes::{Hash, Shape};
 use crate::erased::core::status::Status;
 use crate::erased::core::targets::Target;
 use crate::erased::core::text::Text;
-use crate::erased::tables::checks::check_bytes;
+use crate::erased::tables::sized::check_lengths;
 use crate::erased::writes::inserts::insert_into_file;
 use crate::erased::writes::inserts::lines::{check_lines, insert_lines, makes_no_table, Place};
 use crate::erased::writes::shapes::for_shape;
@@ -18,6 +18,7 @@ use crate::erased::writes::sized::builds::{build_other, put_other};
 use crate::host::prelude::*;
 use crate::host::rt::{Clock, Files};
 use crate::proved::tables::config::Config;
+use crate::proved::tables::dynamic::Layout;
 use crate::proved::tables::load::Percent;
 use crate::proved::tables::HashTableOwned;
 use crate::shim::Global;
@@ -206,6 +207,6 @@ fn copy_table<C: Config>(
     bound: Option<usize>,
 ) -> Result<HashTableOwned<C>, Failure> {
     let bytes = bytes.as_slice();
-    check_bytes::<C>(bytes, bound).map_err(Failure::Refused)?;
+    check_lengths::<C::H>(Layout::of::<C>(), bytes, bound).map_err(Failure::Refused)?;
     HashTableOwned::from_raw_bytes_unchecked(alloc, bytes).map_err(Failure::of_table)
 }

@@ -1,26 +1,23 @@
 // Made by `make rust` of crates/odht_tool_writes/src/commands/delete.rt.
 //! `odht delete`: a table file without some of its keys.
 
-use crate::erased::core::any::{read_any, AnyShape, OtherShape};
+use crate::erased::core::any::{read_any, AnyShape};
 use crate::erased::core::arguments::{DeleteOptions, Keys};
 use crate::erased::core::failure::Failure;
 use crate::erased::core::files::{read_file, replace_file};
 use crate::erased::core::forms::Form;
-use crate::erased::core::keys::{parse_keys, push_key, Word};
+use crate::erased::core::keys::{parse_keys, Word};
 use crate::erased::core::progress::{Progress, Watch};
-use crate::erased::core::shapes::{Hash, Shape};
+use crate::erased::core::shapes::Hash;
 use crate::erased::core::status::Status;
 use crate::erased::core::targets::Target;
-use crate::erased::core::text::Text;
 use crate::erased::tables::checks::check_any;
+use crate::erased::tables::sized::lengths_of;
 use crate::erased::writes::commands::delete_lines::deleted_by_lines;
-use crate::erased::writes::shapes::for_shape;
 use crate::erased::writes::sized::deletes::delete_lengths;
 use crate::host::prelude::*;
 use crate::host::rt::{Clock, Files};
-use crate::proved::tables::bytes::ByteArray;
-use crate::proved::tables::config::Config;
-use crate::proved::tables::dynamic::{Layout, ShortBytes};
+use crate::proved::tables::dynamic::ShortBytes;
 use crate::proved::tables::{FxHashFn, UnHashFn};
 use crate::shim::Global;
 use std::io::{BufRead, Write};
@@ -72,7 +69,7 @@ fn deleted<R: AllocGlobal + Clock, E: Write>(
     }
 }
 
-// The same of valid bytes of a shape, and of the keys of these words or lines.
+/// The same of valid bytes of a shape, and of the keys of these words or lines.
 pub fn deleted_for<W: Word, R: AllocGlobal + Clock, E: Write>(
     rt: &R,
     file: &str,
@@ -83,7 +80,7 @@ pub fn deleted_for<W: Word, R: AllocGlobal + Clock, E: Write>(
     progress: Progress,
     errors: &mut E,
 ) -> Result<(Vec<u8>, Status), Failure> {
-    let layout = Layout { key_len: shape.key().size(), value_len: shape.value().size() };
+    let layout = lengths_of(shape.key(), shape.value());
     match shape.hash() {
         Hash::Fx => delete_lengths::<FxHashFn, W, R, E>(
             rt, file, layout, bytes, words, keys, progress, errors,
@@ -101,49 +98,5 @@ fn keys_of_words(
     form: Form,
     words: &[String],
 ) -> Result<Vec<ShortBytes>, Failure> {
-    match shape {
-        AnyShape::Ready(shape) => keys_of_ready(alloc, shape, form, words),
-        AnyShape::Other(shape) => keys_of_other(alloc, shape, form, words),
-    }
-}
-
-fn keys_of_ready(
-    alloc: Global,
-    shape: Shape,
-    form: Form,
-    words: &[String],
-) -> Result<Vec<ShortBytes>, Failure> {
-    for_shape!(shape, keys_of[](alloc, form, words))
-}
-
-fn keys_of_other(
-    alloc: Global,
-    shape: OtherShape,
-    form: Form,
-    words: &[String],
-) -> Result<Vec<ShortBytes>, Failure> {
-    parse_keys(alloc, words, form.of(shape.key))
-}
-
-// The same of a configuration.
-fn keys_of<C: Config>(
-    alloc: Global,
-    form: Form,
-    words: &[String],
-) -> Result<Vec<ShortBytes>, Failure>
-where
-    C::Key: Text,
-{
-    let keys = parse_keys::<C::Key>(alloc, words, form)?;
-    encoded_keys::<C>(alloc, keys.as_slice())
-}
-
-/// The bytes of the keys.
-pub fn encoded_keys<C: Config>(alloc: Global, keys: &[C::Key]) -> Result<Vec<ShortBytes>, Failure> {
-    let mut all = crate::host::lists::empty(alloc);
-    for key in keys {
-        let key = C::encode_key(key);
-        push_key(&mut all, ShortBytes::of(key.as_slice()))?;
-    }
-    Ok(all)
+    parse_keys(alloc, words, form.of(shape.key()))
 }

@@ -1,22 +1,19 @@
 // Made by `make rust` of crates/odht_tool_writes/src/commands/delete_lines.rt.
 //! `odht delete FILE -`: the keys are the lines of standard input.
 
-use crate::erased::core::any::{read_any, AnyShape, OtherShape};
+use crate::erased::core::any::{read_any, AnyShape};
 use crate::erased::core::arguments::DeleteOptions;
 use crate::erased::core::failure::{Failure, LineFault};
 use crate::erased::core::forms::Form;
 use crate::erased::core::keys::{next_key_as, push_key, NextKey};
 use crate::erased::core::misread::Misread;
 use crate::erased::core::progress::{Progress, Watch};
-use crate::erased::core::shapes::Shape;
 use crate::erased::core::status::Status;
 use crate::erased::core::text::Text;
 use crate::erased::tables::checks::check_any;
-use crate::erased::writes::commands::delete::{deleted_for, encoded_keys};
-use crate::erased::writes::shapes::for_shape;
+use crate::erased::writes::commands::delete::deleted_for;
 use crate::host::prelude::*;
 use crate::host::rt::Clock;
-use crate::proved::tables::config::Config;
 use crate::proved::tables::dynamic::ShortBytes;
 use crate::shim::Global;
 use std::io::{BufRead, Write};
@@ -60,42 +57,7 @@ fn keys_of_lines<I: BufRead>(
     form: Form,
     input: &mut I,
 ) -> Result<KeyLines<ShortBytes>, Failure> {
-    match shape {
-        AnyShape::Ready(shape) => keys_of_ready(alloc, shape, form, input),
-        AnyShape::Other(shape) => keys_of_other(alloc, shape, form, input),
-    }
-}
-
-fn keys_of_ready<I: BufRead>(
-    alloc: Global,
-    shape: Shape,
-    form: Form,
-    input: &mut I,
-) -> Result<KeyLines<ShortBytes>, Failure> {
-    for_shape!(shape, keys_of[I](alloc, form, input))
-}
-
-fn keys_of_other<I: BufRead>(
-    alloc: Global,
-    shape: OtherShape,
-    form: Form,
-    input: &mut I,
-) -> Result<KeyLines<ShortBytes>, Failure> {
-    read_lines(alloc, form.of(shape.key), input)
-}
-
-// The same of a configuration.
-fn keys_of<C: Config, I: BufRead>(
-    alloc: Global,
-    form: Form,
-    input: &mut I,
-) -> Result<KeyLines<ShortBytes>, Failure>
-where
-    C::Key: Text,
-{
-    let read = read_lines::<C::Key, I>(alloc, form, input)?;
-    let keys = encoded_keys::<C>(alloc, read.keys.as_slice())?;
-    Ok(KeyLines { lines: read.lines, keys })
+    read_lines(alloc, form.of(shape.key()), input)
 }
 
 // The lines of an input, but for an empty last one that is no key, and their keys; or the first

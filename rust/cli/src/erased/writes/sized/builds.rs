@@ -9,7 +9,7 @@ use crate::erased::core::progress::Watch;
 use crate::erased::core::shapes::Hash;
 use crate::erased::core::status::Status;
 use crate::erased::core::targets::Target;
-use crate::erased::tables::sized::{check_lengths, layout_of};
+use crate::erased::tables::sized::{check_lengths, lengths_of};
 use crate::erased::writes::inserts::insert_into_file;
 use crate::erased::writes::inserts::lines::{check_lines, insert_lines, makes_no_table, Place};
 use crate::host::prelude::*;
@@ -35,7 +35,7 @@ pub fn build_other<R: Files + AllocGlobal + Clock, I: BufRead, O: Write, E: Writ
 where
     R::File: AsFd,
 {
-    let layout = layout_of(shape);
+    let layout = lengths_of(shape.key, shape.value);
     let forms = line_forms(shape, options.forms, options.delimiter);
     match shape.hash {
         Hash::Fx => build_lengths::<FxHashFn, R, I, O, E>(
@@ -111,7 +111,7 @@ pub fn put_other<R: Files + AllocGlobal + Clock, I: BufRead, E: Write>(
 where
     R::File: AsFd,
 {
-    let (layout, forms) = (layout_of(shape), forms.of(shape));
+    let (layout, forms) = (lengths_of(shape.key, shape.value), forms.of(shape));
     match shape.hash {
         Hash::Fx => put_lengths::<FxHashFn, R, I, E>(
             rt, target, layout, forms, bytes, bound, watch, input, errors,
