@@ -21,6 +21,7 @@ use crate::layout::Layout;
 use crate::load::Factor;
 use crate::memory_layout::{self, HEADER_SIZE, Header};
 use crate::raw_table::{RawIter, RawTableMut};
+use crate::swisstable_group_query::GroupQuery;
 
 impl<C: Config, D: ByteStore> HashTable<C, D> {
     /// The length in bytes of the table that this one grows into: with the slots for twice the
@@ -150,6 +151,6 @@ fn place_walk<K: ByteArray, V: ByteArray, H: HashFn>(
     let mut table: RawTableMut<'_, '_, K, V, H> = RawTableMut::new(control, entries);
     for (_, entry) in walk {
         // There is room for each item of a valid table.
-        let _ = table.place(entry.key, entry.value);
+        let _ = table.place_by::<GroupQuery>(entry.key, entry.value);
     }
 }

@@ -1,9 +1,10 @@
 //! The lengths of encoded keys and values as a value, for tables whose lengths are known at run
 //! time alone.
-ghost use Rattle.std.specs.Prelude.{◌≡◌, ◌+◌};
+ghost use Rattle.std.specs.Prelude.{◌≡◌, ◌+◌, slice_index};
 
 use crate::bytes::ByteArray;
 use crate::config::Config;
+use crate::header::Header;
 
 /// How many bytes an encoded key and an encoded value have.
 #[derive(Clone, Copy, PartialEq, Eq, Debug)]
@@ -33,5 +34,19 @@ impl Layout {
         ensures { result ≡ self.key_len + self.value_len }
     {
         self.key_len as usize + self.value_len as usize
+    }
+}
+
+impl<'a> Header<'a> {
+    /// The lengths of keys and values that the header states.
+    #[inline(always)]
+    pub fn layout(&self) -> Layout
+        ensures key { result.key_len ≡ slice_index self.now 5 }
+        ensures value { result.value_len ≡ slice_index self.now 6 }
+    {
+        Layout {
+            key_len: self.key_size(),
+            value_len: self.value_size(),
+        }
     }
 }

@@ -8,7 +8,6 @@ ghost use Rattle.odht_tool_core.specs.Fronts.{stated_len};
 ghost use Rattle.odht_tool_reads.specs.Gets.{AreFileWordsGot};
 ghost use Rattle.odht_tool_reads.specs.Positions.{ByPosition, IsAnsweredBy, IsStartOf, IsTableIn, len_by, table_read};
 
-use odht::dynamic::Layout;
 use odht::memory_layout::{HEADER_SIZE, Header};
 use odht::read_at::{ReadAt, read_exact_at};
 use odht_tool_core::any::{AnyShape, read_any};
@@ -124,10 +123,7 @@ fn front_len(header: &[u8], found: usize) -> Option<usize>
     ensures stated { IfSome result (λ n. n ≡ stated_len header.now) }
 {
     let header = Header::of(header);
-    let layout = Layout {
-        key_len: header.key_size(),
-        value_len: header.value_size(),
-    };
+    let layout = header.layout();
     match header.layout_len(layout, found) {
         Ok(len) => { if len <= found { Some(len) } else { None } }
         Err(_) => None,

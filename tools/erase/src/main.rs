@@ -34,6 +34,7 @@ const PLAN: Plan<'static> = Plan {
         "odht_raw/raw_table/entries",
         "odht_raw/raw_table/first_look",
         "odht_raw/raw_table/free_search",
+        "odht_raw/raw_table/group_probe",
         "odht_raw/raw_table/group_search",
         "odht_raw/raw_table/insert",
         "odht_raw/raw_table/runs",

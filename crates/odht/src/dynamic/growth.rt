@@ -1,5 +1,6 @@
 //! Growth of a table whose lengths are known at run time alone, into larger bytes.
 ghost use Rattle.std.specs.Prelude.{◌≡◌, ◌≤◌, All, Some, length};
+ghost use Rattle.odht_base.specs.Decoded.{header_count, header_factor};
 ghost use Rattle.odht_base.specs.Format.{format_of};
 ghost use Rattle.odht_base.specs.Image.{image_len};
 ghost use Rattle.odht_base.specs.Insert.{grown_slots, place_all};
@@ -47,23 +48,24 @@ impl<H: HashFn, D: ByteStore> DynTable<H, D> {
             ≡ Some (length out.old) }
         ensures { IsGrownFrom (dyn_format self.now H.hash) (D.bytes self.now.store) out.new }
     {
-        let layout = self.layout();
         let header = Header::of(self.raw_bytes());
-        let Some((slot_count, _)) = grown_sizes::<H>(layout, &header) else {
+        let Some((slot_count, _)) = grown_sizes::<H>(self.layout(), &header) else {
             // `out` has the length of the grown table.
             unreachable!()
         };
-        let item_count = header.item_count();
-        let factor = header.max_load_factor();
-        write_walked::<H>(out, layout, slot_count, item_count, factor, self.iter());
+        self.move_into(slot_count, out);
     }
 
     /// Writes the pairs of this table, placed in slot order into so many slots, to `out`, whatever
-    /// its bytes were. `out` has the length for them.
+    /// its bytes were. `out` has the length for them. The new header has the item count and the
+    /// load factor of this table.
     pub(super) fn move_into(&self, slot_count: usize, out: &mut [u8])
         requires slots { IsSlotCount slot_count }
         requires len { length out.old ≡ image_len (dyn_format self.now H.hash) slot_count }
-        ensures { IsMove (dyn_coding self.now H.hash) (D.bytes self.now.store) slot_count out.new }
+        ensures moved { IsMove (dyn_coding self.now H.hash) (D.bytes self.now.store)
+            slot_count out.new }
+        ensures count { header_count out.new ≡ header_count (D.bytes self.now.store) }
+        ensures factor { header_factor out.new ≡ header_factor (D.bytes self.now.store) }
     {
         let layout = self.layout();
         let header = Header::of(self.raw_bytes());

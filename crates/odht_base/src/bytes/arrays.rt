@@ -97,10 +97,10 @@ impl<const LEN: usize> ByteArray for [u8; LEN] {
             20 => is_same_pair(left, right, 0) && is_same_half(left, right, 16),
             24 => is_same_pair(left, right, 0) && is_same_word(left, right, 16),
             32 => is_same_pair(left, right, 0) && is_same_pair(left, right, 16),
-            28 => is_same_list(left, right),
+            28 => left == right,
             _ if LEN % 4 == 0 => is_same_bytes(left, right),
             _ if LEN < 8 => *self == *other,
-            _ => is_same_list(left, right),
+            _ => left == right,
         }
     }
 }
@@ -171,7 +171,7 @@ pub fn is_same_bytes(left: &[u8], right: &[u8]) -> bool
 {
     let len = right.len();
     if len > 64 {
-        return is_same_list(left, right);
+        return left == right;
     }
     let mut at = 0;
     'words: while len - at >= 8 {
@@ -181,9 +181,9 @@ pub fn is_same_bytes(left: &[u8], right: &[u8]) -> bool
         at += 8;
     }
     if len - at < 4 {
-        return is_same_list(&left[at..], &right[at..]);
+        return left[at..] == right[at..];
     }
-    is_same_half(left, right, at) && is_same_list(&left[at + 4..], &right[at + 4..])
+    is_same_half(left, right, at) && left[at + 4..] == right[at + 4..]
 }
 
 /// Whether each byte is zero, eight of them at a time.
@@ -203,14 +203,6 @@ pub fn is_zeros(bytes: &[u8]) -> bool
         at += 8;
     }
     read_u64(bytes, len - 8) == 0
-}
-
-// Whether two slices are equal.
-#[inline(always)]
-fn is_same_list(left: &[u8], right: &[u8]) -> bool
-    ensures { IsTrue result ↔ (left.now ≡ right.now) }
-{
-    left == right
 }
 
 // Whether the two bytes from `at` on are equal.

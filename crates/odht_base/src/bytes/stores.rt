@@ -235,15 +235,8 @@ pub fn write_slice(all: &mut [u8], at: usize, piece: &[u8])
     requires { at + length piece.now ≤ length all.old }
     ensures { all.new ≡ overwritten_at all.old at piece.now }
 {
-    overwrite(&mut all[at..at + piece.len()], piece);
-}
-
-// Writes `piece` over the whole slice; a piece of 1, 2, 4, 8 or 16 bytes is copied as an array.
-#[inline(always)]
-fn overwrite(target: &mut [u8], piece: &[u8])
-    requires { length target.old ≡ length piece.now }
-    ensures { target.new ≡ piece.now }
-{
+    let target = &mut all[at..at + piece.len()];
+    // A piece of 1, 2, 4, 8 or 16 bytes is copied as an array.
     match piece.len() {
         1 => overwrite_array::<1>(target, piece),
         2 => overwrite_array::<2>(target, piece),

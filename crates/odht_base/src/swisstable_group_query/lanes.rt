@@ -30,19 +30,6 @@ impl Model for GroupQuery {
 }
 
 impl GroupQuery {
-    // Searches a group that is in lanes for a tag.
-    #[inline]
-    fn of_lanes(lanes: u8x16, h2: u8) -> GroupQuery
-        requires { length lanes ≡ 16 }
-        ensures matches { result.matches ≡ equal lanes h2 }
-        ensures free { result.free ≡ first_free lanes }
-    {
-        GroupQuery {
-            matches: IndexSet::of_bits(lanes.simd_eq(u8x16::splat(h2)).to_bitmask()),
-            free: IndexSet::of_bits(free_bits(lanes)),
-        }
-    }
-
     /// Searches a group for a tag, which is below 128.
     #[inline]
     pub fn from(group: &[u8; GROUP_SIZE], h2: u8) -> GroupQuery
@@ -50,7 +37,7 @@ impl GroupQuery {
         ensures matches { result.matches ≡ equal group.now h2 }
         ensures free { result.free ≡ first_free group.now }
     {
-        GroupQuery::of_lanes(u8x16::from_array(*group), h2)
+        Group::of(group, h2)
     }
 
     /// Whether the group has a byte of 128 or more.
@@ -88,7 +75,11 @@ impl Group for GroupQuery {
         ensures equal { result.matches ≡ equal bytes.now h2 }
         ensures free { result.free ≡ first_free bytes.now }
     {
-        GroupQuery::of_lanes(u8x16::from_slice(bytes), h2)
+        let lanes = u8x16::from_slice(bytes);
+        GroupQuery {
+            matches: IndexSet::of_bits(lanes.simd_eq(u8x16::splat(h2)).to_bitmask()),
+            free: IndexSet::of_bits(free_bits(lanes)),
+        }
     }
 
     #[inline]

@@ -34,11 +34,7 @@ pub fn stated_layout(bytes: &[u8]) -> Result<Layout, Error>
     if found < HEADER_SIZE {
         return Err(Error::TooShort { found });
     }
-    let header = Header::of(bytes);
-    Ok(Layout {
-        key_len: header.key_size(),
-        value_len: header.value_size(),
-    })
+    Ok(Header::of(bytes).layout())
 }
 
 /// Checks the bytes as those of a table of these lengths by their header and length alone, and

@@ -10,11 +10,11 @@ ghost use Rattle.odht_header.specs.Refusals.{longer_refusal};
 ghost use Rattle.odht_base.specs.Bounds.{ends_within, first_longer, AreWithin};
 ghost use Rattle.odht_raw.specs.Sized.{sized_format};
 
-use super::{EntryMetadata, ProbeSeq, RawTable, SizedTable, slot_count_of};
+use super::{EntryMetadata, GroupProbe, RawTable, SizedTable, slot_count_of};
 use crate::bytes::ByteArray;
 use crate::error::Error;
 use crate::hash::HashFn;
-use crate::swisstable_group_query::{REFERENCE_GROUP_SIZE, late_free};
+use crate::swisstable_group_query::late_free;
 
 impl<'a, K: ByteArray, V: ByteArray, H: HashFn> RawTable<'a, K, V, H> {
     /// Whether each home has, among the first `groups` groups of its probe order, a control byte
@@ -90,18 +90,18 @@ fn homes_within(control: &[EntryMetadata], home: usize, groups: usize) -> Option
     ensures within { IfSome result (AreWithin control.now groups home) }
     ensures longer { result ≡ None → ends_within control.now groups home ≡ false }
 {
-    let mask = slot_count_of(control) - 1;
-    let mut probe = ProbeSeq::<REFERENCE_GROUP_SIZE>::new(home, mask);
+    let slots = slot_count_of(control);
+    let mut probe = GroupProbe::new(control, slots, home);
     let mut left = groups;
     'groups: while left > 0 {
-        let start = probe.index();
-        if let Some(index) = late_free(&control[start..start + REFERENCE_GROUP_SIZE]) {
-            return Some(index.min(mask - start) + 1);
+        let start = probe.start();
+        if let Some(index) = late_free(probe.read()) {
+            return Some(index.min(slots - 1 - start) + 1);
         }
         if probe.is_last() {
             return None;
         }
-        probe.advance(mask);
+        probe.advance();
         left -= 1;
     }
     None

@@ -4,7 +4,7 @@ ghost use Rattle.odht_base.specs.Bytes.{bytes_at};
 ghost use Rattle.odht_base.specs.Load.{IsSlotCount};
 ghost use Rattle.odht_base.specs.Probe.{probe_slot};
 
-use super::{EntryMetadata, ProbeSeq, Scan};
+use super::{EntryMetadata, ProbeSeq};
 use crate::swisstable_group_query::REFERENCE_GROUP_SIZE;
 use std::marker::Model;
 
@@ -15,7 +15,9 @@ use std::marker::Model;
 /// the position of the group's first slot in the order.
 #[derive(Drop)]
 pub struct GroupProbe<'a> {
-    scan: Scan<'a>,
+    control: &'a [EntryMetadata],
+    mask: usize,
+    groups: usize,
     probe: ProbeSeq<REFERENCE_GROUP_SIZE>,
 }
 
@@ -27,15 +29,16 @@ impl<'a> Model for GroupProbe<'a> {
     ghost Value = { GroupPlace };
 
     ghost view = { λ q. record {
-      control = q.scan.control;
-      groups = q.scan.groups;
+      control = q.control.now;
+      groups = q.groups;
       home = q.probe.home;
       position = q.probe.position;
     } };
 
-    ghost invariant = { λ q. IsSlotCount (q.probe.mask + 1)
-        × (length q.scan.control ≡ q.probe.mask + 1 + 16)
-        × (q.probe.position + 16 ≤ q.probe.mask + 1)
+    ghost invariant = { λ q. IsSlotCount (q.mask + 1)
+        × (q.probe.mask ≡ q.mask)
+        × (length q.control.now ≡ q.mask + 1 + 16)
+        × (q.probe.position + 16 ≤ q.mask + 1)
         × (q.probe.position % 16 ≡ 0) };
 }
 
@@ -53,22 +56,11 @@ impl<'a> GroupProbe<'a> {
           position = 0;
         } }
     {
-        GroupProbe::over(Scan::new(control, slots), hash)
-    }
-
-    /// `new` in the control bytes of a scan, which goes on counting.
-    #[inline(always)]
-    pub fn over(scan: Scan<'a>, hash: usize) -> Self
-        ensures { result ≡ record {
-          control = scan.entry.control;
-          groups = scan.entry.groups;
-          home = hash % (length scan.entry.control - 16);
-          position = 0;
-        } }
-    {
-        let mask = scan.slots() - 1;
+        let mask = slots - 1;
         GroupProbe {
-            scan,
+            control,
+            mask,
+            groups: 0,
             probe: ProbeSeq::new(hash, mask),
         }
     }
@@ -78,7 +70,7 @@ impl<'a> GroupProbe<'a> {
     pub fn groups(&self) -> usize
         ensures { result ≡ self.now.groups }
     {
-        self.scan.groups()
+        self.groups
     }
 
     /// The first slot of the group.
@@ -108,7 +100,9 @@ impl<'a> GroupProbe<'a> {
           position = self.old.position;
         } }
     {
-        self.scan.group(self.probe.index())
+        self.groups = self.groups.saturating_add(1);
+        let (control, start) = (self.control, self.probe.index());
+        &control[start..start + REFERENCE_GROUP_SIZE]
     }
 
     /// Whether it is the last group.
@@ -116,7 +110,7 @@ impl<'a> GroupProbe<'a> {
     pub fn is_last(&self) -> bool
         ensures { IsTrue result ↔ (self.now.position + 16 ≡ length self.now.control - 16) }
     {
-        self.probe.is_last_of(self.scan.slots() - 1)
+        self.probe.is_last_of(self.mask)
     }
 
     /// Goes on to the next group.
@@ -130,6 +124,6 @@ impl<'a> GroupProbe<'a> {
           position = self.old.position + 16;
         } }
     {
-        self.probe.advance(self.scan.slots() - 1);
+        self.probe.advance(self.mask);
     }
 }

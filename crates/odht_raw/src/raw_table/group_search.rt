@@ -7,7 +7,8 @@ ghost use Rattle.odht_raw.specs.PartLengths.{AreSearchLengths};
 ghost use Rattle.odht_raw.specs.Parts.{hashed_by};
 ghost use Rattle.odht_raw.specs.SearchEnds.{IsEndAmong, GoesOnAmong};
 ghost use Rattle.odht_raw.specs.SearchSteps.{IsGroupAt, IsLook, IsTag};
-ghost use Rattle.odht_raw.specs.Searches.{IsRest, IsSearch, IsSearchEnd, IsUnderWay, IsPassed};
+ghost use Rattle.odht_raw.specs.Searches.{IsCountedEnd, IsRest, IsSearch, IsSearchEnd};
+ghost use Rattle.odht_raw.specs.Searches.{IsUnderWay, IsPassed};
 
 use super::{Entries, EntryMetadata, GroupProbe, Scan, Search, SlotKeys, tag_of};
 use crate::bytes::ByteArray;
@@ -58,27 +59,31 @@ pub fn search_hashed<K: ByteArray, V: ByteArray, H: HashFn, Q: Group>(
     ensures { IsSearch (format_of K.LEN V.LEN H.hash) entries.now (K.bytes key.now)
         scan.old scan.new result }
 {
-    search_keys::<Entries<'_, K, V>, H, Q>(scan, entries, key, hash)
+    let mut probe = scan.probe(hash as usize);
+    let end = search_from::<Entries<'_, K, V>, H, Q>(&mut probe, entries, key, tag_of(hash));
+    scan.count(probe.groups());
+    end
 }
 
-/// `search` of a key whose hash is known, among the keys of whatever holds them.
+/// The search for a key with this hash among the keys of whatever holds them, and how many groups
+/// it read.
 #[inline(always)]
 pub(super) fn search_keys<E: SlotKeys, H: HashFn, Q: Group>(
-    scan: &mut Scan<'_>,
+    control: &[EntryMetadata],
     keys: &E,
     key: &E::Key,
     hash: u32,
-) -> Search
+) -> (Search, usize)
     requires format { IsFormat (hashed_by H.hash (E.format keys.now)) }
-    requires mirrored { length scan.old.control ≡ (E.entries keys.now).slots + 16 }
+    requires slots { IsSlotCount (E.entries keys.now).slots }
+    requires mirrored { length control.now ≡ (E.entries keys.now).slots + 16 }
     requires hash { hash ≡ H.hash (E.key_bytes key.now) }
     ensures { let F = hashed_by H.hash (E.format keys.now)
-        in IsSearch F (E.entries keys.now) (E.key_bytes key.now) scan.old scan.new result }
+        in IsCountedEnd F (E.entries keys.now) control.now (E.key_bytes key.now) result }
 {
-    let mut probe = GroupProbe::over(scan.copy(), hash as usize);
+    let mut probe = GroupProbe::new(control, keys.slots(), hash as usize);
     let end = search_from::<E, H, Q>(&mut probe, keys, key, tag_of(hash));
-    scan.set_groups(probe.groups());
-    end
+    (end, probe.groups())
 }
 
 // The rest of a search that is under way, from the group of the probe on.

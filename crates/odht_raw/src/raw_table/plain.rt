@@ -1,10 +1,9 @@
 //! The search slot by slot along the probe order, and find and insert by it: the reference forms
 //! of the searches by groups. They are the reference of the tests; no call of the library uses
 //! them.
-ghost use Rattle.std.specs.Prelude.{◌≡◌, ◌%◌, ◌<◌, length};
+ghost use Rattle.std.specs.Prelude.{◌≡◌, ◌<◌, length};
 ghost use Rattle.odht_base.specs.Load.{IsSlotCount};
 ghost use Rattle.odht_base.specs.Format.{format_of};
-ghost use Rattle.odht_base.specs.Probe.{probe_slot};
 ghost use Rattle.odht_base.specs.Table.{Pair, Table};
 ghost use Rattle.odht_base.specs.Valid.{IsPartsOf};
 ghost use Rattle.odht_raw.specs.SearchResults.{answer};
@@ -14,11 +13,11 @@ ghost use Rattle.odht_raw.specs.SearchEnds.{IsPlainEnd};
 ghost use Rattle.odht_raw.specs.Finds.{IsFind};
 
 use super::insert::insert_at;
+use super::probe_seq::probed_slot;
 use super::{Entries, EntryMetadata, Search, SlotKeys, is_empty_or_deleted, slot_count_of, tag_of};
 use crate::bytes::ByteArray;
 use crate::error::Error;
 use crate::hash::HashFn;
-use crate::swisstable_group_query::REFERENCE_GROUP_SIZE;
 
 /// The value stored with the key, searched for slot by slot along the probe order.
 ///
@@ -103,8 +102,9 @@ fn plain_search<K: ByteArray, V: ByteArray, H: HashFn>(
         → result ≡ answer (format_of K.LEN V.LEN H.hash) P.cells (K.bytes key.now) }
 {
     let slots = entries.len();
+    let home = hash as usize & (slots - 1);
     for position in 0..slots {
-        let slot = slot_at(hash, slots, position);
+        let slot = probed_slot(home, position, slots);
         if is_empty_or_deleted(control[slot]) {
             return Search::Free(slot);
         }
@@ -113,17 +113,4 @@ fn plain_search<K: ByteArray, V: ByteArray, H: HashFn>(
         }
     }
     Search::Neither
-}
-
-// The slot at a position of the probe order of a hash.
-#[inline]
-fn slot_at(hash: u32, slots: usize, position: usize) -> usize
-    requires slots { IsSlotCount slots }
-    requires position { position < slots }
-    ensures value { result ≡ probe_slot (hash % slots) slots position }
-    ensures below { result < slots }
-{
-    let group = (position / REFERENCE_GROUP_SIZE) as u128;
-    let from_home = 8 * group * (group + 1) + (position % REFERENCE_GROUP_SIZE) as u128;
-    ((hash as u128 + from_home) & (slots as u128 - 1)) as usize
 }

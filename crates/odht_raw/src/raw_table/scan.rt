@@ -1,9 +1,9 @@
 //! The control bytes of a table as a search reads them.
-ghost use Rattle.std.specs.Prelude.{◌≡◌, ◌+◌, ◌-◌, ◌<◌, min, length};
+ghost use Rattle.std.specs.Prelude.{◌≡◌, ◌+◌, ◌-◌, ◌%◌, ◌<◌, min, length};
 ghost use Rattle.odht_base.specs.Bytes.{bytes_at};
 ghost use Rattle.odht_base.specs.Load.{IsSlotCount};
 
-use super::EntryMetadata;
+use super::{EntryMetadata, GroupProbe};
 use std::marker::Model;
 
 /// The control bytes of a table, read a group of sixteen at a time, and how many groups were read.
@@ -44,24 +44,29 @@ impl<'a> Scan<'a> {
         }
     }
 
-    // A second scan of the same control bytes, of which as many groups were read.
+    // The probe of a hash in these control bytes. By it a search reads them, and counts what it
+    // reads.
     #[inline(always)]
-    pub(crate) fn copy(&self) -> Scan<'a>
-        ensures { result ≡ self.now }
+    pub(super) fn probe(&self, hash: usize) -> GroupProbe<'a>
+        ensures { result ≡ record {
+          control = self.now.control;
+          groups = 0;
+          home = hash % (length self.now.control - 16);
+          position = 0;
+        } }
     {
-        Scan {
-            control: self.control,
-            slots: self.slots,
-            groups: self.groups,
-        }
+        GroupProbe::new(self.control, self.slots, hash)
     }
 
-    // Says how many groups were read, by a copy.
+    // Counts the groups that were read by its probe.
     #[inline(always)]
-    pub(crate) fn set_groups(&mut self, groups: usize)
-        ensures { self.new ≡ record { control = self.old.control; groups = groups } }
+    pub(super) fn count(&mut self, groups: usize)
+        ensures { self.new ≡ record {
+          control = self.old.control;
+          groups = min (self.old.groups + groups) usize.MAX;
+        } }
     {
-        self.groups = groups;
+        self.groups = self.groups.saturating_add(groups);
     }
 
     /// How many slots there are.

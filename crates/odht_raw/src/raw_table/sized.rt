@@ -16,7 +16,7 @@ ghost use Rattle.odht_raw.specs.Sized.{HasLengthsOf, sized_format, sized_parts, 
 
 use super::group_search::search_keys;
 use super::slot_checks::check_hashes;
-use super::{EntryMetadata, Scan, Search, SizedIter, SizedSlots, SlotKeys, tag_of};
+use super::{EntryMetadata, Search, SizedIter, SizedSlots, SlotKeys, tag_of};
 use crate::bytes::is_same_word;
 use crate::error::Error;
 use crate::hash::HashFn;
@@ -275,11 +275,13 @@ impl<'a, H: HashFn> SizedTable<'a, H> {
         ensures { IsCountedFind (sized_format self.now H.hash) (λ b. b) self.now.parts key.now
             (option_copied result.0, result.1) }
     {
-        let mut scan = Scan::new(self.controls(), self.len());
         let sought = SoughtBytes { bytes: &*key };
-        let hash = H::hash(key);
-        let end = search_keys::<SizedTable<'_, H>, H, GroupQuery>(&mut scan, &*self, &sought, hash);
-        let groups = scan.groups();
+        let (end, groups) = search_keys::<SizedTable<'_, H>, H, GroupQuery>(
+            self.controls(),
+            &*self,
+            &sought,
+            H::hash(key),
+        );
         match end {
             Search::Found(slot) => (Some(self.value(slot)), groups),
             Search::Free(_) => (None, groups),
@@ -296,10 +298,11 @@ impl<'a, H: HashFn> SizedTable<'a, H> {
             self.now.parts.control key.now result.0 }
         ensures tag { result.1 ≡ key_tag (sized_format self.now H.hash) key.now }
     {
-        let mut scan = Scan::new(self.controls(), self.len());
-        let sought = SoughtBytes { bytes: &*key };
+        let (controls, sought) = (self.controls(), SoughtBytes { bytes: &*key });
         let hash = H::hash(key);
-        let end = search_keys::<SizedTable<'_, H>, H, GroupQuery>(&mut scan, &*self, &sought, hash);
+        let (end, _) = search_keys::<SizedTable<'_, H>, H, GroupQuery>(
+            controls, &*self, &sought, hash,
+        );
         (end, tag_of(hash))
     }
 

@@ -88,10 +88,7 @@ fn place_of(start: &Start) -> Option<ReadPlace>
         + p.slots + 16 ≡ start.now.len) }
 {
     let header = Header::of(&start.header);
-    let layout = Layout {
-        key_len: header.key_size(),
-        value_len: header.value_size(),
-    };
+    let layout = header.layout();
     match header.check_layout(layout, start.len) {
         Ok(()) => {}
         Err(_) => return None,

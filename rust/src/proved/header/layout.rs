@@ -4,6 +4,7 @@
 
 use crate::proved::header::bytes::ByteArray;
 use crate::proved::header::config::Config;
+use crate::proved::header::header::Header;
 
 /// How many bytes an encoded key and an encoded value have.
 #[derive(Clone, Copy, PartialEq, Eq, Debug)]
@@ -25,5 +26,13 @@ impl Layout {
     #[inline(always)]
     pub fn entry_len(self) -> usize {
         self.key_len as usize + self.value_len as usize
+    }
+}
+
+impl<'a> Header<'a> {
+    /// The lengths of keys and values that the header states.
+    #[inline(always)]
+    pub fn layout(&self) -> Layout {
+        Layout { key_len: self.key_size(), value_len: self.value_size() }
     }
 }

@@ -9,6 +9,7 @@ use crate::proved::tables::layout::Layout;
 use crate::proved::tables::load::Factor;
 use crate::proved::tables::memory_layout::{self, Header, HEADER_SIZE};
 use crate::proved::tables::raw_table::{RawIter, RawTableMut};
+use crate::proved::tables::swisstable_group_query::GroupQuery;
 
 impl<C: Config, D: ByteStore> HashTable<C, D> {
     /// The length in bytes of the table that this one grows into: with the slots for twice the
@@ -112,6 +113,6 @@ fn place_walk<K: ByteArray, V: ByteArray, H: HashFn>(
     let mut table: RawTableMut<'_, '_, K, V, H> = RawTableMut::new(control, entries);
     for (_, entry) in walk {
         // There is room for each item of a valid table.
-        let _ = table.place(entry.key, entry.value);
+        let _ = table.place_by::<GroupQuery>(entry.key, entry.value);
     }
 }

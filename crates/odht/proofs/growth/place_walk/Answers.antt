@@ -22,7 +22,7 @@ loop-entry-preserved g c =
     let pair = stored g.K.ByteArray.bytes g.V.ByteArray.bytes in
     let here : Item g.row.K.Denot g.row.V.Denot = (c.in-Some.field-0-0, c.in-Some.entry) in
     let left : List (Item g.row.K.Denot g.row.V.Denot) = c.next.new.self in
-    let known = c.place.ensures in
+    let known = c.place_by.ensures in
     let es = c.loop-entry.table.entries.now in
     let ctrl = c.loop-entry.table.control.now in
     record {
@@ -32,7 +32,7 @@ loop-entry-preserved g c =
           let at : LeadsTo F Q (pair here ∷ map pair left) es ctrl = subst (λ xs. LeadsTo F Q (map pair xs) es ctrl) c.in-Some.ensures.steps (c.loop-entry.invariant.placed P Q placing parts) in
           let fresh = leads_new F Q (pair here) (map pair left) es ctrl at in
           let fits = leads_fits F Q (pair here) (map pair left) es ctrl at in
-          let insert = accepted_holds (ArePartsPlaced F at.table (pair here) c.place.new.self.entries.now c.place.new.self.control.now) c.place.result known.change.errors.only_full
+          let insert = accepted_holds (ArePartsPlaced F at.table (pair here) c.place_by.new.self.entries.now c.place_by.new.self.control.now) c.place_by.result known.change.errors.only_full
           (λ full. fits ((known.parts at.table at.parts fresh).full.0 full)) (known.parts at.table at.parts fresh).ok in
           leads_on F Q (pair here) (map pair left) es ctrl at _ _ insert);
     }

@@ -12,7 +12,6 @@ use crate::erased::core::status::Status;
 use crate::host::fs::{self, OpenFile};
 use crate::host::prelude::*;
 use crate::host::rt::Files;
-use crate::proved::tables::dynamic::Layout;
 use crate::proved::tables::memory_layout::{Header, HEADER_SIZE};
 use crate::proved::tables::read_at::{read_exact_at, ReadAt};
 use crate::shim::Global;
@@ -94,7 +93,7 @@ fn read_start<S: ReadAt>(source: &S, len: usize, offset: Option<usize>) -> Optio
 // How many bytes the table of this header has, at the front of so many.
 fn front_len(header: &[u8], found: usize) -> Option<usize> {
     let header = Header::of(header);
-    let layout = Layout { key_len: header.key_size(), value_len: header.value_size() };
+    let layout = header.layout();
     match header.layout_len(layout, found) {
         Ok(len) => {
             if len <= found {

@@ -64,10 +64,10 @@ impl<const LEN: usize> ByteArray for [u8; LEN] {
             20 => is_same_pair(left, right, 0) && is_same_half(left, right, 16),
             24 => is_same_pair(left, right, 0) && is_same_word(left, right, 16),
             32 => is_same_pair(left, right, 0) && is_same_pair(left, right, 16),
-            28 => is_same_list(left, right),
+            28 => left == right,
             _ if LEN % 4 == 0 => is_same_bytes(left, right),
             _ if LEN < 8 => *self == *other,
-            _ => is_same_list(left, right),
+            _ => left == right,
         }
     }
 }
@@ -113,7 +113,7 @@ pub fn is_same_word(left: &[u8], right: &[u8], at: usize) -> bool {
 pub fn is_same_bytes(left: &[u8], right: &[u8]) -> bool {
     let len = right.len();
     if len > 64 {
-        return is_same_list(left, right);
+        return left == right;
     }
     let mut at = 0;
     while len - at >= 8 {
@@ -123,9 +123,9 @@ pub fn is_same_bytes(left: &[u8], right: &[u8]) -> bool {
         at += 8;
     }
     if len - at < 4 {
-        return is_same_list(&index!(left[at..]), &index!(right[at..]));
+        return index!(left[at..]) == index!(right[at..]);
     }
-    is_same_half(left, right, at) && is_same_list(&index!(left[at + 4..]), &index!(right[at + 4..]))
+    is_same_half(left, right, at) && index!(left[at + 4..]) == index!(right[at + 4..])
 }
 
 /// Whether each byte is zero, eight of them at a time.
@@ -143,12 +143,6 @@ pub fn is_zeros(bytes: &[u8]) -> bool {
         at += 8;
     }
     read_u64(bytes, len - 8) == 0
-}
-
-// Whether two slices are equal.
-#[inline(always)]
-fn is_same_list(left: &[u8], right: &[u8]) -> bool {
-    left == right
 }
 
 // Whether the two bytes from `at` on are equal.

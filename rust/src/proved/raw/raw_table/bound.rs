@@ -1,11 +1,11 @@
 // Made by `make rust` of crates/odht_raw/src/raw_table/bound.rt.
 //! How many groups a search may read, told from control bytes alone.
 
-use super::{slot_count_of, EntryMetadata, ProbeSeq, RawTable, SizedTable};
+use super::{slot_count_of, EntryMetadata, GroupProbe, RawTable, SizedTable};
 use crate::proved::raw::bytes::ByteArray;
 use crate::proved::raw::error::Error;
 use crate::proved::raw::hash::HashFn;
-use crate::proved::raw::swisstable_group_query::{late_free, REFERENCE_GROUP_SIZE};
+use crate::proved::raw::swisstable_group_query::late_free;
 
 impl<'a, K: ByteArray, V: ByteArray, H: HashFn> RawTable<'a, K, V, H> {
     /// Whether each home has, among the first `groups` groups of its probe order, a control byte
@@ -59,18 +59,18 @@ fn first_longer(control: &[EntryMetadata], groups: usize) -> Option<usize> {
 // differ from what it mirrors.
 #[inline]
 fn homes_within(control: &[EntryMetadata], home: usize, groups: usize) -> Option<usize> {
-    let mask = slot_count_of(control) - 1;
-    let mut probe = ProbeSeq::<REFERENCE_GROUP_SIZE>::new(home, mask);
+    let slots = slot_count_of(control);
+    let mut probe = GroupProbe::new(control, slots, home);
     let mut left = groups;
     while left > 0 {
-        let start = probe.index();
-        if let Some(index) = late_free(&control[start..start + REFERENCE_GROUP_SIZE]) {
-            return Some(index.min(mask - start) + 1);
+        let start = probe.start();
+        if let Some(index) = late_free(probe.read()) {
+            return Some(index.min(slots - 1 - start) + 1);
         }
         if probe.is_last() {
             return None;
         }
-        probe.advance(mask);
+        probe.advance();
         left -= 1;
     }
     None

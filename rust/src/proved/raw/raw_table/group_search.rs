@@ -40,21 +40,24 @@ pub fn search_hashed<K: ByteArray, V: ByteArray, H: HashFn, Q: Group>(
     key: &K,
     hash: u32,
 ) -> Search {
-    search_keys::<Entries<'_, K, V>, H, Q>(scan, entries, key, hash)
+    let mut probe = scan.probe(hash as usize);
+    let end = search_from::<Entries<'_, K, V>, H, Q>(&mut probe, entries, key, tag_of(hash));
+    scan.count(probe.groups());
+    end
 }
 
-/// `search` of a key whose hash is known, among the keys of whatever holds them.
+/// The search for a key with this hash among the keys of whatever holds them, and how many groups
+/// it read.
 #[inline(always)]
 pub(super) fn search_keys<E: SlotKeys, H: HashFn, Q: Group>(
-    scan: &mut Scan<'_>,
+    control: &[EntryMetadata],
     keys: &E,
     key: &E::Key,
     hash: u32,
-) -> Search {
-    let mut probe = GroupProbe::over(scan.copy(), hash as usize);
+) -> (Search, usize) {
+    let mut probe = GroupProbe::new(control, keys.slots(), hash as usize);
     let end = search_from::<E, H, Q>(&mut probe, keys, key, tag_of(hash));
-    scan.set_groups(probe.groups());
-    end
+    (end, probe.groups())
 }
 
 // The rest of a search that is under way, from the group of the probe on.

@@ -4,11 +4,11 @@
 //! them.
 
 use super::insert::insert_at;
+use super::probe_seq::probed_slot;
 use super::{is_empty_or_deleted, slot_count_of, tag_of, Entries, EntryMetadata, Search, SlotKeys};
 use crate::proved::raw::bytes::ByteArray;
 use crate::proved::raw::error::Error;
 use crate::proved::raw::hash::HashFn;
-use crate::proved::raw::swisstable_group_query::REFERENCE_GROUP_SIZE;
 
 /// The value stored with the key, searched for slot by slot along the probe order.
 ///
@@ -59,8 +59,9 @@ fn plain_search<K: ByteArray, V: ByteArray, H: HashFn>(
     hash: u32,
 ) -> Search {
     let slots = entries.len();
+    let home = hash as usize & (slots - 1);
     for position in 0..slots {
-        let slot = slot_at(hash, slots, position);
+        let slot = probed_slot(home, position, slots);
         if is_empty_or_deleted(control[slot]) {
             return Search::Free(slot);
         }
@@ -69,12 +70,4 @@ fn plain_search<K: ByteArray, V: ByteArray, H: HashFn>(
         }
     }
     Search::Neither
-}
-
-// The slot at a position of the probe order of a hash.
-#[inline]
-fn slot_at(hash: u32, slots: usize, position: usize) -> usize {
-    let group = (position / REFERENCE_GROUP_SIZE) as u128;
-    let from_home = 8 * group * (group + 1) + (position % REFERENCE_GROUP_SIZE) as u128;
-    ((hash as u128 + from_home) & (slots as u128 - 1)) as usize
 }

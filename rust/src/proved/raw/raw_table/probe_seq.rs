@@ -76,6 +76,14 @@ impl<const GROUP_SIZE: usize> ProbeSeq<GROUP_SIZE> {
     }
 }
 
+/// The slot at a position of the probe order of a home.
+#[inline]
+pub(super) fn probed_slot(home: usize, position: usize, slots: usize) -> usize {
+    let group = position / REFERENCE_GROUP_SIZE;
+    let steps = (8 * group).wrapping_mul(group + 1);
+    home.wrapping_add(steps).wrapping_add(position % REFERENCE_GROUP_SIZE) & (slots - 1)
+}
+
 /// The slots of a table in the probe order of the home slot `start`, each exactly once
 /// (docs/FORMAT.md, "Probe order").
 ///

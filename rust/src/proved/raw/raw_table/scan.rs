@@ -1,7 +1,7 @@
 // Made by `make rust` of crates/odht_raw/src/raw_table/scan.rt.
 //! The control bytes of a table as a search reads them.
 
-use super::EntryMetadata;
+use super::{EntryMetadata, GroupProbe};
 
 /// The control bytes of a table, read a group of sixteen at a time, and how many groups were read.
 ///
@@ -20,16 +20,17 @@ impl<'a> Scan<'a> {
         Scan { control, slots, groups: 0 }
     }
 
-    // A second scan of the same control bytes, of which as many groups were read.
+    // The probe of a hash in these control bytes. By it a search reads them, and counts what it
+    // reads.
     #[inline(always)]
-    pub(crate) fn copy(&self) -> Scan<'a> {
-        Scan { control: self.control, slots: self.slots, groups: self.groups }
+    pub(super) fn probe(&self, hash: usize) -> GroupProbe<'a> {
+        GroupProbe::new(self.control, self.slots, hash)
     }
 
-    // Says how many groups were read, by a copy.
+    // Counts the groups that were read by its probe.
     #[inline(always)]
-    pub(crate) fn set_groups(&mut self, groups: usize) {
-        self.groups = groups;
+    pub(super) fn count(&mut self, groups: usize) {
+        self.groups = self.groups.saturating_add(groups);
     }
 
     /// How many slots there are.

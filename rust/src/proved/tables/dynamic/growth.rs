@@ -24,19 +24,17 @@ impl<H: HashFn, D: ByteStore> DynTable<H, D> {
     /// [`HashTable::grow_into`](crate::proved::tables::hash_table::HashTable::grow_into) does. `out` has
     /// [`DynTable::grown_len`] bytes.
     pub fn grow_into(&self, out: &mut [u8]) {
-        let layout = self.layout();
         let header = Header::of(self.raw_bytes());
-        let Some((slot_count, _)) = grown_sizes::<H>(layout, &header) else {
+        let Some((slot_count, _)) = grown_sizes::<H>(self.layout(), &header) else {
             // `out` has the length of the grown table.
             unreachable!()
         };
-        let item_count = header.item_count();
-        let factor = header.max_load_factor();
-        write_walked::<H>(out, layout, slot_count, item_count, factor, self.iter());
+        self.move_into(slot_count, out);
     }
 
     /// Writes the pairs of this table, placed in slot order into so many slots, to `out`, whatever
-    /// its bytes were. `out` has the length for them.
+    /// its bytes were. `out` has the length for them. The new header has the item count and the
+    /// load factor of this table.
     pub(super) fn move_into(&self, slot_count: usize, out: &mut [u8]) {
         let layout = self.layout();
         let header = Header::of(self.raw_bytes());

@@ -8,7 +8,7 @@ use Rattle.odht_base.specs.Table.{walk, count, empty}
 use Rattle.odht_base.proofs.lemmas.DistinctKeys.{walk-KeysApart}
 use Rattle.odht.specs.Dynamic.{dyn_format}
 use Rattle.odht.specs.Growths.{IsWritten}
-use Rattle.odht.proofs.lemmas.GrownBytes.{headed_accepted}
+use Rattle.odht.proofs.lemmas.GrownBytes.{headed_accepted, headed_count, headed_factor}
 use Rattle.odht.proofs.lemmas.Moves.{moved-fits, moved-image}
 use Rattle.odht.proofs.lemmas.ViewInserts.{count_header, factor_header}
 use Rattle.odht.proofs.dynamic.DynTable.move_into.Given.{Over}
@@ -19,9 +19,9 @@ use Rattle.odht.proofs.dynamic.DynTable.move_into.Goals as goal
 written : (g : Over) (c : After-write_walked g) → IsWritten (dyn_format c.args.self.now g.H.HashFn.hash) c.args.slot_count c.item_count-items.result c.max_load_factor-factor.result.0 c.iter.result c.write_walked.new.bytes
 written g c = rw (c.layout-layout.ensures.key, c.layout-layout.ensures.value) at c.write_walked.ensures
 
-pub returns : goal.returns
-returns g c =
-    let done = written g (goal.at.returns g c).After-write_walked in
+pub returns-clause-moved : goal.returns-clause-moved
+returns-clause-moved g c =
+    let done = written g (goal.at.returns-clause-moved g c).After-write_walked in
     let F : Format = dyn_format c.args.self.now g.H.HashFn.hash in
     let s : ℕ = c.args.slot_count in
     let n : ℕ = c.item_count-items.result in
@@ -41,3 +41,20 @@ returns g c =
           done.placed q.0 apart placed ∙ (λ i. header_bytes F s (items i) (factor i) ++ parts F q.0.cells) in
           moved-image F P is.valid s c.requires.slots room q.0 q.1 T bytes);
     }
+
+-- the new header has the item count and the load factor of the old one
+pub returns-clause-count : goal.returns-clause-count
+returns-clause-count g c =
+    let done = written g (goal.at.returns-clause-count g c).After-write_walked in
+    let F : Format = dyn_format c.args.self.now g.H.HashFn.hash in
+    let items = c.item_count-items in
+    headed_count F c.write_walked.new.bytes c.args.slot_count items.result c.max_load_factor-factor.result.0 done.header items.type_inv
+    ∙ items.ensures ∙ ap header_count (c.of-header.ensures ∙ c.raw_bytes.ensures.bytes)
+
+pub returns-clause-factor : goal.returns-clause-factor
+returns-clause-factor g c =
+    let done = written g (goal.at.returns-clause-factor g c).After-write_walked in
+    let F : Format = dyn_format c.args.self.now g.H.HashFn.hash in
+    let factor = c.max_load_factor-factor in
+    headed_factor F c.write_walked.new.bytes c.args.slot_count c.item_count-items.result factor.result.0 done.header factor.type_inv.1.1.0.1
+    ∙ factor.ensures ∙ ap header_factor (c.of-header.ensures ∙ c.raw_bytes.ensures.bytes)

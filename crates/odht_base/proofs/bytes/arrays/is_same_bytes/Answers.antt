@@ -1,4 +1,6 @@
 use Rattle.std.proofs.Common.{◌+◌, ◌≤◌, length, arith}
+use Rattle.std.proofs.lemmas.Bool.Decides.{Decides-eqb}
+use Rattle.std.proofs.lemmas.Slice.Eq.{slice_eq-Decides}
 use Rattle.odht_base.proofs.lemmas.Words.{next_decides, rest_decides}
 use Rattle.odht_base.proofs.bytes.arrays.is_same_bytes.Goals as goal
 
@@ -9,10 +11,13 @@ words-preserved c = record {
 }
 
 pub returns-then-len-at-lt4 : goal.returns-then-len-at-lt4
-returns-then-len-at-lt4 c = rest_decides c.args.left.now c.args.right.now c.words.at _ c.requires c.words.invariant.within c.words.invariant.same c.is_same_list-then-len-at-lt4.ensures
+returns-then-len-at-lt4 c =
+    let rest = slice_eq-Decides Decides-eqb _ _ _ c.eq-then-len-at-lt4.ensures in
+    rest_decides c.args.left.now c.args.right.now c.words.at _ c.requires c.words.invariant.within c.words.invariant.same rest
 
 pub returns-then-is_same_half : goal.returns-then-is_same_half
 returns-then-is_same_half c =
     let more = next_decides c.args.left.now c.args.right.now c.words.at 4 _ c.words.invariant.same c.is_same_half.ensures in
     let within : c.words.at + 4 ≤ length c.args.right.now = omega (arith, c.if-len-at-lt4.false) in
-    rest_decides c.args.left.now c.args.right.now (c.words.at + 4) _ c.requires within (more.0 c.if-is_same_half.true) c.is_same_list-then-is_same_half.ensures
+    let rest = slice_eq-Decides Decides-eqb _ _ _ c.eq-then-is_same_half.ensures in
+    rest_decides c.args.left.now c.args.right.now (c.words.at + 4) _ c.requires within (more.0 c.if-is_same_half.true) rest

@@ -4,15 +4,25 @@ use Rattle.std.proofs.lemmas.Bool.{cases_lt}
 use Rattle.odht_base.specs.Probe.{probe_slot}
 use Rattle.odht_base.specs.Decoded.{counts_as_free, slot_key}
 use Rattle.odht_base.specs.Format.{Format, format_of}
+use Rattle.odht_base.specs.Load.{IsSlotCount}
 use Rattle.odht_base.proofs.lemmas.Orders.{probe_slot-onto}
+use Rattle.odht_base.proofs.lemmas.SlotCounts.{bit_and-slots}
 use Rattle.odht_header.proofs.lemmas.Formats.{IsFormat-format_of}
 use Rattle.odht_raw.proofs.lemmas.PlainSearch.{free_end, key_end, passed_on, no_end}
+use Rattle.odht_raw.proofs.raw_table.plain.plain_search.Given.{Over}
+use Rattle.odht_raw.proofs.raw_table.plain.plain_search.Goals.{After-probed_slot-slot}
 use Rattle.odht_raw.proofs.raw_table.plain.plain_search.Goals as goal
+
+-- the slot at the position is that of the hash
+there : (g : Over) (c : After-probed_slot-slot g) → c.probed_slot-slot.result ≡ probe_slot (c.args.hash % c.len-slots.result) c.len-slots.result c.loop-position.position
+there g c =
+    let count = subst IsSlotCount (sym c.len-slots.ensures) c.requires.slots in
+    c.probed_slot-slot.ensures.slot ∙ ap (λ h. probe_slot h c.len-slots.result c.loop-position.position) (bit_and-slots c.args.hash c.len-slots.result count)
 
 pub returns-then-is_empty_or_deleted-clause-on_placed : goal.returns-then-is_empty_or_deleted-clause-on_placed
 returns-then-is_empty_or_deleted-clause-on_placed g c P h =
     let f = IsFormat-format_of _ _ _ _ c.requires.lengths.pair.key c.requires.lengths.pair.value c.requires.lengths.pair.hashes g.met.H.HashFn.fits in
-    free_end _ P _ _ _ f h _ _ _ _ c.requires.hash (omega arith) c.loop-position-test.true c.slot_at-slot.ensures.value (c.loop-position.invariant.passed P h) (sym c.is_empty_or_deleted.ensures ∙ c.if-is_empty_or_deleted.true)
+    free_end _ P _ _ _ f h _ _ _ _ c.requires.hash (omega arith) c.loop-position-test.true (there g (goal.at.returns-then-is_empty_or_deleted-clause-on_placed g c).After-probed_slot-slot) (c.loop-position.invariant.passed P h) (sym c.is_empty_or_deleted.ensures ∙ c.if-is_empty_or_deleted.true)
 
 pub returns-then-is_at-clause-slot : goal.returns-then-is_at-clause-slot
 returns-then-is_at-clause-slot g c = (omega arith, c.is_at.ensures.0 c.if-is_at.true)
@@ -20,14 +30,14 @@ returns-then-is_at-clause-slot g c = (omega arith, c.is_at.ensures.0 c.if-is_at.
 pub returns-then-is_at-clause-on_placed : goal.returns-then-is_at-clause-on_placed
 returns-then-is_at-clause-on_placed g c P h =
     let f = IsFormat-format_of _ _ _ _ c.requires.lengths.pair.key c.requires.lengths.pair.value c.requires.lengths.pair.hashes g.met.H.HashFn.fits in
-    key_end _ P _ _ _ f h _ _ _ _ c.requires.hash (omega arith) c.loop-position-test.true c.slot_at-slot.ensures.value (c.loop-position.invariant.passed P h) (sym c.is_empty_or_deleted.ensures ∙ c.if-is_empty_or_deleted.false)
+    key_end _ P _ _ _ f h _ _ _ _ c.requires.hash (omega arith) c.loop-position-test.true (there g (goal.at.returns-then-is_at-clause-on_placed g c).After-probed_slot-slot) (c.loop-position.invariant.passed P h) (sym c.is_empty_or_deleted.ensures ∙ c.if-is_empty_or_deleted.false)
     (c.is_at.ensures.0 c.if-is_at.true)
 
 pub loop-position-preserved : goal.loop-position-preserved
 loop-position-preserved g c = record {
   occupied = λ q l. (
       let occupied = sym c.is_empty_or_deleted.ensures ∙ c.if-is_empty_or_deleted.false in
-      let slot = c.slot_at-slot.ensures.value ∙ ap (λ s. probe_slot (c.args.hash % s) s c.loop-position.position) c.len-slots.ensures in
+      let slot = there g (goal.at.loop-position-preserved g c).After-probed_slot-slot ∙ ap (λ s. probe_slot (c.args.hash % s) s c.loop-position.position) c.len-slots.ensures in
       elim (cases_lt q c.loop-position.position) [
         | inl low ↦ c.loop-position.invariant.occupied q low
         | inr past ↦
@@ -37,7 +47,7 @@ loop-position-preserved g c = record {
       ]);
   other = λ q l e. (
       let F : Format = format_of g.K.ByteArray.LEN g.V.ByteArray.LEN g.H.HashFn.hash in
-      let slot = c.slot_at-slot.ensures.value ∙ ap (λ s. probe_slot (c.args.hash % s) s c.loop-position.position) c.len-slots.ensures in
+      let slot = there g (goal.at.loop-position-preserved g c).After-probed_slot-slot ∙ ap (λ s. probe_slot (c.args.hash % s) s c.loop-position.position) c.len-slots.ensures in
       elim (cases_lt q c.loop-position.position) [
         | inl low ↦ c.loop-position.invariant.other q low e
         | inr past ↦
@@ -48,7 +58,7 @@ loop-position-preserved g c = record {
       ]);
   passed = λ P h. (
       let f = IsFormat-format_of _ _ _ _ c.requires.lengths.pair.key c.requires.lengths.pair.value c.requires.lengths.pair.hashes g.met.H.HashFn.fits in
-      passed_on _ P _ _ _ f h _ _ _ _ c.requires.hash (omega arith) c.loop-position-test.true c.slot_at-slot.ensures.value (c.loop-position.invariant.passed P h) (sym c.is_empty_or_deleted.ensures ∙ c.if-is_empty_or_deleted.false)
+      passed_on _ P _ _ _ f h _ _ _ _ c.requires.hash (omega arith) c.loop-position-test.true (there g (goal.at.loop-position-preserved g c).After-probed_slot-slot) (c.loop-position.invariant.passed P h) (sym c.is_empty_or_deleted.ensures ∙ c.if-is_empty_or_deleted.false)
       (λ e. true≢false (sym (c.is_at.ensures.1 e) ∙ c.if-is_at.false)));
 }
 

@@ -194,7 +194,7 @@ pub fn layout_of(bytes: &[u8], layout: &mut AnyLayout) -> u32 {
         return status_of(&Error::TooShort { found });
     }
     let header = Header::of(bytes);
-    let stated = Layout { key_len: header.key_size(), value_len: header.value_size() };
+    let stated = header.layout();
     match check_by_header(bytes, stated) {
         Ok(()) => {
             layout.key_len = stated.key_len;

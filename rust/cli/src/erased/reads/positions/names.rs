@@ -63,7 +63,7 @@ fn left_hash<S: ReadAt>(source: &S, start: &Start) -> Option<Hash> {
 // Where the parts of the table are, where its header and its length fit.
 fn place_of(start: &Start) -> Option<ReadPlace> {
     let header = Header::of(&start.header);
-    let layout = Layout { key_len: header.key_size(), value_len: header.value_size() };
+    let layout = header.layout();
     match header.check_layout(layout, start.len) {
         Ok(()) => {}
         Err(_) => return None,

@@ -86,7 +86,7 @@ pub(super) fn stated_lengths<S: ReadAt>(
         Err(error) => return Err(FileError::Read(error)),
     }
     let header = Header::of(&front);
-    let layout = Layout { key_len: header.key_size(), value_len: header.value_size() };
+    let layout = header.layout();
     match header.check_layout(layout, len) {
         Ok(()) => Ok(layout),
         Err(rejected) => Err(FileError::Table(DynError::Rejected(rejected))),

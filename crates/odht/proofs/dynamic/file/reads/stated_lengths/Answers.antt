@@ -40,16 +40,16 @@ module _ (g : Over) (c : After-check_layout g) (hash : List ℕ → ℕ) (B : Li
       ∙ index-bytes_at B c.args.at 32 i (omega (arith, low))
       ∙ sym (index-bytes_at B c.args.at c.args.len i (omega (arith, low, enough)))
 
-  key : c.key_size.result ≡ slice_index T 5
-  key = c.key_size.ensures ∙ ap (λ b. slice_index b 5) c.of-header.ensures ∙ stated 5 (omega arith)
+  key : c.layout-layout.result.key_len ≡ slice_index T 5
+  key = c.layout-layout.ensures.key ∙ ap (λ b. slice_index b 5) c.of-header.ensures ∙ stated 5 (omega arith)
 
-  value : c.value_size.result ≡ slice_index T 6
-  value = c.value_size.ensures ∙ ap (λ b. slice_index b 6) c.of-header.ensures ∙ stated 6 (omega arith)
+  value : c.layout-layout.result.value_len ≡ slice_index T 6
+  value = c.layout-layout.ensures.value ∙ ap (λ b. slice_index b 6) c.of-header.ensures ∙ stated 6 (omega arith)
 
   checked_is : c.check_layout.result ≡ checked (opening_refusal (stated_format hash T) T)
   checked_is =
       c.check_layout.ensures hash
-      ∙ ap (λ b. checked (header_refusal (format_of c.key_size.result c.value_size.result hash) c.args.len b)) (c.of-header.ensures ∙ read)
+      ∙ ap (λ b. checked (header_refusal (format_of c.layout-layout.result.key_len c.layout-layout.result.value_len hash) c.args.len b)) (c.of-header.ensures ∙ read)
       ∙ (λ i. checked (header_refusal (format_of (key i) (value i) hash) c.args.len (bytes_at B c.args.at 32)))
       ∙ ap checked (sym (front_opening (stated_format hash T) B c.args.at c.args.len held enough))
 

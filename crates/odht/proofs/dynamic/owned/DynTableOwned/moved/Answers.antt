@@ -16,9 +16,9 @@ returns g c =
       key_len = ap (λ (s : DynStore (List ℕ)). s.key_len) c.open_unchecked.ensures ∙ c.layout.ensures.key;
       value_len = ap (λ (s : DynStore (List ℕ)). s.value_len) c.open_unchecked.ensures ∙ c.layout.ensures.value;
       bytes = record {
-        accepted = subst (IsAccepted F) (sym same) c.move_into.ensures.accepted;
+        accepted = subst (IsAccepted F) (sym same) c.move_into.ensures.moved.accepted;
         on_valid = λ P is room. (
-            let q = c.move_into.ensures.on_valid P is room in
+            let q = c.move_into.ensures.moved.on_valid P is room in
             (q.0, q.1, record { valid = q.2.valid; bytes = same ∙ q.2.bytes }));
       };
     } in
