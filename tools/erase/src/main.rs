@@ -38,7 +38,6 @@ const PLAN: Plan<'static> = Plan {
         "odht_raw/raw_table/group_search",
         "odht_raw/raw_table/insert",
         "odht_raw/raw_table/runs",
-        "odht_raw/raw_table/scan",
         "odht_raw/raw_table/sized",
         "odht_raw/raw_table/slot_checks",
         "odht_raw/raw_table/walk",

@@ -1,25 +1,19 @@
 -- A growth: the pairs of a table, placed in slot order in the grown slots.
-use Rattle.std.proofs.Common.{◌≡◌, ◌∙◌, ◌*◌, ◌++◌, ℕ, Bool, true, false, cond, bytes_eq, sym, ap, refl, List, [], ◌∷◌, Some, None, Result, Ok, Err, OnOk, OnErr, All, arith, inl}
+use Rattle.std.proofs.Common.{◌≡◌, ◌∙◌, ℕ, Bool, true, false, cond, bytes_eq, sym, ap, refl, List, [], ◌∷◌, Some, None, Result, Ok, Err, OnOk, OnErr, All, arith, inl}
 use Rattle.std.proofs.lemmas.List.Elements.{All-head, All-tail}
 use Rattle.std.proofs.lemmas.Option.{none-some}
-use Rattle.std.specs.Prelude.{option_and_then, max}
+use Rattle.std.specs.Prelude.{option_and_then}
 use Rattle.odht_base.specs.Format.{Format}
-use Rattle.odht_base.specs.Image.{header_bytes, image, parts}
-use Rattle.odht_base.specs.Load.{IsLeastSlots}
-use Rattle.odht_base.specs.Insert.{grown, grown_slots, place, place_all, insert_owned, insert_view, run, IsFullFor}
+use Rattle.odht_base.specs.Insert.{grown, place, place_all, insert_owned, insert_view, run, IsFullFor}
 use Rattle.odht_base.specs.Map.{map_of, value_in, KeysApart}
-use Rattle.odht_base.specs.Table.{Pair, Table, slot_count, count, empty, walk}
-use Rattle.odht_base.specs.Valid.{IsImage, IsPartsOf, IsValid}
-use Rattle.odht_base.proofs.lemmas.DistinctKeys.{walk-IsPairOf}
-use Rattle.odht_base.proofs.lemmas.Grown.{AreNew, new-head, new-tail, room_above, grown-IsGrown, place_all-fits, slot_count-place_all}
+use Rattle.odht_base.specs.Table.{Pair, Table}
+use Rattle.odht_base.specs.Valid.{IsPartsOf, IsValid}
+use Rattle.odht_base.proofs.lemmas.Grown.{AreNew, new-head, new-tail, grown-IsGrown}
 use Rattle.odht_base.proofs.lemmas.Keys.{same_bytes}
-use Rattle.odht_base.proofs.lemmas.Least.{slots_for-IsLeastSlots}
 use Rattle.odht_base.proofs.lemmas.Options.{and_then_some, some_same}
 use Rattle.odht_base.proofs.lemmas.Pairs.{value_in-cons}
 use Rattle.odht_base.proofs.lemmas.Places.{map_of-place}
 use Rattle.odht_base.proofs.lemmas.TableInserts.{insert_view-takes, insert_owned-full}
-use Rattle.odht_base.proofs.lemmas.FreeSlots.{slot_count-empty, count-empty, empty-IsPlaced, max_items-lt}
-use Rattle.odht_base.proofs.lemmas.SlotCounts.{slots_pos}
 use Rattle.odht_raw.specs.PartsInserts.{ArePartsPlaced}
 use Rattle.odht_raw.specs.PartsPlacings.{IsNewTo}
 use Rattle.odht_header.specs.declared.error.Error.{Error}
@@ -69,28 +63,6 @@ module _ (F : Format) (Q : Table) (p : Pair) (ps : List Pair) (es ctrl : List �
     new = new-tail at.table insert.0 p ps at.apart at.new (map_of-place F at.table insert.0 p at.parts.placed insert.1);
     placed = ap (λ R. place_all F R ps) (some_same insert.0 next.0 (sym insert.1 ∙ next.1)) ∙ next.2;
   }
-
--- ---- the growth
-module _ (F : Format) (P : Table) (ok : IsValid F P) (s : ℕ) (enough : grown_slots P ≡ Some s) where
-  least : IsLeastSlots (max 1 (2 * count P)) P.factor s
-  least = slots_for-IsLeastSlots _ _ s enough
-
-  -- the grown slots take the pairs
-  pub grown_placed : (Q : Table) × (place_all F (empty s P.factor) (walk P) ≡ Some Q)
-  grown_placed =
-      let above = room_above F P ok s least in
-      let below = max_items-lt s P.factor (slots_pos s least.is_count) ok.factor_high in
-      place_all-fits F (empty s P.factor) (walk P) (empty-IsPlaced s P.factor F least.is_count) (walk-IsPairOf F P ok.placed) (omega (arith, above, below, count-empty s P.factor, slot_count-empty s P.factor))
-
-  -- the result is the grown table, and with the header for as many pairs these are its bytes
-  pub grown_image : (Q : Table) → place_all F (empty s P.factor) (walk P) ≡ Some Q → (B : List ℕ) → B ≡ header_bytes F s (count P) P.factor ++ parts F Q.cells → (grown F P ≡ Some Q) × IsImage F Q B
-  unfolding grown image
-  grown_image Q placed B written =
-      let is : grown F P ≡ Some Q = ap (option_and_then (λ t. place_all F (empty t P.factor) (walk P))) enough ∙ placed in
-      let h = grown-IsGrown F P ok Q is in
-      let slots : slot_count Q ≡ s =
-      slot_count-place_all F (empty s P.factor) Q (walk P) (empty-IsPlaced s P.factor F least.is_count) (walk-IsPairOf F P ok.placed) placed ∙ slot_count-empty s P.factor in
-      (is, record { valid = h.valid; bytes = written ∙ sym (λ i. header_bytes F (slots i) (h.counts i) (h.factor i) ++ parts F Q.cells) })
 
 -- ---- the insert of the owned table, by that of the view
 module _ (F : Format) (P : Table) (p : Pair) (ok : IsValid F P) where

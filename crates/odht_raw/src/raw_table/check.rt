@@ -242,7 +242,7 @@ fn are_passed<S: TableSlots>(
 {
     let mask = table.slots() - 1;
     let mut group = group;
-    if Group::first_empty(&group).unwrap_or(REFERENCE_GROUP_SIZE) < count {
+    if group.first_empty().unwrap_or(REFERENCE_GROUP_SIZE) < count {
         return false;
     }
     'matches: while let Some(index) = group.first_match() {

@@ -1,5 +1,5 @@
 //! The entries of a table, read from their bytes.
-ghost use Rattle.std.specs.Prelude.{◌≡◌, ◌+◌, ◌*◌, ◌<◌, ◌≤◌, length};
+ghost use Rattle.std.specs.Prelude.{◌≡◌, ◌↔◌, ◌+◌, ◌*◌, ◌<◌, ◌≤◌, length, IsTrue};
 ghost use Rattle.odht_base.specs.Decoded.{slot_entry, slot_key, slot_value};
 ghost use Rattle.odht_raw.specs.Parts.{entry_format};
 
@@ -8,7 +8,7 @@ use crate::bytes::{ByteArray, is_same_bytes};
 use std::marker::{Model, PhantomData};
 
 // How many bytes a key has at most that is loaded to be compared.
-pub(super) const SHORT: usize = 64;
+const SHORT: usize = 64;
 
 /// An entry: an encoded key and its encoded value, as a slot holds them.
 #[derive(Clone, Copy, PartialEq, Eq, Debug)]
@@ -133,6 +133,21 @@ impl<'a, K: ByteArray, V: ByteArray> Entries<'a, K, V> {
         let bytes = self.bytes;
         let at = slot * (K::LEN + V::LEN);
         &bytes[at..at + K::LEN]
+    }
+
+    // Whether the keys of two slots are equal. No value is read, and no long key is copied.
+    #[inline]
+    pub(crate) fn have_same_key(&self, slot: usize, other: usize) -> bool
+        requires slot { slot < self.now.slots }
+        requires other { other < self.now.slots }
+        ensures { let key = slot_key (entry_format K.LEN V.LEN) self.now.bytes
+            in IsTrue result ↔ (key slot ≡ key other) }
+    {
+        let key = self.key_bytes_of(other);
+        if K::LEN > SHORT {
+            return is_same_bytes(self.key_bytes_of(slot), key);
+        }
+        self.is_at(slot, &K::from_slice(key))
     }
 }
 

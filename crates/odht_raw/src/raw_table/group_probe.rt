@@ -16,6 +16,7 @@ use std::marker::Model;
 #[derive(Drop)]
 pub struct GroupProbe<'a> {
     control: &'a [EntryMetadata],
+    // that of the probe, whose calls are given it
     mask: usize,
     groups: usize,
     probe: ProbeSeq<REFERENCE_GROUP_SIZE>,

@@ -1,4 +1,4 @@
-//! The control bytes of a table as a search reads them.
+//! The control bytes of a table, read group by group and counted.
 ghost use Rattle.std.specs.Prelude.{◌≡◌, ◌+◌, ◌-◌, ◌%◌, ◌<◌, min, length};
 ghost use Rattle.odht_base.specs.Bytes.{bytes_at};
 ghost use Rattle.odht_base.specs.Load.{IsSlotCount};

@@ -8,9 +8,8 @@ ghost use Rattle.odht_raw.specs.Homes.{HasHomes};
 ghost use Rattle.odht_raw.specs.Parts.{TableParts, IsZeros};
 ghost use Rattle.odht_raw.specs.Sized.{sized_format};
 
-use super::entries::SHORT;
-use super::{EntryMetadata, RawTable, SizedTable, SlotKeys};
-use crate::bytes::{ByteArray, is_same_bytes, is_zeros};
+use super::{EntryMetadata, RawTable, SizedTable};
+use crate::bytes::{ByteArray, is_zeros};
 use crate::hash::HashFn;
 
 /// The parts of a table, read slot by slot: those whose lengths are types, and those whose lengths
@@ -81,14 +80,9 @@ impl<'a, K: ByteArray, V: ByteArray, H: HashFn> TableSlots for RawTable<'a, K, V
         is_zeros(self.entries.bytes_of(slot))
     }
 
-    // No value is read, and no long key is copied.
     #[inline(always)]
     fn have_same_key(&self, slot: usize, other: usize) -> bool {
-        let key = self.entries.key_bytes_of(other);
-        if K::LEN > SHORT {
-            return is_same_bytes(self.entries.key_bytes_of(slot), key);
-        }
-        self.entries.is_at(slot, &K::from_slice(key))
+        self.entries.have_same_key(slot, other)
     }
 }
 

@@ -175,7 +175,7 @@ fn are_passed<S: TableSlots>(
 ) -> bool {
     let mask = table.slots() - 1;
     let mut group = group;
-    if Group::first_empty(&group).unwrap_or(REFERENCE_GROUP_SIZE) < count {
+    if group.first_empty().unwrap_or(REFERENCE_GROUP_SIZE) < count {
         return false;
     }
     while let Some(index) = group.first_match() {

@@ -6,7 +6,7 @@ use crate::proved::raw::bytes::{is_same_bytes, ByteArray};
 use std::marker::PhantomData;
 
 // How many bytes a key has at most that is loaded to be compared.
-pub(super) const SHORT: usize = 64;
+const SHORT: usize = 64;
 
 /// An entry: an encoded key and its encoded value, as a slot holds them.
 #[derive(Clone, Copy, PartialEq, Eq, Debug)]
@@ -77,6 +77,16 @@ impl<'a, K: ByteArray, V: ByteArray> Entries<'a, K, V> {
         let bytes = self.bytes;
         let at = slot * (K::LEN + V::LEN);
         &index!(bytes[at..at + K::LEN])
+    }
+
+    // Whether the keys of two slots are equal. No value is read, and no long key is copied.
+    #[inline]
+    pub(crate) fn have_same_key(&self, slot: usize, other: usize) -> bool {
+        let key = self.key_bytes_of(other);
+        if K::LEN > SHORT {
+            return is_same_bytes(self.key_bytes_of(slot), key);
+        }
+        self.is_at(slot, &K::from_slice(key))
     }
 }
 

@@ -11,6 +11,7 @@ use crate::proved::raw::swisstable_group_query::REFERENCE_GROUP_SIZE;
 /// the position of the group's first slot in the order.
 pub struct GroupProbe<'a> {
     control: &'a [EntryMetadata],
+    // that of the probe, whose calls are given it
     mask: usize,
     groups: usize,
     probe: ProbeSeq<REFERENCE_GROUP_SIZE>,

@@ -1,5 +1,5 @@
 // Made by `make rust` of crates/odht_raw/src/raw_table/scan.rt.
-//! The control bytes of a table as a search reads them.
+//! The control bytes of a table, read group by group and counted.
 
 use super::{EntryMetadata, GroupProbe};
 
@@ -45,7 +45,7 @@ impl<'a> Scan<'a> {
     pub fn group(&mut self, start: usize) -> &'a [EntryMetadata] {
         self.groups = self.groups.saturating_add(1);
         let control = self.control;
-        &index!(control[start..start + 16])
+        &control[start..start + 16]
     }
 
     /// How many groups were read; `usize::MAX` where they are more.

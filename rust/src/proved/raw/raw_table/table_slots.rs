@@ -1,9 +1,8 @@
 // Made by `make rust` of crates/odht_raw/src/raw_table/table_slots.rt.
 //! What the whole check and an order of inserts ask of the parts of a table.
 
-use super::entries::SHORT;
-use super::{EntryMetadata, RawTable, SizedTable, SlotKeys};
-use crate::proved::raw::bytes::{is_same_bytes, is_zeros, ByteArray};
+use super::{EntryMetadata, RawTable, SizedTable};
+use crate::proved::raw::bytes::{is_zeros, ByteArray};
 use crate::proved::raw::hash::HashFn;
 
 /// The parts of a table, read slot by slot: those whose lengths are types, and those whose lengths
@@ -49,14 +48,9 @@ impl<'a, K: ByteArray, V: ByteArray, H: HashFn> TableSlots for RawTable<'a, K, V
         is_zeros(self.entries.bytes_of(slot))
     }
 
-    // No value is read, and no long key is copied.
     #[inline(always)]
     fn have_same_key(&self, slot: usize, other: usize) -> bool {
-        let key = self.entries.key_bytes_of(other);
-        if K::LEN > SHORT {
-            return is_same_bytes(self.entries.key_bytes_of(slot), key);
-        }
-        self.entries.is_at(slot, &K::from_slice(key))
+        self.entries.have_same_key(slot, other)
     }
 }
 

@@ -16,15 +16,18 @@ module _ (c : After-late_free) where
   abbrev j : ℕ
   j = c.groups.probe.position / 16
 
+  -- the group begins at the probe's position
   at_probe : c.start-start.result ≡ probe_slot c.groups.probe.home (length ctrl - 16) c.groups.probe.position
   at_probe = c.start-start.ensures.slot ∙ ap (λ b. probe_slot c.groups.probe.home (length b - 16) c.groups.probe.position) c.groups.invariant.control
 
+  -- which is that of the home's group of this number
   at_group : c.start-start.result ≡ probe_slot c.args.home (length ctrl - 16) (16 * j)
   at_group =
       let v = c.groups.invariant in
       let place : c.groups.probe.position ≡ 16 * j = omega (arith, c.start-start.ensures.aligned) in
       at_probe ∙ (λ i. probe_slot (v.home i) (length ctrl - 16) (place i))
 
+  -- what is looked for in it
   late : c.late_free.result ≡ late_free (bytes_at ctrl c.start-start.result 16)
   late =
       let there = ap (λ b. bytes_at b (probe_slot c.groups.probe.home (length b - 16) c.groups.probe.position) 16) c.groups.invariant.control in

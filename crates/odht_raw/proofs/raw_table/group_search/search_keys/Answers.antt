@@ -4,7 +4,6 @@ use Rattle.odht_base.specs.Valid.{IsPartsOf}
 use Rattle.odht_base.proofs.lemmas.SlotCounts.{few_slots}
 use Rattle.odht_raw.specs.Parts.{hashed_by}
 use Rattle.odht_raw.specs.Searches.{IsSearchEnd}
-use Rattle.odht_raw.proofs.lemmas.Lookups.{answer-IsWherePlaced}
 use Rattle.odht_raw.proofs.raw_table.group_search.search_keys.Goals as goal
 
 -- the rest of a search from its first position is the search
@@ -21,7 +20,6 @@ returns g c =
     let few = few_slots E.slots c.requires.slots in
     record {
       end = end;
-      placing = λ P h. answer-IsWherePlaced F P k h.placed c.search_from-end.result (end.on_placed P h);
       groups = λ P h. omega (arith, rest.groups P (subst (IsPartsOf F P E.bytes) (sym control) h), rest.few, first, none, few, c.groups.ensures);
       few = omega (arith, rest.few, first, none, c.groups.ensures);
     }

@@ -12,6 +12,7 @@ use Rattle.odht_base.proofs.swisstable_group_query.lanes.GroupQueryGroup.of.Goal
 whole : (b : List ℕ) → length b ≡ 16 → take 16 b ≡ b
 whole b long = ap (λ n. take n b) (sym long) ∙ take-length b
 
+-- the first set is that of the lanes that equal the tag
 matches : (c : After-of_bits-2) → c.of_bits.result ≡ equal c.args.bytes.now c.args.h2
 matches c =
     let b : List ℕ = c.args.bytes.now in

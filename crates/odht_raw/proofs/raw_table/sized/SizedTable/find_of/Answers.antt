@@ -24,6 +24,7 @@ module _ (g : Over) (c : After-search_keys-end g) where
   abbrev key : List ℕ
   key = c.args.key.now
 
+  -- where the search ended, in the control bytes of the table
   ended : IsCountedEnd format parts.entries parts.control key c.search_keys-end.result
   ended = subst (λ (ctrl : List ℕ). IsCountedEnd format parts.entries ctrl key c.search_keys-end.result) c.controls.ensures.value c.search_keys-end.ensures
 
