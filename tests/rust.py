@@ -103,7 +103,7 @@ FAULTS = [
     ("src/proved/base/load.rs", "self.0 as u128 / 65536", "self.0 as u128 / 65535"),
     ("src/proved/base/hash.rs", "rotate_left(5) ^ value", "rotate_left(5)"),
     ("src/proved/raw/raw_table/scan.rs", "start + 16", "start"),
-    ("src/proved/raw/raw_table/group_probe.rs", "index!(control[start..start + REFERENCE_GROUP_SIZE])", "control[start..]"),
+    ("src/proved/raw/raw_table/scan.rs", "index!(control[start..start + 16])", "control[start..start + 15]"),
     ("src/proved/raw/raw_table/plain.rs", "return Search::Free(slot);", ""),
     ("src/proved/tables/iter.rs", "match self.raw.next()", "self.raw.next(); match self.raw.next()"),
     ("src/proved/raw/raw_table/insert.rs", "room == 0", "room == 1"),

@@ -45,6 +45,8 @@ pub mod GroupSearches
 pub mod FreeSearches
 -- a search that passed each position
 pub mod PassedSearches
+-- the rest of a search from its first position on is the search
+pub mod WholeSearches
 -- the first look of a search
 pub mod FirstLooks
 -- a look at the mirror

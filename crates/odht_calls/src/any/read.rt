@@ -20,7 +20,7 @@ use odht::hash::HashFn;
 use odht::layout::Layout;
 use odht::load::max_item_count_for;
 use odht::memory_layout::{
-    HEADER_SIZE, Header, check_by_header, check_opening, check_sized, check_sized_within,
+    Header, check_by_header, check_opening, check_sized, check_sized_within, stated_layout,
 };
 
 // Opens the bytes by their header and length. Reads no slot.
@@ -284,12 +284,10 @@ pub fn contains(layout: AnyLayout, bytes: &[u8], key: &[u8]) -> u32
 pub fn layout_of(bytes: &[u8], layout: &mut AnyLayout) -> u32
     ensures { LayoutAnswers bytes.now layout.old result layout.new }
 {
-    let found = bytes.len();
-    if found < HEADER_SIZE {
-        return status_of(&Error::TooShort { found });
-    }
-    let header = Header::of(bytes);
-    let stated = header.layout();
+    let stated = match stated_layout(bytes) {
+        Ok(stated) => stated,
+        Err(refused) => return status_of(&refused),
+    };
     match check_by_header(bytes, stated) {
         Ok(()) => {
             layout.key_len = stated.key_len;

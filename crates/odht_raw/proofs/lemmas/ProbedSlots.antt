@@ -29,3 +29,9 @@ module _ (h x i s : ℕ) (c : IsSlotCount s) where
 -- so this is the slot
 pub probed_slot_is : (h s p : ℕ) → IsSlotCount s → bit_and (((h + 8 * (p / 16) * (p / 16 + 1) % 2 ^ 64) % 2 ^ 64 + p % 16) % 2 ^ 64) (s - 1) ≡ probe_slot h s p
 probed_slot_is h s p c = bit_and-slots (((h + 8 * (p / 16) * (p / 16 + 1) % 2 ^ 64) % 2 ^ 64 + p % 16) % 2 ^ 64) s c ∙ wrapped h (8 * (p / 16) * (p / 16 + 1)) (p % 16) s c
+
+-- the first slot of a group of the probe order of a hash, whose home is what a mask leaves of it
+pub group_begins : (h s g r : ℕ) → IsSlotCount s → r ≡ probe_slot (bit_and h (s - 1)) s (g * 16) → r ≡ probe_slot (h % s) s (16 * g)
+group_begins h s g r c is =
+    let at : g * 16 ≡ 16 * g = omega arith in
+    is ∙ ap (λ b. probe_slot b s (g * 16)) (bit_and-slots h s c) ∙ ap (probe_slot (h % s) s) at

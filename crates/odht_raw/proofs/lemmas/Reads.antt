@@ -1,5 +1,5 @@
 -- The parts of a table that are read by position.
-use Rattle.std.proofs.Common.{arith, ◌≡◌, ◌∙◌, ℕ, ◌+◌, ◌*◌, ◌/◌, ◌%◌, ◌^◌, ◌<◌, ◌≤◌, refl, sym, ap, subst, List, length, take, drop, take-take, mul-le-mul_right, Some, None}
+use Rattle.std.proofs.Common.{arith, ◌≡◌, ◌∙◌, ℕ, ◌+◌, ◌*◌, ◌/◌, ◌%◌, ◌<◌, ◌≤◌, refl, sym, ap, subst, List, length, take, drop, take-take, mul-le-mul_right, Some, None}
 use Rattle.std.specs.Prelude.{Result, IfErr}
 use Rattle.std.specs.Result.{IsErrAnd}
 use Rattle.std.proofs.lemmas.Result.{err_from_is_err_and}
@@ -9,7 +9,7 @@ use Rattle.odht_base.specs.Load.{IsSlotCount}
 use Rattle.odht_base.specs.Table.{Table}
 use Rattle.odht_base.specs.Valid.{IsPartsOf}
 use Rattle.odht_base.proofs.lemmas.ByteRanges.{bytes_at-bytes_at, bytes_at-take, length-bytes_at}
-use Rattle.odht_base.proofs.lemmas.SlotCounts.{few_slots, sixteens}
+use Rattle.odht_base.proofs.lemmas.SlotCounts.{few_slots}
 use Rattle.odht_raw.specs.ControlBytes.{order_slot}
 use Rattle.odht_raw.specs.Parts.{EntryBytes}
 use Rattle.odht_raw.specs.Reads.{entry_size, read_key, read_entries, read_controls, read_groups, IsHeldBy, IsGroupLook}
@@ -45,14 +45,6 @@ read_key-bytes p B i l =
     let fits = entry_within p i l in
     ap (take k) (bytes_at-bytes_at B p.entries_at (p.slots * n) (i * n) n at fits refl ∙ bytes_at-take B at n)
     ∙ take-take k n (drop at B) (omega arith) ∙ sym (bytes_at-take B at k)
-
--- a position of whole groups that has a group after its own
-next_within : (s p m : ℕ) → s ≡ 16 * m → p % 16 ≡ 0 → p + 16 < s → p + 16 + 16 ≤ s
-next_within s p m whole aligned more = omega arith
-
--- is followed by a whole one
-pub next_fits : (s p : ℕ) → IsSlotCount s → p % 16 ≡ 0 → p + 16 < s → p + 16 + 16 ≤ s
-next_fits s p count aligned more = let w = sixteens s count in next_within s p (2 ^ w.0) w.2 aligned more
 
 -- ---- a search that is at a group, whose control bytes bs were read
 module _ (F : Format) (p : ReadPlace) (B k : List ℕ) (f : IsFormat F) (count : IsSlotCount p.slots) (held : IsHeldBy p B) (pos start : ℕ) (bs : List ℕ) (aligned : pos % 16 ≡ 0) (within : pos + 16 ≤ p.slots) (begins : start ≡ order_slot F (read_entries p B) k pos) (low : start < p.slots) (read : bs ≡ bytes_at B (p.control_at + start) 16) (before : IsPassed F (read_entries p B) (read_controls p B) k pos) where
@@ -96,16 +88,19 @@ module _ (F : Format) (p : ReadPlace) (B k : List ℕ) (f : IsFormat F) (count :
         control = refl;
       }
 
-  -- and after the last group it ends without an end
-  pub read_all : (n : ℕ) → n ≡ pos / 16 + 1 → pos + 16 ≡ p.slots → IsGroupLook F E bs start k None → IsSearch F E k (read_groups p B 0) (read_groups p B n) Neither
-  read_all n counted all look =
-      let passed = subst (IsPassed F E ctrl k) all (read_more look) in
-      let end : IsSearchEnd F E ctrl k Neither = none-ends F E ctrl k f long count passed in
-      let few = few_slots p.slots count in
-      record {
-        end = end;
-        placing = λ P h. answer-IsWherePlaced F P k h.placed Neither (end.on_placed P h);
-        groups = λ P h. rw (reads-all F P E ctrl k f h long (passed.on_placed P h)) (omega (arith, counted, all, few, aligned));
-        few = omega (arith, counted, all, aligned);
-        control = refl;
-      }
+-- after the last group the search ends without an end
+pub read_all : (F : Format) (p : ReadPlace) (B k : List ℕ) → IsFormat F → IsSlotCount p.slots → IsHeldBy p B → IsPassed F (read_entries p B) (read_controls p B) k p.slots
+    → IsSearch F (read_entries p B) k (read_groups p B 0) (read_groups p B (p.slots / 16)) Neither
+read_all F p B k f count held passed =
+    let E : EntryBytes = read_entries p B in
+    let ctrl : List ℕ = read_controls p B in
+    let long = length-bytes_at B p.control_at (p.slots + 16) held.controls in
+    let end : IsSearchEnd F E ctrl k Neither = none-ends F E ctrl k f long count passed in
+    let few = few_slots p.slots count in
+    record {
+      end = end;
+      placing = λ P h. answer-IsWherePlaced F P k h.placed Neither (end.on_placed P h);
+      groups = λ P h. rw (reads-all F P E ctrl k f h long (passed.on_placed P h)) (omega (arith, few));
+      few = omega arith;
+      control = refl;
+    }

@@ -4,7 +4,7 @@ ghost use Rattle.odht_base.specs.Bytes.{bytes_at};
 ghost use Rattle.odht_base.specs.Load.{IsSlotCount};
 ghost use Rattle.odht_base.specs.Probe.{probe_slot};
 
-use super::{EntryMetadata, ProbeSeq};
+use super::{EntryMetadata, ProbeSeq, Scan};
 use crate::swisstable_group_query::REFERENCE_GROUP_SIZE;
 use std::marker::Model;
 
@@ -15,10 +15,7 @@ use std::marker::Model;
 /// the position of the group's first slot in the order.
 #[derive(Drop)]
 pub struct GroupProbe<'a> {
-    control: &'a [EntryMetadata],
-    // that of the probe, whose calls are given it
-    mask: usize,
-    groups: usize,
+    scan: Scan<'a>,
     probe: ProbeSeq<REFERENCE_GROUP_SIZE>,
 }
 
@@ -30,16 +27,15 @@ impl<'a> Model for GroupProbe<'a> {
     ghost Value = { GroupPlace };
 
     ghost view = { λ q. record {
-      control = q.control.now;
-      groups = q.groups;
+      control = q.scan.control;
+      groups = q.scan.groups;
       home = q.probe.home;
       position = q.probe.position;
     } };
 
-    ghost invariant = { λ q. IsSlotCount (q.mask + 1)
-        × (q.probe.mask ≡ q.mask)
-        × (length q.control.now ≡ q.mask + 1 + 16)
-        × (q.probe.position + 16 ≤ q.mask + 1)
+    ghost invariant = { λ q. IsSlotCount (q.probe.mask + 1)
+        × (length q.scan.control ≡ q.probe.mask + 1 + 16)
+        × (q.probe.position + 16 ≤ q.probe.mask + 1)
         × (q.probe.position % 16 ≡ 0) };
 }
 
@@ -57,11 +53,22 @@ impl<'a> GroupProbe<'a> {
           position = 0;
         } }
     {
-        let mask = slots - 1;
+        GroupProbe::over(Scan::new(control, slots), hash)
+    }
+
+    /// `new` in the control bytes of a scan, which goes on counting.
+    #[inline(always)]
+    pub fn over(scan: Scan<'a>, hash: usize) -> Self
+        ensures { result ≡ record {
+          control = scan.entry.control;
+          groups = scan.entry.groups;
+          home = hash % (length scan.entry.control - 16);
+          position = 0;
+        } }
+    {
+        let mask = scan.slots() - 1;
         GroupProbe {
-            control,
-            mask,
-            groups: 0,
+            scan,
             probe: ProbeSeq::new(hash, mask),
         }
     }
@@ -71,7 +78,7 @@ impl<'a> GroupProbe<'a> {
     pub fn groups(&self) -> usize
         ensures { result ≡ self.now.groups }
     {
-        self.groups
+        self.scan.groups()
     }
 
     /// The first slot of the group.
@@ -101,9 +108,7 @@ impl<'a> GroupProbe<'a> {
           position = self.old.position;
         } }
     {
-        self.groups = self.groups.saturating_add(1);
-        let (control, start) = (self.control, self.probe.index());
-        &control[start..start + REFERENCE_GROUP_SIZE]
+        self.scan.group(self.probe.index())
     }
 
     /// Whether it is the last group.
@@ -111,7 +116,7 @@ impl<'a> GroupProbe<'a> {
     pub fn is_last(&self) -> bool
         ensures { IsTrue result ↔ (self.now.position + 16 ≡ length self.now.control - 16) }
     {
-        self.probe.is_last_of(self.mask)
+        self.probe.is_last()
     }
 
     /// Goes on to the next group.
@@ -125,6 +130,7 @@ impl<'a> GroupProbe<'a> {
           position = self.old.position + 16;
         } }
     {
-        self.probe.advance(self.mask);
+        let mask = self.probe.mask();
+        self.probe.advance(mask);
     }
 }

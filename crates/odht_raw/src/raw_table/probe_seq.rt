@@ -1,5 +1,5 @@
 //! The probe order of the slots of a table, a group at a time.
-ghost use Rattle.std.specs.Prelude.{◌≡◌, ◌+◌, ◌%◌, ◌<◌, ◌≤◌, ◌↔◌, IfOk, OnErr, IsPermutation};
+ghost use Rattle.std.specs.Prelude.{◌≡◌, ◌+◌, ◌%◌, ◌<◌, ◌↔◌, IfOk, OnErr, IsPermutation};
 ghost use Rattle.std.specs.Prelude.{IsTrue};
 ghost use Rattle.std.specs.List.{range_with_len};
 ghost use Rattle.odht_base.specs.Load.{IsSlotCount};
@@ -98,24 +98,22 @@ impl<const GROUP_SIZE: usize> ProbeSeq<GROUP_SIZE> {
     pub fn is_last(&self) -> bool
         ensures { IsTrue result ↔ (self.now.mask < self.now.position + GROUP_SIZE) }
     {
-        self.mask - self.position < GROUP_SIZE
+        self.mask < self.position + GROUP_SIZE
     }
 
-    // `is_last` where the next position fits, which `advance` computes anyway. The mask is that of
-    // `new`.
+    // The mask of `new`, which `advance` is given.
     #[inline]
-    pub(crate) fn is_last_of(&self, mask: usize) -> bool
-        requires mask { mask ≡ self.now.mask }
-        requires next { self.now.position + GROUP_SIZE ≤ usize.MAX }
-        ensures { IsTrue result ↔ (self.now.mask < self.now.position + GROUP_SIZE) }
+    pub(super) fn mask(&self) -> usize
+        ensures { result ≡ self.now.mask }
     {
-        mask < self.position + GROUP_SIZE
+        self.mask
     }
 }
 
-/// The slot at a position of the probe order of a home.
+/// The slot at a position of the probe order of a home slot, from 0 on (docs/FORMAT.md, "Probe
+/// order"). Constant time.
 #[inline]
-pub(super) fn probed_slot(home: usize, position: usize, slots: usize) -> usize
+pub fn probed_slot(home: usize, position: usize, slots: usize) -> usize
     requires slots { IsSlotCount slots }
     requires position { position < slots }
     ensures slot { result ≡ probe_slot home slots position }

@@ -8,7 +8,7 @@ ghost use Rattle.odht_raw.specs.Reads.{IsPlaceFitting, IsHeldBy, IsGroupLook};
 ghost use Rattle.odht_raw.specs.Reads.{IsFoundWithin, IsLooking};
 ghost use Rattle.odht_raw.specs.Searches.{IsSearch};
 
-use super::{EntryMetadata, ProbeSeq, Search, tag_of};
+use super::{EntryMetadata, Search, probed_slot, tag_of};
 use crate::hash::HashFn;
 use crate::layout::Layout;
 use crate::read_at::{ReadAt, ReadError, read_exact_at};
@@ -54,24 +54,18 @@ pub fn search_read<S: ReadAt, H: HashFn>(
         → IfErr result (S.fails source.now) }
 {
     let hash = H::hash(key);
-    let tag = tag_of(hash);
-    let mask = place.slots - 1;
-    let mut probe = ProbeSeq::<REFERENCE_GROUP_SIZE>::new(hash as usize, mask);
-    let mut groups = 0;
-    'groups: loop {
-        let start = probe.index();
+    let (tag, home) = (tag_of(hash), hash as usize & (place.slots - 1));
+    let groups = place.slots / REFERENCE_GROUP_SIZE;
+    for group in 0..groups {
+        let start = probed_slot(home, group * REFERENCE_GROUP_SIZE, place.slots);
         let mut bytes = [0; REFERENCE_GROUP_SIZE];
         read_exact_at(source, place.control_at + start as u64, &mut bytes)?;
-        groups += 1;
         let end = look_at_read::<S, H, lanes::GroupQuery>(source, place, &bytes, start, key, tag)?;
         if let Some(end) = end {
-            return Ok((end, groups));
+            return Ok((end, group + 1));
         }
-        if probe.is_last() {
-            return Ok((Search::Neither, groups));
-        }
-        probe.advance(mask);
     }
+    Ok((Search::Neither, groups))
 }
 
 // Searches the sixteen slots from `start` on, modulo the slot count, whose control bytes are

@@ -1,9 +1,9 @@
-//! The control bytes of a table, read group by group and counted.
-ghost use Rattle.std.specs.Prelude.{◌≡◌, ◌+◌, ◌-◌, ◌%◌, ◌<◌, min, length};
+//! The control bytes of a table as a search reads them.
+ghost use Rattle.std.specs.Prelude.{◌≡◌, ◌+◌, ◌-◌, ◌<◌, min, length};
 ghost use Rattle.odht_base.specs.Bytes.{bytes_at};
 ghost use Rattle.odht_base.specs.Load.{IsSlotCount};
 
-use super::{EntryMetadata, GroupProbe};
+use super::EntryMetadata;
 use std::marker::Model;
 
 /// The control bytes of a table, read a group of sixteen at a time, and how many groups were read.
@@ -44,29 +44,24 @@ impl<'a> Scan<'a> {
         }
     }
 
-    // The probe of a hash in these control bytes. By it a search reads them, and counts what it
-    // reads.
+    // A second scan of the same control bytes, of which as many groups were read.
     #[inline(always)]
-    pub(super) fn probe(&self, hash: usize) -> GroupProbe<'a>
-        ensures { result ≡ record {
-          control = self.now.control;
-          groups = 0;
-          home = hash % (length self.now.control - 16);
-          position = 0;
-        } }
+    pub(crate) fn copy(&self) -> Scan<'a>
+        ensures { result ≡ self.now }
     {
-        GroupProbe::new(self.control, self.slots, hash)
+        Scan {
+            control: self.control,
+            slots: self.slots,
+            groups: self.groups,
+        }
     }
 
-    // Counts the groups that were read by its probe.
+    // Says how many groups were read, by a copy.
     #[inline(always)]
-    pub(super) fn count(&mut self, groups: usize)
-        ensures { self.new ≡ record {
-          control = self.old.control;
-          groups = min (self.old.groups + groups) usize.MAX;
-        } }
+    pub(crate) fn set_groups(&mut self, groups: usize)
+        ensures { self.new ≡ record { control = self.old.control; groups = groups } }
     {
-        self.groups = self.groups.saturating_add(groups);
+        self.groups = groups;
     }
 
     /// How many slots there are.

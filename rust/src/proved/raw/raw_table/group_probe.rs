@@ -1,7 +1,7 @@
 // Made by `make rust` of crates/odht_raw/src/raw_table/group_probe.rt.
 //! The groups of control bytes along a probe order, as each search reads them.
 
-use super::{EntryMetadata, ProbeSeq};
+use super::{EntryMetadata, ProbeSeq, Scan};
 use crate::proved::raw::swisstable_group_query::REFERENCE_GROUP_SIZE;
 
 /// The place of a search: the group of sixteen slots at hand, of those along its probe order, and
@@ -10,10 +10,7 @@ use crate::proved::raw::swisstable_group_query::REFERENCE_GROUP_SIZE;
 /// In a contract it is the control bytes, how many groups of them were read, the home slot, and
 /// the position of the group's first slot in the order.
 pub struct GroupProbe<'a> {
-    control: &'a [EntryMetadata],
-    // that of the probe, whose calls are given it
-    mask: usize,
-    groups: usize,
+    scan: Scan<'a>,
     probe: ProbeSeq<REFERENCE_GROUP_SIZE>,
 }
 
@@ -22,14 +19,20 @@ impl<'a> GroupProbe<'a> {
     /// `slots` slots.
     #[inline(always)]
     pub fn new(control: &'a [EntryMetadata], slots: usize, hash: usize) -> Self {
-        let mask = slots - 1;
-        GroupProbe { control, mask, groups: 0, probe: ProbeSeq::new(hash, mask) }
+        GroupProbe::over(Scan::new(control, slots), hash)
+    }
+
+    /// `new` in the control bytes of a scan, which goes on counting.
+    #[inline(always)]
+    pub fn over(scan: Scan<'a>, hash: usize) -> Self {
+        let mask = scan.slots() - 1;
+        GroupProbe { scan, probe: ProbeSeq::new(hash, mask) }
     }
 
     /// How many groups were read.
     #[inline(always)]
     pub fn groups(&self) -> usize {
-        self.groups
+        self.scan.groups()
     }
 
     /// The first slot of the group.
@@ -41,20 +44,19 @@ impl<'a> GroupProbe<'a> {
     /// The sixteen control bytes of the group. Counts one group more.
     #[inline(always)]
     pub fn read(&mut self) -> &'a [EntryMetadata] {
-        self.groups = self.groups.saturating_add(1);
-        let (control, start) = (self.control, self.probe.index());
-        &index!(control[start..start + REFERENCE_GROUP_SIZE])
+        self.scan.group(self.probe.index())
     }
 
     /// Whether it is the last group.
     #[inline(always)]
     pub fn is_last(&self) -> bool {
-        self.probe.is_last_of(self.mask)
+        self.probe.is_last()
     }
 
     /// Goes on to the next group.
     #[inline(always)]
     pub fn advance(&mut self) {
-        self.probe.advance(self.mask);
+        let mask = self.probe.mask();
+        self.probe.advance(mask);
     }
 }

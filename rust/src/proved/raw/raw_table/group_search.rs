@@ -40,9 +40,9 @@ pub fn search_hashed<K: ByteArray, V: ByteArray, H: HashFn, Q: Group>(
     key: &K,
     hash: u32,
 ) -> Search {
-    let mut probe = scan.probe(hash as usize);
+    let mut probe = GroupProbe::over(scan.copy(), hash as usize);
     let end = search_from::<Entries<'_, K, V>, H, Q>(&mut probe, entries, key, tag_of(hash));
-    scan.count(probe.groups());
+    scan.set_groups(probe.groups());
     end
 }
 

@@ -65,20 +65,20 @@ impl<const GROUP_SIZE: usize> ProbeSeq<GROUP_SIZE> {
     /// Whether no position comes after the `GROUP_SIZE` positions from this one on.
     #[inline]
     pub fn is_last(&self) -> bool {
-        self.mask - self.position < GROUP_SIZE
+        self.mask < self.position + GROUP_SIZE
     }
 
-    // `is_last` where the next position fits, which `advance` computes anyway. The mask is that of
-    // `new`.
+    // The mask of `new`, which `advance` is given.
     #[inline]
-    pub(crate) fn is_last_of(&self, mask: usize) -> bool {
-        mask < self.position + GROUP_SIZE
+    pub(super) fn mask(&self) -> usize {
+        self.mask
     }
 }
 
-/// The slot at a position of the probe order of a home.
+/// The slot at a position of the probe order of a home slot, from 0 on (docs/FORMAT.md, "Probe
+/// order"). Constant time.
 #[inline]
-pub(super) fn probed_slot(home: usize, position: usize, slots: usize) -> usize {
+pub fn probed_slot(home: usize, position: usize, slots: usize) -> usize {
     let group = position / REFERENCE_GROUP_SIZE;
     let steps = (8 * group).wrapping_mul(group + 1);
     home.wrapping_add(steps).wrapping_add(position % REFERENCE_GROUP_SIZE) & (slots - 1)

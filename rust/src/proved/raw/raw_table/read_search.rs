@@ -1,7 +1,7 @@
 // Made by `make rust` of crates/odht_raw/src/raw_table/read_search.rt.
 //! The search in the parts of a table that are read by position, such as those of a file.
 
-use super::{tag_of, EntryMetadata, ProbeSeq, Search};
+use super::{probed_slot, tag_of, EntryMetadata, Search};
 use crate::proved::raw::hash::HashFn;
 use crate::proved::raw::layout::Layout;
 use crate::proved::raw::read_at::{read_exact_at, ReadAt, ReadError};
@@ -33,24 +33,18 @@ pub fn search_read<S: ReadAt, H: HashFn>(
     key: &[u8],
 ) -> Result<(Search, usize), ReadError> {
     let hash = H::hash(key);
-    let tag = tag_of(hash);
-    let mask = place.slots - 1;
-    let mut probe = ProbeSeq::<REFERENCE_GROUP_SIZE>::new(hash as usize, mask);
-    let mut groups = 0;
-    loop {
-        let start = probe.index();
+    let (tag, home) = (tag_of(hash), hash as usize & (place.slots - 1));
+    let groups = place.slots / REFERENCE_GROUP_SIZE;
+    for group in 0..groups {
+        let start = probed_slot(home, group * REFERENCE_GROUP_SIZE, place.slots);
         let mut bytes = [0; REFERENCE_GROUP_SIZE];
         read_exact_at(source, place.control_at + start as u64, &mut bytes)?;
-        groups += 1;
         let end = look_at_read::<S, H, lanes::GroupQuery>(source, place, &bytes, start, key, tag)?;
         if let Some(end) = end {
-            return Ok((end, groups));
+            return Ok((end, group + 1));
         }
-        if probe.is_last() {
-            return Ok((Search::Neither, groups));
-        }
-        probe.advance(mask);
     }
+    Ok((Search::Neither, groups))
 }
 
 // Searches the sixteen slots from `start` on, modulo the slot count, whose control bytes are

@@ -1,7 +1,7 @@
 // Made by `make rust` of crates/odht_raw/src/raw_table/scan.rt.
-//! The control bytes of a table, read group by group and counted.
+//! The control bytes of a table as a search reads them.
 
-use super::{EntryMetadata, GroupProbe};
+use super::EntryMetadata;
 
 /// The control bytes of a table, read a group of sixteen at a time, and how many groups were read.
 ///
@@ -20,17 +20,16 @@ impl<'a> Scan<'a> {
         Scan { control, slots, groups: 0 }
     }
 
-    // The probe of a hash in these control bytes. By it a search reads them, and counts what it
-    // reads.
+    // A second scan of the same control bytes, of which as many groups were read.
     #[inline(always)]
-    pub(super) fn probe(&self, hash: usize) -> GroupProbe<'a> {
-        GroupProbe::new(self.control, self.slots, hash)
+    pub(crate) fn copy(&self) -> Scan<'a> {
+        Scan { control: self.control, slots: self.slots, groups: self.groups }
     }
 
-    // Counts the groups that were read by its probe.
+    // Says how many groups were read, by a copy.
     #[inline(always)]
-    pub(super) fn count(&mut self, groups: usize) {
-        self.groups = self.groups.saturating_add(groups);
+    pub(crate) fn set_groups(&mut self, groups: usize) {
+        self.groups = groups;
     }
 
     /// How many slots there are.
@@ -45,7 +44,7 @@ impl<'a> Scan<'a> {
     pub fn group(&mut self, start: usize) -> &'a [EntryMetadata] {
         self.groups = self.groups.saturating_add(1);
         let control = self.control;
-        &control[start..start + 16]
+        &index!(control[start..start + 16])
     }
 
     /// How many groups were read; `usize::MAX` where they are more.

@@ -10,7 +10,7 @@ use crate::proved::tables::hash::HashFn;
 use crate::proved::tables::layout::Layout;
 use crate::proved::tables::load::max_item_count_for;
 use crate::proved::tables::memory_layout::{
-    check_by_header, check_opening, check_sized, check_sized_within, Header, HEADER_SIZE,
+    check_by_header, check_opening, check_sized, check_sized_within, stated_layout, Header,
 };
 
 // Opens the bytes by their header and length. Reads no slot.
@@ -189,12 +189,10 @@ pub fn contains(layout: AnyLayout, bytes: &[u8], key: &[u8]) -> u32 {
 /// fit; the number of the hash function, which no header states, stays. Else the number of the
 /// first error, and `layout` is unchanged.
 pub fn layout_of(bytes: &[u8], layout: &mut AnyLayout) -> u32 {
-    let found = bytes.len();
-    if found < HEADER_SIZE {
-        return status_of(&Error::TooShort { found });
-    }
-    let header = Header::of(bytes);
-    let stated = header.layout();
+    let stated = match stated_layout(bytes) {
+        Ok(stated) => stated,
+        Err(refused) => return status_of(&refused),
+    };
     match check_by_header(bytes, stated) {
         Ok(()) => {
             layout.key_len = stated.key_len;

@@ -1,4 +1,5 @@
-use Rattle.std.proofs.Common.{◌≡◌, ◌+◌, arith, ap, length}
+use Rattle.std.proofs.Common.{◌≡◌, ◌+◌, arith, ap, sym, subst, length}
+use Rattle.odht_base.specs.Load.{IsSlotCount}
 use Rattle.odht_base.proofs.lemmas.SlotCounts.{sixteens}
 use Rattle.odht_raw.proofs.raw_table.group_probe.GroupProbe.advance.Goals as goal
 
@@ -6,10 +7,10 @@ use Rattle.odht_raw.proofs.raw_table.group_probe.GroupProbe.advance.Goals as goa
 pub invariant_of-self : goal.invariant_of-self
 invariant_of-self c =
     let v = c.self.invariant in
-    let sixteen = sixteens (c.self.inside.mask + 1) v.0 in
+    let sixteen = sixteens (c.self.inside.probe.mask + 1) v.0 in
     let place : c.advance.new.self.position ≡ c.self.inside.probe.position + 16 = ap (λ q. q.position) c.advance.ensures in
     let mask : c.advance.new.self.mask ≡ c.self.inside.probe.mask = ap (λ q. q.mask) c.advance.ensures in
     let control = ap (λ q. length q.control) c.self.view_is in
     let before = ap (λ q. q.position) c.self.view_is in
     let within = c.requires in
-    (v.0, omega (arith, v, mask), v.2, omega (arith, v, place, sixteen.2, control, before, within), omega (arith, v, place))
+    (subst (λ m. IsSlotCount (m + 1)) (sym mask) v.0, omega (arith, v, mask), omega (arith, v, mask, place, sixteen.2, control, before, within), omega (arith, v, place))
