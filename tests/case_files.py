@@ -14,7 +14,7 @@ KEY = re.compile(r"(let \w+|for \w+(?: \| \w+)*|"
 CHOICES = {
     "input": "each byte alone|fails after [0-9]+ bytes|a folder",
     "output": "full|no reader",
-    "errors": "full",
+    "errors": "full|output",
     "rights": "read only",
     "user": "root|nobody",
 }

@@ -112,7 +112,9 @@ def run(program, case, folder):
         stdin, stdout = open_input(case, stack), open_output(case, stack, packets)
         stderr = subprocess.PIPE
         written = case.stdin if stdin == subprocess.PIPE else None
-        if case.choices["errors"]:
+        if case.choices["errors"] == "output":
+            stderr = subprocess.STDOUT
+        elif case.choices["errors"]:
             stderr = stack.enter_context(open("/dev/full", "wb"))
         process = subprocess.Popen([program] + case.args, cwd=folder, env={}, stdin=stdin,
                                    stdout=stdout, stderr=stderr, preexec_fn=limits(case))

@@ -111,8 +111,8 @@ With - as FILE a table is read from standard input, and build and merge write
 one to standard output. An option's value is the next word, or comes behind a =.
 Words that begin with a hyphen come after --, which ends the options.
 
-Status 0: done; 1: rejected, failed, or a key is absent; 2: the words are not
-understood.
+Status 0: done; 1: rejected, failed, a key is absent, no table is found, or
+tables differ; 2: the words are not understood, or diff failed.
 ";
 
 // begin texts: made of commands.txt by tools/commands; `make manual` makes it anew
@@ -265,7 +265,7 @@ odht build FILE --key SHAPE --value SHAPE [--duplicates last|first|error]
     hard links is not replaced without --break-links. Keys and values may have other
     sizes than the ready shapes, of any SHAPE; the hash function is fx then, or
     --hash.
-    SHAPE          u32, u64, none (no bytes), or hexN: N bytes as 2 N digits;
+    SHAPE          u32, u64, none (no bytes), hexN or bytes:N (2 N digits);
                    i32 and i64 with a sign; u32be and u64be, the highest byte first;
                    text:N, a text of at most N bytes, with zeros behind it
     --duplicates   which line of a key counts: last, first, or error: a second one
@@ -323,9 +323,11 @@ odht rebuild FILE [--percent P] [--whole] [--hash fx|unhash] [--progress]
     order, and stores it in the place of the older one, which stays where something
     fails. So long searches become short, and a load factor or a hash function is
     changed. The file is checked before, as by `odht check`, by the hash function
-    that all control bytes fit; --whole is as there. The hash function unhash needs
-    keys of 4 bytes or more. Owner, group, permissions and symbolic links of the
-    file are kept; one with hard links is not replaced without --break-links.
+    that all control bytes fit; --whole is as there, for a file whose searches are
+    so long that it is rejected. The hash function unhash needs keys of 4 bytes or
+    more; number keys are read as hexN then, but from u32 to u32. Owner, group,
+    permissions and symbolic links of the file are kept; one with hard links is not
+    replaced without --break-links.
     --percent      the load factor of the new table, 1 to 100, else 87
     --hash         the hash function of the new table, else that of the file
     --progress     a line on standard error each second; the last one has the totals

@@ -131,24 +131,32 @@ where
     if is_one {
         return done;
     }
-    let mut is_done = is_read(file, done, errors)?;
+    let mut is_done = is_read(file, done, output, errors)?;
     for other in others {
         let file = other.as_str();
         let done = read_one(rt, file, is_one, at, reading, input, output, errors);
-        is_done = is_read(file, done, errors)? && is_done;
+        is_done = is_read(file, done, output, errors)? && is_done;
     }
     Ok(Status::of(is_done))
 }
 
-// Reports the failure of a file, but one of the output. Returns whether all was done.
-fn is_read<E: Write>(
+// Reports the failure of a file, but one of the output, behind what was written of the files before
+// it. Returns whether all was done.
+fn is_read<O: Write, E: Write>(
     file: &str,
     done: Result<Status, Failure>,
+    output: &mut O,
     errors: &mut E,
 ) -> Result<bool, Failure> {
     match done {
+        Ok(status) => Ok(status.is_done()),
         Err(Failure::Output(error)) => Err(Failure::Output(error)),
-        done => Ok(finish(file, done, errors).is_done()),
+        done => {
+            let flushed = output.flush();
+            let status = finish(file, done, errors);
+            flushed.map_err(Failure::Output)?;
+            Ok(status.is_done())
+        }
     }
 }
 
@@ -177,7 +185,7 @@ where
     if reading.is_search() {
         done
     } else {
-        with_hint(rt.alloc(), file, table, offset, done, errors)
+        with_hint(rt.alloc(), file, table, offset, done, output, errors)
     }
 }
 
@@ -203,17 +211,22 @@ where
 
 // Where these bytes, at this offset of a file, are no table, and one is further on: reports the
 // failure, and tells where.
-fn with_hint<E: Write>(
+fn with_hint<O: Write, E: Write>(
     alloc: Global,
     file: &str,
     bytes: &[u8],
     offset: usize,
     done: Result<Status, Failure>,
+    output: &mut O,
     errors: &mut E,
 ) -> Result<Status, Failure> {
     // Where memory is short, or headers overlap, there is no hint.
     let Ok(Some(inside)) = first_inside(alloc, bytes) else {
         return done;
+    };
+    let done = match flushed(done, output) {
+        Err(Failure::Output(error)) => return Err(Failure::Output(error)),
+        done => done,
     };
     let status = finish(file, done, errors);
     // A hint that cannot be written is no failure.
@@ -265,7 +278,8 @@ fn run_reading<I: BufRead, O: Write, E: Write>(
     }
 }
 
-// Checks a file. Where another hash function fits, a line on `errors` names it.
+// Checks a file. Where another hash function fits, a line on `errors` names it, behind that of the
+// check.
 fn check_one<O: Write, E: Write>(
     alloc: Global,
     file: &str,
@@ -283,6 +297,7 @@ fn check_one<O: Write, E: Write>(
     };
     if !status.is_done() {
         if let Some(other) = check::hint_of(bytes, hash) {
+            output.flush().map_err(Failure::Output)?;
             // A hint that cannot be written is no failure.
             let _ = check::write_hint(file, other, errors);
         }
@@ -318,6 +333,7 @@ fn find_in<O: Write, E: Write>(
 ) -> Result<Status, Failure> {
     let status = find::find_file(alloc, file, bytes, bound, is_json, output)?;
     if !status.is_done() {
+        output.flush().map_err(Failure::Output)?;
         // A line that cannot be written is no failure.
         let _ = find::write_none(file, errors);
     }
