@@ -5,7 +5,7 @@ ghost use Rattle.odht_tool_core.specs.GroupNumbers.{capped, groups_to, groups_to
 
 use odht_base::swisstable_group_query::Group;
 use odht_base::swisstable_group_query::lanes::GroupQuery;
-use odht_raw::raw_table::{GroupProbe, probed_slot};
+use odht_raw::raw_table::{GroupProbe, ProbeSeq};
 
 /// The number of the group of a key's probe order that contains a slot, from 1 on: as many groups
 /// as a search for the key in that slot reads. Where that is above the bound, one more than the
@@ -18,13 +18,16 @@ pub fn groups_to(hash: u32, slot: usize, slot_count: usize, bound: Option<usize>
     ensures groups { result ≡ capped bound (groups_to hash slot_count slot) }
     ensures positive { 1 ≤ result }
 {
-    let home = hash as usize & (slot_count - 1);
+    let mask = slot_count - 1;
     let groups = slot_count / 16;
     let most = most_groups(groups, bound);
+    let mut probe = ProbeSeq::<16>::new(hash as usize, mask);
     for group in 0..most {
-        let start = probed_slot(home, group * 16, slot_count);
-        if steps_to(start, slot, slot_count) < 16 {
+        if steps_to(probe.index(), slot, slot_count) < 16 {
             return group + 1;
+        }
+        if group + 1 < groups {
+            probe.advance(mask);
         }
     }
     groups.min(most + 1)
