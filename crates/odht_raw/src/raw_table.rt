@@ -62,7 +62,7 @@ pub use group_probe::GroupProbe;
 pub use group_search::{search, search_hashed};
 pub(crate) use insert::{fill_slot, insert_at, step_end};
 pub use plain::{plain_find, plain_insert};
-pub use probe_seq::{ProbeSeq, probe_order, probed_slot};
+pub use probe_seq::{ProbeSeq, probe_order};
 pub use read_search::{ReadPlace, search_read};
 pub(crate) use runs::insert_run;
 pub use scan::Scan;

@@ -158,9 +158,9 @@ fn is_read<O: Write, E: Write>(
         Ok(status) => Ok(status.is_done()),
         Err(Failure::Output(error)) => Err(Failure::Output(error)),
         done => {
-            let flushed = output.flush();
+            let written = output.flush();
             let status = finish(file, done, errors);
-            flushed.map_err(Failure::Output)?;
+            written.map_err(Failure::Output)?;
             Ok(status.is_done())
         }
     }

@@ -13,10 +13,8 @@ ghost use Rattle.odht_raw.specs.SearchEnds.{IsPlainEnd};
 ghost use Rattle.odht_raw.specs.Finds.{IsFind};
 
 use super::insert::insert_at;
-use super::{
-    Entries, EntryMetadata, Search, SlotKeys, is_empty_or_deleted, probed_slot, slot_count_of,
-    tag_of,
-};
+use super::probe_seq::probed_slot;
+use super::{Entries, EntryMetadata, Search, SlotKeys, is_empty_or_deleted, slot_count_of, tag_of};
 use crate::bytes::ByteArray;
 use crate::error::Error;
 use crate::hash::HashFn;

@@ -110,10 +110,9 @@ impl<const GROUP_SIZE: usize> ProbeSeq<GROUP_SIZE> {
     }
 }
 
-/// The slot at a position of the probe order of a home slot, from 0 on (docs/FORMAT.md, "Probe
-/// order"). Constant time.
+/// The slot at a position of the probe order of a home.
 #[inline]
-pub fn probed_slot(home: usize, position: usize, slots: usize) -> usize
+pub(super) fn probed_slot(home: usize, position: usize, slots: usize) -> usize
     requires slots { IsSlotCount slots }
     requires position { position < slots }
     ensures slot { result ≡ probe_slot home slots position }

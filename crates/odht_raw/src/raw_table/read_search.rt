@@ -8,7 +8,8 @@ ghost use Rattle.odht_raw.specs.Reads.{IsPlaceFitting, IsHeldBy, IsGroupLook};
 ghost use Rattle.odht_raw.specs.Reads.{IsFoundWithin, IsLooking};
 ghost use Rattle.odht_raw.specs.Searches.{IsSearch};
 
-use super::{EntryMetadata, Search, probed_slot, tag_of};
+use super::probe_seq::probed_slot;
+use super::{EntryMetadata, Search, tag_of};
 use crate::hash::HashFn;
 use crate::layout::Layout;
 use crate::read_at::{ReadAt, ReadError, read_exact_at};

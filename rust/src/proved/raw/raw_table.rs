@@ -53,7 +53,7 @@ pub use group_probe::GroupProbe;
 pub use group_search::{search, search_hashed};
 pub(crate) use insert::{fill_slot, insert_at, step_end};
 pub use plain::{plain_find, plain_insert};
-pub use probe_seq::{probe_order, probed_slot, ProbeSeq};
+pub use probe_seq::{probe_order, ProbeSeq};
 pub use read_search::{search_read, ReadPlace};
 pub(crate) use runs::insert_run;
 pub use scan::Scan;

@@ -75,10 +75,9 @@ impl<const GROUP_SIZE: usize> ProbeSeq<GROUP_SIZE> {
     }
 }
 
-/// The slot at a position of the probe order of a home slot, from 0 on (docs/FORMAT.md, "Probe
-/// order"). Constant time.
+/// The slot at a position of the probe order of a home.
 #[inline]
-pub fn probed_slot(home: usize, position: usize, slots: usize) -> usize {
+pub(super) fn probed_slot(home: usize, position: usize, slots: usize) -> usize {
     let group = position / REFERENCE_GROUP_SIZE;
     let steps = (8 * group).wrapping_mul(group + 1);
     home.wrapping_add(steps).wrapping_add(position % REFERENCE_GROUP_SIZE) & (slots - 1)

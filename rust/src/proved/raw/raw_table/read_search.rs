@@ -1,7 +1,8 @@
 // Made by `make rust` of crates/odht_raw/src/raw_table/read_search.rt.
 //! The search in the parts of a table that are read by position, such as those of a file.
 
-use super::{probed_slot, tag_of, EntryMetadata, Search};
+use super::probe_seq::probed_slot;
+use super::{tag_of, EntryMetadata, Search};
 use crate::proved::raw::hash::HashFn;
 use crate::proved::raw::layout::Layout;
 use crate::proved::raw::read_at::{read_exact_at, ReadAt, ReadError};
