@@ -1,13 +1,18 @@
 #!/usr/bin/env python3
 """The wrong bodies that the prover must refuse: those of the gate, crates/NAME/must-fail/, and those of edits/NAME/.
 
-  tools/edits.py check       that each `old:` text stands once in its file; in a second
+  tools/edits.py check       that each `old:` text stands once in its file; with the kit also that the compiler
+                             rejects the edits that break a rule of types; in seconds
   tools/edits.py run [NAME..]   has the prover try each edit, of all crates or of these, on copies
 
 What earlier checks of the repository proved is kept, as `rt check` keeps it: an edit costs what the prover does
 anew for it. The function whose text an edit changes is checked first, by its name alone: where that is not proved, the
 crate is not. Where it is, all of the crate is checked. As many are tried at once as there are processors.
 build/logs/edits.log says of each by which line it is refused.
+
+An edit in edits/NAME/ that begins with a line `refused by: CODE` breaks a rule of types, as a read of a private field.
+It never reaches the prover: the compiler must reject the changed line with the error CODE. The gate's own command
+counts such an edit for nothing, so `make test` tries it.
 """
 import os
 import re
@@ -20,6 +25,7 @@ from collections import Counter
 from concurrent.futures import ThreadPoolExecutor
 
 import kit
+import unproved
 import watched
 
 TOP = os.path.dirname(os.path.dirname(os.path.realpath(__file__)))
@@ -78,6 +84,55 @@ def texts_of(edit, folder):
     return texts, None if texts else "it has no 'old:' and 'new:' pair"
 
 
+def code_of(edit):
+    """Returns the error by which the compiler must reject an edit, or None where the prover must."""
+    with open(edit, encoding="utf-8") as lines:
+        word, _, code = lines.readline().strip().partition(": ")
+    return code if word == "refused by" else None
+
+
+def lines_changed(former, text):
+    """Returns the numbers of the lines of a text that are not in the former one. No edit adds a line."""
+    pairs = zip(former.split("\n"), text.split("\n"))
+    return [number for number, (old, new) in enumerate(pairs, 1) if old != new]
+
+
+def rejected_by_types(crate, edits):
+    """Applies edits of a crate to one copy, and has the compiler read it. Returns what is wrong with each that the
+    compiler does not reject, where it stands, with its error."""
+    with tempfile.TemporaryDirectory(prefix="odht-types-") as room:
+        folder = f"{room}/{crate}"
+        shutil.copytree(f"{TOP}/crates/{crate}/src", f"{folder}/src")
+        wanted = {}
+        for edit in edits:
+            for path, text in texts_of(edit, folder)[0].items():
+                with open(f"{folder}/{path}", encoding="utf-8") as it:
+                    former = it.read()
+                wanted[edit] = [(path, number) for number in lines_changed(former, text)]
+                write(folder, {path: text})
+        try:
+            unproved.lowered(crate, f"{folder}/src/lib.rt", ["--test"], room)
+            printed = ""
+        except unproved.BuildError as error:
+            printed = str(error)
+    return [
+        f"{os.path.relpath(edit, TOP)}: the compiler does not reject it by {code_of(edit)}"
+        for edit, places in wanted.items()
+        if not any(re.search(rf"{path}:{number}:\d+: error\[{code_of(edit)}\]", printed) for path, number in places)
+    ]
+
+
+def check_types():
+    """Returns how many edits the compiler rejects as it must, and what is wrong with the others."""
+    passed, failed = 0, []
+    for crate in crates():
+        edits = [it for it in edits_of(crate) if code_of(it)]
+        if edits and unproved.KIT:
+            wrong = rejected_by_types(crate, edits)
+            passed, failed = passed + len(edits) - len(wrong), failed + wrong
+    return passed, failed
+
+
 def check():
     unknown = [it for it in os.listdir(f"{TOP}/edits") if it not in crates()]
     failed = [f"edits/{it}: crates.txt names no such crate" for it in unknown]
@@ -92,6 +147,9 @@ def check():
                 why = str(error)
             passed += not why
             failed += [f"{os.path.relpath(edit, TOP)}: {why}"] if why else []
+    if not failed:
+        rejected, failed = check_types()
+        passed += rejected
     print("\n".join([*failed, f"{passed} passed, {len(failed)} failed"]))
     return 1 if failed else 0
 
@@ -193,8 +251,13 @@ def refusal_of(name, tree, crate):
     return [*errors, *open_goals][0]
 
 
-def judged(names, tree, crate):
-    """Has the prover try an edited crate, the functions of these names first. Returns whether it refused it, and how."""
+def judged(names, tree, crate, code):
+    """Has the prover try an edited crate, the functions of these names first. Returns whether it refused it, and how.
+    With a code the compiler must reject it by that error."""
+    if code:
+        _, lines = rt(["check", "--jobs", "1"], tree, crate)
+        by_code = [it for it in lines if f": error[{code}]" in it]
+        return bool(by_code), [*by_code, f"the compiler does not reject it by {code}"][0]
     for name in names:
         line = refusal_of(name, tree, crate)
         if line:
@@ -225,7 +288,7 @@ def tried(room, number, crate, edits):
         former = {path: open(f"{folder}/{path}", encoding="utf-8").read() for path in texts}
         names = [] if why else functions_of(edit, folder)
         write(folder, texts)
-        is_refused, line = (False, why) if why else judged(names, tree, crate)
+        is_refused, line = (False, why) if why else judged(names, tree, crate, code_of(edit))
         write(folder, former)
         verdicts.append((os.path.basename(edit), is_refused, line[:300]))
     shutil.rmtree(tree)

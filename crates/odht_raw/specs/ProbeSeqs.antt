@@ -3,11 +3,13 @@
 --     IsProbe g h m p i b c s   slot i is at position p of the order from h among m + 1 slots; p is a multiple of g, c
 --                            is how many positions of its group of sixteen are before it, b is the first slot of that
 --                            group, and s is how many slots b is after the first slot of the group before
---     GroupPlace             the control bytes with their mirror, how many groups of sixteen of them were read, a home
+--     GroupPlace                the control bytes with their mirror, how many groups of sixteen of them were read, a home
 --                            slot, and a position of its order
+--     place_of s q              the place of a search that reads by the scan s and is at the position q
 use Rattle.std.specs.Prelude.{◌≡◌, ℕ, ◌+◌, ◌*◌, ◌/◌, ◌%◌, ◌<◌, List}
 use Rattle.odht_base.specs.Load.{IsSlotCount}
 use Rattle.odht_base.specs.Probe.{probe_slot}
+use Rattle.odht_raw.specs.Parts.{ReadGroups}
 
 pub record ProbePosition : Type 0 where
   pub home : ℕ
@@ -30,3 +32,6 @@ pub record GroupPlace : Type 0 where
   pub groups : ℕ
   pub home : ℕ
   pub position : ℕ
+
+abbrev pub place_of : ReadGroups → ProbePosition → GroupPlace
+place_of s q = record { control = s.control; groups = s.groups; home = q.home; position = q.position }

@@ -5,8 +5,6 @@
 --                                    the parts of a table r is where a pair with the key is placed (`placing`), and the
 --                                    count of groups rises by those up to the end, up to 2 ^ 64 - 1 (`groups`); on any
 --                                    parts by no more than there are (`few`); no control byte changes (`control`)
---     IsCountedEnd F E ctrl k r      r is an end, and how many groups were read: on the parts of a table those up to the
---                                    end, on any parts no more than there are
 --     IsPassed F E ctrl k p          the search passes each position of the probe order before p
 --     IsUnderWay F E k q             it passed those before the place q, the first one of a group of sixteen
 --     IsRest F E k before after r    the same as IsSearch of the rest of a search, from the place `before` on
@@ -34,11 +32,6 @@ pub record IsSearch (F : Format) (E : EntryBytes) (k : List ℕ) (before after :
   pub groups : (P : Table) → IsPartsOf F P E.bytes before.control → after.groups ≡ min (before.groups + groups_read F P.cells k) 18446744073709551615
   pub few : after.groups ≤ before.groups + E.slots / 16
   pub control : after.control ≡ before.control
-
-pub record IsCountedEnd (F : Format) (E : EntryBytes) (ctrl k : List ℕ) (r : Search × ℕ) : Type 0 where
-  pub end : IsSearchEnd F E ctrl k r.0
-  pub groups : (P : Table) → IsPartsOf F P E.bytes ctrl → r.1 ≡ groups_read F P.cells k
-  pub few : r.1 ≤ E.slots / 16
 
 pub record IsPassed (F : Format) (E : EntryBytes) (ctrl k : List ℕ) (p : ℕ) : Type 0 where
   pub on : GoesOnTo F E ctrl k p

@@ -14,7 +14,6 @@ ghost use Rattle.odht_raw.specs.Searches.{IsSearchEnd};
 ghost use Rattle.odht_raw.specs.Walks.{items_from};
 ghost use Rattle.odht_header.specs.Refusals.{checked, hashes_refusal};
 
-use self::group_search::search_keys;
 use self::slot_checks::check_hashes;
 use crate::bytes::ByteArray;
 use crate::error::Error;
@@ -172,14 +171,9 @@ impl<'a, K: ByteArray, V: ByteArray, H: HashFn> RawTable<'a, K, V, H> {
         ensures { IsCountedFind (format_of K.LEN V.LEN H.hash) V.of_bytes self.now (K.bytes key.now)
             result }
     {
-        let (entries, hash) = (&self.entries, H::hash(key.as_slice()));
-        let (end, groups) = search_keys::<Entries<'_, K, V>, H, Q>(
-            self.control,
-            entries,
-            key,
-            hash,
-        );
-        (self.value_at(end), groups)
+        let mut scan = Scan::new(self.control, self.entries.len());
+        let end = search::<K, V, H, Q>(&mut scan, &self.entries, key);
+        (self.value_at(end), scan.groups())
     }
 
     // The value of the slot where a search ended, if that slot holds the key.

@@ -11,9 +11,9 @@ ghost use Rattle.odht_raw.specs.PartLengths.{ArePairLengths, ArePartLengths, Are
 ghost use Rattle.odht_raw.specs.Searches.{IsSearchEnd};
 ghost use Rattle.odht_raw.specs.Steps.{IsStepEnd, IsStepWhere};
 
-use super::group_search::search_keys;
 use super::insert::insert_at;
-use super::{Entries, EntryMetadata, Search, is_empty_or_deleted, slot_count_of, tag_of};
+use super::{Entries, EntryMetadata, Scan, Search, is_empty_or_deleted, search_hashed};
+use super::{slot_count_of, tag_of};
 use crate::bytes::ByteArray;
 use crate::error::Error;
 use crate::hash::HashFn;
@@ -129,6 +129,6 @@ fn whole_search<K: ByteArray, V: ByteArray, H: HashFn>(
     ensures { IsSearchEnd (format_of K.LEN V.LEN H.hash) entries.now control.now
         (K.bytes key.now) result }
 {
-    let (end, _) = search_keys::<Entries<'_, K, V>, H, GroupQuery>(control, entries, key, hash);
-    end
+    let mut scan = Scan::new(control, entries.len());
+    search_hashed::<K, V, H, GroupQuery>(&mut scan, entries, key, hash)
 }

@@ -53,23 +53,9 @@ impl<'a> GroupProbe<'a> {
           position = 0;
         } }
     {
-        GroupProbe::over(Scan::new(control, slots), hash)
-    }
-
-    /// `new` in the control bytes of a scan, which goes on counting.
-    #[inline(always)]
-    pub fn over(scan: Scan<'a>, hash: usize) -> Self
-        ensures { result ≡ record {
-          control = scan.entry.control;
-          groups = scan.entry.groups;
-          home = hash % (length scan.entry.control - 16);
-          position = 0;
-        } }
-    {
-        let mask = scan.slots() - 1;
         GroupProbe {
-            scan,
-            probe: ProbeSeq::new(hash, mask),
+            scan: Scan::new(control, slots),
+            probe: ProbeSeq::new(hash, slots - 1),
         }
     }
 

@@ -5,12 +5,13 @@ ghost use Rattle.odht_base.specs.Format.{IsFormat, format_of};
 ghost use Rattle.odht_base.specs.Table.{Table};
 ghost use Rattle.odht_raw.specs.PartLengths.{AreSearchLengths};
 ghost use Rattle.odht_raw.specs.Parts.{hashed_by};
+ghost use Rattle.odht_raw.specs.ProbeSeqs.{place_of};
 ghost use Rattle.odht_raw.specs.SearchEnds.{IsEndAmong, GoesOnAmong};
 ghost use Rattle.odht_raw.specs.SearchSteps.{IsGroupAt, IsLook, IsTag};
-ghost use Rattle.odht_raw.specs.Searches.{IsCountedEnd, IsRest, IsSearch, IsSearchEnd};
+ghost use Rattle.odht_raw.specs.Searches.{IsRest, IsSearch, IsSearchEnd};
 ghost use Rattle.odht_raw.specs.Searches.{IsUnderWay, IsPassed};
 
-use super::{Entries, EntryMetadata, GroupProbe, Scan, Search, SlotKeys, tag_of};
+use super::{Entries, EntryMetadata, ProbeSeq, Scan, Search, SlotKeys, tag_of};
 use crate::bytes::ByteArray;
 use crate::hash::HashFn;
 use crate::swisstable_group_query::{Group, GroupQuery, REFERENCE_GROUP_SIZE};
@@ -59,59 +60,61 @@ pub fn search_hashed<K: ByteArray, V: ByteArray, H: HashFn, Q: Group>(
     ensures { IsSearch (format_of K.LEN V.LEN H.hash) entries.now (K.bytes key.now)
         scan.old scan.new result }
 {
-    let mut probe = GroupProbe::over(scan.copy(), hash as usize);
-    let end = search_from::<Entries<'_, K, V>, H, Q>(&mut probe, entries, key, tag_of(hash));
-    scan.set_groups(probe.groups());
-    end
+    search_keys::<Entries<'_, K, V>, H, Q>(scan, entries, key, hash)
 }
 
-/// The search for a key with this hash among the keys of whatever holds them, and how many groups
-/// it read.
+/// The search for a key with this hash among the keys of whatever holds them. It reads control
+/// bytes only through the scan, which counts each group.
 #[inline(always)]
 pub(super) fn search_keys<E: SlotKeys, H: HashFn, Q: Group>(
-    control: &[EntryMetadata],
+    scan: &mut Scan<'_>,
     keys: &E,
     key: &E::Key,
     hash: u32,
-) -> (Search, usize)
+) -> Search
     requires format { IsFormat (hashed_by H.hash (E.format keys.now)) }
-    requires slots { IsSlotCount (E.entries keys.now).slots }
-    requires mirrored { length control.now ≡ (E.entries keys.now).slots + 16 }
+    requires mirrored { length scan.old.control ≡ (E.entries keys.now).slots + 16 }
     requires hash { hash ≡ H.hash (E.key_bytes key.now) }
     ensures { let F = hashed_by H.hash (E.format keys.now)
-        in IsCountedEnd F (E.entries keys.now) control.now (E.key_bytes key.now) result }
+        in IsSearch F (E.entries keys.now) (E.key_bytes key.now) scan.old scan.new result }
 {
-    let mut probe = GroupProbe::new(control, keys.slots(), hash as usize);
-    let end = search_from::<E, H, Q>(&mut probe, keys, key, tag_of(hash));
-    (end, probe.groups())
+    let probe = ProbeSeq::new(hash as usize, scan.slots() - 1);
+    search_from::<E, H, Q>(scan, probe, keys, key, tag_of(hash))
 }
 
-// The rest of a search that is under way, from the group of the probe on.
+// The rest of a search that is under way, from the position of the probe on.
 #[inline(always)]
 fn search_from<E: SlotKeys, H: HashFn, Q: Group>(
-    probe: &mut GroupProbe<'_>,
+    scan: &mut Scan<'_>,
+    probe: ProbeSeq<REFERENCE_GROUP_SIZE>,
     keys: &E,
     key: &E::Key,
     tag: u8,
 ) -> Search
     requires format { IsFormat (hashed_by H.hash (E.format keys.now)) }
-    requires mirrored { length probe.old.control ≡ (E.entries keys.now).slots + 16 }
+    requires slots { IsSlotCount (E.entries keys.now).slots }
+    requires mirrored { length scan.old.control ≡ (E.entries keys.now).slots + 16 }
+    requires mask { probe.mask + 1 ≡ (E.entries keys.now).slots }
+    requires within { probe.position + 16 ≤ (E.entries keys.now).slots }
     requires tag { IsTag (hashed_by H.hash (E.format keys.now)) (E.key_bytes key.now) tag }
     requires at { let F = hashed_by H.hash (E.format keys.now)
-        in IsUnderWay F (E.entries keys.now) (E.key_bytes key.now) probe.old }
+        in IsUnderWay F (E.entries keys.now) (E.key_bytes key.now) (place_of scan.old probe) }
     ensures { let F = hashed_by H.hash (E.format keys.now)
-        in IsRest F (E.entries keys.now) (E.key_bytes key.now) probe.old probe.new result }
+        in IsRest F (E.entries keys.now) (E.key_bytes key.now) (place_of scan.old probe)
+        (place_of scan.new probe) result }
 {
+    let mut probe = probe;
+    let mask = keys.slots() - 1;
     'groups: loop {
-        let start = probe.start();
-        let bytes = probe.read();
+        let start = probe.index();
+        let bytes = scan.group(start);
         if let Some(end) = look_at_group::<E, H, Q>(bytes, start, keys, key, tag) {
             return end;
         }
         if probe.is_last() {
             return Search::Neither;
         }
-        probe.advance();
+        probe.advance(mask);
     }
 }
 
@@ -133,12 +136,15 @@ pub(super) fn late_search<K: ByteArray, V: ByteArray, H: HashFn>(
     ensures { IsSearchEnd (format_of K.LEN V.LEN H.hash) entries.now control.now
         (K.bytes key.now) result }
 {
-    let mut probe = GroupProbe::new(control, entries.len(), hash as usize);
+    let mask = entries.len() - 1;
+    let mut probe = ProbeSeq::new(hash as usize, mask);
     if probe.is_last() {
         return Search::Neither;
     }
-    probe.advance();
-    search_from::<Entries<'_, K, V>, H, GroupQuery>(&mut probe, entries, key, tag_of(hash))
+    probe.advance(mask);
+    let mut scan = Scan::new(control, entries.len());
+    let tag = tag_of(hash);
+    search_from::<Entries<'_, K, V>, H, GroupQuery>(&mut scan, probe, entries, key, tag)
 }
 
 // Searches the sixteen slots from `start` on, whose control bytes are `bytes`, in pieces of the

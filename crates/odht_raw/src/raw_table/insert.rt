@@ -14,8 +14,7 @@ ghost use Rattle.odht_raw.specs.Parts.{stored_in};
 ghost use Rattle.odht_raw.specs.Searches.{IsSearchEnd};
 ghost use Rattle.odht_raw.specs.Steps.{IsStep, IsStepWhere, IsTaggedEnd};
 
-use super::group_search::search_keys;
-use super::{Entries, EntryMetadata, Search, slot_count_of, tag_of};
+use super::{Entries, EntryMetadata, Scan, Search, search_hashed, slot_count_of, tag_of};
 use crate::bytes::{ByteArray, write_slice};
 use crate::error::Error;
 use crate::hash::HashFn;
@@ -60,7 +59,8 @@ pub(crate) fn step_end<K: ByteArray, V: ByteArray, H: HashFn, Q: Group>(
 {
     let hash = H::hash(key.as_slice());
     let stored: Entries<'_, K, V> = Entries::new(entries, slots);
-    let (end, _) = search_keys::<Entries<'_, K, V>, H, Q>(control, &stored, key, hash);
+    let mut scan = Scan::new(control, slots);
+    let end = search_hashed::<K, V, H, Q>(&mut scan, &stored, key, hash);
     (end, tag_of(hash))
 }
 

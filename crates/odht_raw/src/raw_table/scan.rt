@@ -8,6 +8,10 @@ use std::marker::Model;
 
 /// The control bytes of a table, read a group of sixteen at a time, and how many groups were read.
 ///
+/// `group` is the only call that shows control bytes, and it counts each group. Nothing else sets
+/// the count, and no second scan can be made from a scan: a search that borrows one cannot read a
+/// group without counting it.
+///
 /// What counts as a group that was read: docs/FORMAT.md, "Search". In a contract it is the control
 /// bytes and that number.
 #[derive(Drop)]
@@ -42,26 +46,6 @@ impl<'a> Scan<'a> {
             slots,
             groups: 0,
         }
-    }
-
-    // A second scan of the same control bytes, of which as many groups were read.
-    #[inline(always)]
-    pub(crate) fn copy(&self) -> Scan<'a>
-        ensures { result ≡ self.now }
-    {
-        Scan {
-            control: self.control,
-            slots: self.slots,
-            groups: self.groups,
-        }
-    }
-
-    // Says how many groups were read, by a copy.
-    #[inline(always)]
-    pub(crate) fn set_groups(&mut self, groups: usize)
-        ensures { self.new ≡ record { control = self.old.control; groups = groups } }
-    {
-        self.groups = groups;
     }
 
     /// How many slots there are.

@@ -16,7 +16,7 @@ ghost use Rattle.odht_raw.specs.Sized.{HasLengthsOf, sized_format, sized_parts, 
 
 use super::group_search::search_keys;
 use super::slot_checks::check_hashes;
-use super::{EntryMetadata, Search, SizedIter, SizedSlots, SlotKeys, tag_of};
+use super::{EntryMetadata, Scan, Search, SizedIter, SizedSlots, SlotKeys, tag_of};
 use crate::bytes::is_same_word;
 use crate::error::Error;
 use crate::hash::HashFn;
@@ -276,12 +276,14 @@ impl<'a, H: HashFn> SizedTable<'a, H> {
             (option_copied result.0, result.1) }
     {
         let sought = SoughtBytes { bytes: &*key };
-        let (end, groups) = search_keys::<SizedTable<'_, H>, H, GroupQuery>(
-            self.controls(),
+        let mut scan = Scan::new(self.controls(), self.len());
+        let end = search_keys::<SizedTable<'_, H>, H, GroupQuery>(
+            &mut scan,
             &*self,
             &sought,
             H::hash(key),
         );
+        let groups = scan.groups();
         match end {
             Search::Found(slot) => (Some(self.value(slot)), groups),
             Search::Free(_) => (None, groups),
@@ -298,10 +300,11 @@ impl<'a, H: HashFn> SizedTable<'a, H> {
             self.now.parts.control key.now result.0 }
         ensures tag { result.1 ≡ key_tag (sized_format self.now H.hash) key.now }
     {
-        let (controls, sought) = (self.controls(), SoughtBytes { bytes: &*key });
+        let sought = SoughtBytes { bytes: &*key };
+        let mut scan = Scan::new(self.controls(), self.len());
         let hash = H::hash(key);
-        let (end, _) = search_keys::<SizedTable<'_, H>, H, GroupQuery>(
-            controls, &*self, &sought, hash,
+        let end = search_keys::<SizedTable<'_, H>, H, GroupQuery>(
+            &mut scan, &*self, &sought, hash,
         );
         (end, tag_of(hash))
     }

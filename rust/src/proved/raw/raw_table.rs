@@ -5,7 +5,6 @@
 //! "On the parts of a placed table" is `IsPartsOf` in a clause: control bytes, mirror and entries
 //! are those of such a table.
 
-use self::group_search::search_keys;
 use self::slot_checks::check_hashes;
 use crate::proved::raw::bytes::ByteArray;
 use crate::proved::raw::error::Error;
@@ -127,10 +126,9 @@ impl<'a, K: ByteArray, V: ByteArray, H: HashFn> RawTable<'a, K, V, H> {
     /// searches give the same.
     #[inline(always)]
     pub fn find_counted_by<Q: Group>(&self, key: &K) -> (Option<V>, usize) {
-        let (entries, hash) = (&self.entries, H::hash(key.as_slice()));
-        let (end, groups) =
-            search_keys::<Entries<'_, K, V>, H, Q>(self.control, entries, key, hash);
-        (self.value_at(end), groups)
+        let mut scan = Scan::new(self.control, self.entries.len());
+        let end = search::<K, V, H, Q>(&mut scan, &self.entries, key);
+        (self.value_at(end), scan.groups())
     }
 
     // The value of the slot where a search ended, if that slot holds the key.

@@ -2,9 +2,9 @@
 //! Inserts of several keys whose slots are looked up ahead, so that the memory accesses to their
 //! control bytes overlap.
 
-use super::group_search::search_keys;
 use super::insert::insert_at;
-use super::{is_empty_or_deleted, slot_count_of, tag_of, Entries, EntryMetadata, Search};
+use super::{is_empty_or_deleted, search_hashed, Entries, EntryMetadata, Scan, Search};
+use super::{slot_count_of, tag_of};
 use crate::proved::raw::bytes::ByteArray;
 use crate::proved::raw::error::Error;
 use crate::proved::raw::hash::HashFn;
@@ -81,6 +81,6 @@ fn whole_search<K: ByteArray, V: ByteArray, H: HashFn>(
     key: &K,
     hash: u32,
 ) -> Search {
-    let (end, _) = search_keys::<Entries<'_, K, V>, H, GroupQuery>(control, entries, key, hash);
-    end
+    let mut scan = Scan::new(control, entries.len());
+    search_hashed::<K, V, H, GroupQuery>(&mut scan, entries, key, hash)
 }

@@ -19,14 +19,7 @@ impl<'a> GroupProbe<'a> {
     /// `slots` slots.
     #[inline(always)]
     pub fn new(control: &'a [EntryMetadata], slots: usize, hash: usize) -> Self {
-        GroupProbe::over(Scan::new(control, slots), hash)
-    }
-
-    /// `new` in the control bytes of a scan, which goes on counting.
-    #[inline(always)]
-    pub fn over(scan: Scan<'a>, hash: usize) -> Self {
-        let mask = scan.slots() - 1;
-        GroupProbe { scan, probe: ProbeSeq::new(hash, mask) }
+        GroupProbe { scan: Scan::new(control, slots), probe: ProbeSeq::new(hash, slots - 1) }
     }
 
     /// How many groups were read.

@@ -1,7 +1,7 @@
 // Made by `make rust` of crates/odht_raw/src/raw_table/group_search.rt.
 //! The search by groups of control bytes along the probe order.
 
-use super::{tag_of, Entries, EntryMetadata, GroupProbe, Scan, Search, SlotKeys};
+use super::{tag_of, Entries, EntryMetadata, ProbeSeq, Scan, Search, SlotKeys};
 use crate::proved::raw::bytes::ByteArray;
 use crate::proved::raw::hash::HashFn;
 use crate::proved::raw::swisstable_group_query::{Group, GroupQuery, REFERENCE_GROUP_SIZE};
@@ -40,44 +40,43 @@ pub fn search_hashed<K: ByteArray, V: ByteArray, H: HashFn, Q: Group>(
     key: &K,
     hash: u32,
 ) -> Search {
-    let mut probe = GroupProbe::over(scan.copy(), hash as usize);
-    let end = search_from::<Entries<'_, K, V>, H, Q>(&mut probe, entries, key, tag_of(hash));
-    scan.set_groups(probe.groups());
-    end
+    search_keys::<Entries<'_, K, V>, H, Q>(scan, entries, key, hash)
 }
 
-/// The search for a key with this hash among the keys of whatever holds them, and how many groups
-/// it read.
+/// The search for a key with this hash among the keys of whatever holds them. It reads control
+/// bytes only through the scan, which counts each group.
 #[inline(always)]
 pub(super) fn search_keys<E: SlotKeys, H: HashFn, Q: Group>(
-    control: &[EntryMetadata],
+    scan: &mut Scan<'_>,
     keys: &E,
     key: &E::Key,
     hash: u32,
-) -> (Search, usize) {
-    let mut probe = GroupProbe::new(control, keys.slots(), hash as usize);
-    let end = search_from::<E, H, Q>(&mut probe, keys, key, tag_of(hash));
-    (end, probe.groups())
+) -> Search {
+    let probe = ProbeSeq::new(hash as usize, scan.slots() - 1);
+    search_from::<E, H, Q>(scan, probe, keys, key, tag_of(hash))
 }
 
-// The rest of a search that is under way, from the group of the probe on.
+// The rest of a search that is under way, from the position of the probe on.
 #[inline(always)]
 fn search_from<E: SlotKeys, H: HashFn, Q: Group>(
-    probe: &mut GroupProbe<'_>,
+    scan: &mut Scan<'_>,
+    probe: ProbeSeq<REFERENCE_GROUP_SIZE>,
     keys: &E,
     key: &E::Key,
     tag: u8,
 ) -> Search {
+    let mut probe = probe;
+    let mask = keys.slots() - 1;
     loop {
-        let start = probe.start();
-        let bytes = probe.read();
+        let start = probe.index();
+        let bytes = scan.group(start);
         if let Some(end) = look_at_group::<E, H, Q>(bytes, start, keys, key, tag) {
             return end;
         }
         if probe.is_last() {
             return Search::Neither;
         }
-        probe.advance();
+        probe.advance(mask);
     }
 }
 
@@ -90,12 +89,15 @@ pub(super) fn late_search<K: ByteArray, V: ByteArray, H: HashFn>(
     key: &K,
     hash: u32,
 ) -> Search {
-    let mut probe = GroupProbe::new(control, entries.len(), hash as usize);
+    let mask = entries.len() - 1;
+    let mut probe = ProbeSeq::new(hash as usize, mask);
     if probe.is_last() {
         return Search::Neither;
     }
-    probe.advance();
-    search_from::<Entries<'_, K, V>, H, GroupQuery>(&mut probe, entries, key, tag_of(hash))
+    probe.advance(mask);
+    let mut scan = Scan::new(control, entries.len());
+    let tag = tag_of(hash);
+    search_from::<Entries<'_, K, V>, H, GroupQuery>(&mut scan, probe, entries, key, tag)
 }
 
 // Searches the sixteen slots from `start` on, whose control bytes are `bytes`, in pieces of the

@@ -4,8 +4,7 @@
 //! These functions take the slot count where their caller has it, though the control bytes have a
 //! length: so the compiler need not keep both.
 
-use super::group_search::search_keys;
-use super::{slot_count_of, tag_of, Entries, EntryMetadata, Search};
+use super::{search_hashed, slot_count_of, tag_of, Entries, EntryMetadata, Scan, Search};
 use crate::proved::raw::bytes::{write_slice, ByteArray};
 use crate::proved::raw::error::Error;
 use crate::proved::raw::hash::HashFn;
@@ -38,7 +37,8 @@ pub(crate) fn step_end<K: ByteArray, V: ByteArray, H: HashFn, Q: Group>(
 ) -> (Search, u8) {
     let hash = H::hash(key.as_slice());
     let stored: Entries<'_, K, V> = Entries::new(entries, slots);
-    let (end, _) = search_keys::<Entries<'_, K, V>, H, Q>(control, &stored, key, hash);
+    let mut scan = Scan::new(control, slots);
+    let end = search_hashed::<K, V, H, Q>(&mut scan, &stored, key, hash);
     (end, tag_of(hash))
 }
 

@@ -5,6 +5,10 @@ use super::EntryMetadata;
 
 /// The control bytes of a table, read a group of sixteen at a time, and how many groups were read.
 ///
+/// `group` is the only call that shows control bytes, and it counts each group. Nothing else sets
+/// the count, and no second scan can be made from a scan: a search that borrows one cannot read a
+/// group without counting it.
+///
 /// What counts as a group that was read: docs/FORMAT.md, "Search". In a contract it is the control
 /// bytes and that number.
 pub struct Scan<'a> {
@@ -18,18 +22,6 @@ impl<'a> Scan<'a> {
     #[inline]
     pub fn new(control: &'a [EntryMetadata], slots: usize) -> Scan<'a> {
         Scan { control, slots, groups: 0 }
-    }
-
-    // A second scan of the same control bytes, of which as many groups were read.
-    #[inline(always)]
-    pub(crate) fn copy(&self) -> Scan<'a> {
-        Scan { control: self.control, slots: self.slots, groups: self.groups }
-    }
-
-    // Says how many groups were read, by a copy.
-    #[inline(always)]
-    pub(crate) fn set_groups(&mut self, groups: usize) {
-        self.groups = groups;
     }
 
     /// How many slots there are.

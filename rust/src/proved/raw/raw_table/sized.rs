@@ -3,7 +3,7 @@
 
 use super::group_search::search_keys;
 use super::slot_checks::check_hashes;
-use super::{tag_of, EntryMetadata, Search, SizedIter, SizedSlots, SlotKeys};
+use super::{tag_of, EntryMetadata, Scan, Search, SizedIter, SizedSlots, SlotKeys};
 use crate::proved::raw::bytes::is_same_word;
 use crate::proved::raw::error::Error;
 use crate::proved::raw::hash::HashFn;
@@ -165,12 +165,14 @@ impl<'a, H: HashFn> SizedTable<'a, H> {
     #[inline(always)]
     fn find_of(&self, key: &[u8]) -> (Option<&'a [u8]>, usize) {
         let sought = SoughtBytes { bytes: &*key };
-        let (end, groups) = search_keys::<SizedTable<'_, H>, H, GroupQuery>(
-            self.controls(),
+        let mut scan = Scan::new(self.controls(), self.len());
+        let end = search_keys::<SizedTable<'_, H>, H, GroupQuery>(
+            &mut scan,
             &*self,
             &sought,
             H::hash(key),
         );
+        let groups = scan.groups();
         match end {
             Search::Found(slot) => (Some(self.value(slot)), groups),
             Search::Free(_) => (None, groups),
@@ -182,10 +184,10 @@ impl<'a, H: HashFn> SizedTable<'a, H> {
     // compiler knows the length of the key, as `find_of` is.
     #[inline(always)]
     pub(super) fn search_end(&self, key: &[u8]) -> (Search, u8) {
-        let (controls, sought) = (self.controls(), SoughtBytes { bytes: &*key });
+        let sought = SoughtBytes { bytes: &*key };
+        let mut scan = Scan::new(self.controls(), self.len());
         let hash = H::hash(key);
-        let (end, _) =
-            search_keys::<SizedTable<'_, H>, H, GroupQuery>(controls, &*self, &sought, hash);
+        let end = search_keys::<SizedTable<'_, H>, H, GroupQuery>(&mut scan, &*self, &sought, hash);
         (end, tag_of(hash))
     }
 
