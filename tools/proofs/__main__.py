@@ -21,7 +21,7 @@ HERE = re.compile(r"^<!-- (\w+) -->$", re.M)
 # the groups of calls, each with the files and folders that have them
 GROUPS = [
     ("Load factors", ["odht_base/src/load.rt"]),
-    ("Hashes", ["odht_base/src/hash.rt"]),
+    ("Hashes", ["odht_base/src/hash.rt", "odht_base/src/hash/"]),
     ("Byte arrays and stores", ["odht_base/src/bytes"]),
     ("Groups of control bytes", ["odht_base/src/swisstable_group_query"]),
     ("Laws of plain tables and their bytes", ["odht_base/src/laws.rt"]),

@@ -5,6 +5,8 @@ pub mod Opened
 pub mod Configs
 -- hashes, load factors and slot counts
 pub mod Numbers
+-- XXH64 of bytes of each kind of length
+pub mod Xxh64
 -- probe orders, and where searches end
 pub mod Probing
 -- tables of a few inserts, and their bytes

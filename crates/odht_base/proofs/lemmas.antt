@@ -15,6 +15,8 @@ pub mod Numbers
 pub mod Words
 -- the pieces of `fx`, one after the other
 pub mod Pieces
+-- the pieces of XXH64, in turn
+pub mod Stripes
 -- slot counts are the powers of two from 16 to 2 ^ 63
 pub mod SlotCounts
 -- `slots_for` answers the least slot count that holds the items

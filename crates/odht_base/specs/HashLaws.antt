@@ -1,8 +1,9 @@
--- A hash has 32 bits: the law that `HashFn` asks for, of both hash functions.
+-- A hash has 32 bits: the law that `HashFn` asks for, of each hash function.
 use Rattle.std.proofs.Common.{◌≡◌, ℕ, zero, suc, ◌-◌, ◌^◌, ◌<◌, ◌≤◌, List, [], ◌∷◌, length, drop, All, arith, length-drop, pow-suc, sym, subst}
 use Rattle.std.proofs.lemmas.List.Elements.{All-head, All-tail, All-drop}
 use Rattle.odht_base.specs.Hashes.{fx, un}
 use Rattle.odht_base.specs.Numbers.{num, IsBytes}
+use Rattle.odht_base.specs.Xxh64.{xxh64_low}
 
 -- the number of w bytes is below 256 ^ w
 pub num-lt : (w : ℕ) (b : List ℕ) → IsBytes w b → num b < 256 ^ w
@@ -18,6 +19,11 @@ num-lt (suc w) (x ∷ b) h =
 pub fx-lt : (b : List ℕ) → fx b < 2 ^ 32
 unfolding fx
 fx-lt b = omega arith
+
+-- `Xxh64HashFn` keeps the low 32 bits of XXH64
+pub xxh64_low-lt : (b : List ℕ) → xxh64_low b < 2 ^ 32
+unfolding xxh64_low
+xxh64_low-lt b = omega arith
 
 -- `UnHashFn` reads four bytes
 pub un-lt : (b : List ℕ) → 4 ≤ length b → All (λ x. x < 256) b → un b < 2 ^ 32

@@ -7,6 +7,8 @@ pub mod Bytes
 pub mod AfterBorrow
 -- the hash functions
 pub mod Hashes
+-- XXH64, the hash function that mixes all bits
+pub mod Xxh64
 -- the law of the hash functions: a hash has 32 bits
 pub mod HashLaws
 -- load factors and slot counts

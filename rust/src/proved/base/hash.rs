@@ -3,6 +3,10 @@
 //!
 //! The rules are those of docs/FORMAT.md, "Hashes".
 
+mod xxh64;
+
+pub use xxh64::Xxh64HashFn;
+
 /// A hash function of bytes.
 pub trait HashFn: Eq {
     /// How many bytes the function needs at least.
@@ -21,6 +25,10 @@ pub trait HashFn: Eq {
 
 /// The hash function of rustc-hash: a rotation, an exclusive or and a product for each piece of 8,
 /// 4, 2 or 1 bytes.
+///
+/// Use it for numbers that count up, and for addresses without the low bits that are always zero.
+/// It uses the low 32 bits of each eight bytes: keys that differ only in the high 32 bits of their
+/// last eight bytes have one hash. `Xxh64HashFn` uses all bits.
 #[derive(PartialEq, Eq)]
 pub struct FxHashFn;
 
@@ -63,8 +71,9 @@ fn add_to_hash(current_hash: u64, value: u64) -> u64 {
     (current_hash.rotate_left(5) ^ value).wrapping_mul(0x517c_c1b7_2722_0a95)
 }
 
-/// The hash function that takes the last four bytes of a key as its hash, for keys that are hashes
-/// already.
+/// The hash function that takes the last four bytes of a key as its hash.
+///
+/// Use it for keys that are hashes already, evenly spread in their last four bytes.
 #[derive(PartialEq, Eq)]
 pub struct UnHashFn;
 
