@@ -1,12 +1,15 @@
 #!/bin/sh
-# merge.sh OUT ARCHIVE..: one archive of all that stands in these, in which only the names odht_* are seen from outside.
-# So it can be linked beside other libraries that have the same functions for memory in them.
+# merge.sh OUT ARCHIVE..: one archive of all that is in these, in which only the names odht_* are seen from outside. It
+# can be linked beside other libraries that define the same functions: for memory, or of Rust's standard library.
 set -eu
 out=$1
 shift
 room=$(mktemp -d)
 trap 'rm -rf "$room"' EXIT
-ld -r --whole-archive "$@" -o "$room/odht.o"
-objcopy --wildcard --keep-global-symbol='odht_*' "$room/odht.o"
+# A linker keeps one of several groups of the same name. Without groups, no other archive's copy replaces ours.
+ld -r --force-group-allocation --whole-archive "$@" -o "$room/odht.o"
+# The sections of LLVM are of single objects, so they are not valid once objects are merged.
+objcopy --wildcard --keep-global-symbol='odht_*' \
+    --remove-section=.llvmbc --remove-section=.llvmcmd --remove-section=.llvm_addrsig "$room/odht.o"
 rm -f "$out"
 ar rcsD "$out" "$room/odht.o"

@@ -17,7 +17,7 @@
     package    `cargo package` verifies the crate, without a warning; the documents in it are current, and those of
                rustdoc are made of what it packed
     c          libodht of the erased exports has the calls of include/odht.h; the examples in C and C++ go over it, and
-               over what `make install` there puts anywhere; and all of tests/c
+               over what `make install` there puts anywhere; all of tests/c; and odht-ffi links it, and catches panics
 
 The program of erased source, in rust/cli, is tested by tests/cli.py, and here in `current`, `planted` and `lints`. What
 the machine does not have is left out, with a word. The last line counts. There is no limit of time: where one cargo
@@ -280,7 +280,7 @@ def library_for_c():
         if names != declared():
             raise Failed(f"declared and not there, or there and not declared: {sorted(names ^ declared())}")
         passed += 1
-    for script, folder in (("examples.sh", libraries), ("installed.sh", CARGO_FILES)):
+    for script, folder in (("examples.sh", libraries), ("installed.sh", CARGO_FILES), ("linked.sh", CARGO_FILES)):
         passed += len(re.findall("well", run(["sh", f"rust/c/{script}", folder])))
     printed = run(["sh", "tests/c/run.sh", f"{libraries}/libodht.a", "cc"], SANITIZERS="no")
     return passed + int(re.search(r"(\d+) passed, 0 failed", printed)[1])

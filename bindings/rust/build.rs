@@ -1,10 +1,13 @@
 //! Finds the archive `libodht.a`: in the folder that ODHT_LIB_DIR names, from where cargo was called or from here;
-//! else in build/ of the repository; else in the folder that pkg-config reports. Where there is none it says what to do.
+//! else in build/ of the repository; else in the folder that pkg-config reports. Where there is none, or one that would
+//! change the program's panics, it says what to do.
 
 use std::path::{Path, PathBuf};
 use std::process::{exit, Command};
 
 const ARCHIVE: &str = "libodht.a";
+/// A function of Rust's standard library that keeps this name in all its versions.
+const OF_RUNTIME: &[u8] = b"rust_eh_personality";
 
 fn main() {
     println!("cargo:rerun-if-env-changed=ODHT_LIB_DIR");
@@ -13,6 +16,13 @@ fn main() {
     println!("cargo:rerun-if-changed=build.rs");
     let folder = find_folder();
     println!("cargo:rerun-if-changed={}", folder.join(ARCHIVE).display());
+    if shows_runtime(&folder.join(ARCHIVE)) {
+        give_up(&format!(
+            "{ARCHIVE} in {} shows the names of Rust's standard library, as cargo leaves it. The linker would use that\n\
+             library for your program, and each panic would end the process. `make -C rust/c` hides these names.",
+            folder.display()
+        ));
+    }
     println!("cargo:rustc-link-search=native={}", folder.display());
     println!("cargo:rustc-link-lib=static=odht");
 }
@@ -54,6 +64,16 @@ fn has_archive(folder: &Path) -> bool {
     folder.join(ARCHIVE).is_file()
 }
 
+/// Whether the archive shows the names of Rust's standard library.
+fn shows_runtime(archive: &Path) -> bool {
+    let bytes = std::fs::read(archive).unwrap_or_default();
+    // The first member lists the names that the archive shows. It follows the 8 bytes of the archive's own and a header
+    // of 60 bytes, which has its size in decimal.
+    let size = bytes.get(56..66).and_then(|digits| std::str::from_utf8(digits).ok()?.trim().parse::<usize>().ok());
+    let names = bytes.get(68..68 + size.unwrap_or(0)).unwrap_or_default();
+    names.windows(OF_RUNTIME.len()).any(|name| name == OF_RUNTIME)
+}
+
 /// build/ at the top of the repository, where `make lib` puts the archive.
 fn repository_build() -> PathBuf {
     let top = package().join("../..");
@@ -84,7 +104,8 @@ fn give_up(what: &str) -> ! {
     } else {
         eprintln!("Do one of these, and build again:");
         eprintln!("- run `make lib` at the top of the odht repository, which makes build/{ARCHIVE};");
-        eprintln!("- set ODHT_LIB_DIR to the folder that has {ARCHIVE};");
+        eprintln!("- run `make -C rust/c`, with cargo only, and set ODHT_LIB_DIR to its folder rust/c/target/library;");
+        eprintln!("- set ODHT_LIB_DIR to another folder that has {ARCHIVE};");
     }
     eprintln!("- install the library, so that `pkg-config --variable=libdir odht` prints that folder;");
     eprintln!("- take the crate `odht` of the folder rust of the repository, which needs no archive.");

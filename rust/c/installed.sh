@@ -64,7 +64,7 @@ build uninstall DESTDIR="$room/staged" PREFIX=/opt/odht LIBDIR=/opt/odht/lib64
 build uninstall PREFIX="$room/usr"
 # at the top, where there is no kit and nothing was made: only what make, cargo and the recipes call is on the PATH
 mkdir bare
-for name in cargo rustc cc ld make sh cat chmod cp echo find install ln realpath rm rmdir sed; do
+for name in cargo rustc cc ld ar objcopy make sh cat chmod cp echo find install ln mktemp realpath rm rmdir sed; do
     for folder in $(echo "$PATH" | tr : ' '); do
         if [ -x "$folder/$name" ]; then
             ln -s "$folder/$name" "bare/$name"
