@@ -12,7 +12,7 @@ impl<H: HashFn, D: Borrow<[u8]>> DynTable<H, D> {
     /// does, `out` lists the occupied slots in such an order, as
     /// [`HashTableOwned::insert_order`](crate::HashTableOwned::insert_order) lists them, in as many steps. Where none
     /// does, what it writes means nothing. The bytes are those of a table, as [`verify`](DynTable::verify) tells: of
-    /// others the answer means nothing.
+    /// others the result and `out` mean nothing.
     ///
     /// ```
     /// use odht::dynamic::{DynError, DynTable, Layout};
@@ -48,7 +48,8 @@ impl<H: HashFn, D: Borrow<[u8]>> DynTable<H, D> {
     /// [`insert_order`](DynTable::insert_order) for tables of strangers, where it has `scratch` to write to: it returns
     /// the same, and leaves the same order in `out`. `scratch` has as many numbers as
     /// [`insert_order_scratch`](DynTable::insert_order_scratch) says or more, of any values; with fewer this is
-    /// `insert_order`, in the time that that takes.
+    /// `insert_order`, in the time that that takes. The bytes are those of a table, as [`verify`](DynTable::verify)
+    /// tells: of others the result and `out` mean nothing.
     ///
     /// ```
     /// # use odht::{configs::U64ToU32, dynamic::DynTable, FxHashFn, HashTableOwned};

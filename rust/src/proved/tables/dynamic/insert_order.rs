@@ -12,7 +12,8 @@ impl<H: HashFn, D: ByteStore> DynTable<H, D> {
     /// many slots and the same load factor, leave these very bytes. Where none does, the numbers
     /// in `out` mean nothing. docs/PROOFS.md, "Orders of inserts", has the definitions.
     ///
-    /// The bytes are valid, as [`DynTable::verify`] tells. It takes no memory, and the steps that
+    /// The bytes are those of a table, as [`DynTable::verify`] tells: of others the result and
+    /// `out` mean nothing. It takes no memory, and the steps that
     /// [`HashTableOwned::insert_order`](crate::proved::tables::hash_table_owned::HashTableOwned::insert_order)
     /// takes.
     pub fn insert_order(&self, out: &mut [usize]) -> bool {
@@ -24,7 +25,8 @@ impl<H: HashFn, D: ByteStore> DynTable<H, D> {
     /// with fewer this is `insert_order`, in the time that that takes. The clauses say that `out`
     /// has an order; that it is the same one is tested.
     ///
-    /// The bytes are valid. It takes no memory, and time in proportion to the slots, and to the
+    /// The bytes are those of a table, as [`DynTable::verify`] tells: of others the result and
+    /// `out` mean nothing. It takes no memory, and time in proportion to the slots, and to the
     /// groups that the longest search of each home reads:
     /// [`HashTableOwned::insert_order_with`](crate::proved::tables::hash_table_owned::HashTableOwned::insert_order_with)
     /// says more.
