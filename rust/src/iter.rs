@@ -3,10 +3,12 @@
 use crate::config::{Config, Proved};
 use crate::proved::raw::memory_layout::{entry_at, Entries, Header, HEADER_SIZE};
 use crate::proved::raw::raw_table::{is_empty_or_deleted, Entry, RawSlots};
-use crate::view::HashTable;
-use std::borrow::Borrow;
 use std::fmt;
 use std::iter::FusedIterator;
+
+mod owning;
+
+pub use owning::{IntoIter, IntoKeys, IntoValues};
 
 // What a walk has left: the occupied slots from one on.
 struct Walk<'a, C: Config> {
@@ -149,54 +151,4 @@ walks! {
 
     /// The values of a table, in slot order. Made by `values` of both tables. No key is decoded.
     Values, C::Value, |_, entry| C::decode_value(&entry.value);
-}
-
-/// The keys and values of a table that was given up for them, in slot order. Made by `into_iter` of both tables.
-///
-/// Each step looks at the header and at a group of control bytes, so `iter` is faster. Its length is exact, and counted
-/// when it is asked for, as that of [`Iter`].
-#[must_use = "a walk does nothing until something is taken"]
-pub struct IntoIter<C: Config, D: Borrow<[u8]>> {
-    table: HashTable<C, D>,
-    // the slot behind the last one that was taken
-    from: usize,
-}
-
-impl<C: Config, D: Borrow<[u8]>> IntoIter<C, D> {
-    pub(crate) fn of(table: HashTable<C, D>) -> Self {
-        IntoIter { table, from: 0 }
-    }
-}
-
-impl<C: Config, D: Borrow<[u8]>> Iterator for IntoIter<C, D> {
-    type Item = (C::Key, C::Value);
-
-    fn next(&mut self) -> Option<(C::Key, C::Value)> {
-        let Some((slot, pair)) = self.table.iter_from(self.from).next() else {
-            self.from = usize::MAX;
-            return None;
-        };
-        self.from = slot + 1;
-        Some(pair)
-    }
-
-    fn size_hint(&self) -> (usize, Option<usize>) {
-        self.table.iter_from(self.from).size_hint()
-    }
-}
-
-impl<C: Config, D: Borrow<[u8]>> ExactSizeIterator for IntoIter<C, D> {}
-
-impl<C: Config, D: Borrow<[u8]>> FusedIterator for IntoIter<C, D> {}
-
-impl<C: Config, D: Borrow<[u8]> + Clone> Clone for IntoIter<C, D> {
-    fn clone(&self) -> Self {
-        IntoIter { table: self.table.clone(), from: self.from }
-    }
-}
-
-impl<C: Config, D: Borrow<[u8]>> fmt::Debug for IntoIter<C, D> {
-    fn fmt(&self, f: &mut fmt::Formatter<'_>) -> fmt::Result {
-        f.debug_struct("IntoIter").finish_non_exhaustive()
-    }
 }

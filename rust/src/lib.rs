@@ -17,6 +17,7 @@ mod shim;
 mod config;
 pub mod configs;
 pub mod dynamic;
+mod encoded;
 mod fixed;
 mod iter;
 mod opened;
@@ -52,7 +53,7 @@ mod proved {
 
 pub use config::{ByteArray, Config, HashFn};
 pub use fixed::Fixed;
-pub use iter::{IntoIter, Iter, Keys, Slots, Values};
+pub use iter::{IntoIter, IntoKeys, IntoValues, Iter, Keys, Slots, Values};
 pub use owned::HashTableOwned;
 pub use proved::base::hash::{FxHashFn, UnHashFn};
 pub use proved::header::error::{Error, Part};

@@ -132,7 +132,7 @@ impl<C: Config, D: Borrow<[u8]>> HashTable<C, D> {
 
     // The bytes, which are as long as they were, and have as many slots.
     #[inline(always)]
-    fn bytes(&self) -> &[u8] {
+    pub(crate) fn bytes(&self) -> &[u8] {
         let bytes = self.data.borrow();
         self.opened.check(bytes);
         bytes

@@ -1,7 +1,9 @@
 //! Room for items that are still to come, and a table that is emptied.
 
-use super::{refused, Config, Error, HashTableOwned, Proved};
-use crate::proved::raw::memory_layout::{layout_for, Header};
+use super::{refused, tables, Config, Error, Global, HashTableOwned, Proved};
+use crate::encoded::{stored, Stored};
+use crate::proved::base::bytes::OwnedBytes;
+use crate::proved::raw::memory_layout::{allocate, layout_for, Header};
 
 impl<C: Config> HashTableOwned<C> {
     /// Makes room for so many more items: with so many new keys the table does not grow. Where it has the room nothing
@@ -62,6 +64,98 @@ impl<C: Config> HashTableOwned<C> {
     /// ```
     pub fn clear(&mut self) {
         self.0.clear();
+    }
+
+    /// Gives back memory that the items do not need: they are placed again in the fewest slots that are enough for
+    /// them, at the same load factor, in slot order. Where the table has no more slots than these, nothing changes.
+    ///
+    /// It is one pass over the slots. Each item is hashed once, and the new memory is allocated before the old is freed.
+    ///
+    /// ```
+    /// use odht::{configs::U64ToU32, HashTableOwned};
+    ///
+    /// let mut table = HashTableOwned::<U64ToU32>::with_capacity(1000, 87);
+    /// table.extend([(1, 2), (3, 4)]);
+    /// table.shrink_to_fit();
+    /// assert_eq!((table.raw_bytes().len(), table.get(&3)), (256, Some(4)));
+    /// ```
+    ///
+    /// If allocation fails it ends as Rust's collections do.
+    #[track_caller]
+    pub fn shrink_to_fit(&mut self) {
+        if let Err(e) = self.try_shrink_to_fit() {
+            refused(e, self.least_layout().map_or(0, |(_, len)| len))
+        }
+    }
+
+    /// [`shrink_to_fit`](HashTableOwned::shrink_to_fit), with an error if allocation fails.
+    ///
+    /// ```
+    /// use odht::{configs::U64ToU32, HashTableOwned};
+    ///
+    /// let mut table = HashTableOwned::<U64ToU32>::with_capacity(1000, 87);
+    /// table.try_shrink_to_fit()?;
+    /// assert_eq!(table.raw_bytes(), HashTableOwned::<U64ToU32>::new().raw_bytes());
+    /// # Ok::<(), odht::Error>(())
+    /// ```
+    ///
+    /// # Errors
+    ///
+    /// [`Error::Memory`] if allocation fails. Nothing has changed then.
+    pub fn try_shrink_to_fit(&mut self) -> Result<(), Error> {
+        let header = Header::of(self.raw_bytes());
+        let (slots, factor) = (header.slot_count(), header.max_load_factor());
+        let Some((least, _)) = self.least_layout().filter(|(least, _)| *least < slots) else {
+            return Ok(());
+        };
+        let fitting = allocate::<Proved<Stored<C>>>(Global, least, 0, factor)?;
+        let mut fitting = tables::HashTable { allocation: fitting };
+        for (key, value) in stored::<C>(self.raw_bytes()).iter() {
+            fitting.insert(&key, &value)?;
+        }
+        let bytes = OwnedBytes::new(fitting.into_data().into_vec());
+        self.0.table = tables::HashTable::from_raw_bytes_unchecked(bytes);
+        Ok(())
+    }
+
+    // The fewest slots that are enough for the items, and the length of such a table.
+    fn least_layout(&self) -> Option<(usize, usize)> {
+        let factor = Header::of(self.raw_bytes()).max_load_factor();
+        layout_for::<Proved<C>>(self.len(), factor)
+    }
+
+    /// The value of a key; where it has none, it is given `value`, and this is returned.
+    ///
+    /// ```
+    /// use odht::{configs::U64ToU32, HashTableOwned};
+    ///
+    /// let mut table = HashTableOwned::<U64ToU32>::from([(1, 2)]);
+    /// assert_eq!((table.get_or_insert(&1, 7), table.get_or_insert(&3, 7)), (2, 7));
+    /// ```
+    ///
+    /// # Panics
+    ///
+    /// As [`insert`](HashTableOwned::insert).
+    #[track_caller]
+    pub fn get_or_insert(&mut self, key: &C::Key, value: C::Value) -> C::Value {
+        self.get_or_insert_with(key, || value)
+    }
+
+    /// [`get_or_insert`](HashTableOwned::get_or_insert), with an error if allocation fails.
+    ///
+    /// ```
+    /// use odht::{configs::U64ToU32, HashTableOwned};
+    ///
+    /// let mut table = HashTableOwned::<U64ToU32>::new();
+    /// assert_eq!(table.try_get_or_insert(&1, 7)?, 7);
+    /// # Ok::<(), odht::Error>(())
+    /// ```
+    ///
+    /// # Errors
+    ///
+    /// As [`try_insert`](HashTableOwned::try_insert).
+    pub fn try_get_or_insert(&mut self, key: &C::Key, value: C::Value) -> Result<C::Value, Error> {
+        self.try_get_or_insert_with(key, || value)
     }
 
     /// The value of a key; where it has none, it is given the one that `make` returns, and this is returned.
@@ -127,13 +221,36 @@ impl<C: Config> HashTableOwned<C> {
 
 impl<C: Config> Extend<(C::Key, C::Value)> for HashTableOwned<C> {
     /// `insert` of the items in their order. A later item with the key of an earlier one overwrites its value. Those of
-    /// a map by reference are `map.iter().map(|(key, value)| (*key, *value))`.
+    /// a slice are given by reference; those of a map by reference are `map.iter().map(|(key, value)| (*key, *value))`.
     ///
     /// No room is made before, so the bytes follow from the items alone, whatever the iterator says of its length.
     #[track_caller]
     fn extend<I: IntoIterator<Item = (C::Key, C::Value)>>(&mut self, items: I) {
         for (key, value) in items {
             self.insert(&key, &value);
+        }
+    }
+}
+
+impl<'a, C: Config> Extend<&'a (C::Key, C::Value)> for HashTableOwned<C>
+where
+    C::Key: 'a,
+    C::Value: 'a,
+{
+    /// `insert` of items by reference, in their order, as of a slice. None is copied.
+    ///
+    /// ```
+    /// use odht::{configs::U64ToU32, HashTableOwned};
+    ///
+    /// let pairs = vec![(1, 2), (3, 4)];
+    /// let mut table = HashTableOwned::<U64ToU32>::new();
+    /// table.extend(&pairs);
+    /// assert_eq!(table.len(), 2);
+    /// ```
+    #[track_caller]
+    fn extend<I: IntoIterator<Item = &'a (C::Key, C::Value)>>(&mut self, items: I) {
+        for (key, value) in items {
+            self.insert(key, value);
         }
     }
 }

@@ -3,6 +3,7 @@
 use super::HashTable;
 use crate::config::Config;
 use crate::iter::{IntoIter, Iter};
+use crate::proved::header::error::Error;
 use std::borrow::Borrow;
 use std::fmt;
 
@@ -39,6 +40,24 @@ impl<C: Config, D: Borrow<[u8]>> IntoIterator for HashTable<C, D> {
 
     fn into_iter(self) -> IntoIter<C, D> {
         IntoIter::of(self)
+    }
+}
+
+impl<'b, C: Config> TryFrom<&'b [u8]> for HashTable<C, &'b [u8]> {
+    type Error = Error;
+
+    /// [`try_from_raw_bytes`](HashTable::try_from_raw_bytes) of a slice: opens it as a view, in constant time.
+    ///
+    /// ```
+    /// use odht::{configs::U64ToU32, HashTable, HashTableOwned};
+    ///
+    /// let table = HashTableOwned::<U64ToU32>::from([(1, 2)]);
+    /// let view: HashTable<U64ToU32, &[u8]> = table.raw_bytes().try_into()?;
+    /// assert_eq!(view.get(&1), Some(2));
+    /// # Ok::<(), odht::Error>(())
+    /// ```
+    fn try_from(bytes: &'b [u8]) -> Result<Self, Error> {
+        Self::try_from_raw_bytes(bytes)
     }
 }
 

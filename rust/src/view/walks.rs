@@ -2,7 +2,7 @@
 
 use super::HashTable;
 use crate::config::Config;
-use crate::iter::{Iter, Keys, Slots, Values};
+use crate::iter::{IntoKeys, IntoValues, Iter, Keys, Slots, Values};
 use std::borrow::Borrow;
 
 impl<C: Config, D: Borrow<[u8]>> HashTable<C, D> {
@@ -49,6 +49,36 @@ impl<C: Config, D: Borrow<[u8]>> HashTable<C, D> {
     #[inline]
     pub fn values(&self) -> Values<'_, C> {
         Values::of(self.bytes(), 0)
+    }
+
+    /// The keys of a view that is given up for them, in slot order. No value is decoded.
+    ///
+    /// ```
+    /// # use odht::{configs::U64ToU32, HashTable, HashTableOwned};
+    /// # let mut table = HashTableOwned::<U64ToU32>::default();
+    /// # table.insert(&1, &2);
+    /// let view = HashTable::<U64ToU32, _>::try_from_raw_bytes(table.raw_bytes())?;
+    /// assert_eq!(view.into_keys().collect::<Vec<_>>(), [1]);
+    /// # Ok::<(), odht::Error>(())
+    /// ```
+    #[inline]
+    pub fn into_keys(self) -> IntoKeys<C, D> {
+        IntoKeys::of(self)
+    }
+
+    /// The values of a view that is given up for them, in slot order. No key is decoded.
+    ///
+    /// ```
+    /// # use odht::{configs::U64ToU32, HashTable, HashTableOwned};
+    /// # let mut table = HashTableOwned::<U64ToU32>::default();
+    /// # table.insert(&1, &2);
+    /// let view = HashTable::<U64ToU32, _>::try_from_raw_bytes(table.raw_bytes())?;
+    /// assert_eq!(view.into_values().collect::<Vec<_>>(), [2]);
+    /// # Ok::<(), odht::Error>(())
+    /// ```
+    #[inline]
+    pub fn into_values(self) -> IntoValues<C, D> {
+        IntoValues::of(self)
     }
 
     /// The keys and values in the slots from `from` on, in slot order, each with its slot. There is none where `from`
