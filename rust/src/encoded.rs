@@ -1,7 +1,7 @@
 //! A table as that of the bytes that it stores: keys and values that are encoded already.
 
 use crate::config::{Config, Proved};
-use crate::proved::base::bytes::Borrowed;
+use crate::proved::base::bytes::{Borrowed, BorrowedMut};
 use crate::proved::tables;
 use std::marker::PhantomData;
 
@@ -40,4 +40,12 @@ impl<C: Config> Config for Stored<C> {
 #[inline(always)]
 pub fn stored<C: Config>(bytes: &[u8]) -> tables::HashTable<Proved<Stored<C>>, Borrowed<'_>> {
     tables::HashTable::from_raw_bytes_unchecked(Borrowed::new(bytes))
+}
+
+/// The same, to be written.
+#[inline(always)]
+pub fn stored_mut<C: Config>(
+    bytes: &mut [u8],
+) -> tables::HashTable<Proved<Stored<C>>, BorrowedMut<'_>> {
+    tables::HashTable::from_raw_bytes_unchecked(BorrowedMut::new(bytes))
 }

@@ -14,6 +14,7 @@ use crate::sizes::{percent_of, refused};
 use alloc::vec::Vec;
 use std::error::Error as AnyError;
 
+mod encoded;
 mod equality;
 mod inserts;
 mod making;

@@ -15,6 +15,7 @@ use std::borrow::Borrow;
 use std::error::Error as AnyError;
 use std::marker::PhantomData;
 
+mod encoded;
 mod equality;
 mod growth;
 mod prefix;

@@ -91,6 +91,11 @@ fn reads(owned: &HashTableOwned<Fickle>, random: &mut Random) {
     let slots = (owned.raw_bytes().len() - 48) / 7;
     run(|| assert!(owned.iter().count() < slots, "a slot is free"));
     run(|| owned.iter_from(random.below(slots)).count());
+    for key in &keys {
+        let key = key.to_le_bytes();
+        run(|| (owned.get_encoded(&key), owned.contains_encoded(&key)));
+    }
+    run(|| owned.clone().into_keys().count() + owned.clone().into_values().count());
     let mut order = vec![0; owned.len()];
     run(|| owned.insert_order(&mut order));
     run(|| owned.insert_order_with(&mut order, &mut vec![0; owned.insert_order_scratch()]));
@@ -104,6 +109,7 @@ fn reads(owned: &HashTableOwned<Fickle>, random: &mut Random) {
     let view = run(|| HashTable::<Fickle, _>::try_from_raw_bytes(owned.raw_bytes()));
     if let Some(Ok(view)) = view {
         run(|| (view.check_all(), view.verify()));
+        run(|| view == owned.as_view());
         run(|| view.get_all(&keys, &mut values));
         let mut grown = vec![0; view.grown_len().unwrap()];
         run(|| view.grow_into(&mut grown));
@@ -121,6 +127,7 @@ fn writes_in_place(random: &mut Random) {
         run(|| view.try_insert_all(&items));
         for (key, value) in &items {
             run(|| view.try_insert(key, value));
+            run(|| view.try_insert_encoded(&(key + 1).to_le_bytes(), value));
         }
         run(|| (view.iter().count(), view.len(), view.check_all()));
     }
@@ -132,7 +139,14 @@ fn writes(owned: &mut HashTableOwned<Fickle>, random: &mut Random) {
         run(|| owned.try_insert(key, value));
     }
     run(|| owned.try_get_or_insert_with(&(random.number() as u32), || 7));
+    for (key, value) in &items {
+        run(|| owned.try_insert_encoded(&(key ^ 2).to_le_bytes(), value));
+    }
+    run(|| owned.try_get_or_insert_encoded_with(&random.array(), || 7));
     run(|| owned.try_reserve(random.below(100)));
+    if random.below(4) == 0 {
+        run(|| owned.try_shrink_to_fit());
+    }
     run(|| owned.extend(items.iter().copied()));
     if random.below(8) == 0 {
         owned.clear();

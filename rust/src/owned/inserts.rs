@@ -120,7 +120,7 @@ impl<C: Config> HashTableOwned<C> {
     // Ends an insert whose growth failed.
     #[cold]
     #[track_caller]
-    fn cannot_grow(&self, error: Error) -> ! {
+    pub(super) fn cannot_grow(&self, error: Error) -> ! {
         let bytes = Borrowed::new(self.raw_bytes());
         let table = tables::HashTable::<Proved<C>, _>::from_raw_bytes_unchecked(bytes);
         refused(error, table.grown_len().unwrap_or(0))

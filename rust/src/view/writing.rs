@@ -80,12 +80,18 @@ impl<C: Config, D: Borrow<[u8]> + BorrowMut<[u8]>> HashTable<C, D> {
         Ok(HashTable { data, opened, config: PhantomData })
     }
 
+    // The bytes to be written, which are as long as they were, and have as many slots.
+    #[inline(always)]
+    pub(super) fn bytes_mut(&mut self) -> &mut [u8] {
+        let bytes = self.data.borrow_mut();
+        self.opened.check(bytes);
+        bytes
+    }
+
     // The proved table of the bytes, to be written.
     #[inline(always)]
     fn view_mut(&mut self) -> tables::HashTable<Proved<C>, BorrowedMut<'_>> {
-        let bytes = self.data.borrow_mut();
-        self.opened.check(bytes);
-        tables::HashTable::from_raw_bytes_unchecked(BorrowedMut::new(bytes))
+        tables::HashTable::from_raw_bytes_unchecked(BorrowedMut::new(self.bytes_mut()))
     }
 
     /// Gives the key this value, and returns its former one. A view cannot grow: a new key needs a free slot below the
@@ -187,9 +193,7 @@ impl<C: Config, D: Borrow<[u8]> + BorrowMut<[u8]>> HashTable<C, D> {
     /// [`Error::Full`] where the table is at its maximum and the next key is new. The table is then as the items before
     /// it left it.
     pub fn try_insert_all(&mut self, items: &[(C::Key, C::Value)]) -> (usize, Result<(), Error>) {
-        let bytes = self.data.borrow_mut();
-        self.opened.check(bytes);
-        let list = List { bytes, config: PhantomData::<C> };
+        let list = List { bytes: self.bytes_mut(), config: PhantomData::<C> };
         let store = BorrowedMut::new(&mut *list.bytes);
         let mut view = tables::HashTable::<Proved<C>, _>::from_raw_bytes_unchecked(store);
         let done = view.insert_all(items);
