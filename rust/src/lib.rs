@@ -23,6 +23,7 @@ mod iter;
 mod opened;
 mod owned;
 mod sizes;
+mod store;
 #[cfg(test)]
 mod tests;
 mod view;
@@ -59,6 +60,7 @@ pub use proved::base::hash::{FxHashFn, UnHashFn};
 pub use proved::header::error::{Error, Part};
 pub use proved::raw::memory_layout::DEFAULT_GROUPS;
 pub use sizes::{bytes_needed, check_all, check_all_within, table_len, try_bytes_needed};
+pub use store::BytesOf;
 pub use view::HashTable;
 
 /// The documents of the package, to be read. They have no code.

@@ -26,8 +26,9 @@ mod writing;
 /// A table in bytes of any kind: a view. It cannot grow; [`grow_into`](HashTable::grow_into) writes the grown table
 /// into other bytes.
 ///
-/// The bytes may be a slice, a vector, a mapped file, or anything else that implements `Borrow<[u8]>`; where it
-/// implements `BorrowMut<[u8]>` too, pairs can be inserted. Any number of threads may read a table.
+/// The bytes may be a slice, a vector, an array, an `Arc<[u8]>`, or anything else that implements `Borrow<[u8]>`; where
+/// it implements `BorrowMut<[u8]>` too, pairs can be inserted. [`BytesOf`](crate::BytesOf) makes anything that has
+/// `AsRef<[u8]>` such bytes, as a mapped file. Any number of threads may read a table.
 ///
 /// ```
 /// use odht::{configs::U64ToU32, HashTable, HashTableOwned};
@@ -39,6 +40,32 @@ mod writing;
 /// let view = HashTable::<U64ToU32, _>::try_from_raw_bytes(&stored[..])?;
 /// assert_eq!(view.get(&1), Some(2));
 /// assert_eq!(view.get(&3), None);
+/// # Ok::<(), odht::Error>(())
+/// ```
+///
+/// A reference to a vector, an array from `include_bytes!` and a mapped file have no `Borrow<[u8]>`. They are opened as
+/// a slice, `&bytes[..]`, or by [`BytesOf`](crate::BytesOf):
+///
+/// ```
+/// use odht::{configs::U64ToU32, BytesOf, HashTable, HashTableOwned};
+///
+/// # struct Mmap(Vec<u8>);
+/// # impl Mmap { unsafe fn map(file: &[u8]) -> Result<Mmap, odht::Error> { Ok(Mmap(file.to_vec())) } }
+/// # impl std::ops::Deref for Mmap { type Target = [u8]; fn deref(&self) -> &[u8] { &self.0 } }
+/// # impl AsRef<[u8]> for Mmap { fn as_ref(&self) -> &[u8] { self } }
+/// let vector: Vec<u8> = HashTableOwned::<U64ToU32>::from([(1, 2)]).into();
+/// let view = HashTable::<U64ToU32, _>::try_from_raw_bytes(BytesOf(&vector))?;
+/// assert_eq!(view.get(&1), Some(2));
+///
+/// # let file = &vector;
+/// # macro_rules! include_bytes { ($file:literal) => { <&[u8; 256]>::try_from(&vector[..]).unwrap() } }
+/// let view = HashTable::<U64ToU32, _>::try_from_raw_bytes(BytesOf(include_bytes!("table.odht")))?;
+/// assert_eq!(view.get(&1), Some(2));
+///
+/// // A mapping of the crate `memmap2`. SAFETY: nobody writes to the file while it is mapped.
+/// let mapped = unsafe { Mmap::map(file)? };
+/// let view = HashTable::<U64ToU32, _>::try_from_raw_bytes(BytesOf(mapped))?;
+/// assert_eq!(view.get(&1), Some(2));
 /// # Ok::<(), odht::Error>(())
 /// ```
 ///
