@@ -212,13 +212,15 @@ def lints():
 
 # what the programs in rust/examples print, worked out by hand
 PROGRAMS = {
-    "file": "the square of 12 is Some(144), of 101 None\nthe square of 101 is Some(10201)\n",
+    "file": "the square of 12 is Some(144), of 101 None\nthe square of 101 is Some(10201)\n"
+    "mapped, it has 101 squares, and that of 100 is Some(10000)\n",
     # 2 * (0 + .. + 99999)
     "threads": "the values add up to 9999900000\nanother thread found Some(42), and this one Some(8)\n",
     "names": """main is at 0x2000
 alloc::vec::Vec<T,A>::push is at 0x1040
 alloc::vec::Vec<T,A>::pop is not there
 alloc::vec::Vec<T,A>::push, core::iter::traits::iterator::Iterator::next, main
+Some(3), None, without ["incomprehensibilities"]
 """,
     # a table of sixteen slots for keys of 8 bytes and values of 4 has 256
     "appended": """25 of 289 bytes are others

@@ -2,10 +2,10 @@
 //!
 //!     cargo run --example file [FOLDER]
 //!
-//! The file is read here. A mapped one is opened in the same way: whatever gives `&[u8]`, as a mapping of the crate
-//! `memmap2` does, takes the place of the bytes. Nobody may write to the file while it is mapped.
+//! The file is read, and then it is mapped: `Mmap` stands for that of the crate `memmap2`, and has its traits. Nobody may
+//! write to a file while it is mapped.
 
-use odht::{HashTable, HashTableOwned};
+use odht::{BytesOf, HashTable, HashTableOwned};
 use std::error::Error;
 use std::path::{Path, PathBuf};
 use std::{env, fs};
@@ -21,8 +21,30 @@ fn store(bytes: &[u8], file: &Path) -> std::io::Result<()> {
 
 fn square(file: &Path, number: u32) -> Result<Option<u64>, Box<dyn Error + Send + Sync>> {
     let bytes = fs::read(file)?;
-    let table = HashTable::<Squares, &[u8]>::try_from_raw_bytes(&bytes)?;
+    let table = HashTable::<Squares, _>::try_from_raw_bytes(BytesOf(&bytes))?;
     Ok(table.get(&number))
+}
+
+struct Mmap(Vec<u8>);
+
+impl Mmap {
+    // That of `memmap2` is unsafe: another process can change what is mapped.
+    fn map(file: &Path) -> std::io::Result<Mmap> {
+        fs::read(file).map(Mmap)
+    }
+}
+
+impl AsRef<[u8]> for Mmap {
+    fn as_ref(&self) -> &[u8] {
+        &self.0
+    }
+}
+
+/// A table that owns the mapping that it is in.
+type Mapped = HashTable<Squares, BytesOf<Mmap>>;
+
+fn open(file: &Path) -> Result<Mapped, Box<dyn Error + Send + Sync>> {
+    Ok(Mapped::try_from_raw_bytes(BytesOf(Mmap::map(file)?))?)
 }
 
 fn main() -> Result<(), Box<dyn Error + Send + Sync>> {
@@ -38,6 +60,9 @@ fn main() -> Result<(), Box<dyn Error + Send + Sync>> {
     table.insert(&101, &(101 * 101));
     store(table.raw_bytes(), &file)?;
     println!("the square of 101 is {:?}", square(&file, 101)?);
+
+    let mapped = open(&file)?;
+    println!("mapped, it has {} squares, and that of 100 is {:?}", mapped.len(), mapped.get(&100));
 
     fs::remove_file(&file)?;
     Ok(())
