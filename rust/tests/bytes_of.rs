@@ -112,7 +112,7 @@ fn what_is_no_table_is_rejected() {
     assert_eq!(size_of::<BytesOf<&[u8]>>(), 16);
 }
 
-// Of its buffers it gives the first for so many calls, and then the second.
+// It gives the first of its buffers `left` times, and then the second.
 struct Turning {
     buffers: [Vec<u8>; 2],
     left: Cell<usize>,
