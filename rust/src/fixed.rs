@@ -1,10 +1,25 @@
 //! Types of a fixed number of bytes, and configurations of them in a line.
 
+mod fields;
+mod others;
+
 /// A type each of whose values is a fixed number of bytes, as keys and values of a configuration are. [`config!`]
 /// takes any such types.
 ///
-/// Numbers are little-endian. An array and a tuple are their members one after the other, without padding. [`fields!`]
-/// makes a struct one; what else is to be a key or a value implements it by hand:
+/// These types are `Fixed`. Any bytes are those of a value, since a table may come from anywhere, so the last column
+/// lists how bytes are read that no value has.
+///
+/// | types | bytes | other bytes |
+/// |---|---|---|
+/// | numbers from 8 to 128 bits | little-endian | none |
+/// | `bool` | 0 or 1 | each but 0 is `true` |
+/// | `char` | its number, as a `u32` | U+FFFD, the replacement character |
+/// | `NonZero` numbers of these types | as the number | 0 is read as 1 |
+/// | `Option<T>` | 1 and the bytes of the value; for `None` zeros | each first byte but 0 is that of a `Some` |
+/// | `Ipv4Addr`, `Ipv6Addr` | the 4 or 16 bytes as the address is written | none |
+/// | arrays, and tuples of up to six | their members one after the other, without padding | as the members |
+///
+/// [`fields!`] makes a struct one; what else is to be a key or a value implements it by hand:
 ///
 /// ```
 /// use odht::{Fixed, HashTableOwned};
@@ -142,8 +157,9 @@ tuples! {
 /// types that are [`Fixed`](crate::Fixed): numbers, arrays and tuples of them, and structs by
 /// [`fields!`](crate::fields!). An encoded key or value has at most 255 bytes.
 ///
-/// `by Fx` hashes keys; `by UnHash` takes the last four bytes of a key as its hash, for keys that are hashes already. A
-/// [`HashFn`](crate::HashFn) of your own stands there by its path.
+/// `by Fx` hashes keys; `by UnHash` takes the last four bytes of a key as its hash, for keys that are hashes already.
+/// `by FxHashFn` and `by UnHashFn`, the names of these types, mean the same. A [`HashFn`](crate::HashFn) of your own
+/// stands there by its path; one that has such a name by `self::FxHashFn`.
 ///
 /// ```
 /// odht::config! { Names: [u8; 32] => u64, by Fx }
@@ -226,52 +242,8 @@ macro_rules! config {
 #[macro_export]
 macro_rules! __hash_function {
     (Fx) => { $crate::FxHashFn };
+    (FxHashFn) => { $crate::FxHashFn };
     (UnHash) => { $crate::UnHashFn };
+    (UnHashFn) => { $crate::UnHashFn };
     ($($other:ident)::+) => { $($other)::+ };
-}
-
-/// Makes a struct [`Fixed`](crate::Fixed): its bytes are those of the fields that are listed, in this order.
-///
-/// ```
-/// #[derive(Clone, PartialEq, Debug)]
-/// struct Span {
-///     offset: u64,
-///     length: u16,
-/// }
-///
-/// odht::fields! { Span { offset: u64, length: u16 } }
-/// odht::config! { Parts: u64 => Span, by Fx }
-///
-/// let parts = odht::HashTableOwned::<Parts>::from([(7, Span { offset: 4096, length: 30 })]);
-/// assert_eq!(parts.get(&7), Some(Span { offset: 4096, length: 30 }));
-/// assert_eq!(parts.raw_bytes()[5..7], [8, 10]); // how many bytes a key has, and a value
-/// ```
-#[macro_export]
-macro_rules! fields {
-    ($name:ident { $($field:ident : $type:ty),+ $(,)? }) => {
-        impl $crate::Fixed for $name {
-            const LEN: usize = 0 $(+ <$type as $crate::Fixed>::LEN)+;
-
-            #[inline(always)]
-            fn write(&self, to: &mut [u8]) {
-                let rest = to;
-                $(
-                    let (own, rest) = rest.split_at_mut(<$type as $crate::Fixed>::LEN);
-                    $crate::Fixed::write(&self.$field, own);
-                )+
-                let _ = rest;
-            }
-
-            #[inline(always)]
-            fn read(from: &[u8]) -> Self {
-                let rest = from;
-                $(
-                    let (own, rest) = rest.split_at(<$type as $crate::Fixed>::LEN);
-                    let $field = <$type as $crate::Fixed>::read(own);
-                )+
-                let _ = rest;
-                $name { $($field),+ }
-            }
-        }
-    };
 }

@@ -1,5 +1,7 @@
-//! Tables in what has `AsRef<[u8]>` and no `Borrow<[u8]>`: a reference to a vector, an array that is built in, and a
-//! mapped file, for which a type with the traits of memmap2's stands. And in one that gives other bytes each time.
+//! Tables in what gives its bytes by `AsRef` and not by `Borrow`: a reference to a vector, an array that is built in,
+//! and a mapped file.
+//!
+//! For the mapped file a type stands that has the traits of memmap2's. Another type gives other bytes each time.
 
 mod common;
 
