@@ -79,7 +79,8 @@ fn what_has_bytes_by_reference_is_opened() {
     reads(&bytes);
     reads(array);
     reads(Mapped(bytes.clone()));
-    reads(&Mapped(bytes.clone()));
+    let mapped = Mapped(bytes.clone());
+    reads(&mapped);
     reads(bytes.clone().into_boxed_slice());
     let sized = DynTable::<FxHashFn, _>::open_as_stated(BytesOf(Mapped(bytes))).unwrap();
     assert_eq!(sized.get(&3_u64.to_le_bytes()), Some(&[4, 0, 0, 0][..]));
