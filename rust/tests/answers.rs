@@ -5,16 +5,19 @@ use std::fs;
 use std::path::{Path, PathBuf};
 
 // Calls that are made for what they do, or whose result has a type that says it. The last three are the crate's own.
-const OTHERS: [&str; 7] = [
+const OTHERS: [&str; 10] = [
     "insert",
+    "insert_encoded",
     "try_insert_all",
     "try_extend",
+    "get_or_insert",
     "get_or_insert_with",
+    "get_or_insert_encoded_with",
     "percent_of",
     "percent",
     "refused",
 ];
-const WALKS: [&str; 4] = ["Iter<", "Keys<", "Values<", "Slots<"];
+const WALKS: [&str; 6] = ["Iter<", "Keys<", "Values<", "Slots<", "IntoKeys<", "IntoValues<"];
 
 fn sources(folder: &Path) -> Vec<PathBuf> {
     let names = ["owned.rs", "view.rs", "sizes.rs"].map(|name| folder.join(name));
@@ -57,6 +60,6 @@ fn answers_are_to_be_used() {
             count += usize::from(is_marked);
         }
     }
-    // 16 of the table that grows, 15 of views, and one more
-    assert_eq!(count, 32);
+    // 19 of the table that grows, 17 of views, and one more
+    assert_eq!(count, 37);
 }
