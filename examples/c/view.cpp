@@ -1,5 +1,6 @@
-/* Tables through odht.hpp: a map of numbers, one of 16-byte keys, a set, openings that fail, and walks. The pairs of
-   the first are those that docs/FORMAT.md works out: (1, 2) in slot 5, (5, 6) in slot 9 and (3, 4) in slot 15. */
+/* Tables through odht.hpp: a map of numbers, one of 16-byte keys, a set, openings that fail, walks, and tables that own
+   their bytes and grow. The pairs of the first are those that docs/FORMAT.md works out: (1, 2) in slot 5, (5, 6) in
+   slot 9 and (3, 4) in slot 15. */
 #include "odht.hpp"
 
 #include <algorithm>
@@ -163,6 +164,90 @@ static void failures(std::vector<std::uint8_t> bytes)
 #endif
 }
 
+using Owning = odht::table<std::uint64_t, std::uint32_t>;
+
+/* 16 slots take 13 items at 87 percent, 32 take 27, 64 take 55. A table of s slots has 32 + 13 * s + 16 bytes. The homes
+   of the keys 1 to 40 differ, so all ways to make the table leave the same bytes. */
+static void owning_grows()
+{
+    Owning table;
+    std::vector<std::uint64_t> keys;
+    std::vector<std::uint32_t> values;
+    EXPECT(table.empty() && table.size_bytes() == 256 && !table.contains(1) && table.begin() == table.end());
+    for (std::uint32_t key = 1; key <= 40; key++) {
+        EXPECT(table.insert(key, 10 * key) == ODHT_OK && table.size() == key);
+        EXPECT(table.size_bytes() == (key <= 13 ? 256u : key <= 27 ? 464u : 880u));
+        keys.push_back(key), values.push_back(10 * key);
+        std::vector<std::uint8_t> made;
+        EXPECT(odht::build(keys.data(), values.data(), key, 87, made) == ODHT_OK);
+        EXPECT(table.size_bytes() == made.size() && std::memcmp(table.data(), made.data(), made.size()) == 0);
+    }
+    std::uint32_t former = 7;
+    EXPECT(table.insert(41, 1, &former) == ODHT_OK && former == 7 && table.find(41) == 1u);
+    EXPECT(table.insert(3, 4, &former) == ODHT_REPLACED && former == 30 && table.find(3) == 4u);
+    EXPECT(table.insert(3, 5) == ODHT_REPLACED && table.find(3) == 5u && !table.find(42) && table.size() == 41);
+    std::uint64_t sum = 0;
+    for (auto [key, value] : table)
+        sum += key + value;
+    EXPECT(sum == 861 + 8200 + 1 + 5 - 30);
+    const auto view = table.open_view();
+    EXPECT(view && view->data() == table.data() && view->find(40) == 400u);
+}
+
+static void owning_is_copied_and_moved()
+{
+    Owning first;
+    first.insert(1, 2);
+    Owning second = first;
+    second.insert(3, 4);
+    EXPECT(first.size() == 1 && second.size() == 2 && second.find(1) == 2u && !first.contains(3));
+    Owning third = std::move(second);
+    EXPECT(third.size() == 2 && second.size() == 0 && second.size_bytes() == 0 && second.empty());
+    EXPECT(!second.contains(1) && !second.find(1) && second.begin() == second.end() && !second.open_view());
+    EXPECT(second.insert(5, 6) == ODHT_OK && second.find(5) == 6u && second.size_bytes() == 256);
+    const std::vector<std::uint8_t> bytes = third.take_bytes();
+    EXPECT(bytes.size() == 256 && third.empty() && Numbers::check(bytes.data(), bytes.size()) == ODHT_OK);
+    first = second;
+    EXPECT(first.find(5) == 6u && !first.contains(1));
+}
+
+static void owning_of_bytes(std::vector<std::uint8_t> bytes)
+{
+    odht::status why = ODHT_FULL;
+    auto table = Owning::from_bytes(bytes.data(), bytes.size(), &why);
+    EXPECT(table && why == ODHT_OK && table->data() != bytes.data() && table->find(3) == 4u);
+    EXPECT(table->insert(3, 9) == ODHT_REPLACED && bytes == three_pairs());
+    bytes[255] = 0; /* in the mirror, which opening does not look at */
+    EXPECT(Numbers::open(bytes.data(), bytes.size()));
+    EXPECT(!Owning::from_bytes(bytes.data(), bytes.size(), &why) && why == ODHT_MIRROR_MISMATCH);
+    table = Owning::with_capacity(1000, 87, &why);
+    EXPECT(table && why == ODHT_OK && table->size_bytes() == 32 + 13 * 2048 + 16);
+    EXPECT(!Owning::with_capacity(3, 0, &why) && why == ODHT_BAD_PERCENT);
+    EXPECT(!Owning::with_capacity(SIZE_MAX, 87, &why) && why == ODHT_CAPACITY);
+    /* of 16 slots one percent is no item, of 128 it is one */
+    table = Owning::with_capacity(0, 1);
+    EXPECT(table->size_bytes() == 256 && table->insert(1, 2) == ODHT_OK && table->find(1) == 2u);
+    EXPECT(table->size_bytes() == 32 + 13 * 128 + 16);
+}
+
+static void owning_hashes_and_sets()
+{
+    odht::table<Hash, Hash> hashes;
+    Hash former = hash(9);
+    for (std::uint8_t byte = 0; byte < 100; byte++)
+        EXPECT(hashes.insert(hash(byte), hash(1), &former) == ODHT_OK && former == hash(9));
+    EXPECT(hashes.size() == 100 && hashes.find(hash(99)) == hash(1) && !hashes.contains(hash(100)));
+    EXPECT(hashes.insert(hash(5), hash(2), &former) == ODHT_REPLACED && former == hash(1));
+#if ODHT_TAKES_NULL
+    odht::table<std::uint64_t> set;
+    for (std::uint64_t key = 0; key < 50; key++)
+        EXPECT(set.insert(key) == ODHT_OK && set.insert(key) == ODHT_REPLACED);
+    const std::set<std::uint64_t> all(set.begin(), set.end());
+    EXPECT(all.size() == 50 && *all.begin() == 0 && *all.rbegin() == 49);
+    EXPECT(set.size() == 50 && set.contains(49) && !set.contains(50));
+#endif
+}
+
 static void spans(const std::vector<std::uint8_t> &bytes)
 {
 #if defined(__cpp_lib_span) && defined(__cpp_concepts) && ODHT_TAKES_NULL
@@ -196,6 +281,10 @@ int main()
     hashes_and_sets();
     failures(bytes);
     spans(bytes);
+    owning_grows();
+    owning_is_copied_and_moved();
+    owning_of_bytes(bytes);
+    owning_hashes_and_sets();
     if (!wrong)
         std::puts("odht.hpp: well");
     return wrong;

@@ -50,5 +50,12 @@ for compiler in g++ clang++; do
             "$libraries/libodht.a" -o view
         test "$(./view)" = 'odht.hpp: well' || { ./view >&2; exit 1; }
     done
+    # types that no shape has are named by a message, which lists those that are there
+    for use in 'odht::view<int, int>::open("", 0);' 'odht::table<int, int> it;' \
+        'odht::view<odht::bytes<3>>::open("", 0);'; do
+        printf '#include "odht.hpp"\nint main() { %s }\n' "$use" > none.cpp
+        if "$compiler" -std=c++17 "-I$top/include" -fsyntax-only none.cpp 2> told; then exit 1; fi
+        grep -q 'has no tables of this Key.*std::uint64_t to std::uint32_t; .*bytes<32>\.' told
+    done
     echo "view by $compiler: well"
 done

@@ -129,9 +129,16 @@ def typed(type_name):
 
 def header_for_cpp(shapes):
     """include/odht.hpp."""
-    maps = (f"ODHT_HPP_MAP({it.calls}, {typed(it.key)}, {typed(it.value)})\n" for it in shapes if not it.is_set)
-    sets = (f"ODHT_HPP_SET({it.calls}, {typed(it.key)})\n" for it in shapes if it.is_set)
-    return filled(part("header.hpp.in"), {"MAPS": "".join(maps), "SETS": "".join(sets)})
+    maps = [it for it in shapes if not it.is_set]
+    sets = [it for it in shapes if it.is_set]
+    marks = {
+        "OWNING": part("header_owning.hpp.in"),
+        "MAPS": "".join(f"ODHT_HPP_MAP({it.calls}, {typed(it.key)}, {typed(it.value)})\n" for it in maps),
+        "SETS": "".join(f"ODHT_HPP_SET({it.calls}, {typed(it.key)})\n" for it in sets),
+        "NAMED_MAPS": "".join(f'    "{typed(it.key)} to {typed(it.value)}; " \\\n' for it in maps),
+        "NAMED_SETS": " \\\n".join(f'    "{typed(it.key)}{"." if it is sets[-1] else "; "}"' for it in sets),
+    }
+    return filled(part("header.hpp.in"), marks)
 
 
 def files(shapes):
