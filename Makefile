@@ -11,7 +11,7 @@
 # make archive: what `make lib` needs, over the libraries that `make prove` has just proved: `rt lib` would prove them again
 # make exports: include/odht.h and the exports of each shape of tables, of what is written once for all shapes
 # (shapes.txt), and what is written once for all errors (errors.txt)
-# make rust: what is generated of the crate for Rust, rust/src/proved, rust/c/src/erased and rust/cli/src/erased, of the
+# make rust: what is generated of the crate for Rust, rust/src/proved, and src/erased of rust/c, rust/cli and rust/table, of the
 # proved crates, and its copies of documents
 # make manual: of commands.txt, what is the same for each command of the program `odht`: its code and definitions, help,
 # cases and table in docs/TOOL.md, the manual page, and what completes its words
@@ -108,7 +108,7 @@ ERASE = CARGO_TARGET_DIR=$(abspath build/cargo) cargo run --quiet --offline --ma
 rust:
 	@$(ERASE) crates build/erased
 	@find build/erased -name '*.rs' -exec rustfmt --edition 2021 --config-path rust/rustfmt.toml {} +
-	@rm -rf rust/src/proved rust/c/src/erased rust/cli/src/erased
+	@rm -rf rust/src/proved rust/c/src/erased rust/cli/src/erased rust/table/src/erased
 	@cp -R build/erased/. rust/ && rm -rf build/erased
 	@python3 tools/documents.py
 

@@ -26,6 +26,7 @@ PLACES = {
     "odht_tool_reads": ("erased :: reads", "cli/src/erased/reads"),
     "odht_tool_writes": ("erased :: writes", "cli/src/erased/writes"),
     "odht_tool": ("erased :: tool", "cli/src/erased/tool"),
+    "odht_table": ("erased :: table", "table/src/erased/table"),
 }
 ROOTS = {"lib.rt", "main.rt"}
 LAWS = {("odht_base", "laws.rt"), ("odht", "laws.rt")}

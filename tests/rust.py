@@ -19,9 +19,9 @@
     c          libodht of the erased exports has the calls of include/odht.h; the examples in C and C++ go over it, and
                over what `make install` there puts anywhere; all of tests/c; and odht-ffi links it, and catches panics
 
-The program of erased source, in rust/cli, is tested by tests/cli.py, and here in `current`, `planted` and `lints`. What
-the machine does not have is left out, with a word. The last line counts. There is no limit of time: where one cargo
-builds, others wait for it. What hangs is for tests/run.py.
+The programs in rust/cli and rust/table are tested by tests/cli.py and tests/table.py, and here in `current`, `planted`
+and `lints`. What the machine does not have is left out, with a word. The last line counts. There is no limit of time:
+where one cargo builds, others wait for it. What hangs is for tests/run.py.
 """
 import os
 import re
@@ -89,7 +89,7 @@ def current():
         read = run([sys.executable, "tests/erased.py", "crates", room])
         made = [f"{room}/{it}" for it in files_below(room)]
         run(["rustfmt", "--edition", "2021", "--config-path", "rust/rustfmt.toml", *made])
-        for part in ("src/proved", "c/src/erased", "cli/src/erased"):
+        for part in ("src/proved", "c/src/erased", "cli/src/erased", "table/src/erased"):
             wanted, found = files_below(f"{room}/{part}"), files_below(f"{TOP}/rust/{part}")
             names = sorted(it for it in wanted.keys() | found.keys() if wanted.get(it) != found.get(it))
             if names:
@@ -122,6 +122,7 @@ FAULTS = [
     ("cli/src/erased/core/files.rs", "use crate::host::rt::Files", "use crate::host::fs::Files"),
     ("cli/src/erased/tool.rs", "rt.stderr()", "rt.stdout()"),
     ("cli/src/erased/writes/inserts.rs", "pairs.clear();", ""),
+    ("table/src/erased/table/script.rs", "writeln!(output, \"no table\")", "writeln!(output, \"no\")"),
 ]
 
 
@@ -196,13 +197,15 @@ def without_std():
 def lints():
     done = 0
     embedded, no_std = "rust/examples/embedded", "rust/without_std"
-    for folder in ("tools/erase", "rust", "rust/c", "rust/cli", "rust/compat", "rust/beside", no_std, embedded):
+    packages = "rust", "rust/c", "rust/cli", "rust/table", "rust/compat", "rust/beside", no_std, embedded
+    for folder in ("tools/erase", *packages):
         run(["cargo", "fmt", "--check"], f"{TOP}/{folder}")
         done += 1
     if not has("cargo", "clippy", "--version"):
         return done
     fast = ["--features", "fast"]
-    users = ["rust/c"], ["rust/cli"], ["rust/cli", *fast], ["rust/compat"], ["rust/beside"], [no_std], [embedded]
+    programs = ["rust/cli"], ["rust/cli", *fast], ["rust/table"]
+    users = ["rust/c"], *programs, ["rust/compat"], ["rust/beside"], [no_std], [embedded]
     for folder, *words in (["tools/erase"], ["rust"], ["rust", *fast], ["rust", *NO_STD], *users):
         cargo(folder, "clippy", "--all-targets", *words, "--", "-D", "warnings")
         done += 1

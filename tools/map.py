@@ -24,7 +24,7 @@ CODE = (".rt", ".rs", ".py", ".c", ".h", ".hpp", ".sh")
 # what is generated, or no part of the library and its tests
 LEFT_OUT = (
     "rust/src/proved/", "rust/src/configs/list.rs", "rust/c/src/erased/",
-    "rust/cli/src/erased/", "rust/examples/", "bindings/rust/src/shapes.rs",
+    "rust/cli/src/erased/", "rust/table/src/erased/", "rust/examples/", "bindings/rust/src/shapes.rs",
     "crates/odht_c/src/shapes/", "crates/odht_c/exports/", "examples/", "include/",
 )
 IN_PYTHON = re.compile(r'(?:#![^\n]*\n)?"""(.*?)"""', re.S)

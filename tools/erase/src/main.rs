@@ -17,6 +17,7 @@ const PLAN: Plan<'static> = Plan {
         program("odht_tool_reads", "erased::reads", "cli/src/erased/reads"),
         program("odht_tool_writes", "erased::writes", "cli/src/erased/writes"),
         program("odht_tool", "erased::tool", "cli/src/erased/tool"),
+        program("odht_table", "erased::table", "table/src/erased/table"),
     ],
     dropped_traits: &["Model", "Coded", "Lossless"],
     dropped_modules: &["odht_base::laws", "odht::laws"],

@@ -102,22 +102,37 @@ impl<R: Read> BufRead for BufReader<R> {
 
 /// A writer with a buffer, which does not grow. It is written out where it is dropped too, and then an error is lost.
 pub struct BufWriter<W: Write> {
-    inner: W,
+    // None once `into_inner` has taken it, which ends this writer
+    inner: Option<W>,
     bytes: Vec<u8>,
 }
 
 impl<W: Write> BufWriter<W> {
+    /// With a buffer of 8,192 bytes, the number of Rattle's std.
+    #[allow(dead_code)] // the script program uses it
+    pub fn new(alloc: Global, inner: W) -> Result<BufWriter<W>> {
+        BufWriter::with_capacity(alloc, 8192, inner)
+    }
+
     /// With a buffer of so many bytes.
     pub fn with_capacity(alloc: Global, len: usize, inner: W) -> Result<BufWriter<W>> {
-        Ok(BufWriter { inner, bytes: with_capacity(alloc, len)? })
+        Ok(BufWriter { inner: Some(inner), bytes: with_capacity(alloc, len)? })
+    }
+
+    /// Writes the buffer out, and returns what it was written to.
+    #[allow(dead_code)] // the script program uses it
+    pub fn into_inner(mut self) -> Result<W> {
+        self.write_out()?;
+        self.inner.take().ok_or(Error::from(ErrorKind::Other))
     }
 
     // Writes the buffer out. What a failure leaves unwritten stays in it.
     fn write_out(&mut self) -> Result<()> {
+        let Some(inner) = &mut self.inner else { return Ok(()) };
         let mut written = 0;
         let mut done = Ok(());
         while written < self.bytes.len() && done.is_ok() {
-            match self.inner.write(&self.bytes[written..]) {
+            match inner.write(&self.bytes[written..]) {
                 Ok(0) => done = Err(Error::from(ErrorKind::WriteZero)),
                 Ok(len) => written += len,
                 Err(error) if error.kind() == ErrorKind::Interrupted => {}
@@ -136,7 +151,7 @@ impl<W: Write> BufWriter<W> {
             self.write_out()?;
         }
         if bytes.len() >= self.bytes.capacity() {
-            return self.inner.write_all(bytes);
+            return self.inner.as_mut().map_or(Ok(()), |inner| inner.write_all(bytes));
         }
         self.bytes.extend_from_slice(bytes);
         Ok(())
@@ -160,7 +175,7 @@ impl<W: Write> Write for BufWriter<W> {
 
     fn flush(&mut self) -> Result<()> {
         self.write_out()?;
-        self.inner.flush()
+        self.inner.as_mut().map_or(Ok(()), |inner| inner.flush())
     }
 }
 
@@ -272,7 +287,7 @@ mod tests {
         }
         output.flush().unwrap();
         let wanted = [&b"abc"[..], b"defgh", b"ijklmnopq", b"r"];
-        assert_eq!(output.inner.1, wanted);
+        assert_eq!(output.into_inner().unwrap().1, wanted);
     }
 
     #[test]
@@ -281,7 +296,15 @@ mod tests {
         let mut output = BufWriter::with_capacity(Global, 8, Pieces(pieces, vec![])).unwrap();
         output.write_all(b"abcdef").unwrap();
         assert_eq!(output.flush().unwrap_err().kind(), ErrorKind::Other);
-        output.flush().unwrap();
-        assert_eq!(output.inner.1, [&b"ab"[..], b"cdef"]);
+        assert_eq!(output.into_inner().unwrap().1, [&b"ab"[..], b"cdef"]);
+    }
+
+    #[test]
+    fn taking_what_is_written_to_writes_the_buffer_out_and_says_where_that_fails() {
+        let pieces = vec![Ok(&b"1"[..]), Err(ErrorKind::BrokenPipe), Err(ErrorKind::Other)];
+        let mut output = BufWriter::new(Global, Pieces(pieces, vec![])).unwrap();
+        output.write_all(b"abc").unwrap();
+        let error = output.into_inner().err().map(|it| it.kind());
+        assert_eq!(error, Some(ErrorKind::BrokenPipe));
     }
 }
