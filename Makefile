@@ -1,42 +1,56 @@
-# make run: the program on its first script, or on SCRIPT=file, in a build without proofs
-# make test: the tests, in a build without proofs; PARTS='vectors edits' for some of them; what each printed is in
-# build/logs
-# make prove: the gate: every proof from nothing, and the edits that must be rejected (rt ci); WORD=1 for the gate on a
-# copy that has the word search compiled in
-# make edits: each edit of the gate and of edits/, which must be rejected; NAMES='odht_raw odht' for those of some crates
-# make build: the program with its proofs, as a file
-# make lib: build/libodht.a and build/libodht.so, each with all that it needs but the C library
-# make install, make uninstall: these, the header and what pkg-config and CMake read, below PREFIX, and below DESTDIR
-# before it; where there is no kit, the library of erased source that cargo makes, as in rust/c
-# make archive: what `make lib` needs, over the libraries that `make prove` has just proved: `rt lib` would prove them again
-# make exports: include/odht.h and the exports of each shape of tables, of what is written once for all shapes
-# (shapes.txt), and what is written once for all errors (errors.txt)
-# make rust: what is generated of the crate for Rust, rust/src/proved, and src/erased of rust/c, rust/cli and rust/table, of the
-# proved crates, and its copies of documents
-# make manual: of commands.txt, what is the same for each command of the program `odht`: its code and definitions, help,
-# cases and table in docs/TOOL.md, the manual page, and what completes its words
-# make documents: docs/PROOFS.md, of its text in docs/parts and the contracts and definitions, docs/FILES.md, and the
-# speeds in README.md and rust/README.md, of bench/RESULTS.md
-# make tool: the program for table files, `odht`, with its proofs, and its path; where nothing is proved yet that takes
-# some twenty to thirty minutes
-# make cli: the same program of erased source, by cargo alone
-# make install-tool, make uninstall-tool: this program below PREFIX, and below DESTDIR before it: with its proofs, where
-# `make tool` has left it, else as `make cli` makes it; with its manual page, and what completes its words
-# make examples: all examples, compiled against an installed copy and compared with what they must print, and the tests
-# of the calls for C once more
-# make bench: the tables of speeds; QUICK=1 for a short run, ODHT_RUST=folder for the Rust crate beside it, CHECK=1 for
-# the tables of the whole check alone, WORST=1 for the largest forged table too, about an hour, ORDER=1 for the line of
-# an order of inserts alone, PEERS=1 for other libraries alone, MARKDOWN=1 for Markdown; with ODHT_RUST, and without
-# QUICK, CHECK, ORDER and PEERS, bench-crate too
-# make bench-crate: the crate for Rust beside the Rust crate, whose folder is ODHT_RUST; ITEMS=100000 for no larger tables,
-# ALIGNED=1 for branches that are kept within 32 bytes in all of them
-# make bounds: loops that tell what bounds these speeds; ODHT_RUST=folder is needed
-# make searches: how long searches are in tables of random keys, by the crate for Rust; SLOTS=1048576 for no larger tables
-# `rt` is the command of the kit of Rattle. Without it go: test with PARTS='rust cli edits generated manual runner watch
-# bench', rust, cli, install-tool, uninstall-tool, exports, documents, manual, bench-crate, searches, install and
-# uninstall; and, where build/ has the
-# library already, lib
-SCRIPT ?= crates/odht_table/stdin
+# `make help` prints this list. [kit] marks what needs `rt`, the command of the kit of Rattle (its compiler and prover).
+# The others need make, Python and, where they build something, cargo or a C compiler.
+#
+# Try it
+#   make run            runs the script program on examples/first.script, or on SCRIPT=file. With the kit it is built
+#                       from the Rattle sources, without proofs; with only cargo, from the plain-Rust sources
+#   make test           runs the tests, without proofs. Without the kit it runs the parts that do not need it, and says
+#                       which it left out. PARTS='vectors edits' runs some parts. build/logs has what each printed
+#   make help           prints this list
+#
+# Use it from Rust, C or C++
+#   make lib            [kit] builds build/libodht.a and build/libodht.so, which need only the C library
+#   make install        installs the library, the header and the files for pkg-config and CMake below PREFIX, and below
+#                       DESTDIR before it. Without the kit it installs the library that cargo builds (rust/c)
+#   make uninstall      removes them
+#   make examples       [kit] compiles all examples against an installed copy and compares their output; runs the tests
+#                       of the calls for C on it
+#
+# The program for table files, `odht`
+#   make cli            builds it with cargo, from the plain-Rust sources
+#   make tool           [kit] builds it with its proofs, and prints its path: half an hour if nothing is proved yet
+#   make install-tool   installs it below PREFIX, and below DESTDIR before it, with its manual page and completions:
+#                       what `make tool` has built, or else what `make cli` builds
+#   make uninstall-tool removes it
+#
+# See the proof
+#   make prove          [kit] the gate (rt ci): every proof from nothing, and the edits that must be rejected. WORD=1
+#                       for the gate on a copy that has the word search compiled in
+#   make edits          [kit] tries each edit of the gate and of edits/, which must be rejected; NAMES='odht_raw odht'
+#                       for those of some crates
+#   make build          [kit] builds the script program with its proofs
+#   make archive        [kit] builds what `make lib` needs from the libraries that `make prove` has just proved
+#
+# After a change
+#   make rust           generates the plain-Rust sources from the proved crates, and copies of documents:
+#                       rust/src/proved, rust/c/src/erased, rust/cli/src/erased, rust/table/src/erased
+#   make exports        generates include/odht.h and the exports of each shape from shapes.txt, and from errors.txt what
+#                       is the same for each error
+#   make manual         generates from commands.txt what is the same for each command of `odht`: code, definitions,
+#                       help, cases, the table in docs/TOOL.md, the manual page and completions
+#   make documents      generates docs/PROOFS.md, docs/FILES.md, and the speeds in README.md and rust/README.md
+#
+# Measure
+#   make bench          [kit] the tables of speeds. QUICK=1 for a short run, ODHT_RUST=folder for the original too,
+#                       CHECK=1 only the whole check, WORST=1 also the largest forged table (an hour), ORDER=1 only the
+#                       order of inserts, PEERS=1 only other libraries, MARKDOWN=1 for Markdown. With ODHT_RUST, and
+#                       without QUICK, CHECK, ORDER and PEERS, it runs bench-crate too
+#   make bench-crate    the crate for Rust compared with the original in ODHT_RUST. ITEMS=100000 limits the table,
+#                       ALIGNED=1 keeps branches within 32 bytes in all of them
+#   make bounds         [kit] loops that show what limits these speeds, with ODHT_RUST=folder
+#   make searches       how long searches are in tables of random keys. SLOTS=1048576 limits the table
+
+SCRIPT ?= examples/first.script
 PARTS ?=
 NAMES ?=
 WORD ?=
@@ -58,13 +72,13 @@ ALIGNED ?=
 SLOTS ?=
 # the first line of each recipe that needs `rt`: where there is none, it ends make with one line
 NEEDS_KIT = $(if $(shell command -v rt),,$(error $@ needs rt, the command of the kit of Rattle (its compiler and \
-  prover), and there is none here; without it go: $(WITHOUT_KIT)))
-WITHOUT_KIT = make test PARTS='rust cli edits generated manual runner watch bench', make rust, cli, install-tool, \
-  exports, documents, manual, bench-crate, searches, install (of what cargo makes)
-.PHONY: run test prove edits build archive lib rust exports exports_are_current documents install uninstall examples bench
+  prover), and there is none here; `make help` lists the targets that work without it))
+.PHONY: help run test prove edits build archive lib rust exports exports_are_current documents install uninstall examples bench
 run:
-	@$(NEEDS_KIT)
-	@cd crates/odht_table && rt try < $(abspath $(SCRIPT))
+	@python3 tools/script_program.py '$(SCRIPT)'
+
+help:
+	@sed -n '/^#/!q; s/^# \{0,1\}//p' Makefile
 
 build:
 	@$(NEEDS_KIT)
@@ -73,7 +87,6 @@ build:
 	@echo crates/odht_table/out/odht_table
 
 test:
-	@$(if $(PARTS),,$(NEEDS_KIT))
 	@python3 tests/run.py $(PARTS)
 
 prove:

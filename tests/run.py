@@ -8,7 +8,7 @@
     memory     each request for memory fails in turn          vectors    all vectors
     tool       the program for table files, by tests/tool     edits      each edit's text is where it says
     cli        the same of erased source, by tests/cli.py     generated  generated text is current, documents are well
-    script     the program for scripts, by tests/script
+    script     the program for scripts, by tests/script     table      the same of plain Rust, and `make run`
     runner     that the runner of cases reports faults       watch      what is done with parts that fail or hang
     bench      the figures of bench/run                     manual     the manual page, and what completes words
     word       all vectors and the tests in Rattle once more, with the word search compiled in
@@ -18,8 +18,8 @@ that is done of a copy of the sources, in a folder for temporary files: the gate
 
 What a part prints is in build/logs/PART.log too. A part that hangs, for 600 seconds or those that TEST_SECONDS gives
 (tools/watched.py), is ended: it counts as failed, and is told as ENDED. The parts `edits`, `runner`, `watch`, `bench`,
-`manual`, `generated`, `cli` and `rust` go without the kit of Rattle; `rust` then leaves out what is beside the library
-for C, and `cli` the program that the kit compiles.
+`manual`, `generated`, `table`, `cli` and `rust` go without the kit of Rattle; `rust` then leaves out what is beside the
+library for C, and `cli` and `table` the program that the kit compiles.
 """
 import os
 import re
@@ -164,6 +164,10 @@ def program_of_erased_source(part):
     return part.counted(sys.executable, "tests/cli.py", env={**os.environ, "ODHT_TOOL": tool})
 
 
+def program_of_plain_rust(part):
+    return part.counted(sys.executable, "tests/table.py", *([f"{BUILT}/odht_table"] if unproved.KIT else []))
+
+
 def package_over_the_archive(part):
     status, _ = part.run("cargo", "--version")
     if status:
@@ -185,6 +189,7 @@ PARTS = {
     "tool": (["odht_tool"], program_of_the_kit),
     "cli": (["odht_tool"] if unproved.KIT else [], program_of_erased_source),
     "script": (["odht_table"], script("tests/cases.py", f"{BUILT}/odht_table", "tests/script")),
+    "table": (["odht_table"] if unproved.KIT else [], program_of_plain_rust),
     "edits": ([], script("tools/edits.py", "check")),
     "runner": ([], script("tests/planted.py")),
     "watch": ([], script("tests/hangs.py")),

@@ -5,8 +5,8 @@ import subprocess
 import sys
 
 MISSING = (
-    "this needs `rt`, the command of the kit of Rattle (its compiler and prover), and there is none here; what goes "
-    "without it is at the top of the Makefile"
+    "this needs `rt`, the command of the kit of Rattle (its compiler and prover), and there is none here; `make help` "
+    "lists the targets that work without it"
 )
 
 
