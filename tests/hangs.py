@@ -17,7 +17,7 @@ sys.path.insert(0, f"{TOP}/tools")
 import watched
 
 # the limit; how long parts work or print that only take long; and how long those would sleep that hang
-LIMIT, SECONDS, ASLEEP = 2, 5, 300
+LIMIT, SECONDS, ASLEEP = 2, 3, 300
 
 # runs a part of these words, in Python, with its log in the folder, and with as much processor time for each of its
 # processes as the tests in Rattle have, or with this limit
@@ -134,7 +134,8 @@ def is_handled(row, *limit):
     name, text, log, lines = row
     with tempfile.TemporaryDirectory() as folder:
         driver = begin(folder, text, *limit)
-        printed = re.sub(r"\d+ s$", "N s", driver.communicate()[0], flags=re.M)
+        printed = re.sub(r"\d+ s, \d+ s of processors$", "N s", driver.communicate()[0], flags=re.M)
+        printed = re.sub(r"^processor time: \d+\.\d minutes\n", "", printed, flags=re.M)
         with open(f"{folder}/planted.log", encoding="utf-8") as it:
             found = it.read().split("\n"), printed.split("\n"), driver.returncode, left_of(folder)
     status = 1 if any(" FAILED; " in it or ENDED in it for it in lines) else 0

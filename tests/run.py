@@ -17,12 +17,14 @@ What a part needs is built first, by tools/unproved.py, into build/unproved/; wh
 that is done of a copy of the sources, in a folder for temporary files: the gate takes no second crates.txt in here.
 
 What a part prints is in build/logs/PART.log too. A part that hangs, for 600 seconds or those that TEST_SECONDS gives
-(tools/watched.py), is ended: it counts as failed, and is told as ENDED. The parts `edits`, `runner`, `watch`, `bench`,
-`manual`, `generated`, `table`, `cli` and `rust` go without the kit of Rattle; `rust` then leaves out what is beside the
-library for C, and `cli` and `table` the program that the kit compiles.
+(tools/watched.py), is ended: it counts as failed, and is told as ENDED. Where there is no kit of Rattle, the parts that
+need a build by it are left out, and `rust`, `cli` and `table` leave out the comparison with such a build. The lines above
+the last one say so.
 """
 import os
 import re
+import resource
+import shutil
 import sys
 import tempfile
 import threading
@@ -34,6 +36,7 @@ BUILT = f"{TOP}/build/unproved"
 LOGS = f"{TOP}/build/logs"
 sys.path.insert(0, f"{TOP}/tools")
 import kit
+import rust
 import unproved
 import watched
 import word_search
@@ -113,8 +116,9 @@ def generated(part):
         part.run("sh", "crates/odht_c/exports/statuses.sh"),
         part.run("sh", "examples/quoted.sh"),
     ]
-    failed = [printed for status, printed in ran if status]
-    return len(ran) - len(failed), len(failed), "".join(failed)
+    faults = [printed for status, printed in ran if status]
+    passed, failed, printed = part.counted(sys.executable, "tests/rust.py", "current")
+    return len(ran) - len(faults) + passed, len(faults) + failed, "".join([*faults, printed] if failed else faults)
 
 
 def vectors(part, built=BUILT):
@@ -147,7 +151,9 @@ def script(*words):
 
 
 def crate_for_rust(part):
-    return part.counted(sys.executable, "tests/rust.py", env={**os.environ, "ODHT_LIB_DIR": BUILT})
+    # `current` is of the part `generated`
+    names = [it for it in rust.TESTS if it != "current"]
+    return part.counted(sys.executable, "tests/rust.py", *names, env={**os.environ, "ODHT_LIB_DIR": BUILT})
 
 
 def program_of_the_kit(part):
@@ -215,15 +221,20 @@ def build(name):
 def built(name):
     """Builds what a part needs. Returns whether it is there."""
     say(f"build {name}: begins")
-    began = time.monotonic()
+    began, before = time.monotonic(), watched.processor_time()
     try:
         is_new = build(name)
     except unproved.BuildError as error:
         Part(f"build-{name}").note(f"{error}\n")
         say(f"build {name}: FAILED\n{error}")
         return False
-    say(f"build {name}: {time.monotonic() - began:.0f} s{'' if is_new else ', it is current'}")
+    say(f"build {name}: {times_since(began, before)}{'' if is_new else ', it is current'}")
     return True
+
+
+def times_since(began, before):
+    """Returns the text of how long something took, by the clock and of processor time."""
+    return f"{time.monotonic() - began:.0f} s, {watched.processor_time() - before:.0f} s of processors"
 
 
 def told_as_ended(part, name, hung):
@@ -240,7 +251,7 @@ def ended(name, needs, call):
         say(told)
         return 0, 1, f"{told}; {', '.join(log_of(f'build-{it}') for it in lost)}"
     say(f"{name}: begins")
-    part, began = Part(name), time.monotonic()
+    part, began, before = Part(name), time.monotonic(), watched.processor_time()
     try:
         passed, failed, printed = call(part)
     except watched.Hung as hung:
@@ -249,7 +260,7 @@ def ended(name, needs, call):
         say(printed.rstrip())
     elif "SKIPPED " in printed:
         say("\n".join(line for line in printed.splitlines() if line.startswith("SKIPPED ")))
-    say(f"{name}: {passed} passed, {failed} failed; {time.monotonic() - began:.0f} s")
+    say(f"{name}: {passed} passed, {failed} failed; {times_since(began, before)}")
     return passed, failed, f"{name}: {failed} FAILED; {part.log}" if failed else ""
 
 
@@ -265,13 +276,36 @@ def run_parts(parts):
         return [it.result() for it in running]
 
 
-def main(*names):
+def chosen(names):
+    """Returns the parts to run, and the names of those that are left out since there is no kit."""
     unknown = [it for it in names if it not in PARTS]
     if unknown:
         sys.exit(f"no part is named {unknown[0]!r}; there are {', '.join(PARTS)}")
     parts = {it: PARTS[it] for it in PARTS if not names or it in names}
-    if any(needs for needs, _ in parts.values()):
+    needing = [it for it, (needs, _) in parts.items() if needs]
+    if needing and names:
         kit.need()
+    if not needing or shutil.which("rt"):
+        return parts, []
+    return {it: parts[it] for it in parts if it not in needing}, needing
+
+
+def tell_left_out(names):
+    """Says which parts were left out."""
+    if names:
+        print("left out, because there is no kit of Rattle (`rt`) here:")
+        print(f"    the parts {', '.join(names)}, which need a build by it; the head of tests/run.py describes them")
+        print("    in rust, cli and table the comparison with such a build")
+
+
+def total():
+    """Returns the text of the processor time of all that ran."""
+    used = [resource.getrusage(it) for it in (resource.RUSAGE_SELF, resource.RUSAGE_CHILDREN)]
+    return f"processor time: {sum(it.ru_utime + it.ru_stime for it in used) / 60:.1f} minutes"
+
+
+def main(*names):
+    parts, left_out = chosen(names)
     os.makedirs(BUILT, exist_ok=True)
     os.makedirs(LOGS, exist_ok=True)
     # all temporary files of the parts too, which are killed where they do not end
@@ -281,6 +315,8 @@ def main(*names):
         os.environ["TMPDIR"] = tempfile.tempdir = room
         ran = run_parts(parts)
     print("".join(f"{told}\n" for _, _, told in ran if told), end="")
+    print(total())
+    tell_left_out(left_out)
     passed, failed = (sum(it[at] for it in ran) for at in (0, 1))
     print(f"{passed} passed, {failed} failed")
     return 1 if failed else 0

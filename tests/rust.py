@@ -312,13 +312,14 @@ TESTS = {
 def ended(name):
     """Runs a test, and returns how many passed and failed."""
     print(f"{name}: begins", flush=True)
-    began = time.monotonic()
+    began, before = time.monotonic(), watched.processor_time()
     try:
         passed = TESTS[name]()
     except Failed as what:
         print(f"{name}: FAILED\n{what}", flush=True)
         return 0, 1
-    print(f"{name}: {passed} passed; {time.monotonic() - began:.0f} s", flush=True)
+    seconds = watched.processor_time() - before
+    print(f"{name}: {passed} passed; {time.monotonic() - began:.0f} s, {seconds:.0f} s of processors", flush=True)
     return passed, 0
 
 

@@ -19,6 +19,8 @@ SIGNALS = (signal.SIGTERM, signal.SIGINT, signal.SIGHUP)
 SLICE, GRACE = 0.2, 5
 # set where this program is being ended
 leaving = threading.Event()
+# of each thread, the processor time of the commands that it has run
+used = threading.local()
 
 
 class Hung(Exception):
@@ -88,13 +90,23 @@ def end(process):
         time.sleep(SLICE / 2)
 
 
+def processor_time():
+    """Returns the processor time, in seconds, of all commands that this thread has run, and of those that they ran."""
+    return getattr(used, "seconds", 0.0)
+
+
 def has_ended(process):
-    """Waits for a moment. Returns whether a command has ended."""
-    try:
-        process.wait(SLICE)
-    except subprocess.TimeoutExpired:
-        return False
-    return True
+    """Waits for a moment. Returns whether a command has ended, and adds its processor time."""
+    pause, until = 0.001, time.monotonic() + SLICE
+    while time.monotonic() < until:
+        ended, status, usage = os.wait4(process.pid, os.WNOHANG)
+        if ended:
+            used.seconds = processor_time() + usage.ru_utime + usage.ru_stime
+            process.returncode = -os.WTERMSIG(status) if os.WIFSIGNALED(status) else os.WEXITSTATUS(status)
+            return True
+        time.sleep(pause)
+        pause = min(2 * pause, SLICE)
+    return False
 
 
 def hangs(process, files, limit):
