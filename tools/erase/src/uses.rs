@@ -121,9 +121,15 @@ impl Eraser<'_> {
             self.source.replace(at, at, &new);
         } else if word == "std" && !self.source.has(at, "std : : error : : Error") {
             return self.source.fail(at, "an unknown path of std");
-        } else if NUMBERS.contains(&word) && !SAME_OF_NUMBERS.contains(&self.source.text(at + 3)) {
+        } else if NUMBERS.contains(&word) && !self.is_member_of_numbers(self.source.text(at + 3)) {
             return self.source.fail(at + 3, "an unknown member of a number");
         }
         Ok(None)
+    }
+
+    // Whether a number has this member: it is the same in Rust, or a program declares it in a trait.
+    fn is_member_of_numbers(&self, name: &str) -> bool {
+        let is_declared = self.krate.is_of_program && self.declared.contains(name);
+        is_declared || SAME_OF_NUMBERS.contains(&name)
     }
 }

@@ -135,6 +135,13 @@ fn words_of_programs_are_kept() {
 }
 
 #[test]
+fn a_member_of_a_number_that_is_declared_is_kept() {
+    let source = "trait Text { fn parse(); } fn f() { u64::parse(x); }";
+    all_leave(&[(source, source)]);
+    all_are_refused(&["fn f() { u64::parse(x); }"]);
+}
+
+#[test]
 fn a_constant_of_the_plan_has_another_text() {
     let source = "const MADE: &str = \"proved\"; const OTHER: &str = \"proved\";";
     let made = "const MADE: &str = \"erased\"; const OTHER: &str = \"proved\";";

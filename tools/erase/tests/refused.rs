@@ -60,6 +60,7 @@ fn unknown_paths_are_refused() {
         "fn f() { std::process::exit(1) }",
         "fn f() -> u64 { u64::from_str_radix(s, 3) }",
         "fn f() -> u8 { u8::MIN }",
+        "trait Text { fn parse(); } fn f() { u64::parse(x); }",
     ]);
 }
 

@@ -118,5 +118,5 @@ fn parse_numeral(word: &[u8]) -> Option<u64>
     ensures { SomeIff result (IsNumeral 10 word.now × (digits_value 10 word.now < 2 ^ 64))
         (digits_value 10 word.now) }
 {
-    <u64 as Text>::parse(word, Form::Own)
+    u64::parse(word, Form::Own)
 }

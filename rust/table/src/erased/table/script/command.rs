@@ -96,5 +96,5 @@ fn parse_two_numbers(words: &[u8]) -> Option<(u64, u64)> {
 
 // The number that a word of digits writes. A sign is no digit.
 fn parse_numeral(word: &[u8]) -> Option<u64> {
-    <u64 as Text>::parse(word, Form::Own)
+    u64::parse(word, Form::Own)
 }
