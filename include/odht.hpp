@@ -12,11 +12,11 @@
  *     }
  *
  * A key or a value is std::uint32_t, std::uint64_t or odht::bytes<N>, and there are the shapes of odht.h; a set has no
- * Value. Another pair of types does not compile; the message of the compiler lists these. All that odht.h says of its calls holds: a view copies nothing, the
- * bytes have to stay where they are ("Opened tables" in odht.h says which calls may write them meanwhile; none during a
- * walk), and any number of threads may read it. Nothing here throws, but
- * open_or_throw, and build and odht::table as std::vector does. Sets need GCC or Clang, as in odht.h. With std::span (C++20) there are
- * the same calls with spans.
+ * Value. Another pair of types does not compile, and the compiler's message lists the shapes. All that odht.h says of
+ * its calls holds: a view copies nothing, the bytes have to stay where they are ("Opened tables" in odht.h says which
+ * calls may write them meanwhile; none during a walk), and any number of threads may read it. Nothing here throws, but
+ * open_or_throw, and build and odht::table as std::vector does. Sets need GCC or Clang, as in odht.h. With std::span
+ * (C++20) there are the same calls with spans.
  */
 #ifndef ODHT_HPP
 #define ODHT_HPP

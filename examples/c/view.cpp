@@ -166,8 +166,8 @@ static void failures(std::vector<std::uint8_t> bytes)
 
 using Owning = odht::table<std::uint64_t, std::uint32_t>;
 
-/* 16 slots take 13 items at 87 percent, 32 take 27, 64 take 55. A table of s slots has 32 + 13 * s + 16 bytes. The homes
-   of the keys 1 to 40 differ, so all ways to make the table leave the same bytes. */
+/* 16 slots take 13 items at 87 percent, 32 take 27, 64 take 55. A table of s slots has 32 + 13 * s + 16 bytes. The
+   homes of the keys 1 to 40 differ, so all ways to make the table leave the same bytes. */
 static void owning_grows()
 {
     Owning table;
