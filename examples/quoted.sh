@@ -29,5 +29,14 @@ quoted() {
 }
 
 quoted README.md 3 "rattle crates/odht_tests/src/tests/first_table.rt c examples/c/readme.c rust rust/README.md"
+
+# "Grow on FULL" in odht.h is the function of c/grow.c, which is compiled and run
+in_header=$(sed -n '/^ \*     static uint32_t insert_and_grow/,/^ \*     }/s/^ \*     //p' include/odht.h)
+in_example=$(sed -n '/^static uint32_t insert_and_grow/,/^}/p' examples/c/grow.c)
+if [ -z "$in_header" ] || [ "$in_header" != "$in_example" ]; then
+  echo 'include/odht.h: "Grow on FULL" is not the function of examples/c/grow.c'
+  exit 1
+fi
+
 embedded=rust/examples/embedded
 quoted rust/examples/README.md 2 "rust,ignore $embedded/build.rs rust,ignore $embedded/src/main.rs"

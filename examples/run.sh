@@ -131,11 +131,11 @@ try_rust() {
 sh "$top/crates/odht_c/exports/statuses.sh"
 sh "$top/examples/quoted.sh"
 if has cc; then
-    for program in example null forged sets lengths readme pages; do try "$program" C cc -std=c11; done
+    for program in example null forged sets lengths grow readme pages; do try "$program" C cc -std=c11; done
     header cc c c99 c11 c17 c2x
 fi
 if has c++; then
-    for program in example null forged sets lengths pages view; do try "$program" C++ c++ -std=c++17 -x c++; done
+    for program in example null forged sets lengths grow pages view; do try "$program" C++ c++ -std=c++17 -x c++; done
     header c++ c++ c++11 c++14 c++17 c++20
 fi
 if has clang; then

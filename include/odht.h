@@ -22,6 +22,27 @@
  *   odht_b20_*      of hashes of 20 bytes, a set, UnHashFn
  *   odht_b32_*      of hashes of 32 bytes, a set, UnHashFn
  *
+ * The calls of each of them, by their names without odht_S_; "The calls" below has a comment for each:
+ *
+ *   to make a table    bytes_needed, init          how long it is; an empty one in bytes
+ *                      build, build_growing        one of arrays of keys and values
+ *   to open bytes      open, open_at               checks header, length and ten slots
+ *                      open_view                   the same, for many lookups
+ *                      table_len                   how long the table at the front of longer bytes is
+ *   to check bytes     check, check_at             whether all of them are valid
+ *                      check_within, check_within_at   the same in bounded time, for untrusted bytes
+ *   to look up         get, get_all                one key; many keys
+ *                      view_get, view_get_all      the same in an opened view
+ *                      of a set contains, contains_all, view_contains, view_contains_all
+ *   to insert          insert, insert_all          one pair; many pairs
+ *                      grow                        the grown table in larger bytes: "Grow on FULL"
+ *   to read all        walk                        the pairs, in the order of the slots
+ *                      len, view_len, sizes        the numbers of the header
+ *                      insert_order                an order of inserts that makes the table
+ *
+ * odht_any_* has all of these for keys and values of other lengths ("Tables of any lengths"), and odht_any_layout_of,
+ * which reads the lengths from bytes. odht_version and odht_status_name are of no table.
+ *
  * FxHashFn hashes numbers, and bytes of any length. UnHashFn is for keys that are hashes already: their
  * last four bytes are taken as the hash, and should vary. The low bits of the hash choose
  * the slot, and by FxHashFn they come from the low bits of a number alone: keys that are
@@ -275,6 +296,40 @@ typedef struct odht_view {
 #define ODHT_NO_VIEW { (const uint8_t *)"", 0 }
 #endif
 
+/* ---- Grow on FULL ----
+ *
+ * No call moves a table. Where an insert is answered FULL the caller writes the grown table into larger memory, inserts
+ * there, and goes on with that. For a table in memory from malloc:
+ *
+ *     static uint32_t insert_and_grow(uint8_t **bytes, size_t *len, uint64_t key, uint32_t value, uint32_t *former)
+ *     {
+ *         uint32_t status = odht_u64_u32_insert(*bytes, *len, key, value, former);
+ *         size_t grown_len = 0;
+ *         uint8_t none = 0, *grown;
+ *         if (status != ODHT_FULL)
+ *             return status;
+ *         status = odht_u64_u32_grow(*bytes, *len, &none, 0, &grown_len);
+ *         if (status != ODHT_TOO_SMALL)
+ *             return status;
+ *         grown = (uint8_t *)malloc(grown_len);
+ *         if (grown == NULL)
+ *             return ODHT_MEMORY;
+ *         status = odht_u64_u32_grow(*bytes, *len, grown, grown_len, &grown_len);
+ *         if (status == ODHT_OK)
+ *             status = odht_u64_u32_insert(grown, grown_len, key, value, former);
+ *         if (status != ODHT_OK && status != ODHT_REPLACED) {
+ *             free(grown);
+ *             return status;
+ *         }
+ *         free(*bytes);
+ *         *bytes = grown;
+ *         *len = grown_len;
+ *         return status;
+ *     }
+ *
+ * With a status other than OK and REPLACED the old table is as it was. Views of the old bytes end with a growth. In C++
+ * odht::table of odht.hpp does the same.
+ */
 /* ---- The calls ----
  *
  * S is the name of a kind of table. A single key or value that is a number is passed as it is, and one of N bytes as a
@@ -368,14 +423,20 @@ typedef struct odht_view {
  *     contract says it). It allocates nothing.
  *
  * odht_S_open_at(bytes, bytes_len, *slot)
+ *     odht_S_open, and *slot is where the error is that is answered. Slots count from 0.
+ *     NON_ZERO_EMPTY, CONTROL_MISMATCH: its slot. OK, and all other errors, which are in
+ *     no slot: ODHT_NO_SLOT.
+ *
  * odht_S_check_at(bytes, bytes_len, *slot)
- * odht_S_check_within_at(bytes, bytes_len, groups, *slot)
- *     As odht_S_open, odht_S_check and odht_S_check_within, and *slot is where the first
- *     error is, which is the one that is answered. Slots count from 0.
+ *     odht_S_check, and *slot is where the error is that is answered, which is the first.
+ *     Slots count from 0.
  *     NON_ZERO_EMPTY, CONTROL_MISMATCH, BAD_FREE_CONTROL, UNREACHABLE: its slot.
  *     MIRROR_MISMATCH: the slot, 0 to 15, whose control byte the mirror does not repeat.
- *     SEARCH_TOO_LONG: the slot where such searches begin. OK, and all other errors, which
- *     are in no slot: ODHT_NO_SLOT.
+ *     OK, and all other errors, which are in no slot: ODHT_NO_SLOT.
+ *
+ * odht_S_check_within_at(bytes, bytes_len, groups, *slot)
+ *     odht_S_check_within, and *slot is where the error is that is answered, as
+ *     odht_S_check_at has it. SEARCH_TOO_LONG: the slot where such searches begin.
  *
  * odht_S_len(bytes, bytes_len, *count)
  *     OK: *count is the header's count of items. It may be untrue: before odht_S_check
@@ -462,7 +523,7 @@ typedef struct odht_view {
  *     Writes the table that this one grows into to out: with slots for twice as many
  *     items, and for one at least, and the same load factor. A caller whose insert was
  *     answered FULL continues so: it grows the table into larger memory and inserts
- *     there; for a valid table one growth is enough. Check bytes of strangers before: of
+ *     there ("Grow on FULL"); for a valid table one growth is enough. Check bytes of strangers before: of
  *     bytes that odht_S_check rejects *len follows the header's count, however large, and
  *     an insert into the grown table may be answered FULL again, each time. At the
  *     maximum the bytes are those that a table has which grows by itself. It does not
@@ -499,24 +560,32 @@ typedef struct odht_view {
  *     OK: *view is the view of the bytes. An error, 1 to 9.
  *
  * odht_S_view_get(view, key, *value)
+ *     odht_S_get in an opened table: OK or ABSENT.
+ *
  * odht_S_view_get_all(view, keys, keys_len, values, values_len, found, found_len)
+ *     odht_S_get_all in an opened table: OK or BAD_LENGTHS.
+ *
  * odht_S_view_len(view)
- *     As odht_S_get, odht_S_get_all and odht_S_len, in an opened table and without the
- *     errors 1 to 7. The last returns the number itself.
+ *     The header's count of items of an opened table, as odht_S_len writes it. It is
+ *     returned itself, and no status.
  *
  * Sets have no values. In place of get and get_all they have contains and
  * contains_all, also in a view, and their other calls have no parameters for values. The
  * calls with keys of the set odht_u64_*, with uint64_t key and const uint64_t *keys:
  *
  *     odht_u64_contains(bytes, bytes_len, key)
+ *         OK: the key is there. ABSENT: it is not there. An error, 1 to 7.
  *     odht_u64_contains_all(bytes, bytes_len, keys, keys_len, found, found_len)
+ *         OK: found[i] is 1 where keys[i] is there, else 0. BAD_LENGTHS. An error, 1 to 7.
  *     odht_u64_insert(bytes, bytes_len, key)
  *     odht_u64_insert_all(bytes, bytes_len, keys, keys_len, *accepted)
  *     odht_u64_walk(bytes, bytes_len, *cursor, keys, keys_len, *count)
  *     odht_u64_build(keys, keys_len, percent, out, out_len, *len)
  *     odht_u64_build_growing(keys, keys_len, out, out_len, *len)
  *     odht_u64_view_contains(view, key)
+ *         odht_u64_contains in an opened table: OK or ABSENT.
  *     odht_u64_view_contains_all(view, keys, keys_len, found, found_len)
+ *         odht_u64_contains_all in an opened table: OK or BAD_LENGTHS.
  */
 
 #if ODHT_TAKES_NULL
@@ -591,37 +660,27 @@ ODHT_NODISCARD extern uint32_t odht_version(void);
 #define ODHT_BYTES_READ(count, items, len) odht_read_uint8_t(items, len)
 #define ODHT_BYTES_WRITE(count, items, len) odht_write_uint8_t(items, len)
 
-/* The calls of every shape. P is the name of the shape with a _ behind it. */
+/* The calls of every shape, each of which has its comment above. P is the name of the shape with a _ behind it. */
 #define ODHT_TABLE_CALLS(P) \
-    /* OK: *len is the length in bytes of a table for so many items. BAD_PERCENT, CAPACITY: *len \
-       is unchanged. */ \
     ODHT_CALL(uint32_t, P##bytes_needed, (size_t max_item_count, uint8_t percent, size_t *len), \
         size_t unwanted = 0; \
         return odht_symbol_##P##bytes_needed(max_item_count, percent, len ? len : &unwanted);) \
 \
-    /* OK: the bytes are an empty table. BAD_PERCENT, CAPACITY, INIT_LENGTH: unchanged. */ \
     ODHT_CALL(uint32_t, P##init, \
         (uint8_t *bytes, size_t bytes_len, size_t max_item_count, uint8_t percent), \
         return odht_symbol_##P##init( \
             odht_write_uint8_t(bytes, bytes_len), bytes_len, max_item_count, percent);) \
 \
-    /* OK: calls can be made on the bytes. An error, 1 to 9. As fast for every table. */ \
     ODHT_CALL(uint32_t, P##open, (const uint8_t *bytes, size_t bytes_len), \
         return odht_symbol_##P##open(odht_read_uint8_t(bytes, bytes_len), bytes_len);) \
 \
-    /* OK: the bytes are valid to the last one. An error, 1 to 16. Goes over all slots. */ \
     ODHT_CALL(uint32_t, P##check, (const uint8_t *bytes, size_t bytes_len), \
         return odht_symbol_##P##check(odht_read_uint8_t(bytes, bytes_len), bytes_len);) \
 \
-    /* OK: they are, and from each slot a free one comes within so many groups, so that no search \
-       reads more. An error, 1 to 16, or SEARCH_TOO_LONG. Its time is bounded by slots times \
-       groups, whatever the bytes are. */ \
     ODHT_CALL(uint32_t, P##check_within, (const uint8_t *bytes, size_t bytes_len, size_t groups), \
         return odht_symbol_##P##check_within( \
             odht_read_uint8_t(bytes, bytes_len), bytes_len, groups);) \
 \
-    /* As open, check and check_within, and *slot is where the first error is; ODHT_NO_SLOT where \
-       it is in no slot, and with OK. */ \
     ODHT_CALL(uint32_t, P##open_at, (const uint8_t *bytes, size_t bytes_len, size_t *slot), \
         size_t unwanted = 0; \
         return odht_symbol_##P##open_at( \
@@ -636,14 +695,11 @@ ODHT_NODISCARD extern uint32_t odht_version(void);
         return odht_symbol_##P##check_within_at( \
             odht_read_uint8_t(bytes, bytes_len), bytes_len, groups, slot ? slot : &unwanted);) \
 \
-    /* OK: *count is the header's count of items. An error, 1 to 7: it is unchanged. */ \
     ODHT_CALL(uint32_t, P##len, (const uint8_t *bytes, size_t bytes_len, size_t *count), \
         size_t unwanted = 0; \
         return odht_symbol_##P##len( \
             odht_read_uint8_t(bytes, bytes_len), bytes_len, count ? count : &unwanted);) \
 \
-    /* OK: the numbers of the header: how many slots, how many items these take at most, and the \
-       load factor in percent, rounded down. An error, 1 to 7: they are unchanged. */ \
     ODHT_CALL(uint32_t, P##sizes, \
         (const uint8_t *bytes, size_t bytes_len, size_t *slots, size_t *max_item_count, \
             uint8_t *percent), \
@@ -655,24 +711,17 @@ ODHT_NODISCARD extern uint32_t odht_version(void);
             max_item_count ? max_item_count : &unwanted_count, \
             percent ? percent : &unwanted_percent);) \
 \
-    /* OK: *len is how many bytes the table at the front of the bytes has. An error, 1 to 7: it is \
-       unchanged. */ \
     ODHT_CALL(uint32_t, P##table_len, (const uint8_t *bytes, size_t bytes_len, size_t *len), \
         size_t unwanted = 0; \
         return odht_symbol_##P##table_len( \
             odht_read_uint8_t(bytes, bytes_len), bytes_len, len ? len : &unwanted);) \
 \
-    /* OK: the occupied slots, in an order of inserts. UNMADE: no inserts make the table, and what \
-       slots holds is unspecified. BAD_LENGTHS, or an error, 1 to 16: slots is unchanged. */ \
     ODHT_CALL(uint32_t, P##insert_order, \
         (const uint8_t *bytes, size_t bytes_len, size_t *slots, size_t slots_len), \
         return odht_symbol_##P##insert_order( \
             odht_read_uint8_t(bytes, bytes_len), bytes_len, odht_write_size_t(slots, slots_len), \
             slots_len);) \
 \
-    /* OK: the first *len bytes of out are the grown table. TOO_SMALL: out_len is below *len, and \
-       out is unchanged. An error, 1 to 7, LOAD_FACTOR_TOO_SMALL, CAPACITY: *len is unchanged \
-       too. */ \
     ODHT_CALL(uint32_t, P##grow, \
         (const uint8_t *bytes, size_t bytes_len, uint8_t *out, size_t out_len, size_t *len), \
         size_t unwanted = 0; \
@@ -680,7 +729,6 @@ ODHT_NODISCARD extern uint32_t odht_version(void);
             odht_read_uint8_t(bytes, bytes_len), bytes_len, odht_write_uint8_t(out, out_len), \
             out_len, len ? len : &unwanted);) \
 \
-    /* OK: *view is the view of the bytes. An error, 1 to 9: it is unchanged. */ \
     ODHT_CALL(uint32_t, P##open_view, (const uint8_t *bytes, size_t bytes_len, odht_view *view), \
         odht_view opened = ODHT_NO_VIEW; \
         uint32_t status = odht_symbol_##P##open_view( \
@@ -689,7 +737,6 @@ ODHT_NODISCARD extern uint32_t odht_version(void);
             *view = opened; \
         return status;) \
 \
-    /* The header's count of items. */ \
     ODHT_CALL(size_t, P##view_len, (const odht_view *view), \
         return odht_symbol_##P##view_len(view);)
 
@@ -697,15 +744,12 @@ ODHT_NODISCARD extern uint32_t odht_version(void);
 #define ODHT_DECLARE_MAP(S, K, k, V, v) \
     ODHT_TABLE_CALLS(S##_) \
 \
-    /* OK: *value is the value. ABSENT, or an error, 1 to 7: *value is unchanged. */ \
     ODHT_CALL(uint32_t, S##_get, \
         (const uint8_t *bytes, size_t bytes_len, K##_GIVEN(k, key), V##_WANTED(v, value)), \
         V##_UNWANTED(v) \
         return odht_symbol_##S##_get( \
             odht_read_uint8_t(bytes, bytes_len), bytes_len, key, value ? value : unwanted);) \
 \
-    /* OK: found[i] is 1 and values[i] the value, or found[i] is 0 and values[i] unchanged. \
-       BAD_LENGTHS, or an error, 1 to 7: both arrays are unchanged. */ \
     ODHT_CALL(uint32_t, S##_get_all, \
         (const uint8_t *bytes, size_t bytes_len, const K##_ITEM(k) *keys, size_t keys_len, \
             V##_ITEM(v) *values, size_t values_len, uint8_t *found, size_t found_len), \
@@ -714,8 +758,6 @@ ODHT_NODISCARD extern uint32_t odht_version(void);
             V##_WRITE(v, values, values_len), values_len, \
             odht_write_uint8_t(found, found_len), found_len);) \
 \
-    /* OK: the key was new. REPLACED: *former is the former value. FULL, or an error, 1 to 7: \
-       nothing changes. */ \
     ODHT_CALL(uint32_t, S##_insert, \
         (uint8_t *bytes, size_t bytes_len, K##_GIVEN(k, key), V##_GIVEN(v, value), \
             V##_WANTED(v, former)), \
@@ -724,8 +766,6 @@ ODHT_NODISCARD extern uint32_t odht_version(void);
             odht_write_uint8_t(bytes, bytes_len), bytes_len, key, value, \
             former ? former : unwanted);) \
 \
-    /* OK or FULL: *accepted pairs are inserted. BAD_LENGTHS, or an error, 1 to 7: nothing \
-       changes. */ \
     ODHT_CALL(uint32_t, S##_insert_all, \
         (uint8_t *bytes, size_t bytes_len, const K##_ITEM(k) *keys, size_t keys_len, \
             const V##_ITEM(v) *values, size_t values_len, size_t *accepted), \
@@ -735,9 +775,6 @@ ODHT_NODISCARD extern uint32_t odht_version(void);
             keys_len, V##_READ(v, values, values_len), values_len, \
             accepted ? accepted : &unwanted);) \
 \
-    /* OK: the last *count pairs, from slot *cursor on. TOO_SMALL: the arrays are full, there are \
-       more, and *cursor is where to continue. BAD_LENGTHS, or an error, 1 to 7: nothing is \
-       written. */ \
     ODHT_CALL(uint32_t, S##_walk, \
         (const uint8_t *bytes, size_t bytes_len, size_t *cursor, K##_ITEM(k) *keys, \
             size_t keys_len, V##_ITEM(v) *values, size_t values_len, size_t *count), \
@@ -747,14 +784,11 @@ ODHT_NODISCARD extern uint32_t odht_version(void);
             K##_WRITE(k, keys, keys_len), keys_len, V##_WRITE(v, values, values_len), values_len, \
             count ? count : &unwanted);) \
 \
-    /* OK: *value is the value. ABSENT: it is unchanged. */ \
     ODHT_CALL(uint32_t, S##_view_get, \
         (const odht_view *view, K##_GIVEN(k, key), V##_WANTED(v, value)), \
         V##_UNWANTED(v) \
         return odht_symbol_##S##_view_get(view, key, value ? value : unwanted);) \
 \
-    /* OK: found[i] is 1 and values[i] the value, or found[i] is 0 and values[i] unchanged. \
-       BAD_LENGTHS: both arrays are unchanged. */ \
     ODHT_CALL(uint32_t, S##_view_get_all, \
         (const odht_view *view, const K##_ITEM(k) *keys, size_t keys_len, V##_ITEM(v) *values, \
             size_t values_len, uint8_t *found, size_t found_len), \
@@ -762,9 +796,6 @@ ODHT_NODISCARD extern uint32_t odht_version(void);
             view, K##_READ(k, keys, keys_len), keys_len, V##_WRITE(v, values, values_len), \
             values_len, odht_write_uint8_t(found, found_len), found_len);) \
 \
-    /* OK: the table is the first *len bytes of out. TOO_SMALL: out_len is below *len, the length \
-       of the table. CAPACITY, BAD_PERCENT, BAD_LENGTHS: *len is unchanged. With all but OK out is \
-       unchanged. */ \
     ODHT_CALL(uint32_t, S##_build, \
         (const K##_ITEM(k) *keys, size_t keys_len, const V##_ITEM(v) *values, size_t values_len, \
             uint8_t percent, uint8_t *out, size_t out_len, size_t *len), \
@@ -773,7 +804,6 @@ ODHT_NODISCARD extern uint32_t odht_version(void);
             K##_READ(k, keys, keys_len), keys_len, V##_READ(v, values, values_len), values_len, \
             percent, odht_write_uint8_t(out, out_len), out_len, len ? len : &unwanted);) \
 \
-    /* OK, TOO_SMALL and BAD_LENGTHS as of build. MEMORY: out and *len are unchanged. */ \
     ODHT_CALL(uint32_t, S##_build_growing, \
         (const K##_ITEM(k) *keys, size_t keys_len, const V##_ITEM(v) *values, size_t values_len, \
             uint8_t *out, size_t out_len, size_t *len), \
@@ -787,7 +817,6 @@ ODHT_NODISCARD extern uint32_t odht_version(void);
 #define ODHT_DECLARE_SET(S, K, k) \
     ODHT_TABLE_CALLS(S##_) \
 \
-    /* The symbols of the library, whose values have no bytes. */ \
     ODHT_SYMBOL(uint32_t, S##_get, \
         (const uint8_t *bytes, size_t bytes_len, K##_GIVEN(k, key), void *value)) \
     ODHT_SYMBOL(uint32_t, S##_get_all, \
@@ -812,15 +841,12 @@ ODHT_NODISCARD extern uint32_t odht_version(void);
         (const K##_ITEM(k) *keys, size_t keys_len, const void *values, size_t values_len, \
             uint8_t *out, size_t out_len, size_t *len)) \
 \
-    /* OK: the key is there. ABSENT, or an error, 1 to 7. */ \
     ODHT_FUNCTION(uint32_t, S##_contains, \
         (const uint8_t *bytes, size_t bytes_len, K##_GIVEN(k, key)), \
         uint8_t nothing = 0; \
         return odht_symbol_##S##_get( \
             odht_read_uint8_t(bytes, bytes_len), bytes_len, key, &nothing);) \
 \
-    /* OK: found[i] is 1 where keys[i] is there, else 0. BAD_LENGTHS, or an error, 1 to 7: found \
-       is unchanged. */ \
     ODHT_FUNCTION(uint32_t, S##_contains_all, \
         (const uint8_t *bytes, size_t bytes_len, const K##_ITEM(k) *keys, size_t keys_len, \
             uint8_t *found, size_t found_len), \
@@ -829,13 +855,11 @@ ODHT_NODISCARD extern uint32_t odht_version(void);
             odht_read_uint8_t(bytes, bytes_len), bytes_len, K##_READ(k, keys, keys_len), keys_len, \
             &nothing, keys_len, odht_write_uint8_t(found, found_len), found_len);) \
 \
-    /* OK: the key was new. REPLACED: it was there. FULL, or an error, 1 to 7: nothing changes. */ \
     ODHT_FUNCTION(uint32_t, S##_insert, (uint8_t *bytes, size_t bytes_len, K##_GIVEN(k, key)), \
         uint8_t nothing = 0; \
         return odht_symbol_##S##_insert( \
             odht_write_uint8_t(bytes, bytes_len), bytes_len, key, &nothing);) \
 \
-    /* OK or FULL: *accepted keys are inserted. An error, 1 to 7: nothing changes. */ \
     ODHT_FUNCTION(uint32_t, S##_insert_all, \
         (uint8_t *bytes, size_t bytes_len, const K##_ITEM(k) *keys, size_t keys_len, \
             size_t *accepted), \
@@ -845,8 +869,6 @@ ODHT_NODISCARD extern uint32_t odht_version(void);
             odht_write_uint8_t(bytes, bytes_len), bytes_len, K##_READ(k, keys, keys_len), \
             keys_len, &nothing, keys_len, accepted ? accepted : &unwanted);) \
 \
-    /* OK: the last *count keys, from slot *cursor on. TOO_SMALL: the array is full, there are \
-       more, and *cursor is where to continue. An error, 1 to 7: nothing is written. */ \
     ODHT_FUNCTION(uint32_t, S##_walk, \
         (const uint8_t *bytes, size_t bytes_len, size_t *cursor, K##_ITEM(k) *keys, \
             size_t keys_len, size_t *count), \
@@ -857,12 +879,10 @@ ODHT_NODISCARD extern uint32_t odht_version(void);
             K##_WRITE(k, keys, keys_len), keys_len, &nothing, keys_len, \
             count ? count : &unwanted);) \
 \
-    /* OK: the key is there. ABSENT. */ \
     ODHT_FUNCTION(uint32_t, S##_view_contains, (const odht_view *view, K##_GIVEN(k, key)), \
         uint8_t nothing = 0; \
         return odht_symbol_##S##_view_get(view, key, &nothing);) \
 \
-    /* OK: found[i] is 1 where keys[i] is there, else 0. BAD_LENGTHS: found is unchanged. */ \
     ODHT_FUNCTION(uint32_t, S##_view_contains_all, \
         (const odht_view *view, const K##_ITEM(k) *keys, size_t keys_len, uint8_t *found, \
             size_t found_len), \
@@ -871,8 +891,6 @@ ODHT_NODISCARD extern uint32_t odht_version(void);
             view, K##_READ(k, keys, keys_len), keys_len, &nothing, keys_len, \
             odht_write_uint8_t(found, found_len), found_len);) \
 \
-    /* OK: the set is the first *len bytes of out. TOO_SMALL: out_len is below *len, the length of \
-       the set. CAPACITY, BAD_PERCENT: *len is unchanged. With all but OK out is unchanged. */ \
     ODHT_FUNCTION(uint32_t, S##_build, \
         (const K##_ITEM(k) *keys, size_t keys_len, uint8_t percent, uint8_t *out, size_t out_len, \
             size_t *len), \
@@ -882,7 +900,6 @@ ODHT_NODISCARD extern uint32_t odht_version(void);
             K##_READ(k, keys, keys_len), keys_len, &nothing, keys_len, percent, \
             odht_write_uint8_t(out, out_len), out_len, len ? len : &unwanted);) \
 \
-    /* OK and TOO_SMALL as of build. MEMORY: out and *len are unchanged. */ \
     ODHT_FUNCTION(uint32_t, S##_build_growing, \
         (const K##_ITEM(k) *keys, size_t keys_len, uint8_t *out, size_t out_len, size_t *len), \
         const uint8_t nothing = 0; \

@@ -29,7 +29,7 @@ try() {
 cd "$room"
 try example "$top/examples/c/main.c" "$top/examples/c/orders.c" "$top/examples/c/views.c"
 diff "$top/examples/expected" printed.static
-for program in null forged sets lengths readme; do
+for program in null forged sets lengths grow readme; do
     try "$program" "$top/examples/c/$program.c"
 done
 

@@ -91,14 +91,20 @@
  *     contract says it). It allocates nothing.
  *
  * odht_S_open_at(bytes, bytes_len, *slot)
+ *     odht_S_open, and *slot is where the error is that is answered. Slots count from 0.
+ *     NON_ZERO_EMPTY, CONTROL_MISMATCH: its slot. OK, and all other errors, which are in
+ *     no slot: ODHT_NO_SLOT.
+ *
  * odht_S_check_at(bytes, bytes_len, *slot)
- * odht_S_check_within_at(bytes, bytes_len, groups, *slot)
- *     As odht_S_open, odht_S_check and odht_S_check_within, and *slot is where the first
- *     error is, which is the one that is answered. Slots count from 0.
+ *     odht_S_check, and *slot is where the error is that is answered, which is the first.
+ *     Slots count from 0.
  *     NON_ZERO_EMPTY, CONTROL_MISMATCH, BAD_FREE_CONTROL, UNREACHABLE: its slot.
  *     MIRROR_MISMATCH: the slot, 0 to 15, whose control byte the mirror does not repeat.
- *     SEARCH_TOO_LONG: the slot where such searches begin. OK, and all other errors, which
- *     are in no slot: ODHT_NO_SLOT.
+ *     OK, and all other errors, which are in no slot: ODHT_NO_SLOT.
+ *
+ * odht_S_check_within_at(bytes, bytes_len, groups, *slot)
+ *     odht_S_check_within, and *slot is where the error is that is answered, as
+ *     odht_S_check_at has it. SEARCH_TOO_LONG: the slot where such searches begin.
  *
  * odht_S_len(bytes, bytes_len, *count)
  *     OK: *count is the header's count of items. It may be untrue: before odht_S_check
@@ -185,7 +191,7 @@
  *     Writes the table that this one grows into to out: with slots for twice as many
  *     items, and for one at least, and the same load factor. A caller whose insert was
  *     answered FULL continues so: it grows the table into larger memory and inserts
- *     there; for a valid table one growth is enough. Check bytes of strangers before: of
+ *     there ("Grow on FULL"); for a valid table one growth is enough. Check bytes of strangers before: of
  *     bytes that odht_S_check rejects *len follows the header's count, however large, and
  *     an insert into the grown table may be answered FULL again, each time. At the
  *     maximum the bytes are those that a table has which grows by itself. It does not
@@ -222,24 +228,32 @@
  *     OK: *view is the view of the bytes. An error, @OPENING@.
  *
  * odht_S_view_get(view, key, *value)
+ *     odht_S_get in an opened table: OK or ABSENT.
+ *
  * odht_S_view_get_all(view, keys, keys_len, values, values_len, found, found_len)
+ *     odht_S_get_all in an opened table: OK or BAD_LENGTHS.
+ *
  * odht_S_view_len(view)
- *     As odht_S_get, odht_S_get_all and odht_S_len, in an opened table and without the
- *     errors @HEADER@. The last returns the number itself.
+ *     The header's count of items of an opened table, as odht_S_len writes it. It is
+ *     returned itself, and no status.
  *
  * Sets have no values. In place of get and get_all they have contains and
  * contains_all, also in a view, and their other calls have no parameters for values. The
  * calls with keys of the set odht_u64_*, with uint64_t key and const uint64_t *keys:
  *
  *     odht_u64_contains(bytes, bytes_len, key)
+ *         OK: the key is there. ABSENT: it is not there. An error, @HEADER@.
  *     odht_u64_contains_all(bytes, bytes_len, keys, keys_len, found, found_len)
+ *         OK: found[i] is 1 where keys[i] is there, else 0. BAD_LENGTHS. An error, @HEADER@.
  *     odht_u64_insert(bytes, bytes_len, key)
  *     odht_u64_insert_all(bytes, bytes_len, keys, keys_len, *accepted)
  *     odht_u64_walk(bytes, bytes_len, *cursor, keys, keys_len, *count)
  *     odht_u64_build(keys, keys_len, percent, out, out_len, *len)
  *     odht_u64_build_growing(keys, keys_len, out, out_len, *len)
  *     odht_u64_view_contains(view, key)
+ *         odht_u64_contains in an opened table: OK or ABSENT.
  *     odht_u64_view_contains_all(view, keys, keys_len, found, found_len)
+ *         odht_u64_contains_all in an opened table: OK or BAD_LENGTHS.
  */
 
 #if ODHT_TAKES_NULL

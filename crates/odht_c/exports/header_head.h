@@ -7,6 +7,27 @@
  *
 @SHAPES@
  *
+ * The calls of each of them, by their names without odht_S_; "The calls" below has a comment for each:
+ *
+ *   to make a table    bytes_needed, init          how long it is; an empty one in bytes
+ *                      build, build_growing        one of arrays of keys and values
+ *   to open bytes      open, open_at               checks header, length and ten slots
+ *                      open_view                   the same, for many lookups
+ *                      table_len                   how long the table at the front of longer bytes is
+ *   to check bytes     check, check_at             whether all of them are valid
+ *                      check_within, check_within_at   the same in bounded time, for untrusted bytes
+ *   to look up         get, get_all                one key; many keys
+ *                      view_get, view_get_all      the same in an opened view
+ *                      of a set contains, contains_all, view_contains, view_contains_all
+ *   to insert          insert, insert_all          one pair; many pairs
+ *                      grow                        the grown table in larger bytes: "Grow on FULL"
+ *   to read all        walk                        the pairs, in the order of the slots
+ *                      len, view_len, sizes        the numbers of the header
+ *                      insert_order                an order of inserts that makes the table
+ *
+ * odht_any_* has all of these for keys and values of other lengths ("Tables of any lengths"), and odht_any_layout_of,
+ * which reads the lengths from bytes. odht_version and odht_status_name are of no table.
+ *
  * FxHashFn hashes numbers, and bytes of any length. UnHashFn is for keys that are hashes already: their
  * last four bytes are taken as the hash, and should vary. The low bits of the hash choose
  * the slot, and by FxHashFn they come from the low bits of a number alone: keys that are
@@ -206,3 +227,37 @@ typedef struct odht_view {
 #define ODHT_NO_VIEW { (const uint8_t *)"", 0 }
 #endif
 
+/* ---- Grow on FULL ----
+ *
+ * No call moves a table. Where an insert is answered FULL the caller writes the grown table into larger memory, inserts
+ * there, and goes on with that. For a table in memory from malloc:
+ *
+ *     static uint32_t insert_and_grow(uint8_t **bytes, size_t *len, uint64_t key, uint32_t value, uint32_t *former)
+ *     {
+ *         uint32_t status = odht_u64_u32_insert(*bytes, *len, key, value, former);
+ *         size_t grown_len = 0;
+ *         uint8_t none = 0, *grown;
+ *         if (status != ODHT_FULL)
+ *             return status;
+ *         status = odht_u64_u32_grow(*bytes, *len, &none, 0, &grown_len);
+ *         if (status != ODHT_TOO_SMALL)
+ *             return status;
+ *         grown = (uint8_t *)malloc(grown_len);
+ *         if (grown == NULL)
+ *             return ODHT_MEMORY;
+ *         status = odht_u64_u32_grow(*bytes, *len, grown, grown_len, &grown_len);
+ *         if (status == ODHT_OK)
+ *             status = odht_u64_u32_insert(grown, grown_len, key, value, former);
+ *         if (status != ODHT_OK && status != ODHT_REPLACED) {
+ *             free(grown);
+ *             return status;
+ *         }
+ *         free(*bytes);
+ *         *bytes = grown;
+ *         *len = grown_len;
+ *         return status;
+ *     }
+ *
+ * With a status other than OK and REPLACED the old table is as it was. Views of the old bytes end with a growth. In C++
+ * odht::table of odht.hpp does the same.
+ */

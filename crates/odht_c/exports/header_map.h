@@ -3,15 +3,12 @@
 #define ODHT_DECLARE_MAP(S, K, k, V, v) \
     ODHT_TABLE_CALLS(S##_) \
 \
-    /* OK: *value is the value. ABSENT, or an error, @HEADER@: *value is unchanged. */ \
     ODHT_CALL(uint32_t, S##_get, \
         (const uint8_t *bytes, size_t bytes_len, K##_GIVEN(k, key), V##_WANTED(v, value)), \
         V##_UNWANTED(v) \
         return odht_symbol_##S##_get( \
             odht_read_uint8_t(bytes, bytes_len), bytes_len, key, value ? value : unwanted);) \
 \
-    /* OK: found[i] is 1 and values[i] the value, or found[i] is 0 and values[i] unchanged. \
-       BAD_LENGTHS, or an error, @HEADER@: both arrays are unchanged. */ \
     ODHT_CALL(uint32_t, S##_get_all, \
         (const uint8_t *bytes, size_t bytes_len, const K##_ITEM(k) *keys, size_t keys_len, \
             V##_ITEM(v) *values, size_t values_len, uint8_t *found, size_t found_len), \
@@ -20,8 +17,6 @@
             V##_WRITE(v, values, values_len), values_len, \
             odht_write_uint8_t(found, found_len), found_len);) \
 \
-    /* OK: the key was new. REPLACED: *former is the former value. FULL, or an error, @HEADER@: \
-       nothing changes. */ \
     ODHT_CALL(uint32_t, S##_insert, \
         (uint8_t *bytes, size_t bytes_len, K##_GIVEN(k, key), V##_GIVEN(v, value), \
             V##_WANTED(v, former)), \
@@ -30,8 +25,6 @@
             odht_write_uint8_t(bytes, bytes_len), bytes_len, key, value, \
             former ? former : unwanted);) \
 \
-    /* OK or FULL: *accepted pairs are inserted. BAD_LENGTHS, or an error, @HEADER@: nothing \
-       changes. */ \
     ODHT_CALL(uint32_t, S##_insert_all, \
         (uint8_t *bytes, size_t bytes_len, const K##_ITEM(k) *keys, size_t keys_len, \
             const V##_ITEM(v) *values, size_t values_len, size_t *accepted), \
@@ -41,9 +34,6 @@
             keys_len, V##_READ(v, values, values_len), values_len, \
             accepted ? accepted : &unwanted);) \
 \
-    /* OK: the last *count pairs, from slot *cursor on. TOO_SMALL: the arrays are full, there are \
-       more, and *cursor is where to continue. BAD_LENGTHS, or an error, @HEADER@: nothing is \
-       written. */ \
     ODHT_CALL(uint32_t, S##_walk, \
         (const uint8_t *bytes, size_t bytes_len, size_t *cursor, K##_ITEM(k) *keys, \
             size_t keys_len, V##_ITEM(v) *values, size_t values_len, size_t *count), \
@@ -53,14 +43,11 @@
             K##_WRITE(k, keys, keys_len), keys_len, V##_WRITE(v, values, values_len), values_len, \
             count ? count : &unwanted);) \
 \
-    /* OK: *value is the value. ABSENT: it is unchanged. */ \
     ODHT_CALL(uint32_t, S##_view_get, \
         (const odht_view *view, K##_GIVEN(k, key), V##_WANTED(v, value)), \
         V##_UNWANTED(v) \
         return odht_symbol_##S##_view_get(view, key, value ? value : unwanted);) \
 \
-    /* OK: found[i] is 1 and values[i] the value, or found[i] is 0 and values[i] unchanged. \
-       BAD_LENGTHS: both arrays are unchanged. */ \
     ODHT_CALL(uint32_t, S##_view_get_all, \
         (const odht_view *view, const K##_ITEM(k) *keys, size_t keys_len, V##_ITEM(v) *values, \
             size_t values_len, uint8_t *found, size_t found_len), \
@@ -68,9 +55,6 @@
             view, K##_READ(k, keys, keys_len), keys_len, V##_WRITE(v, values, values_len), \
             values_len, odht_write_uint8_t(found, found_len), found_len);) \
 \
-    /* OK: the table is the first *len bytes of out. TOO_SMALL: out_len is below *len, the length \
-       of the table. CAPACITY, BAD_PERCENT, BAD_LENGTHS: *len is unchanged. With all but OK out is \
-       unchanged. */ \
     ODHT_CALL(uint32_t, S##_build, \
         (const K##_ITEM(k) *keys, size_t keys_len, const V##_ITEM(v) *values, size_t values_len, \
             uint8_t percent, uint8_t *out, size_t out_len, size_t *len), \
@@ -79,7 +63,6 @@
             K##_READ(k, keys, keys_len), keys_len, V##_READ(v, values, values_len), values_len, \
             percent, odht_write_uint8_t(out, out_len), out_len, len ? len : &unwanted);) \
 \
-    /* OK, TOO_SMALL and BAD_LENGTHS as of build. MEMORY: out and *len are unchanged. */ \
     ODHT_CALL(uint32_t, S##_build_growing, \
         (const K##_ITEM(k) *keys, size_t keys_len, const V##_ITEM(v) *values, size_t values_len, \
             uint8_t *out, size_t out_len, size_t *len), \

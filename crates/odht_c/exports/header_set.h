@@ -4,7 +4,6 @@
 #define ODHT_DECLARE_SET(S, K, k) \
     ODHT_TABLE_CALLS(S##_) \
 \
-    /* The symbols of the library, whose values have no bytes. */ \
     ODHT_SYMBOL(uint32_t, S##_get, \
         (const uint8_t *bytes, size_t bytes_len, K##_GIVEN(k, key), void *value)) \
     ODHT_SYMBOL(uint32_t, S##_get_all, \
@@ -29,15 +28,12 @@
         (const K##_ITEM(k) *keys, size_t keys_len, const void *values, size_t values_len, \
             uint8_t *out, size_t out_len, size_t *len)) \
 \
-    /* OK: the key is there. ABSENT, or an error, @HEADER@. */ \
     ODHT_FUNCTION(uint32_t, S##_contains, \
         (const uint8_t *bytes, size_t bytes_len, K##_GIVEN(k, key)), \
         uint8_t nothing = 0; \
         return odht_symbol_##S##_get( \
             odht_read_uint8_t(bytes, bytes_len), bytes_len, key, &nothing);) \
 \
-    /* OK: found[i] is 1 where keys[i] is there, else 0. BAD_LENGTHS, or an error, @HEADER@: found \
-       is unchanged. */ \
     ODHT_FUNCTION(uint32_t, S##_contains_all, \
         (const uint8_t *bytes, size_t bytes_len, const K##_ITEM(k) *keys, size_t keys_len, \
             uint8_t *found, size_t found_len), \
@@ -46,13 +42,11 @@
             odht_read_uint8_t(bytes, bytes_len), bytes_len, K##_READ(k, keys, keys_len), keys_len, \
             &nothing, keys_len, odht_write_uint8_t(found, found_len), found_len);) \
 \
-    /* OK: the key was new. REPLACED: it was there. FULL, or an error, @HEADER@: nothing changes. */ \
     ODHT_FUNCTION(uint32_t, S##_insert, (uint8_t *bytes, size_t bytes_len, K##_GIVEN(k, key)), \
         uint8_t nothing = 0; \
         return odht_symbol_##S##_insert( \
             odht_write_uint8_t(bytes, bytes_len), bytes_len, key, &nothing);) \
 \
-    /* OK or FULL: *accepted keys are inserted. An error, @HEADER@: nothing changes. */ \
     ODHT_FUNCTION(uint32_t, S##_insert_all, \
         (uint8_t *bytes, size_t bytes_len, const K##_ITEM(k) *keys, size_t keys_len, \
             size_t *accepted), \
@@ -62,8 +56,6 @@
             odht_write_uint8_t(bytes, bytes_len), bytes_len, K##_READ(k, keys, keys_len), \
             keys_len, &nothing, keys_len, accepted ? accepted : &unwanted);) \
 \
-    /* OK: the last *count keys, from slot *cursor on. TOO_SMALL: the array is full, there are \
-       more, and *cursor is where to continue. An error, @HEADER@: nothing is written. */ \
     ODHT_FUNCTION(uint32_t, S##_walk, \
         (const uint8_t *bytes, size_t bytes_len, size_t *cursor, K##_ITEM(k) *keys, \
             size_t keys_len, size_t *count), \
@@ -74,12 +66,10 @@
             K##_WRITE(k, keys, keys_len), keys_len, &nothing, keys_len, \
             count ? count : &unwanted);) \
 \
-    /* OK: the key is there. ABSENT. */ \
     ODHT_FUNCTION(uint32_t, S##_view_contains, (const odht_view *view, K##_GIVEN(k, key)), \
         uint8_t nothing = 0; \
         return odht_symbol_##S##_view_get(view, key, &nothing);) \
 \
-    /* OK: found[i] is 1 where keys[i] is there, else 0. BAD_LENGTHS: found is unchanged. */ \
     ODHT_FUNCTION(uint32_t, S##_view_contains_all, \
         (const odht_view *view, const K##_ITEM(k) *keys, size_t keys_len, uint8_t *found, \
             size_t found_len), \
@@ -88,8 +78,6 @@
             view, K##_READ(k, keys, keys_len), keys_len, &nothing, keys_len, \
             odht_write_uint8_t(found, found_len), found_len);) \
 \
-    /* OK: the set is the first *len bytes of out. TOO_SMALL: out_len is below *len, the length of \
-       the set. CAPACITY, BAD_PERCENT: *len is unchanged. With all but OK out is unchanged. */ \
     ODHT_FUNCTION(uint32_t, S##_build, \
         (const K##_ITEM(k) *keys, size_t keys_len, uint8_t percent, uint8_t *out, size_t out_len, \
             size_t *len), \
@@ -99,7 +87,6 @@
             K##_READ(k, keys, keys_len), keys_len, &nothing, keys_len, percent, \
             odht_write_uint8_t(out, out_len), out_len, len ? len : &unwanted);) \
 \
-    /* OK and TOO_SMALL as of build. MEMORY: out and *len are unchanged. */ \
     ODHT_FUNCTION(uint32_t, S##_build_growing, \
         (const K##_ITEM(k) *keys, size_t keys_len, uint8_t *out, size_t out_len, size_t *len), \
         const uint8_t nothing = 0; \
