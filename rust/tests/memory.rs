@@ -133,6 +133,33 @@ fn an_insert_that_cannot_grow_changes_nothing() {
     assert_eq!(granting(0, || table.try_insert(&14, &1)), (Ok(None), 0));
 }
 
+// The same by keys that are encoded already.
+#[test]
+fn an_encoded_insert_that_cannot_grow_changes_nothing() {
+    let mut table = full();
+    let before = table.raw_bytes().to_vec();
+    let [present, new, newer] = [12_u64, 13, 14].map(u64::to_le_bytes);
+    assert_eq!(granting(0, || table.try_insert_encoded(&new, &1)), (Err(Error::Memory), 1));
+    let made = granting(0, || table.try_get_or_insert_encoded_with(&new, || 1));
+    assert_eq!((made, table.raw_bytes()), ((Err(Error::Memory), 1), &before[..]));
+    assert_eq!(granting(0, || table.try_insert_encoded(&present, &1)), (Ok(Some(84)), 0));
+    assert_eq!(granting(1, || table.try_insert_encoded(&new, &1)), (Ok(None), 1));
+    assert_eq!((table.len(), table.get(&13)), (14, Some(1)));
+    assert_eq!(granting(0, || table.try_insert_encoded(&newer, &1)), (Ok(None), 0));
+}
+
+#[test]
+fn a_shrinking_that_is_refused_changes_nothing() {
+    let mut table = full();
+    table.reserve(1000);
+    let before = table.raw_bytes().to_vec();
+    assert_eq!(granting(0, || table.try_shrink_to_fit()), (Err(Error::Memory), 1));
+    assert_eq!(table.raw_bytes(), before);
+    assert_eq!(granting(1, || table.try_shrink_to_fit()), (Ok(()), 1));
+    assert_eq!((table.len(), table.raw_bytes().len()), (13, 256));
+    assert_eq!(granting(0, || table.try_shrink_to_fit()), (Ok(()), 0));
+}
+
 // Of lengths that are known at run time alone: the growth, a present key, and a copy.
 #[test]
 fn an_insert_of_run_time_lengths_that_cannot_grow_changes_nothing() {
@@ -253,6 +280,10 @@ fn the_other_calls_take_no_memory() {
         view.get_all(&[1, 2, 99], &mut values);
         assert_eq!((view.iter().count(), view.iter_from(0).count(), view.len()), (13, 13, 13));
         assert_eq!((view.into_iter().count(), view.keys().count(), view.capacity()), (13, 13, 13));
+        let (key, other) = (3_u64.to_le_bytes(), 99_u64.to_le_bytes());
+        assert_eq!((view.get_encoded(&key), table.get_encoded(&other)), (Some(21), None));
+        assert!(table.contains_encoded(&key) && view == table.as_view());
+        assert_eq!((view.into_keys().count(), view.into_values().count()), (13, 13));
         assert_eq!(view.grown_len(), Some(place.len()));
         view.grow_into(&mut place);
         assert_eq!(check_all::<U64ToU32>(&place), Ok(()));
@@ -277,7 +308,7 @@ fn the_other_calls_take_no_memory() {
 }
 
 // The plain calls, each in a process of its own, and the bytes of the request that is refused.
-const PLAIN: [(&str, usize, fn()); 12] = [
+const PLAIN: [(&str, usize, fn()); 14] = [
     ("with_capacity", 1712, || drop(granting(0, || Owned::with_capacity(100, 87)))),
     ("default", 256, || drop(granting(0, Owned::default))),
     ("new", 256, || drop(granting(0, Owned::new))),
@@ -303,6 +334,15 @@ const PLAIN: [(&str, usize, fn()); 12] = [
     ("get_or_insert_with", 464, || {
         let mut table = full();
         granting(0, || table.get_or_insert_with(&13, || 1));
+    }),
+    ("insert_encoded", 464, || {
+        let mut table = full();
+        granting(0, || table.insert_encoded(&[13; 8], &1));
+    }),
+    ("shrink_to_fit", 256, || {
+        let mut table = full();
+        table.reserve(1000);
+        granting(0, || table.shrink_to_fit());
     }),
     ("reserve", 464, || {
         let mut table = full();

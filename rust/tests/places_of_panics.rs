@@ -51,6 +51,7 @@ fn panics_are_told_where_the_caller_is() {
         bytes_needed::<U64ToU32>(usize::MAX, 87);
         full.insert(&13, &0);
         full.insert_all(&[(13, 0)]);
+        full.insert_encoded(&[13; 8], &0);
         view.get_all(&[1], &mut []);
         view.grow_into(&mut []);
         sized.grow_into(&mut []);
@@ -71,6 +72,6 @@ fn panics_are_told_where_the_caller_is() {
     table.insert(&1, &2);
     for (line, call, (file, panicked)) in found {
         assert!(file.ends_with("places_of_panics.rs"), "{call}: {file}:{panicked}");
-        assert!(panicked >= line && panicked < line + 28, "{call}: line {panicked}");
+        assert!(panicked >= line && panicked < line + 29, "{call}: line {panicked}");
     }
 }
