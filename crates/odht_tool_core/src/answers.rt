@@ -1,5 +1,5 @@
 //! The lines in which pairs and answers are printed.
-ghost use Rattle.std.specs.Prelude.{◌≡◌, IfOk, OnOk, is_some, length};
+ghost use Rattle.std.specs.Prelude.{◌≡◌, ◌<◌, IfOk, OnErr, OnOk, is_some, length};
 ghost use Rattle.std.specs.Io.KnownBytes.{Appends};
 ghost use Rattle.std.specs.List.{list_all};
 ghost use Rattle.odht_tool_core.specs.Texts.{answer_line, answers_text, pair_line};
@@ -37,7 +37,7 @@ pub fn write_pair_as<K: Text, V: Text, F: Forms, O: Write>(
 }
 
 /// Writes a line for each key: with its value, or the key alone where it has none; in the texts
-/// that their types have.
+/// that their types have. With no keys it writes nothing, and does not fail.
 #[inline]
 pub fn write_answers<K: Text, V: Text, O: Write>(
     keys: &[K],
@@ -45,8 +45,9 @@ pub fn write_answers<K: Text, V: Text, O: Write>(
     output: &mut O,
 ) -> io::Result<()>
     requires { length values.now ≡ length keys.now }
-    ensures { OnOk result (Appends (O.contents output.old) (O.contents output.new)
+    ensures written { OnOk result (Appends (O.contents output.old) (O.contents output.new)
         (answers_text (K.text Form.Own) (V.text Form.Own) keys.now values.now)) }
+    ensures asked { OnErr result (0 < length keys.now) }
 {
     write_answers_as(keys, values, OwnForms, output)
 }
@@ -59,8 +60,9 @@ pub fn write_answers_as<K: Text, V: Text, F: Forms, O: Write>(
     output: &mut O,
 ) -> io::Result<()>
     requires { length values.now ≡ length keys.now }
-    ensures { OnOk result (Appends (O.contents output.old) (O.contents output.new)
+    ensures written { OnOk result (Appends (O.contents output.old) (O.contents output.new)
         (answers_text (K.text (F.pair forms).0) (V.text (F.pair forms).1) keys.now values.now)) }
+    ensures asked { OnErr result (0 < length keys.now) }
 {
     for at in 0..keys.len() {
         write_answer(&keys[at], &values[at], forms, output)?;

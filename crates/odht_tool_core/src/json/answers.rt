@@ -1,5 +1,5 @@
 //! Keys that were looked up, and their values, as lines of text or as objects of JSON.
-ghost use Rattle.std.specs.Prelude.{◌≡◌, length, OnOk};
+ghost use Rattle.std.specs.Prelude.{◌≡◌, ◌<◌, length, OnErr, OnOk};
 ghost use Rattle.std.specs.Io.KnownBytes.{Appends};
 ghost use Rattle.odht_tool_core.specs.Json.{json_field, pair_fields_text, pair_object, text_field};
 ghost use Rattle.odht_tool_core.specs.JsonAnswers.{absent_object, answer_in, answer_object};
@@ -21,7 +21,7 @@ pub struct AnswerStyle<F: Forms> {
 }
 
 /// Writes a line for each key: with its value, or the key alone where it has none; or an object of
-/// both, in which such a value is null.
+/// both, in which such a value is null. With no keys it writes nothing, and does not fail.
 pub fn write_answers_in<K: Text, V: Text, F: Forms, O: Write>(
     keys: &[K],
     values: &[Option<V>],
@@ -29,9 +29,11 @@ pub fn write_answers_in<K: Text, V: Text, F: Forms, O: Write>(
     output: &mut O,
 ) -> io::Result<()>
     requires { length values.now ≡ length keys.now }
-    ensures { let f = K.text (F.pair style.forms).0 in let g = V.text (F.pair style.forms).1
+    ensures written { let f = K.text (F.pair style.forms).0
+        in let g = V.text (F.pair style.forms).1
         in OnOk result (Appends (O.contents output.old) (O.contents output.new)
         (answers_by (answer_in style.is_json f g) keys.now values.now)) }
+    ensures asked { OnErr result (0 < length keys.now) }
 {
     if style.is_json {
         write_objects(keys, values, style.forms, output)
@@ -48,9 +50,10 @@ fn write_objects<K: Text, V: Text, F: Forms, O: Write>(
     output: &mut O,
 ) -> io::Result<()>
     requires { length values.now ≡ length keys.now }
-    ensures { let f = K.text (F.pair forms).0 in let g = V.text (F.pair forms).1
+    ensures written { let f = K.text (F.pair forms).0 in let g = V.text (F.pair forms).1
         in OnOk result (Appends (O.contents output.old) (O.contents output.new)
         (answers_by (answer_object f g) keys.now values.now)) }
+    ensures asked { OnErr result (0 < length keys.now) }
 {
     for at in 0..keys.len() {
         write_object(&keys[at], &values[at], forms, output)?;

@@ -33,7 +33,7 @@ pub fn write_pair_as<K: Text, V: Text, F: Forms, O: Write>(
 }
 
 /// Writes a line for each key: with its value, or the key alone where it has none; in the texts
-/// that their types have.
+/// that their types have. With no keys it writes nothing, and does not fail.
 #[inline]
 pub fn write_answers<K: Text, V: Text, O: Write>(
     keys: &[K],

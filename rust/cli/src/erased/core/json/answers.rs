@@ -18,7 +18,7 @@ pub struct AnswerStyle<F: Forms> {
 }
 
 /// Writes a line for each key: with its value, or the key alone where it has none; or an object of
-/// both, in which such a value is null.
+/// both, in which such a value is null. With no keys it writes nothing, and does not fail.
 pub fn write_answers_in<K: Text, V: Text, F: Forms, O: Write>(
     keys: &[K],
     values: &[Option<V>],
