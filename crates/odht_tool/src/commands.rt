@@ -2,15 +2,12 @@
 use odht_tool_core::arguments::{Command, Keys, Reading, Request, parse};
 use odht_tool_core::failure::Failure;
 use odht_tool_core::files::read_file;
-use odht_tool_core::forms::Kinds;
 use odht_tool_core::front::table_at;
 use odht_tool_core::help::{write_help, write_version};
-use odht_tool_core::info::info_file;
 use odht_tool_core::inside::{first_inside, write_inside};
-use odht_tool_core::shapes::Hash;
 use odht_tool_core::status::{Status, of_output};
 use odht_tool_core::targets::Target;
-use odht_tool_reads::commands::{check, check_json, count, diff, dump, find, get, keys, order};
+use odht_tool_reads::commands::diff;
 use odht_tool_reads::positions;
 use odht_tool_tables::files::{finish, finish_as, read_bytes};
 use odht_tool_writes::commands::{build, delete, merge, rebuild};
@@ -19,6 +16,10 @@ use std::io::{BufRead, IsTerminal, Write};
 use std::os::fd::AsFd;
 use std::os::unix::fs::FileExt;
 use std::rt::{Clock, Files};
+
+mod readings;
+
+use readings::run_reading;
 
 /// Does what the words ask for. Each failure is reported by a line on `errors`; where that cannot
 /// be written either, the status alone reports it. Where nobody reads `output` any more, nothing
@@ -223,8 +224,20 @@ where
             is_json,
             keys: Keys::Words(words),
         } => {
-            let words = words.as_slice();
-            positions::get_words(rt, file, at, *hash, *kinds, *is_json, words, output)
+            let Some((source, len)) = positions::open_regular(rt, file) else {
+                return Ok(None);
+            };
+            positions::get_words_at(
+                rt.alloc(),
+                source,
+                len,
+                at,
+                *hash,
+                *kinds,
+                *is_json,
+                words.as_slice(),
+                output,
+            )
         }
         _ => Ok(None),
     }
@@ -252,144 +265,5 @@ fn with_hint<O: Write, E: Write>(
     let status = finish(file, done, errors);
     // A hint that cannot be written is no failure.
     let _ = write_inside(file, offset.saturating_add(inside), errors);
-    Ok(status)
-}
-
-// Runs a command that reads its file alone, which has these bytes, from `at` on where that is
-// told, and may be the only one.
-fn run_reading<I: BufRead, O: Write, E: Write>(
-    alloc: Global,
-    file: &str,
-    is_one: bool,
-    at: Option<usize>,
-    bytes: &[u8],
-    reading: &Reading,
-    input: &mut I,
-    output: &mut O,
-    errors: &mut E,
-) -> Result<Status, Failure> {
-    match reading {
-        Reading::Info { bound, is_json } => {
-            info_file(alloc, file, is_one, at, bytes, *bound, *is_json, output)
-        }
-        Reading::Check {
-            hash,
-            bound,
-            is_json,
-        } => check_one(alloc, file, bytes, *hash, *bound, *is_json, output, errors),
-        Reading::Count { hash, bound } => {
-            let name = if is_one { None } else { Some(file) };
-            count_one(alloc, name, bytes, *hash, *bound, output)
-        }
-        Reading::Get {
-            hash,
-            kinds,
-            keys: Keys::Words(words),
-            is_json,
-        } => {
-            let words = words.as_slice();
-            get::get_file_words(alloc, bytes, *hash, *kinds, *is_json, words, output)
-        }
-        Reading::Get {
-            hash,
-            kinds,
-            keys: Keys::Lines,
-            is_json,
-        } => get::get_file_lines(alloc, bytes, *hash, *kinds, *is_json, input, output),
-        Reading::Find { bound, is_json } => {
-            find_in(alloc, file, bytes, *bound, *is_json, output, errors)
-        }
-        Reading::Dump {
-            hash,
-            kinds,
-            is_slots,
-            is_json,
-        } => dump::dump_file(bytes, *hash, *kinds, *is_slots, *is_json, output),
-        Reading::Keys { hash, kinds } => keys::keys_file(bytes, *hash, *kinds, output),
-        Reading::Order { hash, kinds, bound } => {
-            order_in(alloc, file, bytes, *hash, *kinds, *bound, output, errors)
-        }
-    }
-}
-
-// Checks a file. Where another hash function fits, a line on `errors` names it, behind that of the
-// check.
-fn check_one<O: Write, E: Write>(
-    alloc: Global,
-    file: &str,
-    bytes: &[u8],
-    hash: Option<Hash>,
-    bound: Option<usize>,
-    is_json: bool,
-    output: &mut O,
-    errors: &mut E,
-) -> Result<Status, Failure> {
-    let status = if is_json {
-        check_json::check_file(alloc, file, bytes, hash, bound, output)?
-    } else {
-        check::check_file(file, bytes, hash, bound, output)?
-    };
-    if !status.is_done()
-        && let Some(other) = check::hint_of(bytes, hash)
-    {
-        output.flush().map_err(Failure::Output)?;
-        // A hint that cannot be written is no failure.
-        let _ = check::write_hint(file, other, errors);
-    }
-    Ok(status)
-}
-
-// Counts the items of a file, with its name where there are more files.
-fn count_one<O: Write>(
-    alloc: Global,
-    name: Option<&str>,
-    bytes: &[u8],
-    hash: Option<Hash>,
-    bound: Option<usize>,
-    output: &mut O,
-) -> Result<Status, Failure> {
-    let Some(file) = name else {
-        return count::count_file("", bytes, hash, bound, output);
-    };
-    let label = format!(in alloc; "{file}\t")?;
-    count::count_file(label.as_str(), bytes, hash, bound, output)
-}
-
-// Finds the tables in a file. Where there is none, a line on `errors` says so.
-fn find_in<O: Write, E: Write>(
-    alloc: Global,
-    file: &str,
-    bytes: &[u8],
-    bound: Option<usize>,
-    is_json: bool,
-    output: &mut O,
-    errors: &mut E,
-) -> Result<Status, Failure> {
-    let status = find::find_file(alloc, file, bytes, bound, is_json, output)?;
-    if !status.is_done() {
-        output.flush().map_err(Failure::Output)?;
-        // A line that cannot be written is no failure.
-        let _ = find::write_none(file, errors);
-    }
-    Ok(status)
-}
-
-// Writes the pairs of a file in an order of inserts. Where no inserts make the table, a line on
-// `errors` says so.
-fn order_in<O: Write, E: Write>(
-    alloc: Global,
-    file: &str,
-    bytes: &[u8],
-    hash: Option<Hash>,
-    kinds: Kinds,
-    bound: Option<usize>,
-    output: &mut O,
-    errors: &mut E,
-) -> Result<Status, Failure> {
-    let status = order::order_file(alloc, bytes, hash, kinds, bound, output)?;
-    if !status.is_done() {
-        // A line that cannot be written is no failure.
-        let _ = order::write_unmade(file, errors);
-    }
     Ok(status)
 }

@@ -29,44 +29,14 @@ mod source;
 
 use names::found_name;
 use shaped::words_of;
-use source::FileSource;
+pub use source::FileSource;
 
-/// `odht get` of a file, for the words of the command line. None where it is not read by position:
-/// it is no regular file, or a read failed, or its bytes are not opened, or too many of them would
-/// be read to know the hash function. Nothing was written then, and reading all bytes has the
-/// answer.
-pub fn get_words<R: Files + AllocGlobal, O: Write>(
-    rt: &R,
-    file: &str,
-    offset: Option<usize>,
-    hash: Option<Hash>,
-    kinds: Kinds,
-    is_json: bool,
-    words: &[String],
-    output: &mut O,
-) -> Result<Option<Status>, Failure>
+/// A regular file as a source of bytes, and its length. None for any other file, for standard
+/// input, and where the file cannot be opened.
+pub fn open_regular<R: Files>(rt: &R, file: &str) -> Option<(FileSource<R::File>, usize)>
 where
     R::File: FileExt,
 {
-    let Some((file, len)) = open_regular(rt, file) else {
-        return Ok(None);
-    };
-    let source = FileSource::new(file);
-    get_words_at(
-        rt.alloc(),
-        source,
-        len,
-        offset,
-        hash,
-        kinds,
-        is_json,
-        words,
-        output,
-    )
-}
-
-// A regular file, and its length.
-fn open_regular<R: Files>(rt: &R, file: &str) -> Option<(R::File, usize)> {
     // To open a pipe would wait for its writer.
     if is_stream(file) || !fs::metadata(rt, file).ok()?.is_file() {
         return None;
@@ -77,7 +47,7 @@ fn open_regular<R: Files>(rt: &R, file: &str) -> Option<(R::File, usize)> {
         return None;
     }
     let len = usize::try_from(found.len()).ok()?;
-    Some((file, len))
+    Some((FileSource::new(file), len))
 }
 
 /// The header of a table, and where its bytes are in a source.
@@ -130,8 +100,15 @@ fn front_len(header: &[u8], found: usize) -> Option<usize>
     }
 }
 
-// The same of a source of so many bytes, the table at the offset, or all of them.
-fn get_words_at<S: ReadAt + Drop, O: Write>(
+/// `odht get` of a source of so many bytes, for the words of the command line: of the table at the
+/// offset, or of all bytes. None where the source is not read by position: a read failed, or its
+/// bytes are not opened, or too many of them would be read to know the hash function. Nothing was
+/// written then, and reading all bytes gives the answer.
+///
+/// Over any source, for any list of bytes that it gives in each read: what is written is what
+/// [`get_file_words`](crate::commands::get::get_file_words) writes of the table in this list, with
+/// the hash function that the first slots leave where none is named.
+pub fn get_words_at<S: ReadAt + Drop, O: Write>(
     alloc: Global,
     source: S,
     len: usize,

@@ -5,9 +5,11 @@ use odht::read_at::{ReadAt, ReadError};
 use std::io::ErrorKind;
 use std::os::unix::fs::FileExt;
 
-/// An open file. Nothing is known of the bytes that its reads give.
+/// An open file.
+// std states of its reads how many bytes they give, and not which: so no list of bytes is known to
+// be given.
 #[derive(Drop)]
-pub(super) struct FileSource<F: FileExt + Drop> {
+pub struct FileSource<F: FileExt + Drop> {
     file: F,
 }
 

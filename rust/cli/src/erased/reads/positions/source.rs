@@ -6,8 +6,10 @@ use crate::proved::tables::read_at::{ReadAt, ReadError};
 use std::io::ErrorKind;
 use std::os::unix::fs::FileExt;
 
-/// An open file. Nothing is known of the bytes that its reads give.
-pub(super) struct FileSource<F: FileExt> {
+/// An open file.
+// std states of its reads how many bytes they give, and not which: so no list of bytes is known to
+// be given.
+pub struct FileSource<F: FileExt> {
     file: F,
 }
 
