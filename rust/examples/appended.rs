@@ -5,7 +5,7 @@
 
 use odht::{HashTable, HashTableOwned};
 
-odht::config! { Offsets: [u8; 8] => u32, by Fx }
+odht::config! { Offsets: [u8; 8] => u32, by Xxh64 }
 
 type View<'b> = HashTable<Offsets, &'b [u8]>;
 

@@ -21,7 +21,7 @@ impl<const N: usize> ByteArray for [u8; N] {}
 /// [`configs`](crate::configs) has some that are ready.
 ///
 /// ```
-/// use odht::{Config, FxHashFn, HashTableOwned};
+/// use odht::{Config, HashTableOwned, Xxh64HashFn};
 ///
 /// /// From points to their colours.
 /// struct Colours;
@@ -31,7 +31,7 @@ impl<const N: usize> ByteArray for [u8; N] {}
 ///     type Value = [u8; 3];
 ///     type EncodedKey = [u8; 4];
 ///     type EncodedValue = [u8; 3];
-///     type H = FxHashFn;
+///     type H = Xxh64HashFn;
 ///
 ///     fn encode_key(&(x, y): &(u16, u16)) -> [u8; 4] {
 ///         (u32::from(x) << 16 | u32::from(y)).to_le_bytes()
@@ -81,7 +81,8 @@ pub trait Config {
     fn decode_value(v: &Self::EncodedValue) -> Self::Value;
 }
 
-/// A hash function of encoded keys: [`FxHashFn`](crate::FxHashFn), [`UnHashFn`](crate::UnHashFn), or one of your own.
+/// A hash function of encoded keys: [`FxHashFn`](crate::FxHashFn), [`UnHashFn`](crate::UnHashFn),
+/// [`Xxh64HashFn`](crate::Xxh64HashFn), or one of your own. [`config!`](crate::config!) lists which one fits which keys.
 ///
 /// The seven highest bits of a hash are the slot's tag, and its lowest bits say where the search begins; so all of them
 /// should vary.
@@ -132,6 +133,13 @@ impl HashFn for hash::UnHashFn {
     }
 }
 
+impl HashFn for hash::Xxh64HashFn {
+    #[inline(always)]
+    fn hash(bytes: &[u8]) -> u32 {
+        <Self as hash::HashFn>::hash(bytes)
+    }
+}
+
 /// A hash function, as the proved library takes it.
 #[derive(PartialEq, Eq)]
 pub struct Hash<H>(PhantomData<H>);
@@ -142,7 +150,7 @@ impl<H: HashFn> hash::HashFn for Hash<H> {
     // What a dump writes is `hash_name`.
     const NAME: &'static str = "";
 
-    // The path of a type as its users write it: both hash functions of the crate are declared in a private module.
+    // The path of a type as its users write it: the hash functions of the crate are declared in private modules.
     fn hash_name() -> &'static str {
         let name = std::any::type_name::<H>();
         if name == std::any::type_name::<hash::FxHashFn>() {
@@ -150,6 +158,9 @@ impl<H: HashFn> hash::HashFn for Hash<H> {
         }
         if name == std::any::type_name::<hash::UnHashFn>() {
             return "odht::UnHashFn";
+        }
+        if name == std::any::type_name::<hash::Xxh64HashFn>() {
+            return "odht::Xxh64HashFn";
         }
         name
     }

@@ -1,5 +1,6 @@
 //! Ready configurations: from numbers and hashes to numbers, hashes or nothing. Numbers are stored little-endian. Keys
-//! that are hashed by [`UnHashFn`] are hashes already: their last four bytes are the hash, and should vary.
+//! that are hashed by [`UnHashFn`] are hashes already: their last four bytes are the hash, and should vary. For text,
+//! tuples, floats and other keys write one line with [`config!`](crate::config!), `by Xxh64`.
 //!
 //! They are those of the proved library, where it is proved that their decodings undo their encodings.
 //!

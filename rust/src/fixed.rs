@@ -157,16 +157,30 @@ tuples! {
 /// types that are [`Fixed`](crate::Fixed): numbers, arrays and tuples of them, and structs by
 /// [`fields!`](crate::fields!). An encoded key or value has at most 255 bytes.
 ///
-/// `by Fx` hashes keys; `by UnHash` takes the last four bytes of a key as its hash, for keys that are hashes already.
-/// `by FxHashFn` and `by UnHashFn`, the names of these types, mean the same. A [`HashFn`](crate::HashFn) of your own
-/// stands there by its path; one that has such a name by `self::FxHashFn`.
+/// The hash function has to fit the keys. One that does not gives many keys the same hash, and searches become a
+/// hundred times longer:
+///
+/// | keys | hash function |
+/// |---|---|
+/// | numbers that count up | `by Fx` |
+/// | addresses and offsets | `by Fx`, shifted right by the bits that are always zero |
+/// | hashes already, evenly spread in their last four bytes | `by UnHash` |
+/// | text, tuples, floats, big-endian numbers | `by Xxh64` |
+/// | anything else, or if you do not know | `by Xxh64` |
+///
+/// - [`FxHashFn`](crate::FxHashFn) uses the low 32 bits of each eight bytes of a key. Keys that differ only in the high
+///   32 bits have few different hashes.
+/// - [`UnHashFn`](crate::UnHashFn) takes the last four bytes of a key as its hash.
+/// - [`Xxh64HashFn`](crate::Xxh64HashFn) uses all bits. It is the low half of XXH64, which other languages have too.
+/// - `by FxHashFn`, `by UnHashFn` and `by Xxh64HashFn`, the names of these types, mean the same.
+/// - A [`HashFn`](crate::HashFn) of your own stands there by its path; one that has such a name by `self::FxHashFn`.
 ///
 /// ```
-/// odht::config! { Names: [u8; 32] => u64, by Fx }
+/// odht::config! { Names: [u8; 32] => u64, by Xxh64 }
 ///
 /// odht::config! {
 ///     /// From a place in a file to the line and the column of its source.
-///     pub Lines: (u32, u64) => (u32, u16), by Fx;
+///     pub Lines: (u32, u64) => (u32, u16), by Xxh64;
 ///
 ///     /// From the hash of a name to where its text begins and ends.
 ///     pub Texts: u128 => [u64; 2], by UnHash;
@@ -181,7 +195,7 @@ tuples! {
 /// be longer goes by its hash, as in the example `names`.
 ///
 /// ```
-/// odht::config! { Names: [u8; 16] => u64, by Fx }
+/// odht::config! { Names: [u8; 16] => u64, by Xxh64 }
 ///
 /// fn name(text: &str) -> Option<[u8; 16]> {
 ///     let mut bytes = [0; 16];
@@ -245,5 +259,7 @@ macro_rules! __hash_function {
     (FxHashFn) => { $crate::FxHashFn };
     (UnHash) => { $crate::UnHashFn };
     (UnHashFn) => { $crate::UnHashFn };
+    (Xxh64) => { $crate::Xxh64HashFn };
+    (Xxh64HashFn) => { $crate::Xxh64HashFn };
     ($($other:ident)::+) => { $($other)::+ };
 }

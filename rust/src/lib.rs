@@ -56,7 +56,7 @@ pub use config::{ByteArray, Config, HashFn};
 pub use fixed::Fixed;
 pub use iter::{IntoIter, IntoKeys, IntoValues, Iter, Keys, Slots, Values};
 pub use owned::HashTableOwned;
-pub use proved::base::hash::{FxHashFn, UnHashFn};
+pub use proved::base::hash::{FxHashFn, UnHashFn, Xxh64HashFn};
 pub use proved::header::error::{Error, Part};
 pub use proved::raw::memory_layout::DEFAULT_GROUPS;
 pub use sizes::{bytes_needed, check_all, check_all_within, table_len, try_bytes_needed};

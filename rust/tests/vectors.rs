@@ -9,12 +9,12 @@ use common::configs::Plain;
 use odht::dynamic::{DynTable, FileTable, Layout};
 use odht::{
     check_all_within, try_bytes_needed, Error, FxHashFn, HashFn, HashTable, HashTableOwned,
-    UnHashFn,
+    UnHashFn, Xxh64HashFn,
 };
 use vector_files::{array, run_all, written, Answer, Case};
 
-// How many of the vectors are of these calls; the other 121 of all 7,952 are run inside the crate.
-const PUBLIC_CASES: usize = 7831;
+// How many of the vectors are of these calls; the other 121 of all 8,216 are run inside the crate.
+const PUBLIC_CASES: usize = 8095;
 
 type Owned<const K: usize, const V: usize, H> = HashTableOwned<Plain<K, V, H>>;
 type View<const K: usize, const V: usize, H> = HashTable<Plain<K, V, H>, Vec<u8>>;
@@ -212,6 +212,7 @@ fn run(case: &Case<'_>) -> bool {
         "u64_u32 8 4 FxHashFn" => run_in::<8, 4, FxHashFn>(case),
         "u8_none 1 0 FxHashFn" => run_in::<1, 0, FxHashFn>(case),
         "none_none 0 0 FxHashFn" => run_in::<0, 0, FxHashFn>(case),
+        "b16_u32_xxh64 16 4 Xxh64HashFn" => run_in::<16, 4, Xxh64HashFn>(case),
         "" => false,
         other => panic!("{other} is no configuration of this test"),
     }

@@ -2,7 +2,7 @@
 
 use super::probes::group_starts;
 use super::vector_files::{run_all, written, Answer, Case};
-use crate::proved::base::hash::{FxHashFn, HashFn, UnHashFn};
+use crate::proved::base::hash::{FxHashFn, HashFn, UnHashFn, Xxh64HashFn};
 use crate::proved::base::load::{max_item_count_for, slots_needed, Factor};
 use crate::proved::base::swisstable_group_query::{lanes, no_simd, Group};
 use crate::proved::header::config::Config;
@@ -12,7 +12,7 @@ use crate::proved::raw::raw_table::{plain_insert, probe_order, Entries, RawTable
 use crate::shim::Global;
 use std::marker::PhantomData;
 
-// How many of the 7,952 vectors are of these calls.
+// How many of the 8,216 vectors are of these calls.
 const PRIVATE_CASES: usize = 121;
 
 // The proved library's configuration of keys and values that are bytes already.
@@ -154,6 +154,7 @@ fn run(case: &Case<'_>) -> bool {
         "u64_u32 8 4 FxHashFn" => return run_in::<8, 4, FxHashFn>(case),
         "u8_none 1 0 FxHashFn" => return run_in::<1, 0, FxHashFn>(case),
         "none_none 0 0 FxHashFn" => return run_in::<0, 0, FxHashFn>(case),
+        "b16_u32_xxh64 16 4 Xxh64HashFn" => return run_in::<16, 4, Xxh64HashFn>(case),
         other => panic!("{other} is no configuration of this test"),
     }
     true
