@@ -1,9 +1,15 @@
 //! How long searches are in tables of random keys: the longest of a table, by homes, in groups of sixteen control
-//! bytes. It prints the most of several tables of each size and load factor, as docs/FORMAT.md has it.
+//! bytes. It prints the most of several tables of each size and load factor, as docs/FORMAT.md has it. Then it compares
+//! tables by XXH64, of keys as programs have them, with tables of random keys.
 
 #[path = "../rust/tests/common/random.rs"]
 #[allow(dead_code)]
 mod random;
+
+#[path = "../rust/tests/common/families.rs"]
+mod families;
+#[path = "../rust/tests/common/searches.rs"]
+mod searches;
 
 use odht::configs::U64ToU32;
 use odht::{HashTable, HashTableOwned, DEFAULT_GROUPS};
@@ -49,6 +55,21 @@ fn measured(table: &HashTableOwned<U64ToU32>, slots: usize) -> usize {
     groups
 }
 
+/// Compares each family of keys with random keys, up to so many slots, and prints for each number of slots the largest
+/// share of the mean.
+fn compare_families(most: u64) {
+    println!("\n| slots | groups of a present key by XXH64, of random keys, at most |\n|---|---|");
+    for bound in searches::bounds().iter().filter(|bound| bound.slots <= most) {
+        let shares = families::families().into_iter().map(|family| {
+            let (mean, is_within) = searches::measured(&family, bound);
+            assert!(is_within, "{}, {} slots: over {} groups", family.name, bound.slots, bound.most);
+            assert!(mean <= 1.05 * bound.mean, "{}, {} slots: {mean}", family.name, bound.slots);
+            mean / bound.mean
+        });
+        println!("| {} | {:.3} |", bound.slots, shares.fold(0.0, f64::max));
+    }
+}
+
 fn main() {
     let most = std::env::args().nth(1).and_then(|word| word.parse().ok()).unwrap_or(usize::MAX);
     println!("| slots | 50 percent | 87 percent | 95 percent |\n|---|---|---|---|");
@@ -65,4 +86,5 @@ fn main() {
         });
         println!("| 2^{power} | {} |", columns.join(" | "));
     }
+    compare_families(most as u64);
 }

@@ -4,10 +4,12 @@
 
 pub mod configs;
 pub mod dynamic;
+pub mod families;
 pub mod frame;
 pub mod orders;
 pub mod outcomes;
 pub mod random;
 pub mod reading;
+pub mod searches;
 pub mod worked;
 pub mod writing;
