@@ -272,11 +272,63 @@ static void lists_of_rejected_bytes_write_nothing(void)
     EQUAL(number[1], 5);
 }
 
+/* Keys and values that have no bytes: all pairs are one, however many the caller names. */
+static void pairs_without_bytes_are_one(void)
+{
+    static const size_t counts[] = { 0, 1, 2, (size_t)1 << 62, SIZE_MAX };
+    static const odht_layout nothing = { 0, 0, ODHT_HASH_FX };
+    static const struct shape shape = { 0, 0, FX };
+    const uint8_t *none = bytes_of(0);
+    size_t len = image_len(shape, SLOTS);
+
+    for (size_t at = 0; at < sizeof counts / sizeof counts[0]; at++) {
+        uint8_t *bytes = empty_table(nothing, len);
+        uint8_t *expected = bytes_of(len);
+        uint8_t *out = bytes_of(len + 1);
+        size_t *number = SIZES(9, 9);
+
+        in_case("counts", at);
+        place_nothing(expected, shape, SLOTS, factor_of_percent(PERCENT));
+        if (counts[at] > 0)
+            place_pair(expected, len, shape, none, none);
+        STATUS(odht_any_insert_all(&nothing, bytes, len, counts[at], none, 0, none, 0, &number[0]), ODHT_OK);
+        EQUAL(number[0], counts[at]);
+        SAME_BYTES(bytes, expected, len);
+        place_nothing(expected, shape, SLOTS, factor_of_percent(87));
+        if (counts[at] > 0)
+            place_pair(expected, len, shape, none, none);
+        STATUS(odht_any_build_growing(&nothing, counts[at], none, 0, none, 0, out, len + 1, &number[1]), ODHT_OK);
+        EQUAL(number[1], len);
+        SAME_BYTES(out, expected, len);
+        ALL_BYTES(out + len, 1, FILL);
+    }
+}
+
+/* At 1 percent sixteen slots take no item. */
+static void a_pair_without_bytes_is_rejected_by_a_full_table(void)
+{
+    static const odht_layout nothing = { 0, 0, ODHT_HASH_FX };
+    static const struct shape shape = { 0, 0, FX };
+    const uint8_t *none = bytes_of(0);
+    size_t len = image_len(shape, SLOTS);
+    uint8_t *bytes = bytes_of(len);
+    uint8_t *same = bytes_of(len);
+    size_t *accepted = SIZES(9);
+
+    place_nothing(bytes, shape, SLOTS, factor_of_percent(1));
+    place_nothing(same, shape, SLOTS, factor_of_percent(1));
+    STATUS(odht_any_insert_all(&nothing, bytes, len, (size_t)1 << 62, none, 0, none, 0, accepted), ODHT_FULL);
+    EQUAL(*accepted, 0);
+    SAME_BYTES(bytes, same, len);
+}
+
 const struct test any_list_tests[] = {
     TEST(lists_are_those_of_a_second_writing),
     TEST(lists_are_those_of_the_shapes),
     TEST(a_list_stops_where_the_table_is_full),
     TEST(lists_of_other_lengths_are_rejected),
     TEST(lists_of_rejected_bytes_write_nothing),
+    TEST(pairs_without_bytes_are_one),
+    TEST(a_pair_without_bytes_is_rejected_by_a_full_table),
     END_OF_TESTS
 };

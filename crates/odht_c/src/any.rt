@@ -307,7 +307,9 @@ pub extern "C" fn odht_any_insert(
 /// Inserts `count` pairs, whose keys and values lie one after the other, in order: status 0, or
 /// `FULL` at the first that does not fit; and writes to `accepted` how many were inserted.
 /// `BAD_LENGTHS` where `keys` or `values` have another length than so many of them, or an error of
-/// the header or length; then nothing changes. A view of the bytes remains usable in any case.
+/// the header or length; then nothing changes. A view of the bytes remains usable in any case. One
+/// insert for each pair; of pairs whose keys and values have no bytes only the first is inserted,
+/// as all are equal.
 #[unsafe(no_mangle)]
 pub extern "C" fn odht_any_insert_all(
     layout: &AnyLayout,
@@ -382,7 +384,8 @@ pub extern "C" fn odht_any_build(
 /// last value counts. `TOO_SMALL` where `out` is shorter than the table: then only `len` is
 /// written. `BAD_LENGTHS` where `keys` or `values` have another length than so many of them,
 /// `MEMORY` when an allocation fails or no table is large enough; then nothing is written. After
-/// the table `out` is unchanged. One insert for each pair, the growths, and one copy of the table.
+/// the table `out` is unchanged. One insert for each pair, the growths, and one copy of the table;
+/// of pairs whose keys and values have no bytes only the first is inserted, as all are equal.
 #[unsafe(no_mangle)]
 pub extern "C" fn odht_any_build_growing(
     alloc: Global,

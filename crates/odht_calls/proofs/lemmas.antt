@@ -32,6 +32,8 @@ pub mod Grown
 pub mod Layouts
 -- keys and values that lie one after the other
 pub mod Pieces
+-- pairs of them that have no bytes
+pub mod EqualPairs
 -- lists of them: lookups, inserts and walks
 pub mod AnyLists
 -- tables of bytes that grow while they are built

@@ -13,7 +13,7 @@ ghost use Rattle.odht_calls.specs.Pieces.{PiecesBuildGrowingAnswers, SizedBuildG
 ghost use Rattle.odht_calls.specs.Pieces.{AnyBuildGrowingAnswers};
 
 use super::lists::insert_pieces;
-use super::pieces::{are_pieces, piece};
+use super::pieces::{are_pieces, deciding_pairs, piece};
 use super::write::init_by;
 use super::{AnyLayout, by_hash};
 use crate::build::hand_out;
@@ -152,7 +152,8 @@ fn grow_pieces<H: HashFn>(
         Ok(table) => table,
         Err(_refused) => return MEMORY,
     };
-    for index in 0..count {
+    let deciding = deciding_pairs(layout, count);
+    for index in 0..deciding {
         let key = piece(keys, layout.key_len, index);
         let value = piece(values, layout.value_len, index);
         if let Err(_refused) = table.insert(key, value) {

@@ -8,7 +8,7 @@ ghost use Rattle.odht_calls.specs.Pieces.{AnyGetAllAnswers};
 ghost use Rattle.odht_calls.specs.Pieces.{PiecesInsertAllAnswers, SizedInsertAllAnswers};
 ghost use Rattle.odht_calls.specs.Pieces.{AnyInsertAllAnswers};
 
-use super::pieces::{are_pieces, piece};
+use super::pieces::{are_pieces, deciding_pairs, piece};
 use super::read::view;
 use super::view::look_up;
 use super::{AnyLayout, by_hash};
@@ -92,7 +92,8 @@ pub(crate) fn insert_pieces<H: HashFn>(
     if let Err(refused) = view::<H>(layout, bytes) {
         return status_of(&refused);
     }
-    for index in 0..count {
+    let deciding = deciding_pairs(layout, count);
+    for index in 0..deciding {
         let key = piece(keys, layout.key_len, index);
         let value = piece(values, layout.value_len, index);
         if let Err(refused) = insert_sized::<H>(bytes, layout, key, value) {

@@ -1,5 +1,6 @@
 //! Keys, or values, that lie one after the other in bytes.
-ghost use Rattle.std.specs.Prelude.{◌≡◌, ◌≤◌, ◌<◌, ◌+◌, ◌*◌, ◌↔◌, ℕ, IsTrue, Some, length, set};
+ghost use Rattle.std.specs.Prelude.{◌≡◌, ◌≤◌, ◌<◌, ◌+◌, ◌*◌, ◌↔◌, ◌⊎◌, ℕ, IsTrue, Some, length};
+ghost use Rattle.std.specs.Prelude.{set};
 ghost use Rattle.std.specs.Prelude.{slice_get, IfSome};
 ghost use Rattle.std.specs.Option.{option_copied};
 ghost use Rattle.odht_calls.specs.Lookups.{flag_of, with_found};
@@ -23,6 +24,19 @@ fn has_pieces(bytes: &[u8], len: u8, count: usize) -> bool
         Some(all) => found == all,
         None => false,
     }
+}
+
+// How many of the first of `count` pairs decide what all of them leave. Where neither keys nor
+// values have bytes all pairs are equal, and no bytes bound the count, so the first decides.
+pub(crate) fn deciding_pairs(layout: Layout, count: usize) -> usize
+    ensures most { result ≤ count }
+    ensures cut { (result ≡ count)
+        ⊎ ((layout.key_len ≡ 0) × (layout.value_len ≡ 0) × (result ≡ 1)) }
+{
+    if layout.key_len == 0 && layout.value_len == 0 && count > 1 {
+        return 1;
+    }
+    count
 }
 
 // Piece `index` of bytes that have it.

@@ -1,4 +1,4 @@
-use Rattle.std.proofs.Common.{◌≡◌, ◌∙◌, ℕ, List, sym, ap, subst, refl, arith, length, take, Some, Err, Result, slice_get}
+use Rattle.std.proofs.Common.{◌≡◌, ◌<◌, ◌∙◌, ℕ, List, sym, ap, subst, refl, arith, length, take, Some, Err, Result, slice_get}
 use Rattle.std.specs.List.{zip}
 use Rattle.std.proofs.lemmas.List.{take_all}
 use Rattle.std.proofs.lemmas.Slice.Zip.{length-zip}
@@ -10,6 +10,7 @@ use Rattle.odht.specs.Dynamic.{DynStore}
 use Rattle.odht.proofs.lemmas.DynLists.{take_next}
 use Rattle.odht_calls.specs.Builds.{IsGrownAfterInserts, IsHandedOut}
 use Rattle.odht_calls.specs.Pieces.{pieces}
+use Rattle.odht_calls.proofs.lemmas.EqualPairs.{decided_grown}
 use Rattle.odht_calls.proofs.lemmas.GrownBuilds.{none_grown, one_more_grown}
 use Rattle.odht_calls.proofs.lemmas.HandedOut.{refused_growing, handed_growing}
 use Rattle.odht_calls.proofs.lemmas.Pieces.{ends_within, length-pieces, zip_at}
@@ -40,11 +41,11 @@ loop-index-init g c =
 
 pub piece-key-requires : goal.piece-key-requires
 piece-key-requires g c =
-    ends_within c.loop-index.index c.args.count c.args.layout.key_len (length c.args.keys.now) c.loop-index-test.true c.requires.arrays.keys
+    ends_within c.loop-index.index c.args.count c.args.layout.key_len (length c.args.keys.now) (omega (arith, c.loop-index-test.true, c.deciding_pairs.ensures.most)) c.requires.arrays.keys
 
 pub piece-value-requires : goal.piece-value-requires
 piece-value-requires g c =
-    ends_within c.loop-index.index c.args.count c.args.layout.value_len (length c.args.values.now) c.loop-index-test.true c.requires.arrays.values
+    ends_within c.loop-index.index c.args.count c.args.layout.value_len (length c.args.values.now) (omega (arith, c.loop-index-test.true, c.deciding_pairs.ensures.most)) c.requires.arrays.values
 
 pub returns-in-Err-insert : goal.returns-in-Err-insert
 returns-in-Err-insert g c =
@@ -62,7 +63,7 @@ loop-index-preserved g c =
     let keys = pieces kl n c.args.keys.now in
     let values = pieces vl n c.args.values.now in
     let was = c.loop-index.invariant in
-    let low = c.loop-index-test.true in
+    let low : i < n = omega (arith, c.loop-index-test.true, c.deciding_pairs.ensures.most) in
     let here : slice_get (zip keys values) i ≡ Some (k, v) = zip_at keys values i k v (c.piece-key.ensures.value n low) (c.piece-value.ensures.value n low) in
     let one = c.in_default.ensures.inserted (c.piece-key.ensures.len ∙ sym was.key_len) (c.piece-value.ensures.len ∙ sym was.value_len) in
     let lengths = c.insert.ensures.lengths in
@@ -85,6 +86,10 @@ returns g c =
     let many = length-pieces kl n c.args.keys.now in
     let T = c.loop-index.table.store in
     let long : length (zip keys values) ≡ n = omega (arith, length-zip keys values, many, same) in
-    let grown = subst (λ xs. IsGrownAfterInserts K xs T) (take_all c.loop-index.index (zip keys values) (omega (arith, long, c.loop-index-test.false, c.loop-index.auto.index-end))) c.loop-index.invariant.bytes in
+    let d = c.deciding_pairs.result in
+    let last : c.loop-index.index ≡ d = omega (arith, c.loop-index-test.false, c.loop-index.auto.index-end) in
+    let first : IsGrownAfterInserts K (take d (zip keys values)) T = subst (λ m. IsGrownAfterInserts K (take m (zip keys values)) T) last c.loop-index.invariant.bytes in
+    let all = decided_grown kl vl n d c.args.keys.now c.args.values.now g.H.HashFn.hash c.deciding_pairs.ensures.most c.deciding_pairs.ensures.cut T first in
+    let grown = subst (λ xs. IsGrownAfterInserts K xs T) (take_all n (zip keys values) (omega (arith, long))) all in
     let copied = subst (λ B. IsHandedOut (λ X. X ≡ B) c.args.out.now c.hand_out.result c.hand_out.new.out c.hand_out.new.len) c.raw_bytes.ensures.bytes c.hand_out.ensures.copied in
     handed_growing K keys values same T c.args.out.now c.args.len.now c.hand_out.result c.hand_out.new.out c.hand_out.new.len grown copied c.hand_out.ensures.status

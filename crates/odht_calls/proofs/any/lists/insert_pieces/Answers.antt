@@ -1,4 +1,4 @@
-use Rattle.std.proofs.Common.{rules, ◌≡◌, ◌∙◌, ◌≤◌, ℕ, List, sym, ap, subst, refl, arith, length, take, Option, Some, Result, Ok, Err, slice_get}
+use Rattle.std.proofs.Common.{rules, ◌≡◌, ◌∙◌, ◌≤◌, ◌<◌, ℕ, List, sym, ap, subst, refl, arith, length, take, Option, Some, Result, Ok, Err, slice_get}
 use Rattle.std.specs.List.{zip}
 use Rattle.odht_base.specs.Format.{Format, IsFormat, format_of}
 use Rattle.odht_header.specs.declared.error.Error.{Error}
@@ -13,6 +13,7 @@ use Rattle.odht_calls.specs.Pieces.{pieces}
 use Rattle.odht_calls.specs.Statuses.{status_of, done}
 use Rattle.odht_calls.specs.Writes.{InsertAllAnswers}
 use Rattle.odht_calls.proofs.lemmas.AnyLists.{sized_insert}
+use Rattle.odht_calls.proofs.lemmas.EqualPairs.{decided_framed, decided_inserted}
 use Rattle.odht_calls.proofs.lemmas.Inserted.{accepted_insert_all, full_insert_all}
 use Rattle.odht_calls.proofs.lemmas.Pieces.{ends_within, length-pieces, zip_at}
 use Rattle.odht_calls.proofs.lemmas.Refused.{refused_insert_all}
@@ -31,11 +32,11 @@ loop-index-init g c =
 
 pub piece-key-requires : goal.piece-key-requires
 piece-key-requires g c =
-    ends_within c.loop-index.index c.args.count c.args.layout.key_len (length c.args.keys.now) c.loop-index-test.true c.requires.arrays.keys
+    ends_within c.loop-index.index c.args.count c.args.layout.key_len (length c.args.keys.now) (omega (arith, c.loop-index-test.true, c.deciding_pairs.ensures.most)) c.requires.arrays.keys
 
 pub piece-value-requires : goal.piece-value-requires
 piece-value-requires g c =
-    ends_within c.loop-index.index c.args.count c.args.layout.value_len (length c.args.values.now) c.loop-index-test.true c.requires.arrays.values
+    ends_within c.loop-index.index c.args.count c.args.layout.value_len (length c.args.values.now) (omega (arith, c.loop-index-test.true, c.deciding_pairs.ensures.most)) c.requires.arrays.values
 
 pub insert_sized-requires-clause-accepted : goal.insert_sized-requires-clause-accepted
 insert_sized-requires-clause-accepted g c = c.loop-index.invariant.accepted
@@ -62,9 +63,12 @@ module _ (g : Over) (c : After-insert_sized g) where
   abbrev v : List ℕ
   v = c.piece-value.result.now
 
+  low : c.loop-index.index < c.args.count
+  low = omega (arith, c.loop-index-test.true, c.deciding_pairs.ensures.most)
+
   -- the pair that is inserted
   here : slice_get (zip keys values) c.loop-index.index ≡ Some (k, v)
-  here = zip_at keys values c.loop-index.index k v (c.piece-key.ensures.value c.args.count c.loop-index-test.true) (c.piece-value.ensures.value c.args.count c.loop-index-test.true)
+  here = zip_at keys values c.loop-index.index k v (c.piece-key.ensures.value c.args.count low) (c.piece-value.ensures.value c.args.count low)
 
   equal : length values ≡ length keys
   equal = length-pieces c.args.layout.value_len c.args.count c.args.values.now ∙ sym (length-pieces c.args.layout.key_len c.args.count c.args.keys.now)
@@ -95,7 +99,7 @@ returns-in-Err-insert_sized-clause-answers g c =
     let stays : D ≡ C = framed-refused K C (k g at) (v g at) r D framed in
     let long = length-pieces c.args.layout.key_len c.args.count c.args.keys.now in
     full_insert_all K c.args.bytes.now C (keys g at) (values g at) c.args.accepted.now i c.in_default.ensures.err (equal g at) c.loop-index.invariant.framed c.loop-index.invariant.inserted
-    D c.status_of-in-Err-insert_sized.result stays (omega (arith, long, c.loop-index-test.true)) (c.status_of-in-Err-insert_sized.ensures ∙ ap status_of only)
+    D c.status_of-in-Err-insert_sized.result stays (omega (arith, long, low g at)) (c.status_of-in-Err-insert_sized.ensures ∙ ap status_of only)
     (λ P is. record { item = (k g at, v g at); at = here g at; full = framed-full K C (k g at) (v g at) (fits g at) P is r D full framed })
     (record {
       item = (k g at, v g at);
@@ -112,6 +116,19 @@ returns-clause-answers g c =
     let long : length keys ≡ c.args.count = length-pieces c.args.layout.key_len c.args.count c.args.keys.now in
     let equal : length values ≡ length keys = length-pieces c.args.layout.value_len c.args.count c.args.values.now ∙ sym long in
     let v = c.loop-index.invariant in
-    subst (λ m. InsertAllAnswers K c.args.bytes.now keys values c.args.accepted.now done c.loop-index.bytes m) long
-    (accepted_insert_all K c.args.bytes.now c.loop-index.bytes keys values c.args.accepted.now c.loop-index.index c.in_default.ensures.err equal v.framed v.inserted
-    (omega (arith, long, c.loop-index-test.false, c.loop-index.auto.index-end)))
+    let kl = c.args.layout.key_len in
+    let vl = c.args.layout.value_len in
+    let n = c.args.count in
+    let d = c.deciding_pairs.result in
+    let h = g.H.HashFn.hash in
+    let B = c.args.bytes.now in
+    let C = c.loop-index.bytes in
+    let last : c.loop-index.index ≡ d = omega (arith, c.loop-index-test.false, c.loop-index.auto.index-end) in
+    let first : AreInserted h (λ B. B) (λ _ B. B) (dyn_store kl vl B) (dyn_store kl vl C) (take d (zip keys values)) = subst (λ m. AreInserted h (λ B. B) (λ _ B. B) (dyn_store kl vl B) (dyn_store kl vl C) (take m (zip keys values))) last v in
+    let most = c.deciding_pairs.ensures.most in
+    let decide = c.deciding_pairs.ensures.cut in
+    subst (λ m. InsertAllAnswers K B keys values c.args.accepted.now done C m) long
+    (accepted_insert_all K B C keys values c.args.accepted.now n c.in_default.ensures.err equal
+    (decided_framed kl vl n d c.args.keys.now c.args.values.now h most decide B C first.accepted first.framed)
+    (λ P is. decided_inserted kl vl n d c.args.keys.now c.args.values.now h most decide P C (first.inserted P is))
+    (sym long))

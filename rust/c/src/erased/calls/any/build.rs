@@ -3,7 +3,7 @@
 //! own and then copied to the caller's.
 
 use super::lists::insert_pieces;
-use super::pieces::{are_pieces, piece};
+use super::pieces::{are_pieces, deciding_pairs, piece};
 use super::write::init_by;
 use super::{by_hash, AnyLayout};
 use crate::erased::calls::build::hand_out;
@@ -101,7 +101,8 @@ fn grow_pieces<H: HashFn>(
         Ok(table) => table,
         Err(_refused) => return MEMORY,
     };
-    for index in 0..count {
+    let deciding = deciding_pairs(layout, count);
+    for index in 0..deciding {
         let key = piece(keys, layout.key_len, index);
         let value = piece(values, layout.value_len, index);
         if let Err(_refused) = table.insert(key, value) {

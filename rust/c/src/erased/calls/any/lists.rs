@@ -1,7 +1,7 @@
 // Made by `make rust` of crates/odht_calls/src/any/lists.rt.
 //! The calls for many keys of a table of any lengths: lookups, and inserts in turn.
 
-use super::pieces::{are_pieces, piece};
+use super::pieces::{are_pieces, deciding_pairs, piece};
 use super::read::view;
 use super::view::look_up;
 use super::{by_hash, AnyLayout};
@@ -65,7 +65,8 @@ pub(crate) fn insert_pieces<H: HashFn>(
     if let Err(refused) = view::<H>(layout, bytes) {
         return status_of(&refused);
     }
-    for index in 0..count {
+    let deciding = deciding_pairs(layout, count);
+    for index in 0..deciding {
         let key = piece(keys, layout.key_len, index);
         let value = piece(values, layout.value_len, index);
         if let Err(refused) = insert_sized::<H>(bytes, layout, key, value) {

@@ -16,6 +16,15 @@ fn has_pieces(bytes: &[u8], len: u8, count: usize) -> bool {
     }
 }
 
+// How many of the first of `count` pairs decide what all of them leave. Where neither keys nor
+// values have bytes all pairs are equal, and no bytes bound the count, so the first decides.
+pub(crate) fn deciding_pairs(layout: Layout, count: usize) -> usize {
+    if layout.key_len == 0 && layout.value_len == 0 && count > 1 {
+        return 1;
+    }
+    count
+}
+
 // Piece `index` of bytes that have it.
 pub(crate) fn piece(bytes: &[u8], len: u8, index: usize) -> &[u8] {
     let len = len as usize;
