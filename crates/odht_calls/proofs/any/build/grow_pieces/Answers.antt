@@ -41,11 +41,11 @@ loop-index-init g c =
 
 pub piece-key-requires : goal.piece-key-requires
 piece-key-requires g c =
-    ends_within c.loop-index.index c.args.count c.args.layout.key_len (length c.args.keys.now) (omega (arith, c.loop-index-test.true, c.deciding_pairs.ensures.most)) c.requires.arrays.keys
+    ends_within c.loop-index.index c.args.count c.args.layout.key_len (length c.args.keys.now) (omega (arith, c.loop-index-test.true, c.deciding_pairs-deciding.ensures.most)) c.requires.arrays.keys
 
 pub piece-value-requires : goal.piece-value-requires
 piece-value-requires g c =
-    ends_within c.loop-index.index c.args.count c.args.layout.value_len (length c.args.values.now) (omega (arith, c.loop-index-test.true, c.deciding_pairs.ensures.most)) c.requires.arrays.values
+    ends_within c.loop-index.index c.args.count c.args.layout.value_len (length c.args.values.now) (omega (arith, c.loop-index-test.true, c.deciding_pairs-deciding.ensures.most)) c.requires.arrays.values
 
 pub returns-in-Err-insert : goal.returns-in-Err-insert
 returns-in-Err-insert g c =
@@ -63,7 +63,7 @@ loop-index-preserved g c =
     let keys = pieces kl n c.args.keys.now in
     let values = pieces vl n c.args.values.now in
     let was = c.loop-index.invariant in
-    let low : i < n = omega (arith, c.loop-index-test.true, c.deciding_pairs.ensures.most) in
+    let low : i < n = omega (arith, c.loop-index-test.true, c.deciding_pairs-deciding.ensures.most) in
     let here : slice_get (zip keys values) i ≡ Some (k, v) = zip_at keys values i k v (c.piece-key.ensures.value n low) (c.piece-value.ensures.value n low) in
     let one = c.in_default.ensures.inserted (c.piece-key.ensures.len ∙ sym was.key_len) (c.piece-value.ensures.len ∙ sym was.value_len) in
     let lengths = c.insert.ensures.lengths in
@@ -86,10 +86,10 @@ returns g c =
     let many = length-pieces kl n c.args.keys.now in
     let T = c.loop-index.table.store in
     let long : length (zip keys values) ≡ n = omega (arith, length-zip keys values, many, same) in
-    let d = c.deciding_pairs.result in
+    let d = c.deciding_pairs-deciding.result in
     let last : c.loop-index.index ≡ d = omega (arith, c.loop-index-test.false, c.loop-index.auto.index-end) in
     let first : IsGrownAfterInserts K (take d (zip keys values)) T = subst (λ m. IsGrownAfterInserts K (take m (zip keys values)) T) last c.loop-index.invariant.bytes in
-    let all = decided_grown kl vl n d c.args.keys.now c.args.values.now g.H.HashFn.hash c.deciding_pairs.ensures.most c.deciding_pairs.ensures.cut T first in
+    let all = decided_grown kl vl n d c.args.keys.now c.args.values.now g.H.HashFn.hash c.deciding_pairs-deciding.ensures.most c.deciding_pairs-deciding.ensures.cut T first in
     let grown = subst (λ xs. IsGrownAfterInserts K xs T) (take_all n (zip keys values) (omega (arith, long))) all in
     let copied = subst (λ B. IsHandedOut (λ X. X ≡ B) c.args.out.now c.hand_out.result c.hand_out.new.out c.hand_out.new.len) c.raw_bytes.ensures.bytes c.hand_out.ensures.copied in
     handed_growing K keys values same T c.args.out.now c.args.len.now c.hand_out.result c.hand_out.new.out c.hand_out.new.len grown copied c.hand_out.ensures.status

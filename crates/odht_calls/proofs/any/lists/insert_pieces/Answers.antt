@@ -32,11 +32,11 @@ loop-index-init g c =
 
 pub piece-key-requires : goal.piece-key-requires
 piece-key-requires g c =
-    ends_within c.loop-index.index c.args.count c.args.layout.key_len (length c.args.keys.now) (omega (arith, c.loop-index-test.true, c.deciding_pairs.ensures.most)) c.requires.arrays.keys
+    ends_within c.loop-index.index c.args.count c.args.layout.key_len (length c.args.keys.now) (omega (arith, c.loop-index-test.true, c.deciding_pairs-deciding.ensures.most)) c.requires.arrays.keys
 
 pub piece-value-requires : goal.piece-value-requires
 piece-value-requires g c =
-    ends_within c.loop-index.index c.args.count c.args.layout.value_len (length c.args.values.now) (omega (arith, c.loop-index-test.true, c.deciding_pairs.ensures.most)) c.requires.arrays.values
+    ends_within c.loop-index.index c.args.count c.args.layout.value_len (length c.args.values.now) (omega (arith, c.loop-index-test.true, c.deciding_pairs-deciding.ensures.most)) c.requires.arrays.values
 
 pub insert_sized-requires-clause-accepted : goal.insert_sized-requires-clause-accepted
 insert_sized-requires-clause-accepted g c = c.loop-index.invariant.accepted
@@ -64,7 +64,7 @@ module _ (g : Over) (c : After-insert_sized g) where
   v = c.piece-value.result.now
 
   low : c.loop-index.index < c.args.count
-  low = omega (arith, c.loop-index-test.true, c.deciding_pairs.ensures.most)
+  low = omega (arith, c.loop-index-test.true, c.deciding_pairs-deciding.ensures.most)
 
   -- the pair that is inserted
   here : slice_get (zip keys values) c.loop-index.index ≡ Some (k, v)
@@ -119,14 +119,14 @@ returns-clause-answers g c =
     let kl = c.args.layout.key_len in
     let vl = c.args.layout.value_len in
     let n = c.args.count in
-    let d = c.deciding_pairs.result in
+    let d = c.deciding_pairs-deciding.result in
     let h = g.H.HashFn.hash in
     let B = c.args.bytes.now in
     let C = c.loop-index.bytes in
     let last : c.loop-index.index ≡ d = omega (arith, c.loop-index-test.false, c.loop-index.auto.index-end) in
     let first : AreInserted h (λ B. B) (λ _ B. B) (dyn_store kl vl B) (dyn_store kl vl C) (take d (zip keys values)) = subst (λ m. AreInserted h (λ B. B) (λ _ B. B) (dyn_store kl vl B) (dyn_store kl vl C) (take m (zip keys values))) last v in
-    let most = c.deciding_pairs.ensures.most in
-    let decide = c.deciding_pairs.ensures.cut in
+    let most = c.deciding_pairs-deciding.ensures.most in
+    let decide = c.deciding_pairs-deciding.ensures.cut in
     subst (λ m. InsertAllAnswers K B keys values c.args.accepted.now done C m) long
     (accepted_insert_all K B C keys values c.args.accepted.now n c.in_default.ensures.err equal
     (decided_framed kl vl n d c.args.keys.now c.args.values.now h most decide B C first.accepted first.framed)
