@@ -2,10 +2,14 @@
 //!
 //! Each job is a program of its own, since what the compiler inlines hangs on what else calls it. `job` is `get`, `has`,
 //! `list` or `insert`; `absent` takes keys that are not in the table, for which `insert` fills a new one each time; and
-//! `called` has the call in a function of its own, which is not inlined.
+//! `called` has the call in a function of its own, which is not inlined; and with `xxh64` keys are hashed by XXH64.
 #![allow(dead_code, unused_mut)]
 
-use odht::{Config, FxHashFn, HashTableOwned};
+#[cfg(not(xxh64))]
+use odht::FxHashFn as Hash;
+#[cfg(xxh64)]
+use odht::Xxh64HashFn as Hash;
+use odht::{Config, HashTableOwned};
 use std::hint::black_box;
 
 // `const LEN: usize`, how many bytes a key has
@@ -22,7 +26,7 @@ impl Config for Keys {
     type Value = u32;
     type EncodedKey = Key;
     type EncodedValue = [u8; 4];
-    type H = FxHashFn;
+    type H = Hash;
 
     fn encode_key(k: &Key) -> Key {
         *k
