@@ -157,6 +157,24 @@ def is_told(room, fault):
         raise Failed(f"planted, and not told: {fault}")
 
 
+# tests that work for so long that to optimize them takes less time than it saves. Overflows still panic in them, and
+# assertions are made
+SLOW = ["dynamic", "dynamic_writes", "orders"]
+
+
+def tests_of_crate(*features):
+    """Runs the tests in rust/tests and rust/src/tests with these features."""
+    names = sorted(it.removesuffix(".rs") for it in os.listdir(f"{TOP}/rust/tests") if it.endswith(".rs"))
+    quick, slow = ([it for it in names if (it in SLOW) == is_slow] for is_slow in (False, True))
+    passed = cargo("rust", "test", "--lib", *named(quick), *features)
+    return passed + cargo("rust", "test", *named(slow), *features, CARGO_PROFILE_TEST_OPT_LEVEL="1")
+
+
+def named(tests):
+    """Returns the words of cargo that name these tests."""
+    return [word for it in tests for word in ("--test", it)]
+
+
 def examples():
     """Tests the examples of the documentation. From edition 2024 on rustdoc compiles them as one program."""
     if not has("rustc", "--edition", "2024", "--print", "sysroot"):
@@ -206,8 +224,7 @@ def without_std():
     for target in targets_without_std():
         cargo("rust/without_std", "build", "--lib", "--target", target, **files)
         done += 1
-    tests = [word for it in ("worked_bytes", "interface", "question_mark") for word in ("--test", it)]
-    return done + cargo("rust", "test", *NO_STD, *tests)
+    return done + cargo("rust", "test", *NO_STD, *named(["worked_bytes", "interface", "question_mark"]))
 
 
 def lints():
@@ -313,9 +330,9 @@ TESTS = {
     "current": current,
     "planted": planted,
     "erase": lambda: cargo("tools/erase", "test"),
-    "crate": lambda: cargo("rust", "test", "--lib", "--tests"),
+    "crate": tests_of_crate,
     "examples": examples,
-    "fast": lambda: cargo("rust", "test", "--lib", "--tests", "--features", "fast"),
+    "fast": lambda: tests_of_crate("--features", "fast"),
     "no_simd": lambda: cargo("rust", "test", "--features", "no_simd", *NO_SIMD),
     "without_std": without_std,
     "programs": programs,
