@@ -207,17 +207,17 @@ bench-peers: build/libodht.a
 	@BENCH_RUST='$(BENCH_RUST)' CC='$(CC)' sh bench/peers.sh $(if $(MARKDOWN),bench,build) $(if $(QUICK),quick) \
 	  $(if $(MARKDOWN),markdown)
 
-# the crate for Rust, as it is and with the feature `fast`, beside the original; it needs ODHT_RUST and nothing proved
+# the crate for Rust, as it is and with the feature `checked`, beside the original; it needs ODHT_RUST and nothing proved
 # where a branch that crosses a border of 32 bytes is slow, ALIGNED=1 has none in any of the three, nor in their loops
 .PHONY: bench-crate
 bench-crate: BENCH_RUST += $(if $(ALIGNED),-C llvm-args=-x86-branches-within-32B-boundaries)
 bench-crate: original
 	@$(BENCH_RUST) --edition 2021 --crate-type rlib --crate-name odht_default --cfg 'feature="std"' rust/src/lib.rs \
 	  -o build/original/libodht_default.rlib
-	@$(BENCH_RUST) --edition 2021 --crate-type rlib --crate-name odht_fast --cfg 'feature="std"' --cfg 'feature="fast"' rust/src/lib.rs \
-	  -o build/original/libodht_fast.rlib
+	@$(BENCH_RUST) --edition 2021 --crate-type rlib --crate-name odht_checked --cfg 'feature="std"' --cfg 'feature="checked"' \
+	  rust/src/lib.rs -o build/original/libodht_checked.rlib
 	@$(BENCH_RUST) --edition 2021 -D warnings bench/crate.rs -L dependency=build/original --extern odht=build/original/libodht.rlib \
-	  --extern odht_default=build/original/libodht_default.rlib --extern odht_fast=build/original/libodht_fast.rlib -o build/bench_crate
+	  --extern odht_default=build/original/libodht_default.rlib --extern odht_checked=build/original/libodht_checked.rlib -o build/bench_crate
 	@$(if $(ALIGNED),echo 'all crates and the loops over them are built with branches kept within 32 bytes')
 	@build/bench_crate $(ITEMS)
 

@@ -1,4 +1,4 @@
-//! Measures the crate for Rust beside the original Rust crate, in one process: as it is, and with the feature `fast`. It
+//! Measures the crate for Rust beside the original Rust crate, in one process: as it is, and with the feature `checked`. It
 //! prints a line for each job, kind of key and size. README.md, "The crate for Rust", says how.
 
 mod kinds;
@@ -31,7 +31,7 @@ struct Work<K> {
     values: Vec<Option<u32>>,
 }
 
-/// One job, by each contender: the original, the crate, the crate with `fast`.
+/// One job, by each contender: the original, the crate, the crate with `checked`.
 struct Line<K> {
     name: &'static str,
     jobs: [fn(&mut Work<K>); 3],
@@ -206,8 +206,8 @@ contender!(
         }
     }
 );
-ours!(checked, odht_default);
-ours!(fast, odht_fast);
+ours!(default, odht_default);
+ours!(checked, odht_checked);
 
 /// splitmix64: no number comes twice.
 fn random(state: &mut u64) -> u64 {
@@ -236,10 +236,10 @@ fn work<K: Kind>(count: usize, table_len: usize) -> Work<K::Key> {
     }
 }
 
-fn lines<K>([original, checked, fast]: [Jobs<K>; 3]) -> [Line<K>; 9] {
+fn lines<K>([original, default, checked]: [Jobs<K>; 3]) -> [Line<K>; 9] {
     macro_rules! line {
         ($name:literal, $job:ident) => {
-            Line { name: $name, jobs: [original.$job, checked.$job, fast.$job] }
+            Line { name: $name, jobs: [original.$job, default.$job, checked.$job] }
         };
     }
     [
@@ -291,17 +291,17 @@ fn measure<K: Kind>(
     work.table.copy_from_slice(&work.out);
     for line in lines(jobs).iter().filter(|line| named.is_empty() || named.contains(&line.name)) {
         check(line, &mut work);
-        let [original, checked, fast] = best(line, rounds, &mut work);
+        let [original, default, checked] = best(line, rounds, &mut work);
         let items = if line.name == "open" { 1000.0 } else { count as f64 };
         println!(
             "| {} | {} | {count} | {:.1} | {:.1} | {:.1} | {:.2} | {:.2} |",
             line.name,
             K::NAME,
             original / items,
+            default / items,
             checked / items,
-            fast / items,
-            checked / original,
-            fast / original
+            default / original,
+            checked / original
         );
     }
 }
@@ -311,15 +311,15 @@ macro_rules! measured {
     ($kind:ty, $config:ident, $size:expr, $named:expr) => {{
         let len = odht::bytes_needed::<original::$config>($size.0, PERCENT);
         let original = original::jobs::<original::$config>();
+        let default = default::jobs::<default::$config>();
         let checked = checked::jobs::<checked::$config>();
-        let fast = fast::jobs::<fast::$config>();
-        measure::<$kind>($size, len, [original, checked, fast], $named);
+        measure::<$kind>($size, len, [original, default, checked], $named);
     }};
 }
 
 fn main() {
     let most = std::env::args().nth(1).and_then(|word| word.parse().ok()).unwrap_or(usize::MAX);
-    println!("| job | keys | items | original, ns | default, ns | fast, ns | default | fast |");
+    println!("| job | keys | items | original, ns | default, ns | checked, ns | default | checked |");
     println!("|---|---|---|---|---|---|---|---|");
     for size in SIZES.into_iter().filter(|size| size.0 <= most) {
         measured!(Numbers, U64, size, &[]);

@@ -62,7 +62,7 @@ def calls_for_c(table, keys):
 
 
 def crate(table, keys, name):
-    """A line for each job: the ratios of the crate as it is and with `fast`."""
+    """A line for each job: the ratios of the crate as it is and with `checked`."""
     rows, lines = [row for row in table[1:] if row[1] == keys], []
     counts = sizes(rows, 2)
     for job in sizes(rows, 0):

@@ -9,9 +9,9 @@ shift 2
 work=$(mktemp -d)
 trap 'rm -rf "$work"' EXIT
 
-# library CHECKOUT NAME: the crate for Rust, as it is and with the feature `fast`
+# library CHECKOUT NAME: the crate for Rust, as it is and with the feature `checked`
 library() {
-  for kind in default fast; do
+  for kind in default checked; do
     mkdir -p "$work/$2.$kind"
     rustc --edition 2021 -C opt-level=3 -A warnings --crate-name odht --crate-type rlib --cfg 'feature="std"' \
       --cfg "feature=\"$kind\"" --out-dir "$work/$2.$kind" "$1/rust/src/lib.rs"
@@ -51,9 +51,9 @@ library "$start" start
 library "$now" now
 heads() {
   printf '\n| key bytes |'
-  for kind in default '`fast`'; do for head; do printf ' %s %s |' "$kind" "$head"; done; done
+  for kind in default '`checked`'; do for head; do printf ' %s %s |' "$kind" "$head"; done; done
   printf '\n|---|'
-  for kind in default fast; do for head; do printf -- '---|'; done; done
+  for kind in default checked; do for head; do printf -- '---|'; done; done
   printf '\n'
 }
 
@@ -61,11 +61,11 @@ for job in get has; do
   heads "$job present" absent 'called, present' 'called, absent'
   for length; do
     row "$length" default/$job default/$job/absent default/$job/called default/$job/called/absent \
-      fast/$job fast/$job/absent fast/$job/called fast/$job/called/absent
+      checked/$job checked/$job/absent checked/$job/called checked/$job/called/absent
   done
 done
 heads 'list present' absent overwrite insert
 for length; do
   row "$length" default/list default/list/absent default/insert default/insert/absent \
-    fast/list fast/list/absent fast/insert fast/insert/absent
+    checked/list checked/list/absent checked/insert checked/insert/absent
 done

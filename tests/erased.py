@@ -119,7 +119,8 @@ UNDONE = {
     "room": (r"crate :: shim :: with_capacity", "Vec :: with_capacity"),
     "a list of items": (r"crate :: shim :: (collect|to_vec) \( (\w+) , ", r"\2 . \1 ( "),
     "memory": (r"(?<=use )crate :: shim", "std :: alloc"),
-    "a cut": (r"split_at_mut ! \( (\w+) , ", r"\1 . split_at_mut ( "),
+    "a cut": (r"split_at_mut ! \( (\w+) , (\w+ (?::: < C > )?(?:\( \w+ \) )?), \"[^\"]*\" \)", r"\1 . split_at_mut ( \2)"),
+    "a slot count": (r"(?<=slot_count \( \) ; )crate :: shim :: slots :: check :: < [^;]* ; ", ""),
     "a push": (r"list \. push \(", "list . push_reserved ("),
     "a formatter": (r"Formatter < '_ >", "Formatter < W >"),
     "an allocator of C": (r"\blet alloc = Global ; ", ""),
@@ -146,6 +147,8 @@ UNDONE = {
     "a word of the version": (r'(\bconst MADE : & str = )"erased"', r'\1"proved"'),
 }
 INDEX = re.compile(r"\bindex(?:_mut)? ! \( ")
+# the clause of an index, whose expression has no bracket of this kind in it
+CLAUSE = re.compile(r"(\bindex(?:_mut)? ! \( [\w .]+ \[ [^\[\]]* \] ), \"[^\"]*\" (?=\))")
 
 
 def without_labels(text):
@@ -185,6 +188,7 @@ def source_left(text):
 def without_index(text):
     """Undoes the macros around index expressions, and returns how many there were."""
     count = 0
+    text = CLAUSE.sub(r"\1", text)
     while found := INDEX.search(text):
         all = text[found.end() - 2 :].split(" ")
         end = closed(all, 0)

@@ -7,8 +7,8 @@
     planted    tests/erased.py reports faults that are planted in the erased text, one after the other
     erase      the tests of tools/erase
     crate      those of the crate; `examples`: those of its documentation
-    fast       the same with the feature `fast`, which asserts each index there; `no_simd`: some of them with that feature
-    without_std  the crate without std builds, also with `fast`; a program without std answers over it; the library of
+    checked    the same with the feature `checked`, in which each index is checked; `no_simd`: some of them with that feature
+    without_std  the crate without std builds, also with `checked`; a program without std answers over it; the library of
                that program builds for each target without std that is installed; and some of the tests pass
     programs   the programs in rust/examples print what they have to, and that of rust/benches runs
     compat     code that is written for odht 0.3.1
@@ -107,7 +107,9 @@ FAULTS = [
     ("src/proved/base/load.rs", "self.0 as u128 / 65536", "self.0 as u128 / 65535"),
     ("src/proved/base/hash.rs", "rotate_left(5) ^ value", "rotate_left(5)"),
     ("src/proved/raw/raw_table/scan.rs", "start + 16", "start"),
-    ("src/proved/raw/raw_table/scan.rs", "index!(control[start..start + 16])", "control[start..start + 15]"),
+    ("src/proved/raw/raw_table/scan.rs", "index!(control[start..start + 16],", "index!(control[start..start + 15],"),
+    ("src/proved/raw/raw_table/scan.rs", "index!(control[start..start + 16],", "index!(control[start..start + 16]);("),
+    ("src/proved/raw/memory_layout/sized.rs", "slots, layout);", "slots, layout); let slots = 16;"),
     ("src/proved/raw/raw_table/plain.rs", "return Search::Free(slot);", ""),
     ("src/proved/tables/iter.rs", "match self.raw.next()", "self.raw.next(); match self.raw.next()"),
     ("src/proved/raw/raw_table/insert.rs", "room == 0", "room == 1"),
@@ -215,7 +217,7 @@ def without_std():
     # a program whose panics are its own: with std in what it is made of, there would be two that handle them
     files = {"CARGO_TARGET_DIR": f"{CARGO_FILES}-without_std"}
     done = 0
-    for words in ([], ["--features", "fast"]):
+    for words in ([], ["--features", "checked"]):
         cargo("rust", "build", *NO_STD, *words)
         printed = run(["cargo", "run", "--quiet", "--offline", *words], f"{TOP}/rust/without_std", **files)
         if printed != WITHOUT_STD:
@@ -236,10 +238,10 @@ def lints():
         done += 1
     if not has("cargo", "clippy", "--version"):
         return done
-    fast = ["--features", "fast"]
-    programs = ["rust/cli"], ["rust/cli", *fast], ["rust/table"]
+    checked = ["--features", "checked"]
+    programs = ["rust/cli"], ["rust/cli", *checked], ["rust/table"]
     users = ["rust/c"], *programs, ["rust/compat"], ["rust/beside"], [no_std], [embedded]
-    for folder, *words in (["tools/erase"], ["rust"], ["rust", *fast], ["rust", *NO_STD], *users):
+    for folder, *words in (["tools/erase"], ["rust"], ["rust", *checked], ["rust", *NO_STD], *users):
         # the tests of the crate are the same source whatever the features are
         targets = "--lib" if folder == "rust" and words else "--all-targets"
         cargo(folder, "clippy", targets, *words, "--", "-D", "warnings")
@@ -332,12 +334,12 @@ TESTS = {
     "erase": lambda: cargo("tools/erase", "test"),
     "crate": tests_of_crate,
     "examples": examples,
-    "fast": lambda: tests_of_crate("--features", "fast"),
+    "checked": lambda: tests_of_crate("--features", "checked"),
     "no_simd": lambda: cargo("rust", "test", "--features", "no_simd", *NO_SIMD),
     "without_std": without_std,
     "programs": programs,
     "compat": lambda: user("rust/compat"),
-    "beside": lambda: user("rust/beside") + user("rust/beside", "--features", "fast"),
+    "beside": lambda: user("rust/beside") + user("rust/beside", "--features", "checked"),
     "lints": lints,
     "package": package,
     "c": library_for_c,

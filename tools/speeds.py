@@ -53,12 +53,12 @@ def made(results):
     rows = [f"| {text} | " + " | ".join(cells(results, "# A run", name, SIZES)) + " |" for text, name in ROWS]
     crate = []
     for text, name in CRATE_ROWS:
-        plain, fast = cells(results, "## The crate for Rust", name, [CRATE_SIZE])[0].split(" / ")
-        crate.append(f"{text} {plain} and {fast}")
+        plain, checked = cells(results, "## The crate for Rust", name, [CRATE_SIZE])[0].split(" / ")
+        crate.append(f"{text} {plain} and {checked}")
     head = ["| | " + " | ".join(SIZES) + " |", "|---|" + "---|" * len(SIZES)]
     told = (
-        f"**Our crate**, as it is and with the feature `fast`, at {CRATE_SIZE}: " + ", ".join(crate[:3]) + "; "
-        + ", ".join(crate[3:]) + ". With `fast` no index is checked that is proved to be in bounds."
+        f"**Our crate**, as it is and with the feature `checked`, at {CRATE_SIZE}: " + ", ".join(crate[:3]) + "; "
+        + ", ".join(crate[3:]) + ". By default the indexes of a search are not checked, since they are proved to be in bounds."
     )
     return "\n".join(head + rows) + "\n\n" + textwrap.fill(told, WIDTH) + "\n"
 
@@ -71,10 +71,10 @@ def of_readme(text, results):
 def of_crate(text, results):
     """Returns the text with the paragraph that begins so made anew; the sentence behind it stays."""
     found = [cells(results, "## The crate for Rust", name, [CRATE_SIZE])[0].split(" / ") for name in CRATE_TOLD]
-    (insert, insert_fast), (get, get_fast), (walk, walk_fast) = found
+    (insert, insert_checked), (get, get_checked), (walk, walk_checked) = found
     told = (
-        f"Beside the original, on tables of {CRATE_SIZE} numbers, `insert` takes {insert} of the time, and {insert_fast} "
-        f"with `fast`; `get` of a present key {get} and {get_fast}; a walk {walk} and {walk_fast}."
+        f"Beside the original, on tables of {CRATE_SIZE} numbers, `insert` takes {insert} of the time, and "
+        f"{insert_checked} with `checked`; `get` of a present key {get} and {get_checked}; a walk {walk} and {walk_checked}."
     )
     paragraph = re.search(r"Beside the original, on tables of .*?\n\n", text, re.S)[0]
     behind = re.search(r"`bench/RESULTS.md` .*", " ".join(paragraph.split()))[0]

@@ -109,6 +109,11 @@ impl Layout {
 ///
 /// Every call that looks at the table panics where `D` gives bytes of another length, or with another slot count, than
 /// those that were opened.
+///
+/// # Mapped files
+///
+/// If another process rewrites a mapped file, calls may panic or return wrong results; they read and write only the
+/// mapped bytes. If it truncates the file, a call faults, as it does for every `&[u8]` of a mapped file.
 pub struct DynTable<H: HashFn, D: Borrow<[u8]>> {
     data: D,
     layout: Layout,
@@ -140,7 +145,7 @@ impl<H: HashFn, D: Borrow<[u8]>> DynTable<H, D> {
     pub fn open(layout: Layout, data: D) -> Result<Self, DynError> {
         let bytes = data.borrow();
         dynamic::DynTable::<Hash<H>, _>::open(layout.proved(), Borrowed::new(bytes))?;
-        let opened = Opened::of(bytes);
+        let opened = Opened::of(bytes, layout.proved());
         Ok(DynTable { data, layout, opened, hash: PhantomData })
     }
 
@@ -155,7 +160,7 @@ impl<H: HashFn, D: Borrow<[u8]>> DynTable<H, D> {
         let bytes = data.borrow();
         let table = dynamic::DynTable::<Hash<H>, _>::open_as_stated(Borrowed::new(bytes))?;
         let layout::Layout { key_len, value_len } = table.layout();
-        let opened = Opened::of(bytes);
+        let opened = Opened::of(bytes, table.layout());
         Ok(DynTable { data, layout: Layout { key_len, value_len }, opened, hash: PhantomData })
     }
 
@@ -163,7 +168,7 @@ impl<H: HashFn, D: Borrow<[u8]>> DynTable<H, D> {
     #[inline(always)]
     fn bytes(&self) -> &[u8] {
         let bytes = self.data.borrow();
-        self.opened.check(bytes);
+        self.opened.check(bytes, self.layout.proved());
         bytes
     }
 

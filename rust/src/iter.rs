@@ -1,8 +1,10 @@
 //! Walks over the pairs of a table.
 
 use crate::config::{Config, Proved};
+use crate::proved::header::layout::Layout;
 use crate::proved::raw::memory_layout::{entry_at, Entries, Header, HEADER_SIZE};
 use crate::proved::raw::raw_table::{is_empty_or_deleted, Entry, RawSlots};
+use crate::shim::slots;
 use std::fmt;
 use std::iter::FusedIterator;
 
@@ -25,6 +27,7 @@ impl<'a, C: Config> Walk<'a, C> {
     #[inline]
     fn of(bytes: &'a [u8], from: usize) -> Self {
         let (slots, control) = places::<C>(bytes);
+        slots::check::<&[u8]>(bytes.len(), slots, Layout::of::<Proved<C>>());
         let entries = Entries::new(&bytes[HEADER_SIZE..control], slots);
         Walk { left: RawSlots::new(&bytes[control..], entries, from), bytes, from: from.min(slots) }
     }

@@ -2,14 +2,16 @@
 //!
 //! A table over a `D: Borrow<[u8]>` asks for the bytes at each call, and a `D` that is badly written may give others.
 //! What the proved library takes for granted of them is their length and the slot count in their header, so both are
-//! kept, and compared at each call.
+//! kept, and compared at each call. What was kept is never read from the bytes again: another process may write to
+//! those of a mapped file (`shim::slots`).
 
 use crate::config::{Config, Proved};
 use crate::iter::occupied;
-use crate::proved::header::sizes::len_of_slots;
+use crate::proved::header::layout::Layout;
 use crate::proved::raw::memory_layout::HEADER_SIZE;
+use crate::shim::slots;
 
-/// The length and the slot count of a table's bytes.
+/// The length and the slot count of a table's bytes: the slot count is one of a table, and they fit.
 #[derive(Clone, Copy)]
 pub struct Opened {
     len: usize,
@@ -17,47 +19,46 @@ pub struct Opened {
 }
 
 impl Opened {
-    /// Of bytes whose header and length fit.
+    /// Of bytes whose header and length fit. Panics where they do so no more: where another process wrote to the file
+    /// that is mapped there, since they were looked at.
     #[inline]
-    pub fn of(bytes: &[u8]) -> Opened {
-        // no table has no slot
-        let slots = bytes.first_chunk().map_or(0, slots_in);
-        Opened { len: bytes.len(), slots }
+    pub fn of(bytes: &[u8], layout: Layout) -> Opened {
+        Opened::fitting(bytes, layout).unwrap_or_else(|| slots::others())
     }
 
     /// Of bytes that nobody has looked at. Panics where their length is not that of the slot count in their header: the
     /// proved library takes no more than this for granted where it looks at memory.
     #[track_caller]
     pub fn unchecked<C: Config>(bytes: &[u8]) -> Opened {
-        let opened = Opened::of(bytes);
-        let is_count = opened.slots.is_power_of_two() && opened.slots >= 16;
-        assert!(
-            is_count && bytes.len() as u128 == len_of_slots::<Proved<C>>(opened.slots()),
-            "the length of the bytes is not that of the slot count in their header"
-        );
-        opened
+        let opened = Opened::fitting(bytes, Layout::of::<Proved<C>>());
+        opened.expect("the length of the bytes is not that of the slot count in their header")
+    }
+
+    fn fitting(bytes: &[u8], layout: Layout) -> Option<Opened> {
+        let (len, slots) = (bytes.len(), slots_in(bytes.first_chunk()?));
+        let is_count = slots.is_power_of_two() && slots >= 16;
+        (is_count && slots::fits(len, slots as usize, layout)).then_some(Opened { len, slots })
     }
 
     /// How many slots there are.
+    #[inline]
     pub fn slots(self) -> usize {
         self.slots as usize
     }
 
-    /// Panics where the bytes are not as long as those that were opened, or have another slot count. In this order of
-    /// the tests the compiler moves them out of a loop of lookups.
+    /// Panics where the bytes are not as long as those that were opened, or have another slot count. The layout is that
+    /// of `of`. In this order of the tests the compiler moves them out of a loop of lookups.
     #[inline(always)]
-    pub fn check(self, bytes: &[u8]) {
-        let Some(header) = bytes.first_chunk() else { others() };
+    #[allow(unsafe_code)]
+    pub fn check(self, bytes: &[u8], layout: Layout) {
+        let Some(header) = bytes.first_chunk() else { slots::others() };
         let slots = slots_in(header);
         if bytes.len() != self.len || slots != self.slots {
-            others();
+            slots::others();
         }
+        // SAFETY: `fitting` saw it, of this layout. The two numbers are in this value.
+        unsafe { slots::known(self.len, self.slots as usize, layout) }
     }
-}
-
-#[cold]
-fn others() -> ! {
-    panic!("the bytes of a table are not those that were opened")
 }
 
 // The slot count in a header.

@@ -8,6 +8,7 @@ use crate::opened::Opened;
 use crate::proved::base::bytes::Borrowed;
 use crate::proved::base::load::max_item_count_for;
 use crate::proved::header::error::Error;
+use crate::proved::header::layout::Layout;
 use crate::proved::raw::memory_layout::Header;
 use crate::proved::tables;
 use alloc::boxed::Box;
@@ -73,6 +74,11 @@ mod writing;
 ///
 /// Every call that looks at the table panics where `D` gives bytes of another length, or with another slot count, than
 /// those that were opened.
+///
+/// # Mapped files
+///
+/// If another process rewrites a mapped file, calls may panic or return wrong results; they read and write only the
+/// mapped bytes. If it truncates the file, a call faults, as it does for every `&[u8]` of a mapped file.
 pub struct HashTable<C: Config, D: Borrow<[u8]>> {
     data: D,
     opened: Opened,
@@ -119,7 +125,7 @@ impl<C: Config, D: Borrow<[u8]>> HashTable<C, D> {
         let () = Proved::<C>::FITS;
         let bytes = data.borrow();
         tables::HashTable::<Proved<C>, _>::from_raw_bytes(Borrowed::new(bytes))?;
-        let opened = Opened::of(bytes);
+        let opened = Opened::of(bytes, Layout::of::<Proved<C>>());
         Ok(HashTable::of(data, opened))
     }
 
@@ -162,7 +168,7 @@ impl<C: Config, D: Borrow<[u8]>> HashTable<C, D> {
     #[inline(always)]
     pub(crate) fn bytes(&self) -> &[u8] {
         let bytes = self.data.borrow();
-        self.opened.check(bytes);
+        self.opened.check(bytes, Layout::of::<Proved<C>>());
         bytes
     }
 

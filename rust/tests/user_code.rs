@@ -1,6 +1,6 @@
 //! Configurations and hash functions that break what they are asked to keep: they answer something else each time, or
-//! panic. No call panics of itself, runs for ever or leaves the bytes of the table; with the feature `fast` and debug
-//! assertions an index out of bounds would be a panic. What lookups answer is not asked.
+//! panic. No call panics of itself, runs for ever or leaves the bytes of the table; in debug builds an index out of bounds
+//! would be a panic. What lookups answer is not asked.
 
 mod common;
 

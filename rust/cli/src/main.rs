@@ -27,8 +27,8 @@ mod host;
     clippy::question_mark,
     clippy::too_many_arguments
 )]
-#[cfg_attr(not(feature = "fast"), forbid(unsafe_code))]
-#[cfg_attr(feature = "fast", allow(unsafe_code))]
+#[cfg_attr(feature = "checked", forbid(unsafe_code))]
+#[cfg_attr(not(feature = "checked"), allow(unsafe_code))]
 #[path = "../../src/proved"]
 mod proved {
     pub mod base;

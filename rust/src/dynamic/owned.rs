@@ -163,7 +163,7 @@ impl<H: HashFn> DynTableOwned<H> {
     #[must_use]
     pub fn as_view(&self) -> DynTable<H, &[u8]> {
         let data = self.raw_bytes();
-        let opened = Opened::of(data);
+        let opened = Opened::of(data, self.0.layout());
         DynTable { data, layout: self.layout(), opened, hash: PhantomData }
     }
 

@@ -85,9 +85,10 @@ impl<'b, H: HashFn> DynTable<H, &'b [u8]> {
 fn opened_front<'b, H: HashFn>(
     (table, rest): (dynamic::DynTable<Hash<H>, Borrowed<'b>>, &'b [u8]),
 ) -> (DynTable<H, &'b [u8]>, &'b [u8]) {
-    let layout::Layout { key_len, value_len } = table.layout();
+    let proved = table.layout();
+    let layout::Layout { key_len, value_len } = proved;
     let Borrowed(data) = table.into_data();
-    let opened = Opened::of(data);
+    let opened = Opened::of(data, proved);
     let layout = Layout { key_len, value_len };
     (DynTable { data, layout, opened, hash: PhantomData }, rest)
 }

@@ -81,7 +81,7 @@ impl<H: HashFn, D: Borrow<[u8]> + BorrowMut<[u8]>> DynTable<H, D> {
             max_item_count,
             percent,
         )?;
-        let opened = Opened::of(bytes);
+        let opened = Opened::of(bytes, layout.proved());
         Ok(DynTable { data, layout, opened, hash: PhantomData })
     }
 
@@ -90,7 +90,7 @@ impl<H: HashFn, D: Borrow<[u8]> + BorrowMut<[u8]>> DynTable<H, D> {
     pub(super) fn view_mut(&mut self) -> dynamic::DynTable<Hash<H>, BorrowedMut<'_>> {
         let layout = self.layout.proved();
         let bytes = self.data.borrow_mut();
-        self.opened.check(bytes);
+        self.opened.check(bytes, layout);
         dynamic::DynTable::open_unchecked(layout, BorrowedMut::new(bytes))
     }
 

@@ -1,8 +1,9 @@
 //! The traits of the table that grows.
 
-use super::{refused, Config, Error, HashTableOwned};
+use super::{refused, Config, Error, HashTableOwned, Proved};
 use crate::iter::{IntoIter, IntoKeys, IntoValues, Iter};
 use crate::opened::Opened;
+use crate::proved::header::layout::Layout;
 use crate::view::HashTable;
 use alloc::vec::Vec;
 use std::fmt;
@@ -94,13 +95,13 @@ impl<C: Config> HashTableOwned<C> {
     #[must_use]
     pub fn as_view(&self) -> HashTable<C, &[u8]> {
         let bytes = self.raw_bytes();
-        HashTable::of(bytes, Opened::of(bytes))
+        HashTable::of(bytes, Opened::of(bytes, Layout::of::<Proved<C>>()))
     }
 
     // The table as a view that owns its bytes.
     fn into_view(self) -> HashTable<C, Vec<u8>> {
         let bytes = self.into_raw_bytes();
-        let opened = Opened::of(&bytes);
+        let opened = Opened::of(&bytes, Layout::of::<Proved<C>>());
         HashTable::of(bytes, opened)
     }
 }

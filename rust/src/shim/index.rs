@@ -1,69 +1,72 @@
-//! Index expressions, and cuts of slices, of which the proofs say that they are in bounds. Without the feature `fast`
-//! they are what Rust writes as `list[index]` and `list.split_at_mut(index)`, with its check. With it they are not
-//! checked, and with debug assertions each is asserted.
+//! Index expressions that are proved to be in bounds.
+//!
+//! `tools/erase` writes `index!` in the functions that its plan lists, with the proved clause from which the index is in
+//! bounds. By default such an index is not checked, and debug builds assert it. With the feature `checked` it is
+//! `list[index]`, with the check of Rust. Every other index of the crate is always checked.
 
-/// `list[index]`, to be read.
-#[cfg(not(feature = "fast"))]
+/// `list[index]`, to be read, where the clause holds.
+#[cfg(feature = "checked")]
 macro_rules! index {
-    ($($list:ident).+ [$index:expr]) => {
+    ($($list:ident).+ [$index:expr], $clause:literal) => {
         $($list).+[$index]
     };
 }
 
-/// `list[index]`, to be written.
-#[cfg(not(feature = "fast"))]
+/// `list[index]`, to be written, where the clause holds.
+#[cfg(feature = "checked")]
 macro_rules! index_mut {
-    ($($list:ident).+ [$index:expr]) => {
+    ($($list:ident).+ [$index:expr], $clause:literal) => {
         $($list).+[$index]
     };
 }
 
-/// `list.split_at_mut(index)`.
-#[cfg(not(feature = "fast"))]
+/// `list.split_at_mut(index)`, where the clause holds.
+#[cfg(feature = "checked")]
 macro_rules! split_at_mut {
-    ($list:ident, $index:expr) => {
+    ($list:ident, $index:expr, $clause:literal) => {
         $list.split_at_mut($index)
     };
 }
 
-/// `list[index]`, to be read.
-#[cfg(feature = "fast")]
+/// `list[index]`, to be read, where the clause holds.
+#[cfg(not(feature = "checked"))]
 macro_rules! index {
-    ($($list:ident).+ [$index:expr]) => {
-        // SAFETY: that the index is in bounds is proved where the macro is used, from what the function requires. The
-        // public functions see to that: the head of `view.rs` and `owned.rs` says how.
+    ($($list:ident).+ [$index:expr], $clause:literal) => {
+        // SAFETY: the index is in bounds by the clause. It is a condition of the function, or the invariant of its
+        // type, and it is proved wherever the function is called and the type is made. The slot counts that it is
+        // about come from `shim::slots::check`; lengths of slices cannot change; no code of a user has a part in it.
         *(match $index {
-            index => unsafe { $crate::shim::index::at(&$($list).+[..], index) },
+            index => unsafe { $crate::shim::index::at(&$($list).+[..], index, $clause) },
         })
     };
 }
 
-/// `list[index]`, to be written.
-#[cfg(feature = "fast")]
+/// `list[index]`, to be written, where the clause holds.
+#[cfg(not(feature = "checked"))]
 macro_rules! index_mut {
-    ($($list:ident).+ [$index:expr]) => {
+    ($($list:ident).+ [$index:expr], $clause:literal) => {
         // SAFETY: as in `index!`.
         *(match $index {
-            index => unsafe { $crate::shim::index::at_mut(&mut $($list).+[..], index) },
+            index => unsafe { $crate::shim::index::at_mut(&mut $($list).+[..], index, $clause) },
         })
     };
 }
 
-/// `list.split_at_mut(index)`.
-#[cfg(feature = "fast")]
+/// `list.split_at_mut(index)`, where the clause holds.
+#[cfg(not(feature = "checked"))]
 macro_rules! split_at_mut {
-    ($list:ident, $index:expr) => {
+    ($list:ident, $index:expr, $clause:literal) => {
         match $index {
             // SAFETY: as in `index!`.
-            index => unsafe { $crate::shim::index::split_at_mut(&mut $list[..], index) },
+            index => unsafe { $crate::shim::index::split_at_mut(&mut $list[..], index, $clause) },
         }
     };
 }
 
-#[cfg(feature = "fast")]
+#[cfg(not(feature = "checked"))]
 pub(crate) use unchecked::{at, at_mut, split_at_mut};
 
-#[cfg(feature = "fast")]
+#[cfg(not(feature = "checked"))]
 #[allow(unsafe_code)]
 mod unchecked {
     use std::slice::SliceIndex;
@@ -72,13 +75,18 @@ mod unchecked {
     ///
     /// # Safety
     ///
-    /// The index is in bounds.
+    /// The index is in bounds. `clause` says by what.
     #[inline(always)]
     #[track_caller]
-    pub(crate) unsafe fn at<T, I: SliceIndex<[T]>>(list: &[T], index: I) -> &I::Output {
-        if cfg!(debug_assertions) {
-            return list.get(index).expect("an index that is proved to be in bounds");
-        }
+    pub(crate) unsafe fn at<'l, T, I: SliceIndex<[T]> + Clone>(
+        list: &'l [T],
+        index: I,
+        clause: &str,
+    ) -> &'l I::Output {
+        debug_assert!(
+            list.get(index.clone()).is_some(),
+            "out of bounds, against the clause: {clause}"
+        );
         // SAFETY: the caller says that the index is in bounds.
         unsafe { list.get_unchecked(index) }
     }
@@ -87,13 +95,18 @@ mod unchecked {
     ///
     /// # Safety
     ///
-    /// The index is in bounds.
+    /// The index is in bounds. `clause` says by what.
     #[inline(always)]
     #[track_caller]
-    pub(crate) unsafe fn at_mut<T, I: SliceIndex<[T]>>(list: &mut [T], index: I) -> &mut I::Output {
-        if cfg!(debug_assertions) {
-            return list.get_mut(index).expect("an index that is proved to be in bounds");
-        }
+    pub(crate) unsafe fn at_mut<'l, T, I: SliceIndex<[T]> + Clone>(
+        list: &'l mut [T],
+        index: I,
+        clause: &str,
+    ) -> &'l mut I::Output {
+        debug_assert!(
+            list.get(index.clone()).is_some(),
+            "out of bounds, against the clause: {clause}"
+        );
         // SAFETY: the caller says that the index is in bounds.
         unsafe { list.get_unchecked_mut(index) }
     }
@@ -102,13 +115,15 @@ mod unchecked {
     ///
     /// # Safety
     ///
-    /// The index is at most the length.
+    /// The index is at most the length. `clause` says by what.
     #[inline(always)]
     #[track_caller]
-    pub(crate) unsafe fn split_at_mut<T>(list: &mut [T], index: usize) -> (&mut [T], &mut [T]) {
-        if cfg!(debug_assertions) {
-            return list.split_at_mut(index);
-        }
+    pub(crate) unsafe fn split_at_mut<'l, T>(
+        list: &'l mut [T],
+        index: usize,
+        clause: &str,
+    ) -> (&'l mut [T], &'l mut [T]) {
+        debug_assert!(index <= list.len(), "out of bounds, against the clause: {clause}");
         // `split_at_mut_unchecked` of std is newer than the Rust that this crate needs.
         let rest = list.len().wrapping_sub(index);
         let start = list.as_mut_ptr();

@@ -5,6 +5,7 @@
 pub(crate) mod index;
 pub(crate) mod lanes;
 mod memory;
+pub(crate) mod slots;
 
 pub use lanes::u8x16;
 pub use memory::{collect, to_vec, with_capacity, zeroed_bytes, AllocError, Global};

@@ -5,6 +5,7 @@ use crate::config::{Config, Proved};
 use crate::opened::Opened;
 use crate::proved::base::bytes::Borrowed;
 use crate::proved::header::error::Error;
+use crate::proved::header::layout::Layout;
 use crate::proved::tables;
 use std::marker::PhantomData;
 
@@ -33,7 +34,7 @@ impl<'b, C: Config> HashTable<C, &'b [u8]> {
         let () = Proved::<C>::FITS;
         let (table, rest) = tables::HashTable::<Proved<C>, Borrowed<'b>>::from_prefix(bytes)?;
         let Borrowed(data) = table.into_data();
-        let opened = Opened::of(data);
+        let opened = Opened::of(data, Layout::of::<Proved<C>>());
         Ok((HashTable { data, opened, config: PhantomData }, rest))
     }
 }

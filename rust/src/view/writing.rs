@@ -5,6 +5,7 @@ use crate::config::{Config, Proved};
 use crate::opened::{count_again, Opened};
 use crate::proved::base::bytes::BorrowedMut;
 use crate::proved::header::error::Error;
+use crate::proved::header::layout::Layout;
 use crate::proved::tables;
 use crate::sizes::{percent_of, refused};
 use alloc::boxed::Box;
@@ -76,7 +77,7 @@ impl<C: Config, D: Borrow<[u8]> + BorrowMut<[u8]>> HashTable<C, D> {
         let store = BorrowedMut::new(data.borrow_mut());
         let table =
             tables::HashTable::<Proved<C>, _>::init_in_place(store, max_item_count, percent)?;
-        let opened = Opened::of(table.raw_bytes());
+        let opened = Opened::of(table.raw_bytes(), Layout::of::<Proved<C>>());
         Ok(HashTable { data, opened, config: PhantomData })
     }
 
@@ -84,7 +85,7 @@ impl<C: Config, D: Borrow<[u8]> + BorrowMut<[u8]>> HashTable<C, D> {
     #[inline(always)]
     pub(super) fn bytes_mut(&mut self) -> &mut [u8] {
         let bytes = self.data.borrow_mut();
-        self.opened.check(bytes);
+        self.opened.check(bytes, Layout::of::<Proved<C>>());
         bytes
     }
 

@@ -34,6 +34,13 @@ pub fn erase_all(plan: &Plan<'_>, crates: &Path, out: &Path) -> Result<Counts, S
             all.insert((krate.name, path), (krate, source));
         }
     }
+    for it in plan.unchecked {
+        let mut files = all.iter();
+        let stated = files.find(|((name, path), _)| format!("{name}/{path}") == it.stated);
+        if !stated.is_some_and(|(_, (_, source))| source.contains(it.clause)) {
+            return Err(format!("{}: no clause `{}`", it.stated, it.clause));
+        }
+    }
     let mut counts = Counts::default();
     for ((_, path), (krate, source)) in &all {
         let declared = &declared[usize::from(krate.is_of_program)];

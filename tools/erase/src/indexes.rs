@@ -1,15 +1,18 @@
-//! Index expressions, and cuts of slices.
+//! Index expressions that are not checked once more, and slot counts that are compared with the length of the bytes.
 
 use crate::rules::Eraser;
 use crate::source::Done;
 use crate::tokens::Kind;
+use crate::SlotCount;
 
-impl Eraser<'_> {
-    /// `list[index]`, of a name or of a field of a name, is `index!(list[index])`, or `index_mut!` where it is written.
+impl<'e> Eraser<'e> {
+    /// `list[index]`, of a name or of a field of a name, in a function that the plan lists, is `index!(list[index],
+    /// "clause")`, or `index_mut!` where it is written: the clause says why it is in bounds.
     pub fn index(&mut self, at: usize) -> Done<Option<usize>> {
-        if !self.is_indexed || !self.is_index(at) {
+        if !self.is_index(at) {
             return Ok(None);
         }
+        let Some(clause) = self.clause_at(at) else { return Ok(None) };
         let end = self.source.close(at)?;
         let mut base = at - 1;
         while self.source.is(base - 1, ".") && self.source.kind(base - 2) == Kind::Word {
@@ -20,20 +23,54 @@ impl Eraser<'_> {
         let name = if is_assigned || is_borrowed { "index_mut" } else { "index" };
         let first = format!("{name}!({}", self.source.text(base));
         self.source.replace(base, base, &first);
-        self.source.replace(end, end, "])");
+        self.source.replace(end, end, &format!("], {clause:?})"));
         Ok(Some(at))
     }
 
-    /// `list.split_at_mut(index)` is `split_at_mut!(list, index)`.
+    /// `list.split_at_mut(index)`, in a function that the plan lists, is `split_at_mut!(list, index, "clause")`.
     pub fn cut(&mut self, at: usize) -> Done<Option<usize>> {
         let is_cut =
             self.source.kind(at) == Kind::Word && self.source.has(at + 1, ". split_at_mut (");
-        if !self.is_indexed || !is_cut {
+        if !is_cut {
             return Ok(None);
         }
+        let Some(clause) = self.clause_at(at) else { return Ok(None) };
+        let end = self.source.close(at + 3)?;
         let first = format!("split_at_mut!({},", self.source.text(at));
         self.source.replace(at, at + 3, &first);
+        self.source.replace(end, end, &format!(", {clause:?})"));
         Ok(Some(at + 3))
+    }
+
+    /// `let slots = ...slot_count();` in a function that the plan lists gets a statement behind it, which compares the
+    /// slot count with the length of the bytes.
+    pub fn slot_count(&mut self, at: usize) -> Done<Option<usize>> {
+        if !self.source.has(at, ". slot_count ( ) ;") {
+            return Ok(None);
+        }
+        let function = self.function_at(at);
+        let mut listed = self.plan.slot_counts.iter();
+        let Some(reads) = listed.find(|it| it.file == self.path && it.function == function) else {
+            return Ok(None);
+        };
+        let SlotCount { store, layout, .. } = reads;
+        let check =
+            format!("; crate::shim::slots::check::<{store}>(bytes.len(), slots, {layout});");
+        self.source.replace(at + 4, at + 4, &check);
+        Ok(Some(at + 4))
+    }
+
+    // Why each index of the function that a place is in is in bounds, where the plan lists it.
+    fn clause_at(&self, at: usize) -> Option<&'e str> {
+        let function = self.function_at(at);
+        let mut listed = self.plan.unchecked.iter();
+        listed.find(|it| it.file == self.path && it.function == function).map(|it| it.clause)
+    }
+
+    // The name of the function that a place is in: of the last one that is declared before it.
+    fn function_at(&self, at: usize) -> &str {
+        let declared = (0..at).rev().find(|i| self.source.is(*i, "fn"));
+        declared.map_or("", |i| self.source.text(i + 1))
     }
 
     // Whether the bracket at a place stands right behind a name.

@@ -30,12 +30,40 @@ pub struct Plan<'p> {
     pub dropped_traits: &'p [&'p str],
     /// Modules of laws, as `CRATE::MODULE`.
     pub dropped_modules: &'p [&'p str],
-    /// Files, as `CRATE/PATH` without the ending, in which an index is written as `index!` or `index_mut!`.
-    pub indexed: &'p [&'p str],
-    /// Enums that may get more variants: the file of each, as in `indexed`, and its name.
+    /// Functions whose index expressions are written as `index!`, which does not check them.
+    pub unchecked: &'p [Unchecked<'p>],
+    /// Functions in which the slot count that is read is compared with the length of the bytes.
+    pub slot_counts: &'p [SlotCount<'p>],
+    /// Enums that may get more variants: the file of each, as in `unchecked`, and its name.
     pub open_enums: &'p [(&'p str, &'p str)],
-    /// Constants with another text in what is made: the file of each, as in `indexed`, its name, and the new text.
+    /// Constants with another text in what is made: the file of each, as in `unchecked`, its name, and the new text.
     pub texts: &'p [(&'p str, &'p str, &'p str)],
+}
+
+/// A function whose index expressions are proved to be in bounds, and are not checked.
+#[derive(Clone, Copy)]
+pub struct Unchecked<'p> {
+    /// Its file, as `CRATE/PATH` without the ending.
+    pub file: &'p str,
+    /// Its name.
+    pub function: &'p str,
+    /// The proved clause from which each index of the function is in bounds, or the definition that it names.
+    pub clause: &'p str,
+    /// The file that has the clause, word for word.
+    pub stated: &'p str,
+}
+
+/// A function that reads `slots` from the header of `bytes`.
+#[derive(Clone, Copy)]
+pub struct SlotCount<'p> {
+    /// Its file, as `CRATE/PATH` without the ending.
+    pub file: &'p str,
+    /// Its name.
+    pub function: &'p str,
+    /// The type of what has the bytes.
+    pub store: &'p str,
+    /// The lengths of keys and values there, as an expression.
+    pub layout: &'p str,
 }
 
 /// A Rattle crate, and what becomes of it.
@@ -75,7 +103,7 @@ pub struct Replaced {
     pub new: String,
 }
 
-/// Erases a source of a crate of the plan. The path is that of [`Plan::indexed`]. `declared` are the functions of all
+/// Erases a source of a crate of the plan. The path is that of [`Unchecked::file`]. `declared` are the functions of all
 /// sources; a method that is neither one of them nor known to be the same in Rust is an error.
 pub fn erase(
     plan: &Plan<'_>,
@@ -85,8 +113,7 @@ pub fn erase(
     source: &str,
 ) -> Result<Erased, String> {
     let source = source::Source::new(source, krate.module)?;
-    let is_indexed = plan.indexed.contains(&path);
-    let mut eraser = rules::Eraser { source, plan, krate, path, declared, is_indexed };
+    let mut eraser = rules::Eraser { source, plan, krate, path, declared };
     eraser.erase()?;
     eraser.check()?;
     if krate.is_of_program {

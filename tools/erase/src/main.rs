@@ -1,8 +1,22 @@
 //! `erase CRATES RUST`: makes the sources of the Rust crates in RUST, of the proved crates in CRATES.
 
-use erase::{erase_all, Crate, Plan};
+use erase::{erase_all, Crate, Plan, SlotCount, Unchecked};
 use std::path::Path;
 use std::process::ExitCode;
+
+const ARRAYS: &str = "odht_base/bytes/arrays";
+const ALLOCATION: &str = "odht_raw/memory_layout/allocation";
+const INSERTS: &str = "odht_raw/memory_layout/allocation/inserts";
+const ENTRIES: &str = "odht_raw/raw_table/entries";
+const FIRST_LOOK: &str = "odht_raw/raw_table/first_look";
+const STORES: &str = "odht_base/bytes/stores";
+const LOOKUPS: &str = "odht/lookups";
+const WALK: &str = "odht_raw/raw_table/walk";
+// the invariant of a walk names it
+const OCCUPIED: &str = "AreOccupied";
+const SCAN: &str = "odht_raw/raw_table/scan";
+const ACCEPTED: &str = "IsAccepted (format_of C.EncodedKey.LEN C.EncodedValue.LEN C.H.hash)";
+const TYPED: &str = "crate::proved::header::layout::Layout::of::<C>()";
 
 const PLAN: Plan<'static> = Plan {
     crates: &[
@@ -21,27 +35,54 @@ const PLAN: Plan<'static> = Plan {
     ],
     dropped_traits: &["Model", "Coded", "Lossless"],
     dropped_modules: &["odht_base::laws", "odht::laws"],
-    // What lookups, inserts, walks and opening do most. Each index and cut in them is in bounds by lengths alone.
-    indexed: &[
-        "odht/lookups",
-        "odht_base/bytes/arrays",
-        "odht_base/bytes/stores",
-        "odht_header/header",
-        "odht_raw/items",
-        "odht_raw/memory_layout/allocation",
-        "odht_raw/memory_layout/allocation/inserts",
-        "odht_raw/memory_layout/sized",
-        "odht_raw/raw_table/ahead",
-        "odht_raw/raw_table/entries",
-        "odht_raw/raw_table/first_look",
-        "odht_raw/raw_table/free_search",
-        "odht_raw/raw_table/group_search",
-        "odht_raw/raw_table/insert",
-        "odht_raw/raw_table/runs",
-        "odht_raw/raw_table/scan",
-        "odht_raw/raw_table/sized",
-        "odht_raw/raw_table/slot_checks",
-        "odht_raw/raw_table/walk",
+    // What single lookups and inserts do most. Each is in bounds by lengths alone, which no code of a user can change.
+    unchecked: &[
+        unchecked("read_u16", ARRAYS, "at + 2 ≤ length bytes.now", ARRAYS),
+        unchecked("read_u32", ARRAYS, "at + 4 ≤ length bytes.now", ARRAYS),
+        unchecked("read_u64", ARRAYS, "at + 8 ≤ length bytes.now", ARRAYS),
+        unchecked("is_same_bytes", ARRAYS, "length left.now ≡ length right.now", ARRAYS),
+        unchecked("data_slices", ALLOCATION, ACCEPTED, ALLOCATION),
+        unchecked("get", ENTRIES, "slot < self.now.slots", ENTRIES),
+        unchecked("bytes_of", ENTRIES, "slot < self.now.slots", ENTRIES),
+        unchecked("key_bytes_of", ENTRIES, "slot < self.now.slots", ENTRIES),
+        unchecked("is_at", ENTRIES, "length result.now ≡ K.LEN + V.LEN", ENTRIES),
+        unchecked(
+            "first_look",
+            FIRST_LOOK,
+            "IsTableParts H.MIN_LEN K.LEN V.LEN",
+            "odht_raw/raw_table",
+        ),
+        unchecked("group", SCAN, "start < length self.old.control - 16", SCAN),
+        unchecked("insert_by", INSERTS, ACCEPTED, ALLOCATION),
+        unchecked("insert_items", INSERTS, ACCEPTED, ALLOCATION),
+        unchecked(
+            "fill_slot",
+            "odht_raw/raw_table/insert",
+            "slot < length control.old - 16",
+            "odht_raw/raw_table/insert",
+        ),
+        unchecked("write_slice", STORES, "at + length piece.now ≤ length all.old", STORES),
+        unchecked("put", LOOKUPS, "index < places self.old", LOOKUPS),
+        unchecked("first_look_at", LOOKUPS, "index < length keys.now", LOOKUPS),
+        unchecked("find_at", LOOKUPS, "index < length keys.now", LOOKUPS),
+        unchecked("next", WALK, OCCUPIED, WALK),
+    ],
+    slot_counts: &[
+        SlotCount { file: ALLOCATION, function: "data_slices", store: "M", layout: TYPED },
+        SlotCount { file: INSERTS, function: "insert_by", store: "M", layout: TYPED },
+        SlotCount { file: INSERTS, function: "insert_items", store: "M", layout: TYPED },
+        SlotCount {
+            file: "odht_raw/memory_layout/sized",
+            function: "cut",
+            store: "&[u8]",
+            layout: "layout",
+        },
+        SlotCount {
+            file: "odht_raw/memory_layout/sized_inserts",
+            function: "insert_sized",
+            store: "&[u8]",
+            layout: "layout",
+        },
     ],
     open_enums: &[("odht/dynamic", "DynError"), ("odht_header/error", "Error")],
     texts: &[("odht_tool_core/help", "MADE", "\"erased\"")],
@@ -53,6 +94,15 @@ const fn library<'p>(name: &'p str, module: &'p str, to: &'p str) -> Crate<'p> {
 
 const fn program<'p>(name: &'p str, module: &'p str, to: &'p str) -> Crate<'p> {
     Crate { name, module, to, is_of_program: true }
+}
+
+const fn unchecked<'p>(
+    function: &'p str,
+    file: &'p str,
+    clause: &'p str,
+    stated: &'p str,
+) -> Unchecked<'p> {
+    Unchecked { file, function, clause, stated }
 }
 
 fn main() -> ExitCode {

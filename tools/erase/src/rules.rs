@@ -21,12 +21,10 @@ pub struct Eraser<'e> {
     pub path: &'e str,
     /// The functions of all sources.
     pub declared: &'e BTreeSet<String>,
-    /// Whether an index is written as a macro.
-    pub is_indexed: bool,
 }
 
 impl<'e> Eraser<'e> {
-    const RULES: [Rule<'e>; 23] = [
+    const RULES: [Rule<'e>; 24] = [
         Self::ghost,
         Self::clause,
         Self::attribute,
@@ -34,6 +32,7 @@ impl<'e> Eraser<'e> {
         Self::export,
         Self::index,
         Self::cut,
+        Self::slot_count,
         Self::use_item,
         Self::final_function,
         Self::dropped_block,

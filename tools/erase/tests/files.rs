@@ -3,7 +3,7 @@
 mod common;
 
 use common::PLAN;
-use erase::{erase_all, Counts};
+use erase::{erase_all, Counts, Plan, Unchecked};
 use std::fs;
 use std::path::{Path, PathBuf};
 
@@ -21,7 +21,8 @@ fn room(name: &str, sources: &[(&str, &str)]) -> PathBuf {
 
 // Erases what is in a room, and removes the room.
 fn all_of(room: &Path) -> (Result<Counts, String>, Vec<(String, String)>) {
-    let done = erase_all(&PLAN, room, &room.join("out"));
+    let plan = Plan { unchecked: &[], ..PLAN };
+    let done = erase_all(&plan, room, &room.join("out"));
     let read = |path: &&str| {
         Some((path.to_string(), fs::read_to_string(room.join("out").join(path)).ok()?))
     };
@@ -58,6 +59,23 @@ fn each_file_is_the_file_of_its_module() {
         (path.to_string(), format!("// Made by `make rust` of crates/{of}.\n{text}"))
     });
     assert_eq!(made, wanted);
+}
+
+#[test]
+fn a_clause_of_the_plan_stands_in_its_file() {
+    let unchecked = Unchecked { file: "high/a", function: "f", clause: "i < n", stated: "low/lib" };
+    for (low, wanted) in [
+        ("fn f() requires { i < n } {}\n", None),
+        ("fn f() requires { i ≤ n } {}\n", Some("low/lib: no clause `i < n`")),
+    ] {
+        let sources =
+            [("low/src/lib.rt", low), ("high/src/lib.rt", "fn f() requires { i < n } {}\n")];
+        let room = room("clauses", &sources);
+        let plan = Plan { unchecked: &[unchecked], ..PLAN };
+        let done = erase_all(&plan, &room, &room.join("out"));
+        fs::remove_dir_all(room).unwrap();
+        assert_eq!(done.err().as_deref(), wanted);
+    }
 }
 
 #[test]

@@ -173,24 +173,47 @@ fn macros_that_are_declared_are_kept() {
 }
 
 #[test]
-fn an_index_is_a_macro_in_the_files_of_the_plan() {
+fn an_index_in_a_function_of_the_plan_is_a_macro_with_its_clause() {
     for (source, wanted) in [
-        ("fn f() { a[i] }", "fn f() { index!(a[i]) }"),
-        ("fn f() { a.split_at_mut(g(b[i])) }", "fn f() { split_at_mut!(a,g(index!(b[i]))) }"),
-        ("fn f() { &self.a[i..j] }", "fn f() { &index!(self.a[i..j]) }"),
+        ("fn f() { a[i] }", "fn f() { index!(a[i], \"i ≤ n\") }"),
+        (
+            "fn f() { a.split_at_mut(g(b[i])) }",
+            "fn f() { split_at_mut!(a,g(index!(b[i], \"i ≤ n\")), \"i ≤ n\") }",
+        ),
+        ("fn f() { &self.a[i..j] }", "fn f() { &index!(self.a[i..j], \"i ≤ n\") }"),
         (
             "fn f() { g(&mut a[i..i + b.len()]) }",
-            "fn f() { g(&mut index_mut!(a[i..i + b.len()])) }",
+            "fn f() { g(&mut index_mut!(a[i..i + b.len()], \"i ≤ n\")) }",
         ),
-        ("fn f() { a[i] = b[j]; }", "fn f() { index_mut!(a[i]) = index!(b[j]); }"),
-        ("fn f() { a[i] == b }", "fn f() { index!(a[i]) == b }"),
+        (
+            "fn f() { a[i] = b[j]; }",
+            "fn f() { index_mut!(a[i], \"i ≤ n\") = index!(b[j], \"i ≤ n\"); }",
+        ),
+        ("fn f() { a[i] == b }", "fn f() { index!(a[i], \"i ≤ n\") == b }"),
         (
             "fn f(x: [u8; 4]) -> [u8; 4] { [x[0]; 4] }",
-            "fn f(x: [u8; 4]) -> [u8; 4] { [index!(x[0]); 4] }",
+            "fn f(x: [u8; 4]) -> [u8; 4] { [index!(x[0], \"i ≤ n\"); 4] }",
         ),
     ] {
         assert_eq!(text("high/fast", source).as_deref(), Ok(wanted), "{source}");
         assert_eq!(text("high/slow", source).as_deref(), Ok(source), "{source}");
+        let other = source.replacen("fn f", "fn g", 1);
+        assert_eq!(text("high/fast", &other), Ok(other), "{source}");
+    }
+}
+
+#[test]
+fn a_slot_count_in_a_function_of_the_plan_is_compared() {
+    let source = "fn f() { let slots = h(bytes).slot_count(); g(slots) }";
+    let wanted = "fn f() { let slots = h(bytes).slot_count(); \
+                  crate::shim::slots::check::<M>(bytes.len(), slots, l); g(slots) }";
+    assert_eq!(text("high/fast", source).as_deref(), Ok(wanted));
+    for (file, source) in [
+        ("high/slow", source),
+        ("high/fast", "fn g() { let slots = h(bytes).slot_count(); }"),
+        ("high/fast", "fn f() { g(h(bytes).slot_count()) }"),
+    ] {
+        assert_eq!(text(file, source).as_deref(), Ok(source));
     }
 }
 

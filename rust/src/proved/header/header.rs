@@ -134,7 +134,7 @@ impl<'a> Header<'a> {
     #[inline]
     fn word(&self, at: usize) -> [u8; 4] {
         let bytes = self.bytes;
-        [index!(bytes[at]), index!(bytes[at + 1]), index!(bytes[at + 2]), index!(bytes[at + 3])]
+        [bytes[at], bytes[at + 1], bytes[at + 2], bytes[at + 3]]
     }
 
     /// Whether the header says that a control byte takes one byte; else `WrongSizeOf`.
@@ -153,7 +153,7 @@ impl<'a> Header<'a> {
     #[inline(always)]
     fn check_expected_size(&self, at: usize, part: Part, expected: usize) -> Result<(), Error> {
         let bytes = self.bytes;
-        let found = index!(bytes[at]);
+        let found = bytes[at];
         if found as usize == expected {
             Ok(())
         } else {
@@ -199,7 +199,7 @@ impl<'a> Header<'a> {
     /// Whether the padding is two zeros; else `NonZeroPadding`.
     pub fn check_padding(&self) -> Result<(), Error> {
         let bytes = self.bytes;
-        let found = [index!(bytes[PADDING_AT]), index!(bytes[PADDING_AT + 1])];
+        let found = [bytes[PADDING_AT], bytes[PADDING_AT + 1]];
         if found == [0, 0] {
             Ok(())
         } else {
@@ -224,14 +224,14 @@ impl<'a> Header<'a> {
     #[inline]
     pub fn key_size(&self) -> u8 {
         let bytes = self.bytes;
-        index!(bytes[KEY_SIZE_AT])
+        bytes[KEY_SIZE_AT]
     }
 
     /// The value size in the header, in bytes.
     #[inline]
     pub fn value_size(&self) -> u8 {
         let bytes = self.bytes;
-        index!(bytes[VALUE_SIZE_AT])
+        bytes[VALUE_SIZE_AT]
     }
 
     /// The header's item count.
@@ -252,10 +252,7 @@ impl<'a> Header<'a> {
     #[inline]
     pub fn max_load_factor(&self) -> Factor {
         let bytes = self.bytes;
-        Factor(u16::from_le_bytes([
-            index!(bytes[LOAD_FACTOR_AT]),
-            index!(bytes[LOAD_FACTOR_AT + 1]),
-        ]))
+        Factor(u16::from_le_bytes([bytes[LOAD_FACTOR_AT], bytes[LOAD_FACTOR_AT + 1]]))
     }
 }
 

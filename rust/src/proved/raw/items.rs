@@ -22,7 +22,7 @@ impl<K, V> Items<K, V> for &[(K, V)] {
     #[inline(always)]
     fn at(&self, index: usize) -> (&K, &V) {
         let items = *self;
-        let (key, value) = &index!(items[index]);
+        let (key, value) = &items[index];
         (key, value)
     }
 }
@@ -50,7 +50,7 @@ impl<'k, 'v, K, V> Items<K, V> for Zipped<'k, 'v, K, V> {
     #[inline(always)]
     fn at(&self, index: usize) -> (&K, &V) {
         let (keys, values) = (self.keys, self.values);
-        (&index!(keys[index]), &index!(values[index]))
+        (&keys[index], &values[index])
     }
 }
 

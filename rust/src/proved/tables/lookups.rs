@@ -27,7 +27,7 @@ pub(crate) struct InSlice<'a, T> {
 impl<'a, T> Answers<T> for InSlice<'a, T> {
     #[inline(always)]
     fn put(&mut self, index: usize, answer: T) {
-        index_mut!(self.answers[index]) = answer;
+        index_mut!(self.answers[index], "index < places self.old") = answer;
     }
 }
 
@@ -110,7 +110,7 @@ fn first_look_at<C: Config>(
     keys: &[C::Key],
     index: usize,
 ) -> FirstLook {
-    raw.first_look(&C::encode_key(&index!(keys[index])))
+    raw.first_look(&C::encode_key(&index!(keys[index], "index < length keys.now")))
 }
 
 // The value of the key at an index, from its first look by `first_look_at`. The key is encoded
@@ -122,7 +122,7 @@ fn find_at<C: Config>(
     keys: &[C::Key],
     index: usize,
 ) -> Option<C::Value> {
-    let key = C::encode_key(&index!(keys[index]));
+    let key = C::encode_key(&index!(keys[index], "index < length keys.now"));
     match raw.find_from(look, &key) {
         Some(value) => Some(C::decode_value(&value)),
         None => None,

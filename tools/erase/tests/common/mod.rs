@@ -1,6 +1,6 @@
 //! What the tests share: a plan of two crates, one of a program over them, and texts without their layout.
 
-use erase::{declared_in, Crate, Erased, Plan};
+use erase::{declared_in, Crate, Erased, Plan, SlotCount, Unchecked};
 
 pub const LOW: Crate<'static> =
     Crate { name: "low", module: "all::low", to: "src/all/low", is_of_program: false };
@@ -13,13 +13,23 @@ pub const PLAN: Plan<'static> = Plan {
     crates: &[LOW, HIGH],
     dropped_traits: &["Model", "Coded", "Lossless"],
     dropped_modules: &["high::laws"],
-    indexed: &["high/fast"],
+    unchecked: &[Unchecked {
+        file: "high/fast",
+        function: "f",
+        clause: "i ≤ n",
+        stated: "high/fast",
+    }],
+    slot_counts: &[SlotCount { file: "high/fast", function: "f", store: "M", layout: "l" }],
     open_enums: &[("high/error", "Error")],
     texts: &[],
 };
 #[allow(dead_code)]
-pub const PLAN_WITH_PROGRAM: Plan<'static> =
-    Plan { crates: &[LOW, HIGH, TOOL], texts: &[("tool/help", "MADE", "\"erased\"")], ..PLAN };
+pub const PLAN_WITH_PROGRAM: Plan<'static> = Plan {
+    crates: &[LOW, HIGH, TOOL],
+    unchecked: &[],
+    texts: &[("tool/help", "MADE", "\"erased\"")],
+    ..PLAN
+};
 
 /// Erases a source of the crate `high`.
 pub fn erased(path: &str, source: &str) -> Result<Erased, String> {

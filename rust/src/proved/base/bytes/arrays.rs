@@ -81,21 +81,30 @@ fn as_bytes(slice: &[u8]) -> &[u8] {
 // The number of the two bytes from `at` on, lowest byte first, at any alignment.
 #[inline]
 fn read_u16(bytes: &[u8], at: usize) -> u16 {
-    let Some(chunk) = index!(bytes[at..at + 2]).first_chunk::<2>() else { unreachable!() };
+    let Some(chunk) = index!(bytes[at..at + 2], "at + 2 ≤ length bytes.now").first_chunk::<2>()
+    else {
+        unreachable!()
+    };
     u16::from_le_bytes(*chunk)
 }
 
 /// The number of the four bytes from `at` on, lowest byte first, at any alignment.
 #[inline]
 pub fn read_u32(bytes: &[u8], at: usize) -> u32 {
-    let Some(chunk) = index!(bytes[at..at + 4]).first_chunk::<4>() else { unreachable!() };
+    let Some(chunk) = index!(bytes[at..at + 4], "at + 4 ≤ length bytes.now").first_chunk::<4>()
+    else {
+        unreachable!()
+    };
     u32::from_le_bytes(*chunk)
 }
 
 /// The number of the eight bytes from `at` on, lowest byte first, at any alignment.
 #[inline]
 pub fn read_u64(bytes: &[u8], at: usize) -> u64 {
-    let Some(chunk) = index!(bytes[at..at + 8]).first_chunk::<8>() else { unreachable!() };
+    let Some(chunk) = index!(bytes[at..at + 8], "at + 8 ≤ length bytes.now").first_chunk::<8>()
+    else {
+        unreachable!()
+    };
     u64::from_le_bytes(*chunk)
 }
 
@@ -123,9 +132,12 @@ pub fn is_same_bytes(left: &[u8], right: &[u8]) -> bool {
         at += 8;
     }
     if len - at < 4 {
-        return index!(left[at..]) == index!(right[at..]);
+        return index!(left[at..], "length left.now ≡ length right.now")
+            == index!(right[at..], "length left.now ≡ length right.now");
     }
-    is_same_half(left, right, at) && index!(left[at + 4..]) == index!(right[at + 4..])
+    is_same_half(left, right, at)
+        && index!(left[at + 4..], "length left.now ≡ length right.now")
+            == index!(right[at + 4..], "length left.now ≡ length right.now")
 }
 
 /// Whether each byte is zero, eight of them at a time.

@@ -133,7 +133,8 @@ impl ByteStoreMut for OwnedBytes {
 /// Writes `piece` into the slice from the byte `at` on. No other byte changes.
 #[inline(always)]
 pub fn write_slice(all: &mut [u8], at: usize, piece: &[u8]) {
-    let target = &mut index_mut!(all[at..at + piece.len()]);
+    let target =
+        &mut index_mut!(all[at..at + piece.len()], "at + length piece.now ≤ length all.old");
     // A piece of 1, 2, 4, 8 or 16 bytes is copied as an array.
     match piece.len() {
         1 => overwrite_array::<1>(target, piece),

@@ -83,8 +83,25 @@ impl<C: Config, M: ByteStore> Allocation<C, M> {
     pub fn data_slices(&self) -> (&[EntryMetadata], Entries<'_, C::EncodedKey, C::EncodedValue>) {
         let bytes = self.store.bytes();
         let slots = Header::of(bytes).slot_count();
+        crate::shim::slots::check::<M>(
+            bytes.len(),
+            slots,
+            crate::proved::header::layout::Layout::of::<C>(),
+        );
         let control = entry_at::<C>(slots);
-        (&index!(bytes[control..]), Entries::new(&index!(bytes[HEADER_SIZE..control]), slots))
+        (
+            &index!(
+                bytes[control..],
+                "IsAccepted (format_of C.EncodedKey.LEN C.EncodedValue.LEN C.H.hash)"
+            ),
+            Entries::new(
+                &index!(
+                    bytes[HEADER_SIZE..control],
+                    "IsAccepted (format_of C.EncodedKey.LEN C.EncodedValue.LEN C.H.hash)"
+                ),
+                slots,
+            ),
+        )
     }
 
     /// The parts of the table, to be read.

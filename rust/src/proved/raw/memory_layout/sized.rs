@@ -51,11 +51,7 @@ pub fn sized_parts<H: HashFn>(bytes: &[u8], layout: Layout) -> SizedTable<'_, H>
 #[inline(always)]
 fn cut<H: HashFn>(bytes: &[u8], layout: Layout) -> SizedTable<'_, H> {
     let slots = Header::of(bytes).slot_count();
+    crate::shim::slots::check::<&[u8]>(bytes.len(), slots, layout);
     let control_at = HEADER_SIZE + slots * layout.entry_len();
-    SizedTable::new(
-        &index!(bytes[control_at..]),
-        &index!(bytes[HEADER_SIZE..control_at]),
-        slots,
-        layout,
-    )
+    SizedTable::new(&bytes[control_at..], &bytes[HEADER_SIZE..control_at], slots, layout)
 }

@@ -23,6 +23,7 @@ pub fn insert_sized<H: HashFn>(
     hold_bytes(key);
     hold_bytes(value);
     let slots = Header::of(bytes).slot_count();
+    crate::shim::slots::check::<&[u8]>(bytes.len(), slots, layout);
     let (table, control) = bytes.split_at_mut(layout.entry_at(slots));
     let (front, entries) = table.split_at_mut(HEADER_SIZE);
     let end = sized_step_end::<H>(control, entries, slots, layout, key);

@@ -26,7 +26,7 @@ pub(crate) fn expected_slot<K: ByteArray, V: ByteArray, H: HashFn, Q: Group>(
     let mask = slots - 1;
     let hash = H::hash(key.as_slice());
     let home = hash as usize & mask;
-    let group = Q::of(&index!(control[home..home + Q::SIZE]), tag_of(hash));
+    let group = Q::of(&control[home..home + Q::SIZE], tag_of(hash));
     if group.first_match().is_some() {
         return (hash, slots);
     }
@@ -66,7 +66,7 @@ fn expected_end<K: ByteArray, V: ByteArray, H: HashFn>(
     slot: usize,
     room: usize,
 ) -> Search {
-    if room > 0 && slot < slots && is_empty_or_deleted(index!(control[slot])) {
+    if room > 0 && slot < slots && is_empty_or_deleted(control[slot]) {
         return Search::Free(slot);
     }
     whole_search::<K, V, H>(control, &Entries::new(entries, slots), key, hash)

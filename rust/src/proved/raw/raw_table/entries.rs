@@ -56,10 +56,10 @@ impl<'a, K: ByteArray, V: ByteArray> Entries<'a, K, V> {
     pub fn get(&self, slot: usize) -> Entry<K, V> {
         let bytes = self.bytes;
         let at = slot * (K::LEN + V::LEN);
-        let entry = &index!(bytes[at..at + K::LEN + V::LEN]);
+        let entry = &index!(bytes[at..at + K::LEN + V::LEN], "slot < self.now.slots");
         Entry {
-            key: K::from_slice(&index!(entry[..K::LEN])),
-            value: V::from_slice(&index!(entry[K::LEN..])),
+            key: K::from_slice(&index!(entry[..K::LEN], "slot < self.now.slots")),
+            value: V::from_slice(&index!(entry[K::LEN..], "slot < self.now.slots")),
         }
     }
 
@@ -68,7 +68,7 @@ impl<'a, K: ByteArray, V: ByteArray> Entries<'a, K, V> {
     pub(crate) fn bytes_of(&self, slot: usize) -> &'a [u8] {
         let bytes = self.bytes;
         let at = slot * (K::LEN + V::LEN);
-        &index!(bytes[at..at + K::LEN + V::LEN])
+        &index!(bytes[at..at + K::LEN + V::LEN], "slot < self.now.slots")
     }
 
     // The bytes of the key of a slot.
@@ -76,7 +76,7 @@ impl<'a, K: ByteArray, V: ByteArray> Entries<'a, K, V> {
     pub(crate) fn key_bytes_of(&self, slot: usize) -> &'a [u8] {
         let bytes = self.bytes;
         let at = slot * (K::LEN + V::LEN);
-        &index!(bytes[at..at + K::LEN])
+        &index!(bytes[at..at + K::LEN], "slot < self.now.slots")
     }
 
     // Whether the keys of two slots are equal. No value is read, and no long key is copied.
@@ -104,7 +104,7 @@ impl<'a, K: ByteArray, V: ByteArray> SlotKeys for Entries<'a, K, V> {
     #[inline(always)]
     fn is_at(&self, slot: usize, key: &K) -> bool {
         let entry = self.bytes_of(slot);
-        let front = &index!(entry[..K::LEN]);
+        let front = &index!(entry[..K::LEN], "length result.now ≡ K.LEN + V.LEN");
         if K::LEN > SHORT {
             return is_same_bytes(front, key.as_slice());
         }

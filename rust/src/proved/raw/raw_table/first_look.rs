@@ -24,7 +24,10 @@ impl<'a, K: ByteArray, V: ByteArray, H: HashFn> RawTable<'a, K, V, H> {
         let mask = self.entries.len() - 1;
         let hash = H::hash(key.as_slice());
         let home = hash as usize & mask;
-        let bytes = &index!(self.control[home..home + REFERENCE_GROUP_SIZE]);
+        let bytes = &index!(
+            self.control[home..home + REFERENCE_GROUP_SIZE],
+            "IsTableParts H.MIN_LEN K.LEN V.LEN"
+        );
         FirstLook { hash, group: lanes::GroupQuery::of(bytes, tag_of(hash)) }
     }
 

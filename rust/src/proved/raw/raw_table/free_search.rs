@@ -14,7 +14,7 @@ use crate::proved::raw::swisstable_group_query::{Group, REFERENCE_GROUP_SIZE};
 pub(super) fn first_free<Q: Group>(control: &[EntryMetadata], hash: u32) -> Option<usize> {
     let mask = control.len() - REFERENCE_GROUP_SIZE - 1;
     let home = hash as usize & mask;
-    if is_empty_or_deleted(index!(control[home])) {
+    if is_empty_or_deleted(control[home]) {
         return Some(home);
     }
     first_free_by_groups::<Q>(control, hash, mask)
@@ -50,7 +50,7 @@ fn first_free_by_groups<Q: Group>(
 fn first_free_of_group<Q: Group>(bytes: &[EntryMetadata], tag: u8) -> Option<usize> {
     for piece in 0..REFERENCE_GROUP_SIZE / Q::SIZE {
         let at = piece * Q::SIZE;
-        let group = Q::of(&index!(bytes[at..at + Q::SIZE]), tag);
+        let group = Q::of(&bytes[at..at + Q::SIZE], tag);
         if let Some(index) = group.first_empty() {
             return Some(at + index);
         }

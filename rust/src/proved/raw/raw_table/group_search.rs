@@ -117,8 +117,7 @@ fn look_at_group<E: SlotKeys, H: HashFn, Q: Group>(
     }
     for piece in 0..REFERENCE_GROUP_SIZE / Q::SIZE {
         let at = piece * Q::SIZE;
-        let end =
-            look_at_piece::<E, H, Q>(&index!(bytes[at..at + Q::SIZE]), start + at, keys, key, tag);
+        let end = look_at_piece::<E, H, Q>(&bytes[at..at + Q::SIZE], start + at, keys, key, tag);
         if end.is_some() {
             return end;
         }

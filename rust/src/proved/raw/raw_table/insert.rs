@@ -90,8 +90,8 @@ pub(crate) fn fill_slot<K: ByteArray, V: ByteArray, H: HashFn>(
     let at = slot * (K::LEN + V::LEN);
     write_slice(entries, at, key.as_slice());
     write_slice(entries, at + K::LEN, value.as_slice());
-    index_mut!(control[slot]) = tag;
+    index_mut!(control[slot], "slot < length control.old - 16") = tag;
     if slot < REFERENCE_GROUP_SIZE {
-        index_mut!(control[slots + slot]) = tag;
+        index_mut!(control[slots + slot], "slot < length control.old - 16") = tag;
     }
 }

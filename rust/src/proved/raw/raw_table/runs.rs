@@ -106,7 +106,7 @@ fn insert_batch<C: Config, I: Items<C::Key, C::Value>>(
     for offset in 0..BATCH {
         let (key, value) = items.at(from + offset);
         let (key, value) = encode_pair::<C>(key, value);
-        let (hash, slot) = index!(ahead[offset]);
+        let (hash, slot) = ahead[offset];
         let answer = insert_ahead::<C::EncodedKey, C::EncodedValue, C::H>(
             control,
             entries,
@@ -138,7 +138,7 @@ fn look_ahead<C: Config, I: Items<C::Key, C::Value>>(
     for offset in 0..BATCH {
         let (key, _) = items.at(from + offset);
         let key = C::encode_key(key);
-        index_mut!(ahead[offset]) =
+        ahead[offset] =
             expected_slot::<C::EncodedKey, C::EncodedValue, C::H, GroupQuery>(control, &key);
     }
     ahead

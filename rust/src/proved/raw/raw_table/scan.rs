@@ -36,7 +36,7 @@ impl<'a> Scan<'a> {
     pub fn group(&mut self, start: usize) -> &'a [EntryMetadata] {
         self.groups = self.groups.saturating_add(1);
         let control = self.control;
-        &index!(control[start..start + 16])
+        &index!(control[start..start + 16], "start < length self.old.control - 16")
     }
 
     /// How many groups were read; `usize::MAX` where they are more.

@@ -99,7 +99,7 @@ impl<'a, H: HashFn> SizedTable<'a, H> {
     /// The control byte of a slot, or for an index from the slot count on of its mirror.
     #[inline(always)]
     pub fn control(&self, index: usize) -> EntryMetadata {
-        index!(self.control[index])
+        self.control[index]
     }
 
     /// The entry of a slot: key, then value.
@@ -108,21 +108,21 @@ impl<'a, H: HashFn> SizedTable<'a, H> {
         let entries = self.entries;
         let entry_len = self.layout.entry_len();
         let at = slot * entry_len;
-        &index!(entries[at..at + entry_len])
+        &entries[at..at + entry_len]
     }
 
     /// The key of a slot.
     #[inline(always)]
     pub fn key(&self, slot: usize) -> &'a [u8] {
         let entry = self.entry(slot);
-        &index!(entry[..self.layout.key_len as usize])
+        &entry[..self.layout.key_len as usize]
     }
 
     /// The value of a slot.
     #[inline(always)]
     pub fn value(&self, slot: usize) -> &'a [u8] {
         let entry = self.entry(slot);
-        &index!(entry[self.layout.key_len as usize..])
+        &entry[self.layout.key_len as usize..]
     }
 
     /// Whether the entry of a slot has this key.
@@ -151,11 +151,11 @@ impl<'a, H: HashFn> SizedTable<'a, H> {
     #[inline(always)]
     pub fn find_counted(&self, key: &[u8]) -> (Option<&'a [u8]>, usize) {
         match key.len() {
-            4 => self.find_of(&index!(key[..4])),
-            8 => self.find_of(&index!(key[..8])),
-            16 => self.find_of(&index!(key[..16])),
-            20 => self.find_of(&index!(key[..20])),
-            32 => self.find_of(&index!(key[..32])),
+            4 => self.find_of(&key[..4]),
+            8 => self.find_of(&key[..8]),
+            16 => self.find_of(&key[..16]),
+            20 => self.find_of(&key[..20]),
+            32 => self.find_of(&key[..32]),
             _ => self.find_of(key),
         }
     }

@@ -19,7 +19,7 @@ pub(super) fn check_hashes<S: TableSlots>(table: &S, slots_to_check: usize) -> R
 #[inline(always)]
 pub(super) fn check_slot<S: TableSlots>(table: &S, slot: usize) -> Result<(), Error> {
     let control = table.control_bytes();
-    if is_empty_or_deleted(index!(control[slot])) {
+    if is_empty_or_deleted(control[slot]) {
         if table.has_zeros(slot) {
             return Ok(());
         }
@@ -35,7 +35,7 @@ pub(super) fn check_slot<S: TableSlots>(table: &S, slot: usize) -> Result<(), Er
 pub(super) fn check_key<S: TableSlots>(table: &S, slot: usize) -> Result<u32, Error> {
     let hash = table.hash_of(slot);
     let control = table.control_bytes();
-    let found = index!(control[slot]);
+    let found = control[slot];
     let expected = tag_of(hash);
     if found != expected {
         return Err(Error::ControlMismatch { slot, expected, found });

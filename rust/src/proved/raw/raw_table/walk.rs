@@ -38,7 +38,10 @@ impl<'a, K: ByteArray, V: ByteArray> Iterator for RawSlots<'a, K, V> {
         loop {
             if let Some(index) = self.occupied.take() {
                 let slot = self.base + index;
-                return Some((slot, (index!(self.control[slot]), self.entries.get(slot))));
+                return Some((
+                    slot,
+                    (index!(self.control[slot], "AreOccupied"), self.entries.get(slot)),
+                ));
             }
             if self.next_slot >= self.entries.len() {
                 return None;
@@ -46,8 +49,10 @@ impl<'a, K: ByteArray, V: ByteArray> Iterator for RawSlots<'a, K, V> {
             self.base = self.next_slot;
             let size = (self.entries.len() - self.base).min(REFERENCE_GROUP_SIZE);
             let control = self.control;
-            self.occupied =
-                occupied(&index!(control[self.base..self.base + REFERENCE_GROUP_SIZE]), size);
+            self.occupied = occupied(
+                &index!(control[self.base..self.base + REFERENCE_GROUP_SIZE], "AreOccupied"),
+                size,
+            );
             self.next_slot += size;
         }
     }

@@ -31,8 +31,21 @@ impl<C: Config, M: ByteStoreMut> Allocation<C, M> {
         hold_bytes(bytes);
         let (key, value) = encode_pair::<C>(key, value);
         let slots = Header::of(bytes).slot_count();
-        let (table, control) = split_at_mut!(bytes, entry_at::<C>(slots));
-        let (front, entries) = split_at_mut!(table, HEADER_SIZE);
+        crate::shim::slots::check::<M>(
+            bytes.len(),
+            slots,
+            crate::proved::header::layout::Layout::of::<C>(),
+        );
+        let (table, control) = split_at_mut!(
+            bytes,
+            entry_at::<C>(slots),
+            "IsAccepted (format_of C.EncodedKey.LEN C.EncodedValue.LEN C.H.hash)"
+        );
+        let (front, entries) = split_at_mut!(
+            table,
+            HEADER_SIZE,
+            "IsAccepted (format_of C.EncodedKey.LEN C.EncodedValue.LEN C.H.hash)"
+        );
         let end =
             step_end::<C::EncodedKey, C::EncodedValue, C::H, Q>(control, entries, slots, &key);
         // Read after the search, which needs the registers. The room is that up to the maximum
@@ -68,9 +81,22 @@ impl<C: Config, M: ByteStoreMut> Allocation<C, M> {
         let header = Header::of(bytes);
         let count = header.item_count();
         let slots = header.slot_count();
+        crate::shim::slots::check::<M>(
+            bytes.len(),
+            slots,
+            crate::proved::header::layout::Layout::of::<C>(),
+        );
         let room = header.max_load_factor().apply(slots).saturating_sub(count);
-        let (table, control) = split_at_mut!(bytes, entry_at::<C>(slots));
-        let (front, entries) = split_at_mut!(table, HEADER_SIZE);
+        let (table, control) = split_at_mut!(
+            bytes,
+            entry_at::<C>(slots),
+            "IsAccepted (format_of C.EncodedKey.LEN C.EncodedValue.LEN C.H.hash)"
+        );
+        let (front, entries) = split_at_mut!(
+            table,
+            HEADER_SIZE,
+            "IsAccepted (format_of C.EncodedKey.LEN C.EncodedValue.LEN C.H.hash)"
+        );
         let (end, added) = insert_run::<C, I>(control, entries, items, from, room);
         write_count(front, count + added);
         end
