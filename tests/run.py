@@ -18,8 +18,8 @@ that is done of a copy of the sources, in a folder for temporary files: the gate
 
 What a part prints is in build/logs/PART.log too. A part that hangs, for 600 seconds or those that TEST_SECONDS gives
 (tools/watched.py), is ended: it counts as failed, and is told as ENDED. Where there is no kit of Rattle, the parts that
-need a build by it are left out, and `rust`, `cli` and `table` leave out the comparison with such a build. The lines above
-the last one say so.
+need a build by it are left out, and `rust`, `cli` and `table` leave out the comparison with such a build. The lines
+above the last one say so.
 """
 import os
 import re

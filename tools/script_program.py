@@ -5,7 +5,8 @@
 
 With the kit of Rattle (`rt`) the program is built from crates/odht_table, as `make test` builds it (tools/unproved.py).
 With only cargo it is built from the plain-Rust sources (rust/table). A line on standard error says which of the two it
-is. The program is kept with a checksum of its sources and of the compiler's version, and built again where that differs.
+is. The program is kept with a checksum of its sources and of the compiler's version, and is built again where that
+differs.
 """
 import hashlib
 import os
@@ -55,7 +56,7 @@ def build_plain():
     program, stamp = f"{PLAIN}/{NAME}", plain_stamp()
     if os.path.isfile(program) and read(f"{program}.stamp") == stamp:
         return program
-    say("cargo builds it, in some ten seconds")
+    say("cargo builds it, in some five seconds")
     words = ["cargo", "build", "--quiet", "--release", "--offline", "--manifest-path", f"{TOP}/rust/table/Cargo.toml"]
     if subprocess.run([*words, "--target-dir", f"{TOP}/build/cargo-table"]).returncode:
         sys.exit(1)
