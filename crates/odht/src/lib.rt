@@ -7,7 +7,7 @@
 pub use hash_table::{HashTable, bytes_needed};
 pub use hash_table_owned::HashTableOwned;
 pub use iter::{Iter, Slots};
-pub use odht_base::hash::{FxHashFn, HashFn, UnHashFn};
+pub use odht_base::hash::{FxHashFn, HashFn, UnHashFn, Xxh64HashFn};
 pub use odht_base::{bytes, hash, load, swisstable_group_query};
 pub use odht_raw::config::{Config, Lossless};
 pub use odht_raw::{config, error, items, layout, memory_layout, raw_table, read_at};

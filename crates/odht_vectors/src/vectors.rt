@@ -6,7 +6,8 @@ mod tables;
 mod words;
 
 use answer::Answer;
-use odht::configs::{DirectU32ToU32, Plain, U32ToU32};
+use odht::Xxh64HashFn;
+use odht::configs::{DirectU32ToU32, Pairs, Plain, U32ToU32};
 use std::alloc::{AllocError, AllocFailed, Global};
 use std::fmt;
 use std::io::Write;
@@ -260,6 +261,9 @@ fn configured(case: &Case<'_>, config: &str, answer: &mut Answer) -> Result<(), 
         "u64_u32" => tables::answer::<Plain<[u8; 8], [u8; 4]>>(case, shape, answer),
         "u8_none" => tables::answer::<Plain<[u8; 1], [u8; 0]>>(case, shape, answer),
         "none_none" => tables::answer::<Plain<[u8; 0], [u8; 0]>>(case, shape, answer),
+        "b16_u32_xxh64" => {
+            tables::answer::<Pairs<[u8; 16], u32, Xxh64HashFn>>(case, shape, answer)
+        }
         _ => Err(Fault::Unread),
     }
 }

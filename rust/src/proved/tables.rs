@@ -4,7 +4,7 @@
 //! [`HashTableOwned`] owns its bytes and grows; [`HashTable`] is a view of bytes of any kind, and
 //! does not grow. Both have the bytes of docs/FORMAT.md.
 
-pub use crate::proved::base::hash::{FxHashFn, HashFn, UnHashFn};
+pub use crate::proved::base::hash::{FxHashFn, HashFn, UnHashFn, Xxh64HashFn};
 pub use crate::proved::base::{bytes, hash, load, swisstable_group_query};
 pub use crate::proved::raw::config::Config;
 pub use crate::proved::raw::{config, error, items, layout, memory_layout, raw_table, read_at};

@@ -5,7 +5,7 @@ ghost use Rattle.std.specs.Int.{w32, w64, to_le_bytes, from_le_bytes};
 ghost use Rattle.std.proofs.Common.{lit≤, zero-le};
 
 use crate::bytes::ByteArray;
-use crate::hash::{FxHashFn, HashFn, UnHashFn};
+use crate::hash::{FxHashFn, HashFn, UnHashFn, Xxh64HashFn};
 
 /// A type that is stored as a fixed number of bytes: an integer, little-endian, bytes, or `()`,
 /// which has none.
@@ -153,6 +153,10 @@ pub trait HashedBy<H: HashFn>: Fits {
 }
 
 impl<T: Fits> HashedBy<FxHashFn> for T {
+    ghost long = { zero-le };
+}
+
+impl<T: Fits> HashedBy<Xxh64HashFn> for T {
     ghost long = { zero-le };
 }
 

@@ -7,8 +7,12 @@ use crate::proved::tables::hash::{FxHashFn, HashFn, UnHashFn};
 use std::marker::PhantomData;
 
 /// From keys to values that are stored as `Stored` says; where values are `()` the table is a set.
-/// `H` hashes the bytes of a key: `UnHashFn` is for keys that are hashes already, and takes their
-/// last four bytes, which should vary.
+///
+/// `H` hashes the bytes of a key:
+/// - `FxHashFn` is for numbers that count up. It uses the low 32 bits of each eight bytes.
+/// - `UnHashFn` is for keys that are hashes already. It takes their last four bytes, which should
+///   be evenly spread.
+/// - `Xxh64HashFn` is for all other keys, such as texts: `Pairs<[u8; 16], u32, Xxh64HashFn>`.
 pub struct Pairs<K, V, H = FxHashFn> {
     key: PhantomData<K>,
     value: PhantomData<V>,

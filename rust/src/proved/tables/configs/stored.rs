@@ -3,7 +3,7 @@
 //! little-endian, and bytes as they are.
 
 use crate::proved::tables::bytes::ByteArray;
-use crate::proved::tables::hash::{FxHashFn, HashFn, UnHashFn};
+use crate::proved::tables::hash::{FxHashFn, HashFn, UnHashFn, Xxh64HashFn};
 
 /// A type that is stored as a fixed number of bytes: an integer, little-endian, bytes, or `()`,
 /// which has none.
@@ -108,6 +108,8 @@ impl Fits for [u8; 32] {}
 pub trait HashedBy<H: HashFn>: Fits {}
 
 impl<T: Fits> HashedBy<FxHashFn> for T {}
+
+impl<T: Fits> HashedBy<Xxh64HashFn> for T {}
 
 impl HashedBy<UnHashFn> for u32 {}
 
