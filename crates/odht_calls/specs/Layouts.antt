@@ -1,5 +1,5 @@
 -- Tables whose lengths of keys and values, and whose hash function, a caller names by numbers.
---     hash_of h           the hash function of the number h: 0 that of rustc-hash, 1 that of keys that are hashes
+--     hash_of h           the hash function of the number h: 0 that of rustc-hash, 1 that of keys that are hashes, 2 XXH64
 --     least_of h          how many bytes it needs at least
 --     IsLayout l          l names a hash function, and its keys are long enough for it
 --     any_coding l        the coding of keys and values of the lengths of l as they are, by the hash function of l
@@ -18,6 +18,7 @@ use Rattle.odht_base.specs.Format.{format_of}
 use Rattle.odht_base.specs.Hashes.{fx, un}
 use Rattle.odht_base.specs.Table.{Table}
 use Rattle.odht_base.specs.Valid.{IsImage}
+use Rattle.odht_base.specs.Xxh64.{xxh64_low}
 use Rattle.odht_header.specs.Coding.{Coding, value_for, HasStored}
 use Rattle.odht_header.specs.Refusals.{opening_refusal}
 use Rattle.odht_header.specs.declared.error.Error.{Error}
@@ -30,14 +31,16 @@ use Rattle.odht_calls.specs.Views.{ViewLenAnswers}
 
 abbrev pub hash_of : ℕ → List ℕ → ℕ
 hash_of zero = fx
-hash_of (suc h) = un
+hash_of (suc zero) = un
+hash_of (suc (suc h)) = xxh64_low
 
 abbrev pub least_of : ℕ → ℕ
 least_of zero = 0
-least_of (suc h) = 4
+least_of (suc zero) = 4
+least_of (suc (suc h)) = 0
 
 pub record IsLayout (l : AnyLayout) : Type 0 where
-  pub hash : l.hash ≤ 1
+  pub hash : l.hash ≤ 2
   pub key : least_of l.hash ≤ l.key_len
 
 abbrev pub any_coding : AnyLayout → Coding (List ℕ) (List ℕ)

@@ -15,6 +15,8 @@ macro_rules! by_hash {
             $function::<odht::FxHashFn>(lengths, $($argument),*)
         } else if crate::any::has_hash($layout, crate::any::UNHASH, odht::UnHashFn::MIN_LEN) {
             $function::<odht::UnHashFn>(lengths, $($argument),*)
+        } else if crate::any::has_hash($layout, crate::any::XXH64, odht::Xxh64HashFn::MIN_LEN) {
+            $function::<odht::Xxh64HashFn>(lengths, $($argument),*)
         } else {
             crate::status::BAD_LAYOUT
         }
@@ -42,16 +44,20 @@ pub struct AnyLayout {
     pub key_len: u8,
     /// The length of a value, in bytes.
     pub value_len: u8,
-    /// The number of the hash function: [`FX`] or [`UNHASH`].
+    /// The number of the hash function: [`FX`], [`UNHASH`] or [`XXH64`].
     pub hash: u8,
 }
 
-/// The number of the hash function of rustc-hash.
+/// The number of the hash function of rustc-hash, for numbers that count up.
 pub const FX: u8 = 0;
 
 /// The number of the hash function of keys that are hashes already, which takes their last four
 /// bytes.
 pub const UNHASH: u8 = 1;
+
+/// The number of the hash function for all other keys, such as texts: the low 32 bits of XXH64 with
+/// seed 0.
+pub const XXH64: u8 = 2;
 
 // Whether a layout has this hash function, and keys that are long enough for it.
 pub(crate) fn has_hash(layout: AnyLayout, hash: u8, least: usize) -> bool

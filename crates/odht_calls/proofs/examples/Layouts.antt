@@ -11,12 +11,12 @@ abbrev layout : ℕ → ℕ → ℕ → AnyLayout
 layout key value hash = record { key_len = key; value_len = value; hash = hash }
 
 -- ---- IsLayout
--- keys of any length go with the hash function of rustc-hash, of four bytes and more with the other one
-pub layouts : IsLayout (layout 0 0 0) × IsLayout (layout 4 255 1)
-layouts = (record { hash = lit≤ tt; key = lit≤ tt }, record { hash = lit≤ tt; key = lit≤ tt })
+-- keys of any length go with the hash function of rustc-hash and with XXH64, of four bytes and more with that of hashes
+pub layouts : IsLayout (layout 0 0 0) × IsLayout (layout 4 255 1) × IsLayout (layout 0 0 2)
+layouts = (record { hash = lit≤ tt; key = lit≤ tt }, record { hash = lit≤ tt; key = lit≤ tt }, record { hash = lit≤ tt; key = lit≤ tt })
 
--- no hash function has the number 2
-pub other_hash_refused : IsLayout (layout 8 4 2) → ⊥
+-- no hash function has the number 3
+pub other_hash_refused : IsLayout (layout 8 4 3) → ⊥
 other_hash_refused h = absurd (omega (arith, h.hash))
 
 -- and keys of three bytes are too short for the second
@@ -52,7 +52,7 @@ IsLong found said = found ≡ said
 
 -- a layout that is none is answered with ODHT_BAD_LAYOUT, whatever the call answers otherwise
 pub bad_layout_answers : (A : Coding (List ℕ) (List ℕ) → Type 0) → AnyAnswers (layout 3 4 1) 38 (Unit {0}) A
-bad_layout_answers A = by_none _ _ _ A (λ h. absurd (omega (arith, h.0))) (λ h. absurd (omega (arith, h.1))) refl tt
+bad_layout_answers A = by_none _ _ _ A (λ h. absurd (omega (arith, h.0))) (λ h. absurd (omega (arith, h.1))) (λ h. absurd (omega (arith, h.0))) refl tt
 
 -- and not as if it were one
 pub bad_layout_done_refused : (A : Coding (List ℕ) (List ℕ) → Type 0) → AnyAnswers (layout 3 4 1) 0 (Unit {0}) A → ⊥

@@ -8,6 +8,7 @@ use Rattle.odht_base.specs.Format.{Format, format_of, entry_len}
 use Rattle.odht_base.proofs.lemmas.ByteRanges.{length-bytes_at}
 use Rattle.odht_base.proofs.lemmas.PartsOf.{length-slot_entry}
 use Rattle.odht_base.specs.Hashes.{fx, un}
+use Rattle.odht_base.specs.Xxh64.{xxh64_low}
 use Rattle.odht_header.specs.Coding.{Coding, HasStored, encoded}
 use Rattle.odht_header.specs.declared.error.Error.{Error}
 use Rattle.odht_raw.specs.Frame.{IsAccepted, IsFramed, InsertFrame}
@@ -24,18 +25,32 @@ by_hash l h = bytes_coding (format_of l.key_len l.value_len h)
 -- the hash function of the number 1
 is_un : (h : ℕ) → h ≡ 1 → hash_of h ≡ un
 is_un zero e = absurd (omega (arith, e))
-is_un (suc h) e = refl
+is_un (suc zero) e = refl
+is_un (suc (suc h)) e = absurd (omega (arith, e))
 
 -- and how many bytes it needs
 least_un : (h : ℕ) → h ≡ 1 → least_of h ≡ 4
 least_un zero e = absurd (omega (arith, e))
-least_un (suc h) e = refl
+least_un (suc zero) e = refl
+least_un (suc (suc h)) e = absurd (omega (arith, e))
+
+-- the hash function of the number 2, which needs none
+is_xxh64 : (h : ℕ) → h ≡ 2 → hash_of h ≡ xxh64_low
+is_xxh64 zero e = absurd (omega (arith, e))
+is_xxh64 (suc zero) e = absurd (omega (arith, e))
+is_xxh64 (suc (suc h)) e = refl
+
+least_xxh64 : (h : ℕ) → h ≡ 2 → least_of h ≡ 0
+least_xxh64 zero e = absurd (omega (arith, e))
+least_xxh64 (suc zero) e = absurd (omega (arith, e))
+least_xxh64 (suc (suc h)) e = refl
 
 -- no other number is that of one
-no_hash : (h k : ℕ) → ((h ≡ 0) × (0 ≤ k) → ⊥) → ((h ≡ 1) × (4 ≤ k) → ⊥) → h ≤ 1 → least_of h ≤ k → ⊥
-no_hash zero k a b low long = a (refl, omega arith)
-no_hash (suc zero) k a b low long = b (refl, long)
-no_hash (suc (suc h)) k a b low long = absurd (omega (arith, low))
+no_hash : (h k : ℕ) → ((h ≡ 0) × (0 ≤ k) → ⊥) → ((h ≡ 1) × (4 ≤ k) → ⊥) → ((h ≡ 2) × (0 ≤ k) → ⊥) → h ≤ 2 → least_of h ≤ k → ⊥
+no_hash zero k a b d low long = a (refl, omega arith)
+no_hash (suc zero) k a b d low long = b (refl, long)
+no_hash (suc (suc zero)) k a b d low long = d (refl, omega arith)
+no_hash (suc (suc (suc h))) k a b d low long = absurd (omega (arith, low))
 
 module _ (l : AnyLayout) (s : ℕ) (Same : Type 0) (A : Coding (List ℕ) (List ℕ) → Type 0) where
   -- the hash function of rustc-hash is picked
@@ -52,11 +67,18 @@ module _ (l : AnyLayout) (s : ℕ) (Same : Type 0) (A : Coding (List ℕ) (List 
     answers = λ ok. subst A (ap (by_hash l) (sym (is_un l.hash is.0))) answer;
   }
 
+  -- XXH64
+  pub by_xxh64 : (l.hash ≡ 2) × (0 ≤ l.key_len) → A (by_hash l xxh64_low) → AnyAnswers l s Same A
+  by_xxh64 is answer = record {
+    layout = λ other. absurd (other (record { hash = omega (arith, is.0); key = subst (λ n. n ≤ l.key_len) (sym (least_xxh64 l.hash is.0)) is.1 }));
+    answers = λ ok. subst A (ap (by_hash l) (sym (is_xxh64 l.hash is.0))) answer;
+  }
+
   -- or none
-  pub by_none : ((l.hash ≡ 0) × (0 ≤ l.key_len) → ⊥) → ((l.hash ≡ 1) × (4 ≤ l.key_len) → ⊥) → s ≡ bad_layout → Same → AnyAnswers l s Same A
-  by_none a b status same = record {
+  pub by_none : ((l.hash ≡ 0) × (0 ≤ l.key_len) → ⊥) → ((l.hash ≡ 1) × (4 ≤ l.key_len) → ⊥) → ((l.hash ≡ 2) × (0 ≤ l.key_len) → ⊥) → s ≡ bad_layout → Same → AnyAnswers l s Same A
+  by_none a b d status same = record {
     layout = λ other. (status, same);
-    answers = λ ok. absurd (no_hash l.hash l.key_len a b ok.hash ok.key);
+    answers = λ ok. absurd (no_hash l.hash l.key_len a b d ok.hash ok.key);
   }
 
 -- bytes that fit the lengths of a layout fit them with the hash function that is picked
@@ -69,6 +91,10 @@ module _ (l : AnyLayout) (B : List ℕ) where
   accepted_un is fit =
       subst (λ h. IsAccepted (by_hash l h).format B) (is_un l.hash is.0) (fit (record { hash = omega (arith, is.0); key = subst (λ n. n ≤ l.key_len) (sym (least_un l.hash is.0)) is.1 }))
 
+  pub accepted_xxh64 : (l.hash ≡ 2) × (0 ≤ l.key_len) → (IsLayout l → IsAccepted (any_coding l).format B) → IsAccepted (by_hash l xxh64_low).format B
+  accepted_xxh64 is fit =
+      subst (λ h. IsAccepted (by_hash l h).format B) (is_xxh64 l.hash is.0) (fit (record { hash = omega (arith, is.0); key = subst (λ n. n ≤ l.key_len) (sym (least_xxh64 l.hash is.0)) is.1 }))
+
 -- and those that stay accepted with it stay so
 module _ (l : AnyLayout) (B C : List ℕ) where
   pub stays_fx : l.hash ≡ 0 → (IsAccepted (by_hash l fx).format B → IsAccepted (by_hash l fx).format C) → IsAccepted (any_coding l).format B → IsAccepted (any_coding l).format C
@@ -76,6 +102,9 @@ module _ (l : AnyLayout) (B C : List ℕ) where
 
   pub stays_un : l.hash ≡ 1 → (IsAccepted (by_hash l un).format B → IsAccepted (by_hash l un).format C) → IsAccepted (any_coding l).format B → IsAccepted (any_coding l).format C
   stays_un is stays = subst (λ h. IsAccepted (by_hash l h).format B → IsAccepted (by_hash l h).format C) (sym (is_un l.hash is)) stays
+
+  pub stays_xxh64 : l.hash ≡ 2 → (IsAccepted (by_hash l xxh64_low).format B → IsAccepted (by_hash l xxh64_low).format C) → IsAccepted (any_coding l).format B → IsAccepted (any_coding l).format C
+  stays_xxh64 is stays = subst (λ h. IsAccepted (by_hash l h).format B → IsAccepted (by_hash l h).format C) (sym (is_xxh64 l.hash is)) stays
 
 -- what holds of the table that was opened holds of the bytes and the lengths
 pub opened : {D : Type 0} (t : DynStore D) (key_len value_len : ℕ) (h : List ℕ → ℕ) (T B : List ℕ) → t.key_len ≡ key_len → t.value_len ≡ value_len → T ≡ B
