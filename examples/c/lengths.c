@@ -14,7 +14,7 @@
 enum { KEY = 12, VALUE = 5, PARTS = 20, LENGTH = 32 + 32 * (KEY + VALUE) + 48 };
 enum { GROWN = 32 + 64 * (KEY + VALUE) + 80, ROOM = 8 };
 
-static const odht_layout layout = {KEY, VALUE, ODHT_HASH_FX};
+static const odht_layout layout = {KEY, VALUE, ODHT_HASH_XXH64};
 
 /* The number of a part, and what is known of it: in two digits. */
 static void write_part(unsigned part, uint8_t *key, uint8_t *value)
@@ -86,7 +86,7 @@ static void looks_up_often(const uint8_t *bytes)
 /* A file says which lengths its table has, and not which hash function. */
 static void reads_the_lengths(const uint8_t *bytes)
 {
-    odht_layout stated = {0, 0, ODHT_HASH_FX};
+    odht_layout stated = {0, 0, ODHT_HASH_XXH64};
     odht_layout none = {3, VALUE, ODHT_HASH_UN};
 
     EXPECT(odht_any_layout_of(bytes, LENGTH, &stated), ODHT_OK);

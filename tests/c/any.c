@@ -19,8 +19,9 @@ static const odht_layout numbers = { 8, 4, ODHT_HASH_FX };
 
 odht_layout layout_of(struct shape shape)
 {
+    static const uint8_t numbers_of_hashes[] = { ODHT_HASH_FX, ODHT_HASH_UN, ODHT_HASH_XXH64 };
     odht_layout layout = { (uint8_t)shape.key, (uint8_t)shape.value,
-                           shape.hash == FX ? ODHT_HASH_FX : ODHT_HASH_UN };
+                           numbers_of_hashes[shape.hash] };
 
     return layout;
 }
@@ -124,12 +125,14 @@ static void tables_of_each_length_are_those_of_a_second_writing(void)
         for (size_t value = 0; value <= LONGEST; value += key % 8 == 0 ? 1 : 13) {
             struct shape by_fx = { key, value, FX };
             struct shape by_un = { key, value, UN };
+            struct shape by_xxh64 = { key, value, XXH64 };
             size_t before = buffer_count();
 
             in_case("key and value", 1000 * key + value);
             one_table(by_fx, &random);
             if (key >= 4)
                 one_table(by_un, &random);
+            one_table(by_xxh64, &random);
             drop_buffers_since(before);
         }
 }
@@ -220,7 +223,7 @@ static void each_answers(odht_layout layout, uint32_t status)
 
 static void a_layout_that_is_none_is_rejected(void)
 {
-    static const odht_layout bad[] = { { 8, 4, 2 }, { 8, 4, 255 }, { 3, 4, 1 }, { 0, 0, 1 } };
+    static const odht_layout bad[] = { { 8, 4, 3 }, { 8, 4, 255 }, { 3, 4, 1 }, { 0, 0, 1 } };
 
     for (size_t row = 0; row < sizeof bad / sizeof bad[0]; row++) {
         in_case("layout", row);

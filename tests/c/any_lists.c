@@ -150,12 +150,14 @@ static void lists_are_those_of_a_second_writing(void)
         for (size_t value = 0; value < sizeof value_lens / sizeof value_lens[0]; value++) {
             struct shape by_fx = { key_lens[key], value_lens[value], FX };
             struct shape by_un = { key_lens[key], value_lens[value], UN };
+            struct shape by_xxh64 = { key_lens[key], value_lens[value], XXH64 };
             size_t before = buffer_count();
 
             in_case("key and value", 1000 * by_fx.key + by_fx.value);
             one_list(by_fx, &random);
             if (by_un.key >= 4)
                 one_list(by_un, &random);
+            one_list(by_xxh64, &random);
             drop_buffers_since(before);
         }
 }

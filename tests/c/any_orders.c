@@ -100,7 +100,7 @@ static struct reading random_table(struct shape shape, struct random *random)
 /* Writes the least key with this home, as a number of up to four bytes. */
 static void write_key_of_home(struct shape shape, size_t home, uint8_t *key)
 {
-    size_t at = shape.hash == FX ? 0 : shape.key - 4;
+    size_t at = shape.hash == UN ? shape.key - 4 : 0;
     uint32_t number = 0;
 
     memset(key, 0, shape.key);
@@ -151,7 +151,7 @@ static struct reading exchanged_table(struct shape shape)
 static void orders_of_lengths(struct shape shape, struct random *random)
 {
     size_t before = buffer_count();
-    size_t least = shape.hash == FX ? 1 : 4;
+    size_t least = shape.hash == UN ? 4 : 1;
 
     in_case("key and value", 1000 * shape.key + shape.value);
     if (shape.key >= least) {
@@ -177,9 +177,11 @@ static void orders_make_tables_of_many_lengths(void)
         for (size_t value = 0; value < sizeof value_lens / sizeof value_lens[0]; value++) {
             struct shape by_fx = { key_lens[key], value_lens[value], FX };
             struct shape by_un = { key_lens[key], value_lens[value], UN };
+            struct shape by_xxh64 = { key_lens[key], value_lens[value], XXH64 };
 
             orders_of_lengths(by_fx, &random);
             orders_of_lengths(by_un, &random);
+            orders_of_lengths(by_xxh64, &random);
         }
 }
 
@@ -239,7 +241,7 @@ static void arrays_of_other_lengths_are_rejected(void)
 /* A layout that is none is told before errors of the bytes, and these before another length. */
 static void the_first_error_is_told(void)
 {
-    static const odht_layout bad[] = { { 8, 4, 2 }, { 8, 4, 255 }, { 3, 4, 1 }, { 0, 0, 1 } };
+    static const odht_layout bad[] = { { 8, 4, 3 }, { 8, 4, 255 }, { 3, 4, 1 }, { 0, 0, 1 } };
     odht_layout by_un = { 8, 4, ODHT_HASH_UN };
     uint8_t *bytes = number_table();
     struct reading read_by_un = { bytes, NUMBERS_LEN, { 8, 4, UN } };

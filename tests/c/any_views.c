@@ -130,12 +130,14 @@ static void for_lengths(void (*one)(struct shape shape, struct random *random))
         for (size_t value = 0; value < sizeof value_lens / sizeof value_lens[0]; value++) {
             struct shape by_fx = { key_lens[key], value_lens[value], FX };
             struct shape by_un = { key_lens[key], value_lens[value], UN };
+            struct shape by_xxh64 = { key_lens[key], value_lens[value], XXH64 };
             size_t before = buffer_count();
 
             in_case("key and value", 1000 * by_fx.key + by_fx.value);
             one(by_fx, &random);
             if (by_un.key >= 4)
                 one(by_un, &random);
+            one(by_xxh64, &random);
             drop_buffers_since(before);
         }
 }
@@ -266,7 +268,7 @@ static void a_rejected_opening_leaves_the_view(void)
 /* The bytes are of another layout, or the layout is none. */
 static void other_layouts_are_rejected(void)
 {
-    static const odht_layout none[] = { { 8, 4, 2 }, { 8, 4, 255 }, { 3, 4, 1 }, { 0, 0, 1 } };
+    static const odht_layout none[] = { { 8, 4, 3 }, { 8, 4, 255 }, { 3, 4, 1 }, { 0, 0, 1 } };
     const odht_layout others[] = { { 4, 4, ODHT_HASH_FX }, { 8, 8, ODHT_HASH_FX } };
     const uint8_t *bytes = number_table();
     odht_view *view = view_of_nothing();

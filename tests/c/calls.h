@@ -12,7 +12,7 @@
 #include "shape_list.h"
 
 /* How a key is hashed. */
-enum hash { FX, UN };
+enum hash { FX, UN, XXH64 };
 
 /* The lengths in bytes of keys and values, and the hash. */
 struct shape {

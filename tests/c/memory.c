@@ -152,7 +152,7 @@ static void errors_of_a_growing_build(void)
 /* The same of the call for any lengths, which also finds a bad layout before. */
 static void errors_of_a_growing_build_of_any_lengths(void)
 {
-    static const odht_layout none = { 8, 4, 2 };
+    static const odht_layout none = { 8, 4, 3 };
     struct build build = build_of(u64_u32_calls, 3);
     odht_layout layout = layout_of(build.calls->shape);
 

@@ -109,10 +109,65 @@ static uint32_t fx_hash(const uint8_t *key, size_t len)
     return (uint32_t)state;
 }
 
+static uint64_t turned(uint64_t number, int bits)
+{
+    return number << bits | number >> (64 - bits);
+}
+
+/* An accumulator of XXH64 after the number of eight bytes; from the state of none it is the number, mixed. */
+static uint64_t xxh64_round(uint64_t accumulator, uint64_t number)
+{
+    return turned(accumulator + number * 0xc2b2ae3d27d4eb4f, 31) * 0x9e3779b185ebca87;
+}
+
+/* The state after the stripes of 32 bytes, and how many bytes these are. */
+static uint64_t xxh64_stripes(const uint8_t *key, size_t len, size_t *done)
+{
+    static const uint64_t first[4] = { 0x60ea27eeadc0b5d6, 0xc2b2ae3d27d4eb4f, 0,
+                                       0x61c8864e7a143579 };
+    static const int bits[4] = { 1, 7, 12, 18 };
+    uint64_t lanes[4], state = 0;
+
+    memcpy(lanes, first, sizeof lanes);
+    for (*done = 0; *done + 32 <= len; *done += 32)
+        for (size_t lane = 0; lane < 4; lane++)
+            lanes[lane] = xxh64_round(lanes[lane], number_in(key + *done + 8 * lane, 8));
+    if (*done == 0)
+        return 0x27d4eb2f165667c5;
+    for (size_t lane = 0; lane < 4; lane++)
+        state += turned(lanes[lane], bits[lane]);
+    for (size_t lane = 0; lane < 4; lane++)
+        state = (state ^ xxh64_round(0, lanes[lane])) * 0x9e3779b185ebca87 + 0x85ebca77c2b2ae63;
+    return state;
+}
+
+/* The low half of XXH64 with seed 0. */
+static uint32_t xxh64_hash(const uint8_t *key, size_t len)
+{
+    size_t at;
+    uint64_t state = xxh64_stripes(key, len, &at) + len;
+
+    for (; at + 8 <= len; at += 8)
+        state = turned(state ^ xxh64_round(0, number_in(key + at, 8)), 27) * 0x9e3779b185ebca87
+                + 0x85ebca77c2b2ae63;
+    if (at + 4 <= len) {
+        state = turned(state ^ number_in(key + at, 4) * 0x9e3779b185ebca87, 23)
+                    * 0xc2b2ae3d27d4eb4f + 0x165667b19e3779f9;
+        at += 4;
+    }
+    for (; at < len; at++)
+        state = turned(state ^ key[at] * 0x27d4eb2f165667c5, 11) * 0x9e3779b185ebca87;
+    state = (state ^ state >> 33) * 0xc2b2ae3d27d4eb4f;
+    state = (state ^ state >> 29) * 0x165667b19e3779f9;
+    return (uint32_t)(state ^ state >> 32);
+}
+
 uint32_t hash_of(struct shape shape, const uint8_t *key)
 {
     if (shape.hash == FX)
         return fx_hash(key, shape.key);
+    if (shape.hash == XXH64)
+        return xxh64_hash(key, shape.key);
     return (uint32_t)number_in(key + shape.key - 4, 4);
 }
 

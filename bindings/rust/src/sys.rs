@@ -43,7 +43,8 @@ pub struct Layout {
     pub key_len: u8,
     /// The length of each value, in bytes; 0 of a set.
     pub value_len: u8,
-    /// 0 for the hash function of rustc-hash, 1 for that of keys that are hashes already, which needs four bytes.
+    /// 0 for the hash function of rustc-hash, for numbers that count up; 1 for that of keys that are hashes already, which
+    /// needs four bytes; 2 for XXH64, for all other keys, such as text.
     pub hash: u8,
 }
 

@@ -19,12 +19,14 @@
 typedef struct odht_layout {
     uint8_t key_len;   /* of each key, in bytes */
     uint8_t value_len; /* of each value, in bytes; 0 of a set */
-    uint8_t hash;      /* ODHT_HASH_FX or ODHT_HASH_UN */
+    uint8_t hash;      /* ODHT_HASH_FX, ODHT_HASH_UN or ODHT_HASH_XXH64 */
 } odht_layout;
 
-/* The hash functions: that of rustc-hash, and the last four bytes of a key, for keys that are hashes. */
+/* The hash functions: that of rustc-hash; the last four bytes of a key; and the low 32 bits of XXH64 with seed 0. "Which
+   hash function for which keys", above, lists which one fits. The bytes of a table do not name it. */
 #define ODHT_HASH_FX 0
 #define ODHT_HASH_UN 1
+#define ODHT_HASH_XXH64 2
 
 /* OK: *len is the length in bytes of a table for so many items. BAD_PERCENT, CAPACITY: *len is unchanged. */
 ODHT_CALL(uint32_t, any_bytes_needed,

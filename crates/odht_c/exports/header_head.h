@@ -28,12 +28,19 @@
  * odht_any_* has all of these for keys and values of other lengths ("Tables of any lengths"), and odht_any_layout_of,
  * which reads the lengths from bytes. odht_version and odht_status_name are of no table.
  *
- * FxHashFn hashes numbers, and bytes of any length. UnHashFn is for keys that are hashes already: their
- * last four bytes are taken as the hash, and should vary. The low bits of the hash choose
- * the slot, and by FxHashFn they come from the low bits of a number alone: keys that are
- * all multiples of 4096, as addresses of pages are, begin at few slots, take searches a
- * hundred times as long, and odht_*_check_within may reject their table. Shift such keys
- * right first. Numbers are stored in little-endian order. A table is a slice of bytes that
+ * Which hash function for which keys:
+ *
+ *   numbers that count up                                     FxHashFn, as the shapes of numbers have
+ *   addresses and offsets                                     FxHashFn, shifted right by the bits that are always zero
+ *   hashes already, evenly spread in their last four bytes    UnHashFn, as the shapes of hashes have
+ *   text, tuples, floats, big-endian numbers                  Xxh64HashFn: odht_any_* with ODHT_HASH_XXH64
+ *   anything else, or if you do not know                      Xxh64HashFn
+ *
+ * FxHashFn uses the low 32 bits of each eight bytes of a key. UnHashFn takes the last four bytes of a key as its hash.
+ * Xxh64HashFn uses all bits. Keys with few different hashes take searches a hundred times as long, and
+ * odht_*_check_within may reject their table: so do texts by FxHashFn, and multiples of 4096 that are not shifted.
+ *
+ * Numbers are stored in little-endian order. A table is a slice of bytes that
  * the caller owns: a file's contents, a mapping, a part of either, or allocated memory. It
  * may begin at any address. There is nothing to close or to free.
  *
