@@ -11,7 +11,7 @@ use crate::proved::header::layout::Layout;
 use crate::proved::raw::memory_layout::HEADER_SIZE;
 use crate::shim::slots;
 
-/// The length and the slot count of a table's bytes: the slot count is one of a table, and they fit.
+/// The length and the slot count of a table's bytes, which fit.
 #[derive(Clone, Copy)]
 pub struct Opened {
     len: usize,
@@ -31,13 +31,17 @@ impl Opened {
     #[track_caller]
     pub fn unchecked<C: Config>(bytes: &[u8]) -> Opened {
         let opened = Opened::fitting(bytes, Layout::of::<Proved<C>>());
-        opened.expect("the length of the bytes is not that of the slot count in their header")
+        let is_count = |it: &Opened| it.slots.is_power_of_two() && it.slots >= 16;
+        opened
+            .filter(is_count)
+            .expect("the length of the bytes is not that of the slot count in their header")
     }
 
+    // Of bytes with a slot count that fits. No other one fits their length, so it is that of the header that was opened.
+    #[inline]
     fn fitting(bytes: &[u8], layout: Layout) -> Option<Opened> {
         let (len, slots) = (bytes.len(), slots_in(bytes.first_chunk()?));
-        let is_count = slots.is_power_of_two() && slots >= 16;
-        (is_count && slots::fits(len, slots as usize, layout)).then_some(Opened { len, slots })
+        slots::fits(len, slots as usize, layout).then_some(Opened { len, slots })
     }
 
     /// How many slots there are.
