@@ -6,6 +6,7 @@
 extern crate alloc;
 
 #[macro_use]
+#[allow(dead_code)]
 #[path = "../../src/shim/mod.rs"]
 mod shim;
 
