@@ -204,14 +204,14 @@ fn an_index_in_a_function_of_the_plan_is_a_macro_with_its_clause() {
 
 #[test]
 fn a_slot_count_in_a_function_of_the_plan_is_compared() {
-    let source = "fn f() { let slots = h(bytes).slot_count(); g(slots) }";
-    let wanted = "fn f() { let slots = h(bytes).slot_count(); \
+    let source = "fn slot_count() {} fn f() { let slots = h(bytes).slot_count(); g(slots) }";
+    let wanted = "fn slot_count() {} fn f() { let slots = h(bytes).slot_count(); \
                   crate::shim::slots::check::<M>(bytes.len(), slots, l); g(slots) }";
     assert_eq!(text("high/fast", source).as_deref(), Ok(wanted));
     for (file, source) in [
         ("high/slow", source),
-        ("high/fast", "fn g() { let slots = h(bytes).slot_count(); }"),
-        ("high/fast", "fn f() { g(h(bytes).slot_count()) }"),
+        ("high/fast", "fn slot_count() {} fn g() { let slots = h(bytes).slot_count(); }"),
+        ("high/fast", "fn slot_count() {} fn f() { g(h(bytes).slot_count()) }"),
     ] {
         assert_eq!(text(file, source).as_deref(), Ok(source));
     }
