@@ -209,7 +209,9 @@ fn keys_too_short_for_the_hash_function() {
     };
     assert_eq!(open(8, 0), 0);
     assert_eq!(Error::from_number(open(3, 1)), Error::BadLayout);
-    assert_eq!(Error::from_number(open(8, 2)), Error::BadLayout);
+    // The table's keys are hashed by the function of number 0. No function has the number 3.
+    assert_eq!(Error::from_number(open(8, 2)), Error::ControlMismatch);
+    assert_eq!(Error::from_number(open(8, 3)), Error::BadLayout);
 }
 
 /// The lines of include/odht.h that begin with a word, each without it.
