@@ -156,7 +156,7 @@ static uint32_t xxh64_hash(const uint8_t *key, size_t len)
         at += 4;
     }
     for (; at < len; at++)
-        state = turned(state ^ key[at] * 0x27d4eb2f165667c5, 11) * 0x9e3779b185ebca87;
+        state = turned(state ^ (uint64_t)key[at] * 0x27d4eb2f165667c5, 11) * 0x9e3779b185ebca87;
     state = (state ^ state >> 33) * 0xc2b2ae3d27d4eb4f;
     state = (state ^ state >> 29) * 0x165667b19e3779f9;
     return (uint32_t)(state ^ state >> 32);
