@@ -19,8 +19,8 @@ mod host;
 
 // The modules of the crate `odht`. They are whole, also where nothing here uses them.
 #[allow(dead_code, unused_imports, unused_variables, clippy::complexity, clippy::style)]
-#[cfg_attr(not(feature = "fast"), forbid(unsafe_code))]
-#[cfg_attr(feature = "fast", allow(unsafe_code))]
+#[cfg_attr(feature = "checked", forbid(unsafe_code))]
+#[cfg_attr(not(feature = "checked"), allow(unsafe_code))]
 #[path = "../../src/proved"]
 mod proved {
     pub mod base;
