@@ -12,8 +12,9 @@ ghost use Rattle.odht_raw.specs.Searches.{IsSearchEnd};
 ghost use Rattle.odht_raw.specs.Steps.{IsStepEnd, IsStepWhere};
 
 use super::insert::insert_at;
-use super::{Entries, EntryMetadata, Scan, Search, is_empty_or_deleted, search_hashed};
-use super::{slot_count_of, tag_of};
+use super::{
+    Entries, EntryMetadata, Scan, Search, is_empty_or_deleted, search_hashed, slot_count_of, tag_of,
+};
 use crate::bytes::ByteArray;
 use crate::error::Error;
 use crate::hash::HashFn;

@@ -303,9 +303,7 @@ impl<'a, H: HashFn> SizedTable<'a, H> {
         let sought = SoughtBytes { bytes: &*key };
         let mut scan = Scan::new(self.controls(), self.len());
         let hash = H::hash(key);
-        let end = search_keys::<SizedTable<'_, H>, H, GroupQuery>(
-            &mut scan, &*self, &sought, hash,
-        );
+        let end = search_keys::<SizedTable<'_, H>, H, GroupQuery>(&mut scan, &*self, &sought, hash);
         (end, tag_of(hash))
     }
 
