@@ -3,8 +3,9 @@
 //! control bytes overlap.
 
 use super::insert::insert_at;
-use super::{is_empty_or_deleted, search_hashed, Entries, EntryMetadata, Scan, Search};
-use super::{slot_count_of, tag_of};
+use super::{
+    is_empty_or_deleted, search_hashed, slot_count_of, tag_of, Entries, EntryMetadata, Scan, Search,
+};
 use crate::proved::raw::bytes::ByteArray;
 use crate::proved::raw::error::Error;
 use crate::proved::raw::hash::HashFn;
