@@ -6,7 +6,7 @@ here=$(cd "$(dirname "$0")" && pwd)
 [ $# != 0 ] || set -- 8 16 32 64
 work=$(mktemp -d)
 trap 'rm -rf "$work"' EXIT
-for kind in default fast; do
+for kind in checked default; do
   mkdir "$work/$kind"
   rustc --edition 2021 -C opt-level=3 -A warnings --crate-name odht --crate-type rlib --cfg 'feature="std"' \
     --cfg "feature=\"$kind\"" --out-dir "$work/$kind" "$here/../rust/src/lib.rs"
@@ -26,14 +26,14 @@ figure() {
   awk -v few="$few" -v more="$more" 'BEGIN { printf "%.0f", (more - few) / 4 / 800 }'
 }
 
-echo '| key bytes | default, fx | xxh64 | `fast`, fx | xxh64 |'
+echo '| key bytes | `checked`, fx | xxh64 | default, fx | xxh64 |'
 echo '|---|---|---|---|---|'
 for length; do
-  echo "| $length | $(figure default "$length" fx) | $(figure default "$length" xxh64) |" \
-    "$(figure fast "$length" fx) | $(figure fast "$length" xxh64) |"
+  echo "| $length | $(figure checked "$length" fx) | $(figure checked "$length" xxh64) |" \
+    "$(figure default "$length" fx) | $(figure default "$length" xxh64) |"
 done
 echo
-for kind in default fast; do
+for kind in checked default; do
   rustc --edition 2021 -C opt-level=3 --extern odht="$work/$kind/libodht.rlib" -o "$work/hashes" "$here/hashes.rs"
   "$work/hashes" "$kind"
 done
