@@ -5,7 +5,10 @@ use Rattle.std.proofs.KnownBytes.{Appends-nil}
 use Rattle.std.proofs.lemmas.List.{take_more}
 use Rattle.odht.specs.Gets.{IsGet}
 use Rattle.odht_header.specs.Coding.{Coding, HasStored}
-use Rattle.odht_tool_reads.specs.GetParts.{IsFlushed}
+use Rattle.odht_tool_core.specs.declared.misread.Wanted.{Wanted}
+use Rattle.odht_tool_core.specs.declared.failure.Failure.{Failure}
+use Rattle.odht_tool_core.specs.declared.failure.Failure.TheVariants.{Input, Misread}
+use Rattle.odht_tool_reads.specs.GetParts.{IsFlushed, IsKeysFailure, IsLineFailure, IsNextNone}
 use Rattle.odht_tool_reads.specs.Gets.{AreAnswers}
 use Rattle.odht_tool_reads.proofs.AnswerLists.{are_answers_append}
 use Rattle.odht_tool_reads.specs.declared.lookups.TheConstants.{BATCH}
@@ -41,3 +44,10 @@ pub answers_more : {K V : Type 0} (c : Coding K V) (B : List ℕ) (ks : List K) 
 answers_more c B ks i k vs o within is h one =
     subst (λ xs. AreAnswers c B xs (vs ++ (o ∷ []))) (sym (take_more ks i k within ∙ ap (λ x. take i ks ++ (x ∷ [])) (sym is)))
     (are_answers_append c B (take i ks) (k ∷ []) vs (o ∷ []) h (one_answer c B k o one))
+
+-- a failure of the keys before a line that is no key is one of this line
+pub key_failed : {K V : Type 0} (c : Coding K V) (l : K × Option V → List ℕ) (R : List ℕ → K → Type 0) (p : Wanted) (B : List ℕ) (ks : List K) (n : ℕ) (bytes old new : Option (List ℕ)) (f : Failure)
+    → IsNextNone R bytes → IsKeysFailure 1 ks old new f → IsLineFailure c l R p B ks n bytes old new f
+key_failed c l R p B ks n bytes old new (Misread message) none k = absurd k
+key_failed c l R p B ks n bytes old new (Input error) none k = absurd k
+key_failed c l R p B ks n bytes old new f none k = (none, k)

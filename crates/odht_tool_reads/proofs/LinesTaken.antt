@@ -9,8 +9,8 @@ use Rattle.std.proofs.Math.Nat.{eq-or-lt_of_le}
 use Rattle.std.proofs.Math.Seq.{take-append_seam}
 use Rattle.std.proofs.lemmas.List.{append_assoc, append-nil}
 use Rattle.odht_header.specs.Coding.{Coding}
-use Rattle.odht_tool_reads.specs.GetLines.{lines_read, AreAllAnswered, AreFirstAnswered, IsLineFault, AreLinesAnswered}
-use Rattle.odht_tool_reads.specs.GetParts.{AreKeysAnswered, AreFaultAnswered, IsKeysFailure, IsFlushed, IsLineFailure}
+use Rattle.odht_tool_reads.specs.GetLines.{lines_read, AreAllAnswered, AreFirstAnswered, AreFirstAsked, AreKeysEnded, IsLineFault, AreLinesAnswered}
+use Rattle.odht_tool_reads.specs.GetParts.{AreKeysAnswered, AreFaultAnswered, IsKeysFailure, IsFlushed, IsLineFailure, IsNextNone}
 use Rattle.odht_tool_reads.specs.Gets.{AreAnswers, IsAnswered, answered_status}
 use Rattle.odht_tool_tables.specs.KeyTexts.{found_status}
 use Rattle.odht_tool_core.specs.InputLines.{AreLeft}
@@ -219,16 +219,63 @@ module _ {K V : Type 0} (c : Coding K V) (l : K × Option V → List ℕ) (R : L
           };
         }
 
-    -- so with a failure of the keys that are left
-    pub keys_failed : (p : Wanted) (failure : Failure) → IsKeysFailure new last failure → AreLinesAnswered c l R p B input old last (Err failure)
-    keys_failed p Memory k = first_answered k
-    keys_failed p (Output error) k = tt
-    keys_failed p _ k = absurd k
+    -- where the writer failed the answers to the keys that are left were to be written
+    first_asked : 1 ≤ length pending → length pending ≤ BATCH → ((bytes : List ℕ) (r : AreRead R bytes now number (h.done ++ pending)) → length pending < BATCH → AreKeysEnded R (lines r.rest) (length r.words))
+        → IfSome input (λ bytes. AreFirstAsked R (lines bytes))
+    first_asked few most end = if_some input _ _ (λ bytes r. asked bytes r (front_of R r.words h.done pending r.texts)) h.read
+      where
+        asked : (bytes : List ℕ) (r : AreRead R bytes now number (h.done ++ pending)) → IsFront R r.words h.done → AreFirstAsked R (lines bytes)
+        asked bytes r w =
+            let front : length w.before ≡ length h.done = AllZip-length R w.before h.done w.texts in
+            let all : length r.words ≡ length (h.done ++ pending) = AllZip-length R r.words (h.done ++ pending) r.texts in
+            let count : length w.after ≡ length pending = omega (arith, ap length w.place ∙ length-append w.before w.after, all ∙ length-append h.done pending, front) in
+            record {
+              before = w.before;
+              asked = w.after;
+              after = lines r.rest;
+              place = r.place ∙ ap (λ ws. ws ++ lines r.rest) w.place ∙ append_assoc w.before w.after (lines r.rest);
+              batches = h.batches;
+              counted = front ∙ h.whole;
+              some = omega (arith, count, few);
+              most = omega (arith, count, most);
+              keys = h.done ++ pending;
+              texts = subst (λ ws. AllZip R ws (h.done ++ pending)) w.place r.texts;
+              ended = λ less. subst (λ ws. AreKeysEnded R (lines r.rest) (length ws)) w.place (end bytes r (omega (arith, count, less)));
+            }
+
+    -- where the keys that are left are a batch, so with a failure of them
+    pub batch_failed : (p : Wanted) (failure : Failure) → length pending ≤ BATCH → IsKeysFailure BATCH pending new last failure → AreLinesAnswered c l R p B input old last (Err failure)
+    batch_failed p Memory most k = first_answered k
+    batch_failed p (Output error) most k = first_asked (omega (arith, k)) most (λ bytes r less. absurd (omega (arith, k, less)))
+    batch_failed p _ most k = absurd k
+
+    -- and where they are the last
+    none_left : (bytes : List ℕ) (r : AreRead R bytes now number (h.done ++ pending)) → ((IsAtEnd now ⊎ IsLeftOut R now) × (number ≤ 2 ^ 64 - 1)) ⊎ (number ≡ 2 ^ 64 - 1) → AreKeysEnded R (lines r.rest) (length r.words)
+    none_left bytes r (inl e) = elim e.0 [
+      | inl none ↦ subst (λ rest. AreKeysEnded R (lines rest) (length r.words)) (sym (end_of now r.rest r.left none)) tt
+      | inr out ↦ subst (λ ls. AreKeysEnded R ls (length r.words)) (sym (only_of R now r.rest r.left out)) (inl out.1)
+    ]
+    none_left bytes r (inr e) = past (lines r.rest)
+      where
+        past : (ls : List (List ℕ)) → AreKeysEnded R ls (length r.words)
+        past [] = tt
+        past (w ∷ ws) = inr (sym (limit r.counted e))
+
+    pub last_failed : (p : Wanted) (failure : Failure) → length pending < BATCH → ((IsAtEnd now ⊎ IsLeftOut R now) × (number ≤ 2 ^ 64 - 1)) ⊎ (number ≡ 2 ^ 64 - 1) → IsKeysFailure 1 pending new last failure
+        → AreLinesAnswered c l R p B input old last (Err failure)
+    last_failed p Memory less end k = first_answered k
+    last_failed p (Output error) less end k = first_asked k (omega (arith, less)) (λ bytes r few. none_left bytes r end)
+    last_failed p _ less end k = absurd k
 
     -- and with one of the next line
-    pub line_failed : (p : Wanted) (failure : Failure) → IsLineFailure c l R p B pending number now new last failure → AreLinesAnswered c l R p B input old last (Err failure)
-    line_failed p (Misread message) k = line_fault p (string_bytes message) k
-    line_failed p (Input error) k = first_answered k
-    line_failed p Memory k = first_answered k
-    line_failed p (Output error) k = tt
-    line_failed p _ k = absurd k
+    fault_left : IsNextNone R now → (bytes : List ℕ) (r : AreRead R bytes now number (h.done ++ pending)) → AreKeysEnded R (lines r.rest) (length r.words)
+    fault_left a bytes r =
+        let n = next_of now a.then r.rest a.line r.left a.next in
+        subst (λ ls. AreKeysEnded R ls (length r.words)) (sym n.2) (inl a.fault)
+
+    pub line_failed : (p : Wanted) (failure : Failure) → length pending < BATCH → IsLineFailure c l R p B pending number now new last failure → AreLinesAnswered c l R p B input old last (Err failure)
+    line_failed p (Misread message) less k = line_fault p (string_bytes message) k
+    line_failed p (Input error) less k = first_answered k
+    line_failed p Memory less k = first_answered k.1
+    line_failed p (Output error) less k = first_asked k.1 (omega (arith, less)) (λ bytes r few. fault_left k.0 bytes r)
+    line_failed p _ less k = absurd k.1

@@ -6,10 +6,15 @@
 --     IsLineFault c l R p B ws t old new      one of the lines ws is the first that is a text of no key, where p is wanted,
 --                          and no empty last one; the text t tells it with its number, counted from 1, and the answers to
 --                          those before it were written
+--     AreKeysEnded R ws n  where no more of the lines ws are keys after those before them, which are n: none is left, or the
+--                          next one is a text of no key, or n lines are all that are read
+--     AreFirstAsked R ws   some first lines of ws are texts of keys: as many as some batches have, and then one or more, of
+--                          which the answers were to be written: a batch, or fewer where the lines of keys end
 --     AreAllAnswered c l R B bytes old new status the answers to the lines of an input with these bytes were written,
 --                          but for an empty last one that is a text of no key
 --     AreLinesAnswered c l R p B input old new r  what is returned, r, and written once the table is opened, where the
---                          input has these bytes, which may be known
+--                          input has these bytes, which may be known. Where the writer failed some answers were to be
+--                          written; how much of them it then has no call of it tells
 --     AreLinesGot c l R p B input old new r   the same of opening too
 --     lines_of_shape fs j B input old new r s the same of bytes of the shape s in the forms fs of keys and of values, with j
 --                          as objects of JSON
@@ -18,8 +23,9 @@
 --     AreFileLinesGot B h ks j input old new r    the same of the bytes of a file, where the hash function h, or none, is
 --                          named, and ks is said of keys and values
 -- Nothing is said of answers where the bytes of the input are not known.
-use Rattle.std.specs.Prelude.{◌≡◌, ◌≢◌, ℕ, ◌+◌, ◌-◌, ◌*◌, ◌^◌, Bool, List, [], ◌∷◌, ◌++◌, length, take, Option, None, Some, IfSome, Result, Ok, Err, string_bytes, ⊤}
+use Rattle.std.specs.Prelude.{◌≡◌, ◌≢◌, ◌⊎◌, ℕ, ◌+◌, ◌-◌, ◌*◌, ◌^◌, ◌<◌, ◌≤◌, Bool, List, [], ◌∷◌, ◌++◌, length, take, Option, None, Some, IfSome, Result, Ok, Err, string_bytes}
 use Rattle.std.specs.Io.KnownBytes.{Keeps}
+use Rattle.std.specs.List.{AllZip}
 use Rattle.std.specs.Str.Lines.{lines}
 use Rattle.odht_header.specs.Coding.{Coding}
 use Rattle.odht_header.specs.Refusals.{view_refusal}
@@ -76,13 +82,30 @@ pub record IsLineFault {K V : Type 0} (c : Coding K V) (l : K × Option V → Li
   pub status : Status
   pub answered : IsAnswered c l R B before old new status
 
+abbrev pub AreKeysEnded : {K : Type 0} → (List ℕ → K → Type 0) → List (List ℕ) → ℕ → Type 0
+AreKeysEnded R [] n = Unit {0}
+AreKeysEnded R (w ∷ ws) n = IsTextOfNone R w ⊎ (n ≡ 2 ^ 64 - 2)
+
+pub record AreFirstAsked {K : Type 0} (R : List ℕ → K → Type 0) (ws : List (List ℕ)) : Type 0 where
+  pub before : List (List ℕ)
+  pub asked : List (List ℕ)
+  pub after : List (List ℕ)
+  pub place : ws ≡ before ++ (asked ++ after)
+  pub batches : ℕ
+  pub counted : length before ≡ batches * BATCH
+  pub some : 0 < length asked
+  pub most : length asked ≤ BATCH
+  pub keys : List K
+  pub texts : AllZip R (before ++ asked) keys
+  pub ended : length asked < BATCH → AreKeysEnded R after (length (before ++ asked))
+
 module _ {K V : Type 0} (c : Coding K V) (l : K × Option V → List ℕ) (R : List ℕ → K → Type 0) (p : Wanted) (B : List ℕ) where
   abbrev pub AreLinesAnswered : Option (List ℕ) → Option (List ℕ) → Option (List ℕ) → Result Status Failure → Type 0
   AreLinesAnswered input old new (Ok status) = IfSome input (λ bytes. AreAllAnswered c l R B bytes old new status)
   AreLinesAnswered input old new (Err (Misread message)) = IfSome input (λ bytes. IsLineFault c l R p B (lines bytes) (string_bytes message) old new)
   AreLinesAnswered input old new (Err Memory) = IfSome input (λ bytes. AreFirstAnswered c l R B (lines bytes) old new)
   AreLinesAnswered input old new (Err (Input error)) = IfSome input (λ bytes. AreFirstAnswered c l R B (lines bytes) old new)
-  AreLinesAnswered input old new (Err (Output error)) = ⊤
+  AreLinesAnswered input old new (Err (Output error)) = IfSome input (λ bytes. AreFirstAsked R (lines bytes))
   AreLinesAnswered input old new (Err _) = ⊥
 
   abbrev pub AreLinesGot : Option (List ℕ) → Option (List ℕ) → Option (List ℕ) → Result Status Failure → Type 0

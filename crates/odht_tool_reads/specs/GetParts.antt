@@ -1,7 +1,8 @@
 -- The parts of `get`, of the bytes B of a file.
 --     AreKeysAnswered c l B ks old new all the answers to the keys ks were written, which took the writer from the
 --                          bytes old to new, and `all` says whether each has a value; l is the line of a key and its value
---     IsKeysFailure old new f  no memory, and nothing was written, or the writer failed
+--     IsKeysFailure n ks old new f     no memory, and nothing was written; or the writer failed, when the answers to the keys ks
+--                          were to be written, which are at least n
 --     IsFlushed c l B before after old new was all   of the keys `before` those that are not left in `after` were
 --                          answered: all where they are a batch, and else none; `all` says whether each has a value, and
 --                          `was` holds
@@ -10,9 +11,12 @@
 --     AreFaultAnswered c l R p B ks n o old new t   the next line of the bytes o, which is line n, is a text of no key,
 --                          where p is wanted, and no empty last one; the text t tells that, and the answers to the keys ks
 --                          were written
---     IsLineFailure c l R p B ks n o old new f   f tells this fault of line n, with these answers; or no memory, or the
---                          reader failed, and nothing was written; or the writer failed
-use Rattle.std.specs.Prelude.{◌≡◌, ⊤, ℕ, ◌<◌, ◌≤◌, Bool, ◌&&◌, List, [], ◌++◌, length, is_some, Option, Some, None, string_bytes}
+--     IsNextNone R o       the next line of the bytes o is a text of no key
+--     IsLineFailure c l R p B ks n o old new f   f tells this fault of line n, with these answers; or the reader failed, and
+--                          nothing was written. Only where the next line is a text of no key is there no memory, and nothing
+--                          was written then; or the writer failed, when the answers to the keys ks, which are some, were to be
+--                          written
+use Rattle.std.specs.Prelude.{◌≡◌, ℕ, ◌<◌, ◌≤◌, Bool, ◌&&◌, List, [], ◌++◌, length, is_some, Option, Some, None, string_bytes}
 use Rattle.std.specs.Io.KnownBytes.{Appends, Keeps}
 use Rattle.std.specs.List.{list_all}
 use Rattle.odht_header.specs.Coding.{Coding}
@@ -34,10 +38,10 @@ pub record AreKeysAnswered {K V : Type 0} (c : Coding K V) (l : K × Option V �
   pub written : Appends old new (answers_by l ks values)
   pub found : all ≡ list_all is_some values
 
-abbrev pub IsKeysFailure : Option (List ℕ) → Option (List ℕ) → Failure → Type 0
-IsKeysFailure old new Memory = Keeps old new
-IsKeysFailure old new (Output error) = ⊤
-IsKeysFailure old new _ = ⊥
+abbrev pub IsKeysFailure : {K : Type 0} → ℕ → List K → Option (List ℕ) → Option (List ℕ) → Failure → Type 0
+IsKeysFailure least ks old new Memory = Keeps old new
+IsKeysFailure least ks old new (Output error) = least ≤ length ks
+IsKeysFailure least ks old new _ = ⊥
 
 pub record IsFlushed {K V : Type 0} (c : Coding K V) (l : K × Option V → List ℕ) (B : List ℕ) (before after : List K) (old new : Option (List ℕ)) (was all : Bool) : Type 0 where
   pub done : List K
@@ -52,6 +56,12 @@ pub record IsFlushed {K V : Type 0} (c : Coding K V) (l : K × Option V → List
 abbrev pub IsReadKey : {K : Type 0} → (List ℕ → K → Type 0) → Option (List ℕ) → Option (List ℕ) → Option K → Type 0
 IsReadKey R old new (Some key) = IsNextKey R old new (is_key key)
 IsReadKey R old new None = IsNextKey R old new End
+
+pub record IsNextNone {K : Type 0} (R : List ℕ → K → Type 0) (bytes : Option (List ℕ)) : Type 0 where
+  pub then : Option (List ℕ)
+  pub line : List ℕ
+  pub next : IsNextLine bytes then line
+  pub fault : IsTextOfNone R line
 
 module _ {K V : Type 0} (c : Coding K V) (l : K × Option V → List ℕ) (R : List ℕ → K → Type 0) (p : Wanted) (B : List ℕ) where
   -- where the line after those of the keys `ks` is no key
@@ -68,4 +78,4 @@ module _ {K V : Type 0} (c : Coding K V) (l : K × Option V → List ℕ) (R : L
   abbrev pub IsLineFailure : List K → ℕ → Option (List ℕ) → Option (List ℕ) → Option (List ℕ) → Failure → Type 0
   IsLineFailure ks number bytes old new (Misread message) = AreFaultAnswered ks number bytes old new (string_bytes message)
   IsLineFailure ks number bytes old new (Input error) = Keeps old new
-  IsLineFailure ks number bytes old new failure = IsKeysFailure old new failure
+  IsLineFailure ks number bytes old new failure = IsNextNone R bytes × IsKeysFailure 1 ks old new failure

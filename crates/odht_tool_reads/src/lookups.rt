@@ -218,7 +218,8 @@ fn take_key<T: Lookups, F: Forms, O: Write>(
         (T.Value.text (F.pair style.forms).1))
         (T.bytes table.now) (keys.old.items ++ key ∷ []) keys.new.items
         (O.contents output.old) (O.contents output.new) is_all_found) }
-    ensures err { IfErr result (IsKeysFailure (O.contents output.old) (O.contents output.new)) }
+    ensures err { IfErr result (IsKeysFailure BATCH (keys.old.items ++ key ∷ [])
+        (O.contents output.old) (O.contents output.new)) }
 {
     push_key(keys, key)?;
     answer_batch(alloc, table, keys, is_all_found, style, output)
@@ -239,7 +240,8 @@ fn answer_batch<T: Lookups, F: Forms, O: Write>(
         (T.Value.text (F.pair style.forms).1))
         (T.bytes table.now) keys.old.items keys.new.items
         (O.contents output.old) (O.contents output.new) is_all_found) }
-    ensures err { IfErr result (IsKeysFailure (O.contents output.old) (O.contents output.new)) }
+    ensures err { IfErr result (IsKeysFailure BATCH keys.old.items
+        (O.contents output.old) (O.contents output.new)) }
 {
     if keys.len() < BATCH {
         return Ok(is_all_found);
@@ -261,7 +263,8 @@ fn answer_keys<T: Lookups, F: Forms, O: Write>(
         (answer_in style.is_json (T.Key.text (F.pair style.forms).0)
         (T.Value.text (F.pair style.forms).1))
         (T.bytes table.now) keys.now (O.contents output.old) (O.contents output.new)) }
-    ensures err { IfErr result (IsKeysFailure (O.contents output.old) (O.contents output.new)) }
+    ensures err { IfErr result (IsKeysFailure 1 keys.now
+        (O.contents output.old) (O.contents output.new)) }
 {
     let values = table.look_up(alloc, keys)?;
     let values = values.as_slice();

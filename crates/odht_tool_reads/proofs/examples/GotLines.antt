@@ -2,7 +2,7 @@
 --     f                 the text of keys and values of the direct shape
 --     line              the line of a key and its value
 --     a_number          what is wanted of keys
-use Rattle.std.proofs.Common.{◌≡◌, ◌∙◌, inl, inr, Bool, true, false, ◌+◌, ◌*◌, ◌≤◌, ℕ, zero, suc, refl, sym, ap, subst, arith, lit<, map, length, length-append, List, [], ◌∷◌, ◌++◌, Option, Some, None, Ok, Err, slice_get}
+use Rattle.std.proofs.Common.{◌≡◌, ◌∙◌, inl, inr, Bool, true, false, ◌+◌, ◌*◌, ◌≤◌, ℕ, zero, suc, refl, sym, ap, subst, arith, lit<, lit≤, ◌<◌, map, length, length-append, List, [], ◌∷◌, ◌++◌, Option, Some, None, Ok, Err, slice_get}
 use Rattle.std.specs.Prelude.{codes, string_bytes}
 use Rattle.std.specs.Char.{encode_utf8}
 use Rattle.std.specs.Fmt.{digits}
@@ -307,6 +307,41 @@ half_a_batch h = unequal_lists (codes "a5\t7\n") (codes "a") refl (none_first (S
 
 pub half_read : (error : _) → lines_of_shape (Own, Own) false one_bytes (Some (codes "5\n")) (Some (codes "a")) (Some (codes "a5\t7\n")) (Err (Input error)) DirectU32ToU32 → ⊥
 half_read error h = unequal_lists (codes "a5\t7\n") (codes "a") refl (none_first (Some (codes "a")) (Some (codes "a5\t7\n")) h.1)
+
+-- the writer fails where an answer is to be written; not where there is no line, nor where the first one is no key
+pub asked : (old new : Option (List ℕ)) (error : _) → lines_of_shape (Own, Own) false one_bytes (Some (codes "5\n")) old new (Err (Output error)) DirectU32ToU32
+asked old new error = (
+  no_refusal,
+  record {
+    before = [];
+    asked = codes "5" ∷ [];
+    after = [];
+    place = refl;
+    batches = 0;
+    counted = refl;
+    some = lit< tt;
+    most = lit≤ tt;
+    keys = 5 ∷ [];
+    texts = (five, tt);
+    ended = λ few. tt;
+  },
+)
+
+pub none_asked : (old new : Option (List ℕ)) (error : _) → lines_of_shape (Own, Own) false one_bytes (Some []) old new (Err (Output error)) DirectU32ToU32 → ⊥
+none_asked old new error h =
+    omega (arith, ap length h.1.place ∙ length-append h.1.before (h.1.asked ++ h.1.after), length-append h.1.asked h.1.after, h.1.some)
+
+pub no_key_asked : (old new : Option (List ℕ)) (error : _) → lines_of_shape (Own, Own) false one_bytes (Some (codes "x\n")) old new (Err (Output error)) DirectU32ToU32 → ⊥
+no_key_asked old new error h = go h.1.before h.1.asked h.1.place h.1.some h.1.keys h.1.texts
+  where
+    first : (w : List ℕ) (ws : List (List ℕ)) (ks : List ℕ) → codes "x" ≡ w → AllZip R (w ∷ ws) ks → ⊥
+    first w ws [] e t = t
+    first w ws (k ∷ ks) e t = no_key k (subst (λ v. R v k) (sym e) t.0)
+
+    go : (before asked : List (List ℕ)) → codes "x" ∷ [] ≡ before ++ (asked ++ h.1.after) → 0 < length asked → (ks : List ℕ) → AllZip R (before ++ asked) ks → ⊥
+    go [] [] place some ks t = absurd (omega (arith, some))
+    go [] (w ∷ asked) place some ks t = let e : codes "x" ≡ w = cc in first w asked ks e t
+    go (w ∷ before) asked place some ks t = let e : codes "x" ≡ w = cc in first w (before ++ asked) ks e t
 
 -- the writer fails only once the bytes are opened
 pub unopened : (input old new : Option (List ℕ)) (error : _) → lines_of_shape (Own, Own) false (79 ∷ 68 ∷ []) input old new (Err (Output error)) DirectU32ToU32 → ⊥

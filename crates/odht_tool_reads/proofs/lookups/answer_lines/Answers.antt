@@ -1,10 +1,11 @@
 use Rattle.std.proofs.Common.{rules, ◌≡◌, ◌∙◌, ◌+◌, ◌&&◌, [], ◌∷◌, ◌++◌, length, inl, inr, Ok, Err, refl, sym, ap, subst, arith}
 use Rattle.odht_tool_reads.specs.GetLines.{AreLinesAnswered}
+use Rattle.odht_tool_reads.specs.declared.lookups.TheConstants.{BATCH}
 use Rattle.odht_tool_reads.specs.GetParts.{AreKeysAnswered, IsKeysFailure, IsFlushed, IsReadKey, IsLineFailure}
 use Rattle.odht_tool_tables.specs.KeyTexts.{found_status}
 use Rattle.odht_tool_core.specs.JsonAnswers.{answer_in}
 use Rattle.odht_tool_core.specs.Keys.{IsReadAs}
-use Rattle.odht_tool_reads.proofs.LinesTaken.{none_taken, one_taken, batch_at_most, batch_answered, lines_answered, line_failed, keys_failed}
+use Rattle.odht_tool_reads.proofs.LinesTaken.{none_taken, one_taken, batch_at_most, batch_answered, lines_answered, line_failed, batch_failed, last_failed}
 use Rattle.odht_tool_reads.proofs.lookups.answer_lines.Goals as goal
 use Rattle.odht_tool_reads.proofs.lookups.answer_lines.Goals.{else-loop-number-test, then-loop-number-test+in_ok-read+in-None, then-is_last_found, else-is_last_found}
 
@@ -37,7 +38,7 @@ returns-in_err-read g c =
     let failed : c.from_residual.result ≡ Err x = search rules in
     let why = subst (λ ks. IsLineFailure C line R p B ks c.loop-number.number now new last x) c.as_slice.ensures.value c.in_err-read.ensures.err in
     subst (AreLinesAnswered C line R p B input old last) (sym failed)
-    (line_failed C line R B input now old new c.loop-number.number keys all last c.loop-number.invariant.0 p x why)
+    (line_failed C line R B input now old new c.loop-number.number keys all last c.loop-number.invariant.0 p x c.loop-number.invariant.1 why)
 
 pub returns-in_err-is_all_found-in-Some : goal.returns-in_err-is_all_found-in-Some
 returns-in_err-is_all_found-in-Some g c =
@@ -59,9 +60,9 @@ returns-in_err-is_all_found-in-Some g c =
     let taken = one_taken C line R B input now old new c.loop-number.number keys all then key (keys ++ (key ∷ [])) c.loop-number.invariant.0 next refl in
     let x = c.in_err-is_all_found-in-Some.field-0.0 in
     let failed : c.from_residual-in_err-is_all_found-in-Some.result ≡ Err x = search rules in
-    let why = subst (λ o. IsKeysFailure o last x) c.in_ok-read.ensures.kept c.in_err-is_all_found-in-Some.ensures.err in
+    let why = subst (λ o. IsKeysFailure BATCH (keys ++ (key ∷ [])) o last x) c.in_ok-read.ensures.kept c.in_err-is_all_found-in-Some.ensures.err in
     subst (AreLinesAnswered C line R p B input old last) (sym failed)
-    (keys_failed C line R B input then old new (c.loop-number.number + 1) (keys ++ (key ∷ [])) all last taken p x why)
+    (batch_failed C line R B input then old new (c.loop-number.number + 1) (keys ++ (key ∷ [])) all last taken p x (batch_at_most keys (keys ++ (key ∷ [])) key refl c.loop-number.invariant.1) why)
 
 pub loop-number-preserved : goal.loop-number-preserved
 loop-number-preserved g c =
@@ -107,8 +108,13 @@ returns-in_err-is_last_found g c =
     ] in
     let x = c.in_err-is_last_found.field-0.0 in
     let failed : c.from_residual-in_err-is_last_found.result ≡ Err x = search rules in
+    let kept = subst (λ ks. IsKeysFailure 1 ks (g.O.Write.contents c.loop-number-test.output) last x) c.as_slice-2.ensures.value c.in_err-is_last_found.ensures.err in
+    let why = subst (λ o. IsKeysFailure 1 keys o last x) same kept in
     subst (AreLinesAnswered C line R p B input old last) (sym failed)
-    (keys_failed C line R B input now old new c.loop-number.number keys all last c.loop-number.invariant.0 p x (subst (λ o. IsKeysFailure o last x) same c.in_err-is_last_found.ensures.err))
+    (last_failed C line R B input now old new c.loop-number.number keys all last c.loop-number.invariant.0 p x c.loop-number.invariant.1 (elim c.loop-number-test.branch [
+      | else-loop-number-test w ↦ inr (omega (arith, c.loop-number.auto.number-end, w.loop-number-test.false))
+      | then-loop-number-test+in_ok-read+in-None w ↦ inl (subst (IsReadKey R now (g.I.Read.remaining w.read_key.new.input)) w.in-None.is w.in_ok-read.ensures.key, omega (arith, c.loop-number.auto.number-end))
+    ]) why)
 
 pub returns : goal.returns
 returns g c =
