@@ -11,20 +11,27 @@
 --     told A B lines       these lines are written, with the status `NotDone`; where there are none, that one line, with `Done`
 --     pairs_diff f g A B xs ys   what is told of the two files, which have the pairs xs and ys
 --     diff_of s fs A u B   of bytes A of the shape s, and bytes B of the shape u, in the texts of s in the forms fs
-use Rattle.std.specs.Prelude.{ℕ, List, [], ◌∷◌, ◌++◌, codes, flat_map, bytes_eq, Option, Some, None, if◌then◌else◌}
+--     IsDiffed s fs A x B old new r    a call that took a writer from the bytes old to new and returned r told that of the
+--                          shape that x has for the bytes B, where its sizes are those of s; else, and where x is a failure,
+--                          it wrote nothing there, and the status is `Trouble`
+use Rattle.std.specs.Prelude.{◌≡◌, ℕ, Bool, true, false, List, [], ◌∷◌, ◌++◌, codes, flat_map, bytes_eq, Option, Some, None, Result, Ok, Err, if◌then◌else◌}
+use Rattle.std.specs.Io.KnownBytes.{Keeps}
 use Rattle.odht_base.specs.Decoded.{decoded_pairs}
 use Rattle.odht_base.specs.Map.{value_in}
 use Rattle.odht_base.specs.Table.{Pair}
 use Rattle.odht_tool_reads.specs.declared.sized.diffs.Side.{Side}
 use Rattle.odht_tool_reads.specs.declared.sized.diffs.Side.TheVariants.{First, Second}
 use Rattle.odht_tool_core.specs.AnyShapes.{any_format}
-use Rattle.odht_tool_core.specs.Endings.{Outcome}
+use Rattle.odht_tool_core.specs.Endings.{IsDone, Outcome}
 use Rattle.odht_tool_core.specs.Endings.Outcome.{writes}
 use Rattle.odht_tool_core.specs.StoredTexts.{key_text, texts_of, value_text}
 use Rattle.odht_tool_core.specs.Texts.{pair_line}
 use Rattle.odht_tool_core.specs.declared.any.AnyShape.{AnyShape}
+use Rattle.odht_tool_core.specs.declared.failure.Failure.{Failure}
 use Rattle.odht_tool_core.specs.declared.forms.GivenForms.{GivenForms}
-use Rattle.odht_tool_core.specs.declared.status.Status.TheVariants.{Done, NotDone}
+use Rattle.odht_tool_core.specs.declared.status.Status.{Status}
+use Rattle.odht_tool_core.specs.declared.status.Status.TheVariants.{Done, NotDone, Trouble}
+use Rattle.odht_tool_tables.specs.Wholes.{have_same_sizes}
 
 -- ---- lines
 abbrev pub side_mark : Side → List ℕ
@@ -65,3 +72,12 @@ abbrev pub diff_of : AnyShape → GivenForms → List ℕ → AnyShape → List 
 diff_of s fs A u B =
     let t = texts_of s fs in
     pairs_diff (key_text t) (value_text t) A B (decoded_pairs (any_format s) A) (decoded_pairs (any_format u) B)
+
+-- where the sizes are the same, or not
+abbrev pub IsDiffedBy : Bool → Outcome → Option (List ℕ) → Option (List ℕ) → Result Status Failure → Type 0
+IsDiffedBy true o old new r = IsDone o old new r
+IsDiffedBy false o old new r = (r ≡ Ok Trouble) × Keeps old new
+
+abbrev pub IsDiffed : AnyShape → GivenForms → List ℕ → Result (AnyShape × GivenForms) Failure → List ℕ → Option (List ℕ) → Option (List ℕ) → Result Status Failure → Type 0
+IsDiffed s fs A (Ok x) B old new r = IsDiffedBy (have_same_sizes s x.0) (diff_of s fs A x.0 B) old new r
+IsDiffed s fs A (Err failure) B old new r = (r ≡ Ok Trouble) × Keeps old new

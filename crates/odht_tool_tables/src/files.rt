@@ -1,4 +1,6 @@
 //! The bytes of a file, and the line that reports its failure.
+ghost use Rattle.std.specs.Prelude.{◌≡◌, MatchResult};
+
 use odht_tool_core::arguments::is_stream;
 use odht_tool_core::failure::Failure;
 use odht_tool_core::files::{read_file, read_input};
@@ -22,7 +24,9 @@ pub fn read_bytes<R: Files + AllocGlobal, I: BufRead>(
 
 /// How a command ends that did this with the file of this name. A failure is `NotDone`, and is
 /// reported by a line on `errors`, but where nobody reads the output any more.
-pub fn finish<E: Write>(file: &str, done: Result<Status, Failure>, errors: &mut E) -> Status {
+pub fn finish<E: Write>(file: &str, done: Result<Status, Failure>, errors: &mut E) -> Status
+    ensures { MatchResult done (λ status. result ≡ status) (λ failure. result ≡ Status.NotDone) }
+{
     finish_as(file, done, Status::NotDone, errors)
 }
 
@@ -32,7 +36,9 @@ pub fn finish_as<E: Write>(
     done: Result<Status, Failure>,
     failed: Status,
     errors: &mut E,
-) -> Status {
+) -> Status
+    ensures { MatchResult done (λ status. result ≡ status) (λ failure. result ≡ failed) }
+{
     match done {
         Ok(status) => status,
         Err(Failure::Output(error)) if error.kind() == ErrorKind::BrokenPipe => failed,

@@ -1,10 +1,10 @@
 //! `odht diff`: how the pairs of two table files differ.
-ghost use Rattle.std.specs.Prelude.{IsTrue};
+ghost use Rattle.std.specs.Prelude.{IsTrue, None};
 ghost use Rattle.odht_base.specs.Valid.{IsValidBytes};
 ghost use Rattle.odht_tool_core.specs.AnyShapes.{HasLongKeys, any_format};
 ghost use Rattle.odht_tool_core.specs.Endings.{IsDone};
-ghost use Rattle.odht_tool_reads.specs.Diffs.{diff_of};
-ghost use Rattle.odht_tool_tables.specs.Wholes.{have_same_sizes};
+ghost use Rattle.odht_tool_reads.specs.Diffs.{IsDiffed, diff_of};
+ghost use Rattle.odht_tool_tables.specs.Wholes.{have_same_sizes, whole_any};
 
 use crate::sized::diffs::diff_lengths;
 use odht::{FxHashFn, UnHashFn};
@@ -37,7 +37,37 @@ pub fn diff<R: Files + AllocGlobal, I: BufRead, O: Write, E: Write>(
         Ok(second) => second,
         Err(failure) => return Ok(finish_as(other, Err(failure), Status::Trouble, errors)),
     };
-    let second = second.as_slice();
+    diff_beside(
+        file,
+        shape,
+        forms,
+        first,
+        &options,
+        second.as_slice(),
+        output,
+        errors,
+    )
+}
+
+// The same where the first file is a valid table of this shape, and the second one has these
+// bytes. A failure of the second one is reported here.
+fn diff_beside<O: Write, E: Write>(
+    file: &str,
+    shape: AnyShape,
+    forms: GivenForms,
+    first: &[u8],
+    options: &DiffOptions,
+    second: &[u8],
+    output: &mut O,
+    errors: &mut E,
+) -> Result<Status, Failure>
+    requires long { HasLongKeys shape }
+    requires valid { IsValidBytes (any_format shape) first.now }
+    ensures { let o = options.now in IsDiffed shape forms first.now
+        (whole_any second.now o.hash (record { key = None; value = None }) o.bound) second.now
+        (O.contents output.old) (O.contents output.new) result }
+{
+    let other = options.other.as_str();
     // Its keys and values are written in the texts of the first one.
     let kinds = Kinds {
         key: None,

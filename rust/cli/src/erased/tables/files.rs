@@ -1,5 +1,6 @@
 // Made by `make rust` of crates/odht_tool_tables/src/files.rt.
 //! The bytes of a file, and the line that reports its failure.
+
 use crate::erased::core::arguments::is_stream;
 use crate::erased::core::failure::Failure;
 use crate::erased::core::files::{read_file, read_input};

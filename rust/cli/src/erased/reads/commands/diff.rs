@@ -33,7 +33,22 @@ pub fn diff<R: Files + AllocGlobal, I: BufRead, O: Write, E: Write>(
         Ok(second) => second,
         Err(failure) => return Ok(finish_as(other, Err(failure), Status::Trouble, errors)),
     };
-    let second = second.as_slice();
+    diff_beside(file, shape, forms, first, &options, second.as_slice(), output, errors)
+}
+
+// The same where the first file is a valid table of this shape, and the second one has these
+// bytes. A failure of the second one is reported here.
+fn diff_beside<O: Write, E: Write>(
+    file: &str,
+    shape: AnyShape,
+    forms: GivenForms,
+    first: &[u8],
+    options: &DiffOptions,
+    second: &[u8],
+    output: &mut O,
+    errors: &mut E,
+) -> Result<Status, Failure> {
+    let other = options.other.as_str();
     // Its keys and values are written in the texts of the first one.
     let kinds = Kinds { key: None, value: None };
     match read_whole(second, options.hash, kinds, options.bound) {
