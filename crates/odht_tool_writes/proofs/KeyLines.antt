@@ -32,7 +32,7 @@ lines_are_keys f input ws s ks h = h.0
 pub no_key : {K : Type 0} (R : List ℕ → K → Type 0) (p : Wanted) (n : ℕ) (old new : Option (List ℕ)) (line : List ℕ) (f : Failure) → IsNoKeyLine R old new line → TellsNumbered p n line f → IsNextFailure R p n old f
 no_key R p n old new line (Misread message) k told = record { then = k.0; line = line; next = k.1; fault = k.2; more = k.3.0; told = told }
 no_key R p n old new line (Input error) k told = tt
-no_key R p n old new line Memory k told = tt
+no_key R p n old new line Memory k told = (k.0, line, k.1)
 no_key R p n old new line _ k told = absurd told
 
 -- the lines before the one of this number are `ws`, texts of the keys `ks`, and the input has the bytes of the others left

@@ -11,20 +11,23 @@
 --                          for the keys of the lines of an input with these bytes
 --     IsLinesFailure B h ks o input f  f is the failure of the shape, or else the first rule that B breaks, or else tells of the
 --                          first line that is no key, or that the reader failed, or that there was no memory
+--     IsDeletedBy B h ks o input B' status keys    B' are made so for these keys: the words of a command line, or the lines
+--     IsFailureBy B h ks o input f keys    f is the failure of that
 -- The parts of this, of the line of the number n:
 --     IsOneLineMore R o o' ws ws' ks ks'   ws' and ks' are one line more, the next one of the bytes o, and its key; o' are the
 --                          bytes after it
 --     IsLinesEnd R o ws ws' ks ks'     there is no line in the bytes o, or an empty last one that is no key, and no more is in
 --                          ws' and ks'
 --     TellsNumbered p n line f     the failure f tells that this line is no key, or there was no memory
---     IsNextFailure R p n o f  f tells so of the next line of the bytes o; or the reader failed, or there was no memory
-use Rattle.std.specs.Prelude.{◌≡◌, ◌≢◌, ◌⊎◌, ⊤, ℕ, ◌+◌, List, [], ◌∷◌, ◌++◌, length, Option, None, Some, IfSome, MatchResult, string_bytes}
+--     IsNextFailure R p n o f  f tells so of the next line of the bytes o; or the reader failed; or that line was read, and
+--                          there was no memory
+use Rattle.std.specs.Prelude.{◌≡◌, ◌≢◌, ◌⊎◌, ⊤, ℕ, ◌+◌, List, [], ◌∷◌, ◌++◌, length, map, Option, None, Some, IfSome, MatchResult, string_bytes}
 use Rattle.std.specs.Io.KnownBytes.{IsAtEnd}
 use Rattle.std.specs.List.{AllZip}
 use Rattle.std.specs.Str.Lines.{lines}
 use Rattle.odht_header.specs.Refusals.{check_refusal_by}
 use Rattle.odht_header.specs.declared.error.Error.{Error}
-use Rattle.odht_tool_writes.specs.Deletes.{IsDeletedOf}
+use Rattle.odht_tool_writes.specs.Deletes.{IsDeleteFailure, IsDeletedOf}
 use Rattle.odht_tool_tables.specs.KeyTexts.{AreLinesOf}
 use Rattle.odht_tool_core.specs.AnyShapes.{any_format, any_key, read_any}
 use Rattle.odht_tool_core.specs.InputLines.{AreLeft, IsNextLine}
@@ -33,6 +36,8 @@ use Rattle.odht_tool_core.specs.Forms.{bytes_form}
 use Rattle.odht_tool_core.specs.Misreads.{misread_text}
 use Rattle.odht_tool_core.specs.SizedTexts.{IsSizedOf, sized_wanted}
 use Rattle.odht_tool_core.specs.declared.any.AnyShape.{AnyShape}
+use Rattle.odht_tool_core.specs.declared.arguments.Keys.{Keys}
+use Rattle.odht_tool_core.specs.declared.arguments.Keys.TheVariants.{Words, Lines}
 use Rattle.odht_tool_core.specs.declared.failure.Failure.{Failure}
 use Rattle.odht_tool_core.specs.declared.failure.Failure.TheVariants.{Input, Memory, Misread, Refused}
 use Rattle.odht_tool_core.specs.declared.failure.LineFault.TheVariants.{Key}
@@ -87,6 +92,15 @@ IsLinesFailure B h ks o input failure =
     (λ x. fails_by_lines x.1.key x.0 input failure (check_refusal_by (any_format x.0) o B))
     (λ f. failure ≡ f)
 
+-- ---- of words or lines
+abbrev pub IsDeletedBy : List ℕ → Option Hash → Kinds → Option ℕ → Option (List ℕ) → List ℕ → Status → Keys → Type 0
+IsDeletedBy B h ks o input B' status (Words ws) = IsDeletedOf B h ks o (map string_bytes ws.items) B' status
+IsDeletedBy B h ks o input B' status Lines = IsDeletedByLines B h ks o input B' status
+
+abbrev pub IsFailureBy : List ℕ → Option Hash → Kinds → Option ℕ → Option (List ℕ) → Failure → Keys → Type 0
+IsFailureBy B h ks o input failure (Words ws) = IsDeleteFailure B h ks o (map string_bytes ws.items) failure
+IsFailureBy B h ks o input failure Lines = IsLinesFailure B h ks o input failure
+
 -- ---- one line
 pub record IsOneLineMore {K : Type 0} (R : List ℕ → K → Type 0) (old new : Option (List ℕ)) (ws ws' : List (List ℕ)) (ks ks' : List K) : Type 0 where
   pub line : List ℕ
@@ -117,5 +131,5 @@ pub record IsNextNoKey {K : Type 0} (R : List ℕ → K → Type 0) (p : Wanted)
 abbrev pub IsNextFailure : {K : Type 0} → (List ℕ → K → Type 0) → Wanted → ℕ → Option (List ℕ) → Failure → Type 0
 IsNextFailure R p n old (Misread message) = IsNextNoKey R p n old (string_bytes message)
 IsNextFailure R p n old (Input error) = ⊤
-IsNextFailure R p n old Memory = ⊤
+IsNextFailure R p n old Memory = (then : Option (List ℕ)) × (line : List ℕ) × IsNextLine old then line
 IsNextFailure R p n old _ = ⊥

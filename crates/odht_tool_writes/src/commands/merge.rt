@@ -1,5 +1,6 @@
 //! `odht merge`: a table file of the pairs of others.
-ghost use Rattle.std.specs.Prelude.{◌≡◌, ◌+◌, ◌++◌, ◌∷◌, [], All, IfErr, IfOk, Ok, OnOk, map};
+ghost use Rattle.std.specs.Prelude.{◌≡◌, ◌+◌, ◌++◌, ◌∷◌, [], All, IfErr, IfOk, IfSome, Ok, OnOk};
+ghost use Rattle.std.specs.Prelude.{map};
 ghost use Rattle.std.specs.Vec.{vec_len};
 ghost use Rattle.odht_base.specs.Valid.{IsValidBytes};
 ghost use Rattle.odht_tool_core.specs.AnyShapes.{HasLongKeys, any_format, any_key, any_value};
@@ -78,6 +79,24 @@ fn merged_files<R: Files + AllocGlobal + Clock, I: BufRead, E: Write>(
             Err(failure) => return Ok(reported(name.as_str(), failure, errors)),
         }
     }
+    merged_or_told(rt, first, others, options, errors)
+}
+
+// The same of files with these bytes.
+fn merged_or_told<R: AllocGlobal + Clock, E: Write>(
+    rt: &R,
+    first: Vec<u8>,
+    others: Vec<Vec<u8>>,
+    options: &MergeOptions,
+    errors: &mut E,
+) -> Result<Option<Vec<u8>>, Failure>
+    ensures made { let o = options.now in let Bs = map (λ bytes. bytes.items) others.items
+        in IfOk result (λ made. IfSome made (λ new. IsMergedOf first.items Bs o.hash o.kinds
+        o.bound o.duplicates o.percent new.items)) }
+    ensures failed { let o = options.now in let Bs = map (λ bytes. bytes.items) others.items
+        in IfErr result (λ failure. IsMergeFailure first.items Bs o.hash o.kinds o.bound
+        o.duplicates o.percent (Unmerged.New failure)) }
+{
     match merged(rt, first, others, options, errors) {
         Ok(bytes) => Ok(Some(bytes)),
         Err(Unmerged::New(failure)) => Err(failure),

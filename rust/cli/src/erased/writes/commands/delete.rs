@@ -38,15 +38,27 @@ where
 {
     let target = Target::find(rt, file, options.breaks_links)?;
     let bytes = read_file(rt, target.path())?;
-    let (bytes, status) = match &options.keys {
-        Keys::Words(words) => deleted(rt, file, bytes, words.as_slice(), options, errors)?,
-        Keys::Lines => deleted_by_lines(rt, file, bytes, options, input, errors)?,
-    };
+    let (bytes, status) = deleted_by(rt, file, bytes, options, input, errors)?;
     replace_file(rt, &target, bytes.as_slice())?;
     Ok(status)
 }
 
-// The bytes of the new table. Those of the old one are checked whole before, with the bound of
+// The bytes of the new table, without the keys that the options name.
+fn deleted_by<R: AllocGlobal + Clock, I: BufRead, E: Write>(
+    rt: &R,
+    file: &str,
+    bytes: Vec<u8>,
+    options: &DeleteOptions,
+    input: &mut I,
+    errors: &mut E,
+) -> Result<(Vec<u8>, Status), Failure> {
+    match &options.keys {
+        Keys::Words(words) => deleted(rt, file, bytes, words.as_slice(), options, errors),
+        Keys::Lines => deleted_by_lines(rt, file, bytes, options, input, errors),
+    }
+}
+
+// The same of words. The bytes of the old table are checked whole before, with the bound of
 // searches where there is one. A line on `errors` tells of each key that is absent.
 fn deleted<R: AllocGlobal + Clock, E: Write>(
     rt: &R,

@@ -71,6 +71,17 @@ fn merged_files<R: Files + AllocGlobal + Clock, I: BufRead, E: Write>(
             Err(failure) => return Ok(reported(name.as_str(), failure, errors)),
         }
     }
+    merged_or_told(rt, first, others, options, errors)
+}
+
+// The same of files with these bytes.
+fn merged_or_told<R: AllocGlobal + Clock, E: Write>(
+    rt: &R,
+    first: Vec<u8>,
+    others: Vec<Vec<u8>>,
+    options: &MergeOptions,
+    errors: &mut E,
+) -> Result<Option<Vec<u8>>, Failure> {
     match merged(rt, first, others, options, errors) {
         Ok(bytes) => Ok(Some(bytes)),
         Err(Unmerged::New(failure)) => Err(failure),
