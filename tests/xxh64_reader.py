@@ -1,5 +1,5 @@
 #!/usr/bin/env python3
-"""Looks up keys in a table of `Xxh64HashFn`, by docs/FORMAT.md and the module `xxhash` alone.
+"""Looks up keys in a table of `Xxh64HashFn`, by docs/FORMAT.md and the module `xxhash`.
 
   tests/xxh64_reader.py TABLE KEYS    KEYS has a line for each key, in hexadecimal digits
 

@@ -191,7 +191,7 @@
  *     Writes the table that this one grows into to out: with slots for twice as many
  *     items, and for one at least, and the same load factor. A caller whose insert was
  *     answered FULL continues so: it grows the table into larger memory and inserts
- *     there ("Grow on FULL"); for a valid table one growth is enough. Check bytes of strangers before: of
+ *     there ("Grow on FULL"); for a valid table one growth is enough. Check untrusted bytes before: of
  *     bytes that odht_S_check rejects *len follows the header's count, however large, and
  *     an insert into the grown table may be answered FULL again, each time. At the
  *     maximum the bytes are those that a table has which grows by itself. It does not

@@ -7,7 +7,7 @@
 
 use crate::proved::header::layout::Layout;
 
-/// Panics where a table of so many slots, of these lengths, does not have `len` bytes, of a store `M`. A store that owns
+/// Panics unless a table of `slots` slots and of these lengths has `len` bytes, in a store `M`. A store that owns
 /// them is not looked at: only the proved library writes to them. Nor is any with the feature `checked`, since each
 /// index is checked then.
 #[inline(always)]
@@ -19,16 +19,16 @@ pub(crate) fn check<M>(len: usize, slots: usize, layout: Layout) {
     }
 }
 
-/// Whether a table of so many slots, of these lengths, has `len` bytes.
+/// Whether a table of `slots` slots and of these lengths has `len` bytes.
 #[inline(always)]
 pub(crate) fn fits(len: usize, slots: usize, layout: Layout) -> bool {
-    // A slot has at most 511 bytes, so the length of so many slots does not wrap. No table has no slot.
+    // A slot has at most 511 bytes, so the length of `MOST` slots does not wrap. No table has no slot.
     const MOST: usize = 1 << 54;
     let slot_len = layout.entry_len() + 1;
     slots.wrapping_sub(1) < MOST && slots.wrapping_mul(slot_len).wrapping_add(48) == len
 }
 
-/// Tells the compiler what was seen before: that a table of so many slots, of these lengths, has `len` bytes. Where the
+/// Tells the compiler what was seen before: that a table of `slots` slots and of these lengths has `len` bytes. Where the
 /// slot count that `check` has is known to be this one, `check` then costs nothing. With the feature `checked` it does
 /// nothing.
 ///
