@@ -1,6 +1,6 @@
 #!/bin/sh
 # Each block of code in README, and in rust/examples/README.md, is a run of whole lines of a file that is compiled: in
-# README of Rattle of a test of odht_tests, of C of c/readme.c, and of Rust of the example of rust/README.md, which is a
+# README of Rattle of the view's source, of C of c/readme.c, and of Rust of the example of rust/README.md, which is a
 # test of its documentation; in the other page of the two files of the example `embedded`.
 set -eu
 cd "$(dirname "$0")/.."
@@ -28,7 +28,7 @@ quoted() {
   }' "$1"
 }
 
-quoted README.md 3 "rattle crates/odht_tests/src/tests/first_table.rt c examples/c/readme.c rust rust/README.md"
+quoted README.md 3 "rattle crates/odht/src/hash_table.rt c examples/c/readme.c rust rust/README.md"
 
 # "Grow on FULL" in odht.h is the function of c/grow.c, which is compiled and run
 in_header=$(sed -n '/^ \*     static uint32_t insert_and_grow/,/^ \*     }/s/^ \*     //p' include/odht.h)

@@ -10,28 +10,19 @@ import sys
 import textwrap
 
 TOP = os.path.dirname(os.path.dirname(os.path.realpath(__file__)))
-BEGIN, END = "<!-- Made by `make documents` of bench/RESULTS.md. -->\n", "<!-- The end of what is made. -->\n"
+BEGIN, END = "<!-- Generated from bench/RESULTS.md by `make documents`. -->\n", "<!-- End of the generated part. -->\n"
 WIDTH = 120
-SIZES = ["10^5", "10^6"]
-# the text of a row, and the line of the table of the calls for C
+SIZE = "10^5"
+# the text of a row, and where its ratio is: the heading of a table, and a line of it
 ROWS = [
-    ("`insert_all` into a table that is large enough", "presized, insert_all"),
-    ("a call of `insert` for each new key", "presized, insert from C"),
-    ("`get_all`, present keys, beside a `get` of each", "hits, get_all"),
-    ("walk", "walk"),
-    ("a call of `view_get` for each present key", "hits, view_get"),
-    ("a call of `get`, which looks at the header, for each present key", "hits, get from C"),
+    ("`insert` of a new key, from Rust", "## The crate for Rust", "insert"),
+    ("`get` of a present key, from Rust", "## The crate for Rust", "get, present"),
+    ("a walk, from Rust", "## The crate for Rust", "walk"),
+    ("`odht_*_insert` of a new key, from C", "# A run", "presized, insert from C"),
+    ("`odht_*_view_get` of a present key, from C", "# A run", "hits, view_get"),
+    ("`odht_*_get` of a present key, from C; it checks the header at each call", "# A run", "hits, get from C"),
 ]
-# the same of the table of the crate for Rust
-CRATE_SIZE = "10^5"
-CRATE_ROWS = [
-    ("`insert`", "insert"),
-    ("`insert_all`", "insert_all"),
-    ("`get` of a present key", "get, present"),
-    ("`get_all` beside a `get` of each", "get_all, present"),
-    ("walk", "walk"),
-]
-# those of them that rust/README.md tells
+# the rows of the crate for Rust that rust/README.md tells
 CRATE_TOLD = ["insert", "get, present", "walk"]
 
 
@@ -40,27 +31,18 @@ def read(file):
         return it.read()
 
 
-def cells(results, part, name, sizes):
-    """Returns the ratios of a line, of the first table with keys of 64 bits behind the heading `part`."""
+def ratios(results, part, name):
+    """Returns the ratios of a line, of the first table with keys of 64 bits after the heading `part`."""
     table = results[results.index(part) :]
     table = table[table.index("| 64-bit keys |") :].split("\n\n")[0].split("\n")
     columns = [it.strip() for it in table[0].split("|")]
     line = next(it for it in table if it.startswith(f"| {name} |")).split("|")
-    return [re.sub(r"<br>.*|\*", "", line[columns.index(size)]).strip() for size in sizes]
+    return re.sub(r"<br>.*|\*", "", line[columns.index(SIZE)]).strip().split(" / ")
 
 
 def made(results):
-    rows = [f"| {text} | " + " | ".join(cells(results, "# A run", name, SIZES)) + " |" for text, name in ROWS]
-    crate = []
-    for text, name in CRATE_ROWS:
-        plain, checked = cells(results, "## The crate for Rust", name, [CRATE_SIZE])[0].split(" / ")
-        crate.append(f"{text} {plain} and {checked}")
-    head = ["| | " + " | ".join(SIZES) + " |", "|---|" + "---|" * len(SIZES)]
-    told = (
-        f"**Our crate**, as it is and with the feature `checked`, at {CRATE_SIZE}: " + ", ".join(crate[:3]) + "; "
-        + ", ".join(crate[3:]) + ". By default the indexes of a search are not checked, since they are proved to be in bounds."
-    )
-    return "\n".join(head + rows) + "\n\n" + textwrap.fill(told, WIDTH) + "\n"
+    rows = [f"| {text} | {ratios(results, part, name)[0]} |" for text, part, name in ROWS]
+    return "\n".join(["| call | time over the original's |", "|---|---|", *rows]) + "\n"
 
 
 def of_readme(text, results):
@@ -69,11 +51,11 @@ def of_readme(text, results):
 
 
 def of_crate(text, results):
-    """Returns the text with the paragraph that begins so made anew; the sentence behind it stays."""
-    found = [cells(results, "## The crate for Rust", name, [CRATE_SIZE])[0].split(" / ") for name in CRATE_TOLD]
+    """Returns the text with the paragraph that begins so written again; the sentence after it stays."""
+    found = [ratios(results, "## The crate for Rust", name) for name in CRATE_TOLD]
     (insert, insert_checked), (get, get_checked), (walk, walk_checked) = found
     told = (
-        f"Beside the original, on tables of {CRATE_SIZE} numbers, `insert` takes {insert} of the time, and "
+        f"Beside the original, on tables of {SIZE} numbers, `insert` takes {insert} of the time, and "
         f"{insert_checked} with `checked`; `get` of a present key {get} and {get_checked}; a walk {walk} and {walk_checked}."
     )
     paragraph = re.search(r"Beside the original, on tables of .*?\n\n", text, re.S)[0]

@@ -1,4 +1,4 @@
-//! The example of README.
+//! A first table: two inserts of one key, and a view of its bytes.
 use crate::tests::checks::same;
 use odht::bytes::Borrowed;
 use odht::configs::U64ToU32;
