@@ -10,6 +10,7 @@ ghost use Rattle.odht_base.specs.Groups.{IsReport, first_free};
 
 mod free;
 mod index_set;
+mod lane_set;
 pub mod lanes;
 pub mod no_simd;
 

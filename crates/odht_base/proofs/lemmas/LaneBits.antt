@@ -34,6 +34,15 @@ equal_lanes g h l =
     ∙ bits_mask 64 0 (map (λ x. nat_eq x h) g) (omega (arith, length-map g (λ x. nat_eq x h)))
     ∙ sym (equal-positions g h)
 
+-- it has a bit for each of the sixteen
+pub equal_lanes_fit : (g : List ℕ) (h : ℕ) → length g ≡ 16 → mask_l (map (top 7) (zip2 (λ a b. cond (nat_eq a b) (2 ^ 8 - 1) 0) g (replicate 16 h))) % 2 ^ 64 < 2 ^ 16
+equal_lanes_fit g h l =
+    let mask = bitmask_splat w8 (λ a b. nat_eq a b) g 16 h l (omega arith) in
+    let below = mask_l-lt (map (λ x. nat_eq x h) g) in
+    let long : length (map (λ x. nat_eq x h) g) ≡ 16 = omega (arith, l, length-map g (λ x. nat_eq x h)) in
+    let power : 2 ^ length (map (λ x. nat_eq x h) g) ≡ 2 ^ 16 = ap (λ k. 2 ^ k) long in
+    omega (arith, mask, below, power)
+
 -- a lane's highest bit is its answer
 top_byte : (b : Bool) → top 7 (cond b 255 0) ≡ b
 top_byte true = refl

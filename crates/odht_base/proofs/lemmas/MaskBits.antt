@@ -79,6 +79,13 @@ without_lowest (suc n) l =
     let e : (suc n + 18446744073709551615) % 18446744073709551616 ≡ suc n - 1 = omega arith in
     rw e (rest_of 64 0 (suc n) (omega arith) l)
 
+-- so does a mask of sixteen bits
+pub without_lowest_lane : (n : ℕ) → n < 2 ^ 16 → set_bits (bit_and n ((n + 65535) % 65536)) ≡ drop 1 (set_bits n)
+without_lowest_lane zero l = rw (and_zero_l 65535, no_bits 64 0) refl
+without_lowest_lane (suc n) l =
+    let e : (suc n + 65535) % 65536 ≡ suc n - 1 = omega arith in
+    rw e (rest_of 64 0 (suc n) (omega arith) (omega arith))
+
 -- ---- a mask of lanes
 -- a mask of answers has the positions of the true ones
 pub bits_mask : (k i : ℕ) (bs : List Bool) → length bs ≤ k → bits_from k i (mask_l bs) ≡ positions_of i bs

@@ -5,6 +5,7 @@ ghost use Rattle.std.proofs.Common.{refl};
 ghost use Rattle.odht_base.specs.Groups.{IsReport, equal, first_free};
 
 use super::free::free_bits;
+use super::lane_set::LaneSet;
 use super::{Group, IndexSet};
 use std::marker::Model;
 use std::simd::prelude::*;
@@ -16,7 +17,7 @@ pub const GROUP_SIZE: usize = 16;
 /// tag.
 #[derive(Drop)]
 pub struct GroupQuery {
-    matches: IndexSet,
+    matches: LaneSet,
     free: IndexSet,
 }
 
@@ -77,7 +78,7 @@ impl Group for GroupQuery {
     {
         let lanes = u8x16::from_slice(bytes);
         GroupQuery {
-            matches: IndexSet::of_bits(lanes.simd_eq(u8x16::splat(h2)).to_bitmask()),
+            matches: LaneSet::of_bits(lanes.simd_eq(u8x16::splat(h2)).to_bitmask()),
             free: IndexSet::of_bits(free_bits(lanes)),
         }
     }

@@ -8,6 +8,7 @@
 
 mod free;
 mod index_set;
+mod lane_set;
 pub mod lanes;
 pub mod no_simd;
 

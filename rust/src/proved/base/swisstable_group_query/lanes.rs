@@ -2,6 +2,7 @@
 //! The search of sixteen control bytes at once, in the lanes of one vector.
 
 use super::free::free_bits;
+use super::lane_set::LaneSet;
 use super::{Group, IndexSet};
 use crate::shim::u8x16;
 
@@ -11,7 +12,7 @@ pub const GROUP_SIZE: usize = 16;
 /// A search of sixteen control bytes. It iterates over its matches: exactly the indices of the
 /// tag.
 pub struct GroupQuery {
-    matches: IndexSet,
+    matches: LaneSet,
     free: IndexSet,
 }
 
@@ -43,7 +44,7 @@ impl Group for GroupQuery {
     fn of(bytes: &[u8], h2: u8) -> GroupQuery {
         let lanes = u8x16::from_slice(bytes);
         GroupQuery {
-            matches: IndexSet::of_bits(lanes.simd_eq(u8x16::splat(h2)).to_bitmask()),
+            matches: LaneSet::of_bits(lanes.simd_eq(u8x16::splat(h2)).to_bitmask()),
             free: IndexSet::of_bits(free_bits(lanes)),
         }
     }

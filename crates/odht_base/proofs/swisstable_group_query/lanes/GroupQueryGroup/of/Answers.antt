@@ -3,7 +3,7 @@ use Rattle.std.proofs.Math.Seq.{take-length}
 use Rattle.std.specs.Prelude.{slice_get}
 use Rattle.odht_base.specs.Groups.{equal, first_free}
 use Rattle.odht_base.specs.Masks.{set_bits}
-use Rattle.odht_base.proofs.lemmas.LaneBits.{equal_lanes, first_set}
+use Rattle.odht_base.proofs.lemmas.LaneBits.{equal_lanes, equal_lanes_fit, first_set}
 use Rattle.odht_base.proofs.lemmas.MarkedPositions.{report_from_equal}
 use Rattle.odht_base.proofs.swisstable_group_query.lanes.GroupQueryGroup.of.Goals.{After-of_bits-2}
 use Rattle.odht_base.proofs.swisstable_group_query.lanes.GroupQueryGroup.of.Goals as goal
@@ -11,6 +11,10 @@ use Rattle.odht_base.proofs.swisstable_group_query.lanes.GroupQueryGroup.of.Goal
 -- the lanes are all sixteen bytes
 whole : (b : List ℕ) → length b ≡ 16 → take 16 b ≡ b
 whole b long = ap (λ n. take n b) (sym long) ∙ take-length b
+
+-- sixteen lanes give sixteen bits
+pub of_bits-requires : goal.of_bits-requires
+of_bits-requires c = equal_lanes_fit (take 16 c.args.bytes.now) c.args.h2 (ap length (whole c.args.bytes.now c.requires.size) ∙ c.requires.size)
 
 -- the first set is that of the lanes that equal the tag
 matches : (c : After-of_bits-2) → c.of_bits.result ≡ equal c.args.bytes.now c.args.h2

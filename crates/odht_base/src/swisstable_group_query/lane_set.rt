@@ -1,0 +1,63 @@
+//! Sets of indices of the sixteen lanes of a vector, as the bits of a short word.
+ghost use Rattle.std.specs.Prelude.{◌≡◌, ◌<◌, ◌^◌, drop, slice_get};
+ghost use Rattle.odht_base.specs.Masks.{set_bits};
+
+use super::IndexSet;
+use std::marker::Model;
+
+/// A set of indices below sixteen, to be taken in turn from the least on.
+///
+/// In a contract it is the list of the indices that are left, rising.
+// A mask of sixteen lanes is sixteen bits in a register. In a word of 64 bits the compiler cuts it
+// to sixteen once more, with each group that has a match.
+#[derive(Drop)]
+pub(super) struct LaneSet {
+    bits: u16,
+}
+
+impl Model for LaneSet {
+    ghost use Rattle.std.specs.Prelude.{ℕ, List};
+    ghost use Rattle.odht_base.specs.Masks.{set_bits};
+
+    ghost Value = { List ℕ };
+
+    ghost view = { λ s. set_bits s.bits };
+}
+
+impl LaneSet {
+    /// The indices of the bits that are set, from the lowest on. There are sixteen bits.
+    #[inline(always)]
+    pub(super) fn of_bits(bits: u64) -> LaneSet
+        requires { bits < 2 ^ 16 }
+        ensures { result ≡ set_bits bits }
+    {
+        LaneSet { bits: bits as u16 }
+    }
+
+    /// The least index that is left; None where none is.
+    #[inline(always)]
+    pub(super) fn first(&self) -> Option<usize>
+        ensures { result ≡ slice_get self.now 0 }
+    {
+        IndexSet::of_bits(self.bits as u64).first()
+    }
+
+    /// Drops the least index that is left, if there is one.
+    #[inline(always)]
+    pub(super) fn drop_first(&mut self)
+        ensures { self.new ≡ drop 1 self.old }
+    {
+        self.bits &= self.bits.wrapping_sub(1);
+    }
+
+    /// Takes the least index that is left: returns and drops it; None once all were taken.
+    #[inline(always)]
+    pub(super) fn take(&mut self) -> Option<usize>
+        ensures next { result ≡ slice_get self.old 0 }
+        ensures rest { self.new ≡ drop 1 self.old }
+    {
+        let index = self.first()?;
+        self.drop_first();
+        Some(index)
+    }
+}
