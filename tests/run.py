@@ -13,7 +13,8 @@
     bench      the figures of bench/run                     manual     the manual page, and what completes words
     word       all vectors and the tests in Rattle once more, with the word search compiled in
 
-What a part needs is built first, by tools/unproved.py, into build/unproved/; what is current there is kept. For `word`
+What a part needs is built first, by tools/unproved.py, into build/unproved/; what is current there is kept. The kit's
+front end runs once for all programs (tools/programs_together.py), and once for both crates of tests. For `word`
 that is done of a copy of the sources, in a folder for temporary files: the gate takes no second crates.txt in here.
 
 What a part prints is in build/logs/PART.log too. A part that hangs, for 600 seconds or those that TEST_SECONDS gives
@@ -36,6 +37,7 @@ BUILT = f"{TOP}/build/unproved"
 LOGS = f"{TOP}/build/logs"
 sys.path.insert(0, f"{TOP}/tools")
 import kit
+import programs_together
 import rust
 import unproved
 import watched
@@ -44,8 +46,9 @@ import word_search
 # the names of this folder are built of a copy of the sources, with the word search
 WORD = f"{BUILT}/word"
 PRINTING = threading.Lock()
-# the crates of tests
-IN_RATTLE = ["odht_tests", "odht_interface"]
+IN_RATTLE = unproved.TESTS
+# the programs that are lowered once for all of them
+PROGRAMS = ["odht_tool", "odht_vectors", "odht_memory", "odht_table"]
 # of processor time, for one test in Rattle: what works without end is ended by it, and what sleeps by tools/watched.py
 TEST_IN_RATTLE = 600
 # the limit by the clock that `rattle-test` has: a year, since a machine may be busy
@@ -135,8 +138,7 @@ def vectors(part, built=BUILT):
 
 def tests_in_rattle(part, built=BUILT):
     words = [f"{unproved.KIT}/bin/rattle-test", "--seconds", str(NEVER)]
-    ran = [part.run(*limited(TEST_IN_RATTLE, *words, f"{built}/{name}")) for name in IN_RATTLE]
-    return counted(max(status for status, _ in ran), "".join(printed for _, printed in ran))
+    return part.counted(*limited(TEST_IN_RATTLE, *words, f"{built}/{IN_RATTLE}"))
 
 
 def with_word_search(part):
@@ -188,9 +190,9 @@ PARTS = {
     "calls": (["libodht.a"], lambda part: part.counted("sh", "tests/c/run.sh", f"{BUILT}/libodht.a")),
     "rust": (["libodht.a"] if unproved.KIT else [], crate_for_rust),
     "ffi": (["libodht.a"], package_over_the_archive),
-    "rattle": (IN_RATTLE, tests_in_rattle),
+    "rattle": ([IN_RATTLE], tests_in_rattle),
     "vectors": (["odht_vectors"], vectors),
-    "word": ([f"word/{it}" for it in [*IN_RATTLE, "odht_vectors"]], with_word_search),
+    "word": ([f"word/{it}" for it in (IN_RATTLE, "odht_vectors")], with_word_search),
     "memory": (["odht_memory", "odht_table", "odht_tool"], script("tests/memory.py", BUILT)),
     "tool": (["odht_tool"], program_of_the_kit),
     "cli": (["odht_tool"] if unproved.KIT else [], program_of_erased_source),
@@ -205,25 +207,27 @@ PARTS = {
 }
 
 
-def build(name):
+def build(name, together):
     """Builds what a part needs. Returns whether it was built anew."""
+    if name in PROGRAMS:
+        return together.build(name)
     if not name.startswith("word/"):
         return unproved.build(BUILT, name)
     crate = name.removeprefix("word/")
     to = f"{BUILT}/{name}"
     before = os.stat(to).st_mtime_ns if os.path.exists(to) else 0
     with tempfile.TemporaryDirectory(prefix="odht-word-") as copy:
-        word_search.copy_sources(copy, [crate, *unproved.crates()[crate]])
+        word_search.copy_sources(copy, unproved.all_crates_of(crate))
         unproved.call(sys.executable, f"{copy}/tools/unproved.py", WORD, crate)
     return before != os.stat(to).st_mtime_ns
 
 
-def built(name):
+def built(name, together):
     """Builds what a part needs. Returns whether it is there."""
     say(f"build {name}: begins")
     began, before = time.monotonic(), watched.processor_time()
     try:
-        is_new = build(name)
+        is_new = build(name, together)
     except unproved.BuildError as error:
         Part(f"build-{name}").note(f"{error}\n")
         say(f"build {name}: FAILED\n{error}")
@@ -268,8 +272,11 @@ def run_parts(parts):
     """Builds what the parts need, and runs each as soon as that is there. Returns what `ended` does, of each."""
     needed = dict.fromkeys(name for needs, _ in parts.values() for name in needs)
     lanes = len(os.sched_getaffinity(0))
+    together = programs_together.Together(BUILT, [it for it in PROGRAMS if it in needed])
+    # one of the programs has all of them lowered, and the others wait for it
+    lanes += max(len(together.names) - 1, 0)
     with ThreadPoolExecutor(lanes) as builders, ThreadPoolExecutor(len(parts)) as runners:
-        ready = {it: builders.submit(built, it) for it in needed}
+        ready = {it: builders.submit(built, it, together) for it in needed}
         running = [
             runners.submit(ended, part, {it: ready[it] for it in needs}, call) for part, (needs, call) in parts.items()
         ]

@@ -159,17 +159,30 @@ def is_told(room, fault):
         raise Failed(f"planted, and not told: {fault}")
 
 
-# tests that work for so long that to optimize them takes less time than it saves. Overflows still panic in them, and
-# assertions are made
-SLOW = ["dynamic", "dynamic_writes", "orders"]
+# The programs of tests that rust/Cargo.toml lists. The tests of `long` work for so long that to optimize them takes less
+# time than it saves. Overflows still panic in it, and assertions are checked.
+QUICK, LONG = ["all", "memory", "places_of_panics"], ["long"]
+# those whose tests are modules
+OF_MODULES = ["all", "long", "no_simd", "no_std"]
 
 
 def tests_of_crate(*features):
     """Runs the tests in rust/tests and rust/src/tests with these features."""
-    names = sorted(it.removesuffix(".rs") for it in os.listdir(f"{TOP}/rust/tests") if it.endswith(".rs"))
-    quick, slow = ([it for it in names if (it in SLOW) == is_slow] for is_slow in (False, True))
-    passed = cargo("rust", "test", "--lib", *named(quick), *features)
-    return passed + cargo("rust", "test", *named(slow), *features, CARGO_PROFILE_TEST_OPT_LEVEL="1")
+    each_file_is_run()
+    passed = cargo("rust", "test", "--lib", *named(QUICK), *features)
+    return passed + cargo("rust", "test", *named(LONG), *features, CARGO_PROFILE_TEST_OPT_LEVEL="1")
+
+
+def each_file_is_run():
+    """Sees that each file of rust/tests is one program that `crate` runs, or a module of one."""
+    names = {it.removesuffix(".rs") for it in os.listdir(f"{TOP}/rust/tests") if it.endswith(".rs")}
+    found = [it for it in QUICK if it not in OF_MODULES]
+    for program in ("all", "long"):
+        with open(f"{TOP}/rust/tests/{program}.rs", encoding="utf-8") as it:
+            found += re.findall(r"^mod (\w+);$", it.read(), re.M)
+    found = [it for it in found if it != "common"]
+    if sorted(found) != sorted(names - set(OF_MODULES)):
+        raise Failed(f"rust/tests has {sorted(names)}, and its programs have {sorted(found)}")
 
 
 def named(tests):
@@ -189,7 +202,7 @@ def examples():
     return tests_passed(run(["rustdoc", *words], f"{TOP}/rust"))
 
 
-NO_SIMD = ["--lib", "--test", "vectors", "--test", "properties"]
+NO_SIMD = ["--lib", *named(["no_simd"])]
 
 
 def user(folder, *words):
@@ -226,7 +239,7 @@ def without_std():
     for target in targets_without_std():
         cargo("rust/without_std", "build", "--lib", "--target", target, **files)
         done += 1
-    return done + cargo("rust", "test", *NO_STD, *named(["worked_bytes", "interface", "question_mark"]))
+    return done + cargo("rust", "test", *NO_STD, *named(["no_std"]))
 
 
 def lints():

@@ -31,7 +31,8 @@ def copy_sources(folder, crates):
     for crate in crates:
         shutil.copytree(f"{TOP}/crates/{crate}/src", f"{folder}/crates/{crate}/src")
     os.makedirs(f"{folder}/tools")
-    for file in ("crates.txt", *(f"tools/{it}" for it in ("unproved.py", "kit.py", "watched.py", "requests.c"))):
+    tools = "unproved.py", "programs_together.py", "kit.py", "watched.py", "requests.c"
+    for file in ("crates.txt", *(f"tools/{it}" for it in tools)):
         shutil.copy(f"{TOP}/{file}", f"{folder}/{file}")
     name_word_search(folder)
 

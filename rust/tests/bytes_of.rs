@@ -3,10 +3,8 @@
 //!
 //! For the mapped file a type stands that has the traits of memmap2's. Another type gives other bytes each time.
 
-mod common;
-
-use common::outcomes::outcome;
-use common::worked::three_pairs;
+use crate::common::outcomes::outcome;
+use crate::common::worked::three_pairs;
 use odht::configs::U64ToU32;
 use odht::dynamic::DynTable;
 use odht::{bytes_needed, BytesOf, Error, FxHashFn, HashTable};

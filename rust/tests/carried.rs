@@ -1,10 +1,8 @@
 //! The cases of the original's tests that public calls can say. Those of its group searches, probe sequences and raw
 //! tables are in src/tests.
 
-mod common;
-
-use common::configs::{Plain, U32U32};
-use common::random::Random;
+use crate::common::configs::{Plain, U32U32};
+use crate::common::random::Random;
 use odht::{bytes_needed, HashTable, HashTableOwned};
 use std::collections::HashMap;
 

@@ -1,10 +1,8 @@
 //! Keys and values of each length from 0 to 70 bytes that are equal, or differ in one bit of one byte. All keys have the
 //! same hash, so each search compares bytes.
 
-mod common;
-
-use common::configs::Plain;
-use common::random::Random;
+use crate::common::configs::Plain;
+use crate::common::random::Random;
 use odht::{HashFn, HashTableOwned};
 
 /// A hash that is the same for all keys.

@@ -2,15 +2,13 @@
 //! values, beside a second reading; what is rejected; and a store that gives other bytes. That their calls return what
 //! those of a configuration do, on any bytes, is seen where those are tested (`common/frame.rs`, `vectors.rs`).
 
-mod common;
-
-use common::dynamic::{compare, orders_are_found, some_bytes};
-use common::frame::Named;
-use common::orders::exchanged;
-use common::outcomes::outcome;
-use common::random::Random;
-use common::reading::{Format, Hash, Reading};
-use common::writing::Writing;
+use crate::common::dynamic::{compare, orders_are_found, some_bytes};
+use crate::common::frame::Named;
+use crate::common::orders::exchanged;
+use crate::common::outcomes::outcome;
+use crate::common::random::Random;
+use crate::common::reading::{Format, Hash, Reading};
+use crate::common::writing::Writing;
 use odht::configs::U64ToU32;
 use odht::dynamic::{DynError, DynTable, Layout};
 use odht::{Error, FxHashFn, HashFn, HashTableOwned, Part, UnHashFn};

@@ -1,13 +1,11 @@
 //! Tables whose lengths of keys and values are known at run time alone, as they are written: one of each length of keys and
 //! of values, beside a second writing; what is rejected; and one of a configuration, beside it.
 
-mod common;
-
-use common::dynamic::{compare, some_bytes};
-use common::frame::Named;
-use common::random::Random;
-use common::reading::Format;
-use common::writing::Writing;
+use crate::common::dynamic::{compare, some_bytes};
+use crate::common::frame::Named;
+use crate::common::random::Random;
+use crate::common::reading::Format;
+use crate::common::writing::Writing;
 use odht::configs::U64ToU32;
 use odht::dynamic::{DynError, DynTable, Layout};
 use odht::{bytes_needed, Error, FxHashFn, HashFn, HashTable, UnHashFn};

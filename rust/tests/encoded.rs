@@ -1,14 +1,12 @@
 //! Lookups and inserts by keys that are encoded already: beside those by keys, and beside a second writing, slot by
 //! slot, that shares no code with the crate.
 
-mod common;
-
-use common::configs::Plain;
-use common::frame::{format, Named};
-use common::outcomes::outcome;
-use common::random::Random;
-use common::worked::three_pairs;
-use common::writing::Writing;
+use crate::common::configs::Plain;
+use crate::common::frame::{format, Named};
+use crate::common::outcomes::outcome;
+use crate::common::random::Random;
+use crate::common::worked::three_pairs;
+use crate::common::writing::Writing;
 use odht::configs::U64ToU32;
 use odht::{bytes_needed, Config, Error, FxHashFn, HashFn, HashTable, HashTableOwned, UnHashFn};
 use std::cell::Cell;

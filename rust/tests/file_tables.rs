@@ -3,11 +3,9 @@
 //! they answer what tables in memory do, on any bytes, is seen where those are tested (`common/frame.rs`,
 //! `vectors.rs`).
 
-mod common;
-
-use common::random::Random;
-use common::reading::{Format, Hash};
-use common::writing::Writing;
+use crate::common::random::Random;
+use crate::common::reading::{Format, Hash};
+use crate::common::writing::Writing;
 use odht::dynamic::{DynError, FileError, FileTable, Layout, ReadAt, ReadError};
 use odht::{Error, FxHashFn, UnHashFn};
 use std::cell::Cell;

@@ -1,13 +1,11 @@
 //! Bytes that are not, or may not be, those of a table. Opening, the whole check and the owned table say of them what a
 //! second reading says; each call on what is opened returns, and stays in the frame of docs/FORMAT.md.
 
-mod common;
-
-use common::frame::{calls_stay_in_frame, format, Named};
-use common::random::Random;
-use common::reading::Reading;
-use common::worked::{changed, header, three_pairs};
-use common::writing::Writing;
+use crate::common::frame::{calls_stay_in_frame, format, Named};
+use crate::common::random::Random;
+use crate::common::reading::Reading;
+use crate::common::worked::{changed, header, three_pairs};
+use crate::common::writing::Writing;
 use odht::{FxHashFn, UnHashFn};
 use std::collections::BTreeMap;
 

@@ -1,10 +1,8 @@
 //! What a user of the crate sees beside answers and bytes: the panics that are stated, traits of the types, what may
 //! hold the bytes, and errors.
 
-mod common;
-
-use common::outcomes::outcome;
-use common::worked::{changed, three_pairs};
+use crate::common::outcomes::outcome;
+use crate::common::worked::{changed, three_pairs};
 use odht::configs::{DirectU32ToU32, U64ToU32};
 use odht::dynamic::{DynTable, Layout};
 use odht::{bytes_needed, try_bytes_needed, Config, Error, FxHashFn, HashFn};

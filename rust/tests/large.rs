@@ -1,8 +1,6 @@
 //! Tables of 2^20 slots, from which on a list of inserts looks at eight keys ahead.
 
-mod common;
-
-use common::random::Random;
+use crate::common::random::Random;
 use odht::configs::U64ToU32;
 use odht::{bytes_needed, Error, HashTable, HashTableOwned};
 use std::collections::HashMap;

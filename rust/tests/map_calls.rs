@@ -4,11 +4,9 @@
 //! A table of 12 bytes an entry and `s` slots has 32 + 13 * s + 16 bytes. Of 16 slots 87 percent are 13, of 32 they are
 //! 27, of 64 they are 55.
 
-mod common;
-
-use common::reading::{Format, Hash};
-use common::worked::{changed, three_pairs};
-use common::writing::{factor_of, Writing};
+use crate::common::reading::{Format, Hash};
+use crate::common::worked::{changed, three_pairs};
+use crate::common::writing::{factor_of, Writing};
 use odht::configs::U64ToU32;
 use odht::{bytes_needed, Error, HashTable, HashTableOwned};
 use std::collections::{BTreeSet, HashMap};

@@ -2,9 +2,7 @@
 //! same. The numbers of slots are worked out by hand: of 16 slots 87 percent are 16 * 57015 / 65536 = 13.9, of 32 they
 //! are 27.8, of 64 they are 55.7; a table of 12 bytes an entry and s slots has 32 + 13 * s + 16 bytes.
 
-mod common;
-
-use common::worked::{changed, three_pairs};
+use crate::common::worked::{changed, three_pairs};
 use odht::configs::{DirectU32ToU32, U64ToU32};
 use odht::{Error, HashTable, HashTableOwned};
 use std::collections::HashMap;

@@ -2,9 +2,7 @@
 //! table for its pairs or its bytes. The pairs of `three_pairs` are (1, 2) in slot 5, (5, 6) in slot 9 and (3, 4) in
 //! slot 15, as docs/FORMAT.md works them out.
 
-mod common;
-
-use common::worked::{changed, three_pairs};
+use crate::common::worked::{changed, three_pairs};
 use odht::configs::{DirectU32ToU32, U64Set, U64ToU32};
 use odht::{Config, FxHashFn, HashTable, HashTableOwned, Iter};
 use std::collections::{BTreeMap, HashMap};

@@ -1,7 +1,7 @@
 //! The example `names`: its hashes spread, so that searches for names as programs have them are short; and its
 //! dictionary counts words as a map does.
 
-#[allow(dead_code)]
+#[allow(dead_code, clippy::module_inception)]
 #[path = "../examples/names.rs"]
 mod names;
 

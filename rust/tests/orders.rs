@@ -2,11 +2,9 @@
 //! written first (`common/orders.rs`). The search in linear time, and both in a table whose lengths are numbers, find
 //! the same order.
 
-mod common;
-
-use common::orders::{exchanged, first_order};
-use common::random::Random;
-use common::reading::{Format, Hash, Reading};
+use crate::common::orders::{exchanged, first_order};
+use crate::common::random::Random;
+use crate::common::reading::{Format, Hash, Reading};
 use odht::configs::{DirectU32ToU32, U64ToU32};
 use odht::dynamic::DynTable;
 use odht::{FxHashFn, HashTableOwned};

@@ -1,11 +1,9 @@
 //! Tables at the front of longer bytes, and at any offset in them.
 
-mod common;
-
-use common::frame::{format, fronts_are_read};
-use common::random::Random;
-use common::reading::Reading;
-use common::worked::{changed, header, three_pairs};
+use crate::common::frame::{format, fronts_are_read};
+use crate::common::random::Random;
+use crate::common::reading::Reading;
+use crate::common::worked::{changed, header, three_pairs};
 use odht::configs::U64ToU32;
 use odht::{table_len, Error, FxHashFn, HashTable, HashTableOwned};
 

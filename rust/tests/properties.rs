@@ -1,11 +1,9 @@
 //! Properties of random lists, beside a map of the standard library and beside a second writing of the bytes.
 
-mod common;
-
-use common::configs::Plain;
-use common::random::Random;
-use common::reading::{Format, Hash};
-use common::writing::Writing;
+use crate::common::configs::Plain;
+use crate::common::random::Random;
+use crate::common::reading::{Format, Hash};
+use crate::common::writing::Writing;
 use odht::{bytes_needed, FxHashFn, HashFn, HashTable, HashTableOwned, UnHashFn};
 use std::collections::HashMap;
 

@@ -1,9 +1,7 @@
 //! What `?` makes of an error: in functions whose errors go to other threads, or are of a type of their own, as those
 //! of crates for errors are.
 
-mod common;
-
-use common::worked::three_pairs;
+use crate::common::worked::three_pairs;
 use odht::configs::U64ToU32;
 use odht::{
     bytes_needed, check_all, table_len, try_bytes_needed, Error, HashTable, HashTableOwned,

@@ -1,12 +1,10 @@
 //! Each ready configuration: tables beside the standard library's map and beside the second writing of the tests, whose
 //! bytes are the same; and what opens and is read where one byte after the other is changed, by the second reading.
 
-mod common;
-
-use common::frame::{format, Named};
-use common::random::Random;
-use common::reading::{Format, Reading};
-use common::writing::Writing;
+use crate::common::frame::{format, Named};
+use crate::common::random::Random;
+use crate::common::reading::{Format, Reading};
+use crate::common::writing::Writing;
 use odht::dynamic::DynTable;
 use odht::{check_all, check_all_within, Config, HashTable, HashTableOwned};
 use std::collections::HashMap;

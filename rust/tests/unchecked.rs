@@ -1,13 +1,11 @@
 //! Bytes that are opened without a check, and are not those of a table: opening panics where their length is not that
 //! of their slot count; else each call returns or panics, and is no danger to memory.
 
-mod common;
-
-use common::configs::Plain;
-use common::frame::{format, Named};
-use common::outcomes::outcome;
-use common::random::Random;
-use common::writing::Writing;
+use crate::common::configs::Plain;
+use crate::common::frame::{format, Named};
+use crate::common::outcomes::outcome;
+use crate::common::random::Random;
+use crate::common::writing::Writing;
 use odht::{FxHashFn, HashTable, HashTableOwned, UnHashFn};
 
 // Random bytes, or a table with its slot count, its length and other bytes changed. The item count stays small, so

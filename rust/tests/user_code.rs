@@ -2,10 +2,8 @@
 //! panic. No call panics of itself, runs for ever or leaves the bytes of the table; in debug builds an index out of bounds
 //! would be a panic. What lookups answer is not asked.
 
-mod common;
-
-use common::outcomes::outcome;
-use common::random::Random;
+use crate::common::outcomes::outcome;
+use crate::common::random::Random;
 use odht::dynamic::DynTable;
 use odht::{Config, HashFn, HashTable, HashTableOwned, UnHashFn};
 use std::cell::RefCell;

@@ -1,11 +1,10 @@
 //! The conformance vectors of those calls that this crate has publicly. The others, of group searches, probe orders and
 //! the parts of tables, are run inside the crate, by src/tests/vectors.rs.
 
-mod common;
 #[path = "../src/tests/vector_files.rs"]
 mod vector_files;
 
-use common::configs::Plain;
+use crate::common::configs::Plain;
 use odht::dynamic::{DynTable, FileTable, Layout};
 use odht::{
     check_all_within, try_bytes_needed, Error, FxHashFn, HashFn, HashTable, HashTableOwned,

@@ -1,9 +1,7 @@
 //! Bytes, answers and errors that docs/FORMAT.md works out by hand.
 
-mod common;
-
-use common::configs::{Direct, Plain, U32U32, U64U32};
-use common::worked::{changed, header, three_pairs};
+use crate::common::configs::{Direct, Plain, U32U32, U64U32};
+use crate::common::worked::{changed, header, three_pairs};
 use odht::{bytes_needed, Config, HashTable, HashTableOwned};
 
 type View<'b> = HashTable<U64U32, &'b [u8]>;

@@ -1,10 +1,8 @@
 //! Tables by XXH64: keys that other hash functions do not spread have searches as short as those of random keys.
 
-mod common;
-
-use common::families::families;
-use common::random::Random;
-use common::searches::{bounds, measured};
+use crate::common::families::families;
+use crate::common::random::Random;
+use crate::common::searches::{bounds, measured};
 use odht::{HashFn, HashTableOwned, Xxh64HashFn};
 use std::path::Path;
 use std::process::Command;

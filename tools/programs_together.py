@@ -1,0 +1,137 @@
+"""Builds several programs of crates/ with one run of the kit's front end.
+
+The front end spends most of its time on the libraries that all programs share. So each program is copied as a library,
+and one small program calls all of them. Each program gets from that module only the functions and constants that its
+own `main` reaches. Then it is compiled and linked as tools/unproved.py does.
+"""
+import os
+import re
+import shutil
+import tempfile
+import threading
+
+import unproved
+
+ROOT = "odht_programs"
+HEAD = """//! Calls each program, so that each is lowered.
+#![tactic(auto)]
+
+use std::process::{ExitCode, Termination};
+
+fn main(rt: HostRuntime) -> ExitCode {
+"""
+ONE = """
+pub fn %s(rt: HostRuntime) -> ExitCode {
+    %s::main(rt).report(&rt)
+}
+"""
+MAIN = "fn main(rt: HostRuntime)"
+# a name in a module: of a function or of a constant
+NAME = re.compile(r'@(?:"[^"]+"|[\w.$-]+)')
+CONSTANT = re.compile(r'^(@[\w.$-]+|@"[^"]+") = [^\n]*\n', re.M)
+
+
+def as_library(name, room):
+    """Copies a program, with its `main` made public, and returns the words that pass it as a library."""
+    folder = f"{room}/{name}/src"
+    shutil.copytree(f"{unproved.TOP}/crates/{name}/src", folder)
+    with open(f"{folder}/main.rt", encoding="utf-8") as it:
+        text = it.read()
+    if text.count(f"\n{MAIN}") != 1:
+        raise unproved.BuildError(f"{name}: main.rt does not have one `{MAIN}`")
+    os.remove(f"{folder}/main.rt")
+    with open(f"{folder}/lib.rt", "w", encoding="utf-8") as it:
+        it.write(text.replace(f"\n{MAIN}", f"\npub {MAIN}"))
+    uses = ",".join(["core", "std", *unproved.crates()[name]])
+    return ["--lib", f"{name}:{uses}={folder}/lib.rt"]
+
+
+def library_words(names, room):
+    """Returns the words that pass the programs and all below them, each after what uses it."""
+    words = [word for name in names for word in as_library(name, room)]
+    below = [it for name in names for it in unproved.crates()[name]]
+    # crates.txt has the lowest first
+    highest_first = [it for it in reversed(list(unproved.crates())) if it in below]
+    return words + unproved.words_of(highest_first)
+
+
+def entry(name):
+    return f"run_{name}"
+
+
+def lowered(names, room):
+    """Returns the text of one module that has all of the programs."""
+    root = f"{room}/{ROOT}/src/main.rt"
+    os.makedirs(os.path.dirname(root))
+    calls = "".join(f"    let _ = {entry(it)}(rt);\n" for it in names)
+    with open(root, "w", encoding="utf-8") as it:
+        it.write(f"{HEAD}{calls}    ExitCode::SUCCESS\n}}\n{''.join(ONE % (entry(it), it) for it in names)}")
+    os.mkdir(f"{room}/front")
+    module = unproved.lowered(ROOT, root, [], f"{room}/front", library_words(names, room))
+    text = f"{room}/module.ll"
+    unproved.call(unproved.CLANG, "-Wno-override-module", "-x", "ir", module, "-S", "-emit-llvm", "-O0", "-o", text)
+    with open(text, encoding="utf-8") as it:
+        return it.read()
+
+
+class Module:
+    """A module that has several programs, in parts: its functions and constants by their names, and the rest."""
+
+    def __init__(self, text):
+        self.parts, rest, at = {}, [], 0
+        while (begin := text.find("\ndefine ", at) + 1) > 0:
+            end = text.index("\n}\n", begin) + 3
+            self.parts[NAME.search(text, begin)[0]] = text[begin:end]
+            rest.append(text[at:begin])
+            at = end
+        rest = "".join([*rest, text[at:]])
+        self.parts.update({it[1]: it[0] for it in CONSTANT.finditer(rest)})
+        # what is declared, the attributes and the data of the module
+        self.rest = CONSTANT.sub("", rest)
+
+    def of(self, name):
+        """Returns the module of one program: its function is called in place of `main`, with what that reaches."""
+        start, all_of_them = f'@"{ROOT}::main+run"', f'@"{ROOT}::main"('
+        if self.parts[start].count(all_of_them) != 1:
+            raise unproved.BuildError(f"{name}: the module does not call its main once")
+        own = {start: self.parts[start].replace(all_of_them, f'@"{ROOT}::{entry(name)}"(')}
+        found, waiting = {}, ["@main"]
+        while waiting:
+            it = waiting.pop()
+            if it not in found and it in self.parts:
+                found[it] = own.get(it, self.parts[it])
+                waiting += set(NAME.findall(found[it]))
+        return "".join([self.rest, *found.values()])
+
+
+class Together:
+    """Programs that are lowered once, when the first of them is built. The other builds wait for that."""
+
+    def __init__(self, folder, names):
+        self.folder, self.names = folder, [it for it in names if not unproved.is_current(folder, it)]
+        self.lock, self.module, self.failure = threading.Lock(), None, None
+
+    def lower(self):
+        """Lowers all that are not current, where more than one is not. Where that fails, it fails for each of them."""
+        with self.lock, tempfile.TemporaryDirectory(prefix="together-") as room:
+            if self.failure:
+                raise self.failure
+            if self.module is None and len(self.names) > 1:
+                try:
+                    self.module = Module(lowered(self.names, room))
+                except unproved.BuildError as failure:
+                    self.failure = failure
+                    raise
+
+    def build(self, name):
+        """Builds one of the programs. Returns whether it was built."""
+        self.lower()
+        if self.module is None or name not in self.names:
+            return unproved.build(self.folder, name)
+
+        def module(room):
+            with open(f"{room}/module.ll", "w", encoding="utf-8") as it:
+                it.write(self.module.of(name))
+            return f"{room}/module.ll"
+
+        return unproved.build(self.folder, name, module)
