@@ -107,5 +107,8 @@ pub(super) fn home_of<S: TableSlots>(table: &S, slot: usize) -> usize
     ensures { let T = S.parts table.now in let F = S.format table.now
         in result ≡ F.hash (slot_key F T.entries.bytes slot) % T.entries.slots }
 {
-    table.hash_of(slot) as usize & (table.slots() - 1)
+    // The slot may come from a list of the caller's. It is masked, so that it is a slot of the table
+    // even where another process changed the control bytes since the list was begun.
+    let mask = table.slots() - 1;
+    table.hash_of(slot & mask) as usize & mask
 }

@@ -68,5 +68,8 @@ fn hash_by_len<H: HashFn>(key: &[u8]) -> u32 {
 /// The home of the key in a slot.
 #[inline(always)]
 pub(super) fn home_of<S: TableSlots>(table: &S, slot: usize) -> usize {
-    table.hash_of(slot) as usize & (table.slots() - 1)
+    // The slot may come from a list of the caller's. It is masked, so that it is a slot of the table
+    // even where another process changed the control bytes since the list was begun.
+    let mask = table.slots() - 1;
+    table.hash_of(slot & mask) as usize & mask
 }
