@@ -18,6 +18,10 @@ pub enum Failure {
     Write(io::Error),
     /// The file is not replaced, for this reason.
     Obstacle(Obstacle),
+    /// The file is not replaced, since it is no table.
+    NoTable,
+    /// The file is replaced, and the system could not store its name.
+    Folder(io::Error),
     /// There is a file of the name that the new one has until it is stored.
     Beside(String),
     /// The bytes are no table, or not one of this shape.
@@ -73,6 +77,14 @@ impl fmt::Display for Failure {
             Failure::Read(error) => write!(f, "cannot be read: {error}"),
             Failure::Write(error) => write!(f, "cannot be written: {error}"),
             Failure::Obstacle(obstacle) => write!(f, "cannot be written: {obstacle}"),
+            Failure::NoTable => write!(
+                f,
+                "cannot be written: it is not an odht table, and would be lost; --force replaces it"
+            ),
+            Failure::Folder(error) => write!(
+                f,
+                "is replaced, but a power cut may undo that, as its folder cannot be stored: {error}"
+            ),
             Failure::Beside(name) => write!(
                 f,
                 "{name} is there: another run is at work, or was interrupted; remove it if none is"
@@ -84,7 +96,10 @@ impl fmt::Display for Failure {
             Failure::ShortKeys { key_size } => {
                 write!(f, "its keys have {key_size} bytes, and unhash needs 4")
             }
-            Failure::NoHash { key_size, value_size } => write_no_hash(*key_size, *value_size, f),
+            Failure::NoHash {
+                key_size,
+                value_size,
+            } => write_no_hash(*key_size, *value_size, f),
             Failure::OtherKey(part) => write!(f, "--key does not fit its keys, which are {part}"),
             Failure::OtherValue(part) => {
                 write!(f, "--value does not fit its values, which are {part}")
@@ -92,9 +107,10 @@ impl fmt::Display for Failure {
             Failure::PastEnd { offset, len } => {
                 write!(f, "has {len} bytes, and so none at the offset {offset}")
             }
-            Failure::Forged => {
-                write!(f, "is forged: it has headers that overlap, and no tables for them")
-            }
+            Failure::Forged => write!(
+                f,
+                "is forged: it has headers that overlap, and no tables for them"
+            ),
             Failure::Input(error) => write!(f, "standard input cannot be read: {error}"),
             Failure::Line { number, fault } => {
                 write!(f, "standard input, line {number}: {fault}")
