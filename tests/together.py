@@ -1,7 +1,7 @@
 #!/usr/bin/env python3
 """Tests the program `odht` where others are at work on its file, or interrupt it: two runs that replace it, begun at
-many offsets in time too, a new file that somebody removes, a file that is replaced while `get` or `dump` reads it, and
-SIGINT while input is read.
+many offsets in time too, a new file that somebody removes, a file that is made meanwhile, a file that is replaced while
+`get` or `dump` reads it, and SIGINT while input is read.
 
   tests/together.py PROGRAM..
 
@@ -9,7 +9,9 @@ A run has read its file once it has taken more of its input than a pipe holds, o
 """
 import concurrent.futures
 import os
+import shutil
 import signal
+import stat
 import subprocess
 import sys
 import tempfile
@@ -23,6 +25,8 @@ OLD = 100_000
 SLOW = 0.1
 # what a run says that begins while another one is at work
 AT_WORK = b"odht: table: table.new is there: another run is at work, or was interrupted; remove it if none is\n"
+# what `build` says of a file that is no table
+LOST = b"odht: table: cannot be written: it is not an odht table, and would be lost; --force replaces it\n"
 # the commands that read lines and replace the file
 REPLACING = (
     ["put", "table"],
@@ -128,6 +132,31 @@ def robbed(program, room):
     assert run(program, room, "get", "table", "7") == b"7\t3\n" and os.listdir(room) == ["table"]
 
 
+def come_later(program, room):
+    """A file that is made while a run is at work is looked at too: it keeps its permissions, or stays."""
+    run(program, room, "build", "other", "--key", "u64", "--value", "u32", given=b"1\t1\n")
+    for force in ([], ["--force"]):
+        for is_table in (True, False):
+            words = ["build", "table", "--key", "u64", "--value", "u32", *force]
+            first = begun(program, room, words, lines_of(range(OLD), 2))
+            if is_table:
+                shutil.copy(f"{room}/other", f"{room}/table")
+            else:
+                with open(f"{room}/table", "w", encoding="utf-8") as it:
+                    it.write("1\t1\n")
+            os.chmod(f"{room}/table", 0o640)
+            _, errors = first.communicate()
+            if is_table or force:
+                assert (first.returncode, errors) == (0, b""), errors
+                assert run(program, room, "count", "table") == b"%d\n" % OLD
+            else:
+                assert (first.returncode, errors) == (1, LOST), errors
+                assert os.path.getsize(f"{room}/table") == 4
+            assert stat.S_IMODE(os.stat(f"{room}/table").st_mode) == 0o640
+            assert sorted(os.listdir(room)) == ["other", "table"]
+            os.remove(f"{room}/table")
+
+
 def interrupted(program, room):
     """The file is as it was. The new file is there, without bytes, and the next run tells of it."""
     for words in REPLACING:
@@ -163,7 +192,7 @@ def main(*programs):
     signal.signal(signal.SIGINT, signal.default_int_handler)
     passed = failed = 0
     for program in programs:
-        for test in (two_runs, many_puts, robbed, interrupted, replaced):
+        for test in (two_runs, many_puts, robbed, come_later, interrupted, replaced):
             with tempfile.TemporaryDirectory() as room:
                 try:
                     test(os.path.abspath(program), room)
