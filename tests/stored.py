@@ -91,7 +91,7 @@ def failing(program, preloaded):
             assert status == 1 and errors.startswith("odht: ") and errors.count("\n") == 1, told
             assert TEXTS[error] in errors, told
             if calls[call - 1] in ("read .", "fsync folder"):
-                assert errors.startswith("odht: table: is replaced, but a power cut may undo that"), told
+                assert errors.startswith("odht: table: is written, but a power cut may undo that"), told
                 assert after["table"] != before.get("table") and sorted(after) == ["other", "table"], told
             else:
                 assert after == before, told

@@ -20,7 +20,7 @@ pub enum Failure {
     Obstacle(Obstacle),
     /// The file is not replaced, since it is no table.
     NoTable,
-    /// The file is replaced, and the system could not store its name.
+    /// The file is written, and the system could not store its name.
     Folder(io::Error),
     /// There is a file of the name that the new one has until it is stored.
     Beside(String),
@@ -83,7 +83,7 @@ impl fmt::Display for Failure {
             ),
             Failure::Folder(error) => write!(
                 f,
-                "is replaced, but a power cut may undo that, as its folder cannot be stored: {error}"
+                "is written, but a power cut may undo that, as its folder cannot be stored: {error}"
             ),
             Failure::Beside(name) => write!(
                 f,

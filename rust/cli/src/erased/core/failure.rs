@@ -20,7 +20,7 @@ pub enum Failure {
     Obstacle(Obstacle),
     /// The file is not replaced, since it is no table.
     NoTable,
-    /// The file is replaced, and the system could not store its name.
+    /// The file is written, and the system could not store its name.
     Folder(io::Error),
     /// There is a file of the name that the new one has until it is stored.
     Beside(String),
@@ -83,7 +83,7 @@ impl fmt::Display for Failure {
             ),
             Failure::Folder(error) => write!(
                 f,
-                "is replaced, but a power cut may undo that, as its folder cannot be stored: {error}"
+                "is written, but a power cut may undo that, as its folder cannot be stored: {error}"
             ),
             Failure::Beside(name) => write!(
                 f,
@@ -96,10 +96,7 @@ impl fmt::Display for Failure {
             Failure::ShortKeys { key_size } => {
                 write!(f, "its keys have {key_size} bytes, and unhash needs 4")
             }
-            Failure::NoHash {
-                key_size,
-                value_size,
-            } => write_no_hash(*key_size, *value_size, f),
+            Failure::NoHash { key_size, value_size } => write_no_hash(*key_size, *value_size, f),
             Failure::OtherKey(part) => write!(f, "--key does not fit its keys, which are {part}"),
             Failure::OtherValue(part) => {
                 write!(f, "--value does not fit its values, which are {part}")
@@ -107,10 +104,9 @@ impl fmt::Display for Failure {
             Failure::PastEnd { offset, len } => {
                 write!(f, "has {len} bytes, and so none at the offset {offset}")
             }
-            Failure::Forged => write!(
-                f,
-                "is forged: it has headers that overlap, and no tables for them"
-            ),
+            Failure::Forged => {
+                write!(f, "is forged: it has headers that overlap, and no tables for them")
+            }
             Failure::Input(error) => write!(f, "standard input cannot be read: {error}"),
             Failure::Line { number, fault } => {
                 write!(f, "standard input, line {number}: {fault}")

@@ -346,12 +346,13 @@ odht merge FILE INPUT.. [--duplicates last|first|error] [--key SHAPE]
     Makes a new table for as many items as all INPUT have, inserts their pairs, file
     after file and each in slot order, and stores it as FILE, in the place of an
     older one, which stays where something fails; with - as FILE it goes to standard
-    output. What an older FILE has is not kept, unless FILE is an INPUT too. All have the key and value sizes of the first,
-    whose hash function the new table has. Each is checked before, as by `odht
-    check`; --whole is as there. The hash function is the one that all control bytes
-    fit, unless --hash names that of all files. Owner, group, permissions and
-    symbolic links of FILE are kept; one with hard links is not replaced without
-    --break-links, and one that is no table, and not empty, not without --force.
+    output. What an older FILE has is not kept, unless FILE is an INPUT too. All
+    have the key and value sizes of the first, whose hash function the new table
+    has. Each is checked before, as by `odht check`; --whole is as there. The hash
+    function is the one that all control bytes fit, unless --hash names that of all
+    files. Owner, group, permissions and symbolic links of FILE are kept; one with
+    hard links is not replaced without --break-links, and one that is no table, and
+    not empty, not without --force.
     --duplicates   which file's pair of a key counts: last, first, or error: a key
                    that an earlier file has is a failure; else last
     --key, --value the types and texts of the first INPUT, as in `odht build`; where
