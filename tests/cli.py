@@ -4,9 +4,10 @@
   tests/cli.py [PROGRAM]     PROGRAM is one that is built already
 
 It has no warning and passes its own tests; `make install-tool` puts a program in place and `make uninstall-tool`
-removes it; all cases of tests/tool go on it; and each request for memory of each command fails in turn, from the first
-buffer on: the program then says that it is out of memory, and returns 1 or 2, and the file is as it was. Where ODHT_TOOL
-names the program as the kit compiles it, tests/beside.py runs both. The last line counts.
+removes it; all cases of tests/tool go on it; each of its calls for a file fails in turn (tests/stored.py); and each
+request for memory of each command fails in turn, from the first buffer on: the program then says that it is out of
+memory, and returns 1 or 2, and the file is as it was. Where ODHT_TOOL names the program as the kit compiles it,
+tests/beside.py runs both. The last line counts.
 """
 import filecmp
 import os
@@ -190,7 +191,7 @@ def main(*words):
         runs = [["tests/cases.py", program, "made=erased", "tests/tool"]]
         runs += [["tests/sizes.py", program], ["tests/objects.py", program]]
         runs += [["tests/lines.py", program], ["tests/progress.py", program]]
-        runs += [["tests/together.py", program], ["tests/pairs.py", program]]
+        runs += [["tests/together.py", program], ["tests/pairs.py", program], ["tests/stored.py", program]]
         if os.environ.get("ODHT_TOOL"):
             runs.append(["tests/beside.py", os.environ["ODHT_TOOL"], program])
         failed = 0

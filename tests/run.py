@@ -163,7 +163,7 @@ def program_of_the_kit(part):
     ran = [part.run(sys.executable, *words) for words in (["tests/cases.py", tool, "tests/tool"], ["tests/sizes.py", tool],
                                                       ["tests/objects.py", tool], ["tests/lines.py", tool],
                                                       ["tests/progress.py", tool], ["tests/together.py", tool],
-                                                      ["tests/pairs.py", tool])]
+                                                      ["tests/pairs.py", tool], ["tests/stored.py", tool])]
     return counted(max(status for status, _ in ran), "".join(printed for _, printed in ran))
 
 

@@ -30,11 +30,11 @@ _odht() {
         find:-*) COMPREPLY=($(compgen -W '--help --whole --json' -- "$word"));;
         order:-*) COMPREPLY=($(compgen -W '--help --whole --key --value --hash --at' -- "$word"));;
         diff:-*) COMPREPLY=($(compgen -W '--help --whole --key --value --hash' -- "$word"));;
-        build:-*) COMPREPLY=($(compgen -W '--help --key --value --duplicates --delimiter --check-only --hash --percent --capacity --progress --break-links' -- "$word"));;
+        build:-*) COMPREPLY=($(compgen -W '--help --key --value --duplicates --delimiter --check-only --hash --percent --capacity --progress --break-links --force' -- "$word"));;
         put:-*) COMPREPLY=($(compgen -W '--help --key --value --whole --hash --progress --break-links' -- "$word"));;
         delete:-*) COMPREPLY=($(compgen -W '--help --key --whole --hash --progress --break-links' -- "$word"));;
         rebuild:-*) COMPREPLY=($(compgen -W '--help --percent --whole --hash --progress --break-links' -- "$word"));;
-        merge:-*) COMPREPLY=($(compgen -W '--help --duplicates --key --value --whole --hash --percent --progress --break-links' -- "$word"));;
+        merge:-*) COMPREPLY=($(compgen -W '--help --duplicates --key --value --whole --hash --percent --progress --break-links --force' -- "$word"));;
         *) mapfile -t COMPREPLY < <(compgen -f -- "$word");;
     esac
 }

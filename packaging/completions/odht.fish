@@ -70,6 +70,7 @@ complete -c odht -n '__fish_seen_subcommand_from build' -l percent -x -d 'a numb
 complete -c odht -n '__fish_seen_subcommand_from build' -l capacity -x -d 'a number below 2^64'
 complete -c odht -n '__fish_seen_subcommand_from build' -l progress
 complete -c odht -n '__fish_seen_subcommand_from build' -l break-links
+complete -c odht -n '__fish_seen_subcommand_from build' -l force
 complete -c odht -n '__fish_seen_subcommand_from put' -l help
 complete -c odht -n '__fish_seen_subcommand_from put' -l key -x -a 'u32 u64 i32 i64 u32be u64be hex text:' -d 'u32, u64, i32, i64, u32be, u64be, hexN or text:N'
 complete -c odht -n '__fish_seen_subcommand_from put' -l value -x -a 'u32 u64 i32 i64 u32be u64be none hex text:' -d 'u32, u64, i32, i64, u32be, u64be, none, hexN or text:N'
@@ -98,3 +99,4 @@ complete -c odht -n '__fish_seen_subcommand_from merge' -l hash -x -a 'fx unhash
 complete -c odht -n '__fish_seen_subcommand_from merge' -l percent -x -d 'a number from 1 to 100'
 complete -c odht -n '__fish_seen_subcommand_from merge' -l progress
 complete -c odht -n '__fish_seen_subcommand_from merge' -l break-links
+complete -c odht -n '__fish_seen_subcommand_from merge' -l force

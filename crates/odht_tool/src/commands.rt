@@ -1,10 +1,10 @@
 //! Runs the commands, each from its parsed words to the status of the program.
 use odht_tool_core::arguments::{Command, Keys, Reading, Request, parse};
 use odht_tool_core::failure::Failure;
-use odht_tool_core::files::read_file;
 use odht_tool_core::front::table_at;
 use odht_tool_core::help::{write_help, write_version};
 use odht_tool_core::inside::{first_inside, write_inside};
+use odht_tool_core::new_file::{ended, make_new};
 use odht_tool_core::status::{Status, of_output};
 use odht_tool_core::targets::Target;
 use odht_tool_reads::commands::diff;
@@ -100,19 +100,11 @@ where
             breaks_links,
             watch,
         } => {
-            let target = Target::find(rt, file, breaks_links)?;
-            let bytes = read_file(rt, target.path())?;
-            build::put(
-                rt,
-                target,
-                bytes,
-                hash,
-                kinds,
-                bound,
-                watch.with_bar(rt, errors),
-                input,
-                errors,
-            )
+            let target = Target::find_table(rt, file, breaks_links)?;
+            let mut new = make_new(rt, target)?;
+            let watch = watch.with_bar(rt, errors);
+            let done = build::put(rt, &mut new, hash, kinds, bound, watch, input, errors);
+            ended(rt, new, done)
         }
     }
 }

@@ -5,7 +5,7 @@
 --     options_of t         the options that the command t has
 use Rattle.std.specs.Prelude.{ℕ, List, [], ◌∷◌, codes}
 use Rattle.odht_tool_core.specs.declared.arguments.topics.Setting.{Setting}
-use Rattle.odht_tool_core.specs.declared.arguments.topics.Setting.TheVariants.{Help, Slots, Json, Whole, Progress, BreakLinks, CheckOnly, At, Hash, Key, Value, Duplicates, Delimiter, Percent, Capacity}
+use Rattle.odht_tool_core.specs.declared.arguments.topics.Setting.TheVariants.{Help, Slots, Json, Whole, Progress, BreakLinks, Force, CheckOnly, At, Hash, Key, Value, Duplicates, Delimiter, Percent, Capacity}
 use Rattle.odht_tool_core.specs.declared.arguments.topics.Topic.{Topic}
 use Rattle.odht_tool_core.specs.declared.arguments.topics.Topic.TheVariants.{Info, Check, Count, Get, Dump, Keys, Find, Order, Diff, Build, Put, Delete, Rebuild, Merge}
 
@@ -35,6 +35,7 @@ option_name Json = codes "--json"
 option_name Whole = codes "--whole"
 option_name Progress = codes "--progress"
 option_name BreakLinks = codes "--break-links"
+option_name Force = codes "--force"
 option_name CheckOnly = codes "--check-only"
 option_name At = codes "--at"
 option_name Hash = codes "--hash"
@@ -55,8 +56,8 @@ options_of Keys = Help ∷ Key ∷ Hash ∷ At ∷ []
 options_of Find = Help ∷ Whole ∷ Json ∷ []
 options_of Order = Help ∷ Whole ∷ Key ∷ Value ∷ Hash ∷ At ∷ []
 options_of Diff = Help ∷ Whole ∷ Key ∷ Value ∷ Hash ∷ []
-options_of Build = Help ∷ Key ∷ Value ∷ Duplicates ∷ Delimiter ∷ CheckOnly ∷ Hash ∷ Percent ∷ Capacity ∷ Progress ∷ BreakLinks ∷ []
+options_of Build = Help ∷ Key ∷ Value ∷ Duplicates ∷ Delimiter ∷ CheckOnly ∷ Hash ∷ Percent ∷ Capacity ∷ Progress ∷ BreakLinks ∷ Force ∷ []
 options_of Put = Help ∷ Key ∷ Value ∷ Whole ∷ Hash ∷ Progress ∷ BreakLinks ∷ []
 options_of Delete = Help ∷ Key ∷ Whole ∷ Hash ∷ Progress ∷ BreakLinks ∷ []
 options_of Rebuild = Help ∷ Percent ∷ Whole ∷ Hash ∷ Progress ∷ BreakLinks ∷ []
-options_of Merge = Help ∷ Duplicates ∷ Key ∷ Value ∷ Whole ∷ Hash ∷ Percent ∷ Progress ∷ BreakLinks ∷ []
+options_of Merge = Help ∷ Duplicates ∷ Key ∷ Value ∷ Whole ∷ Hash ∷ Percent ∷ Progress ∷ BreakLinks ∷ Force ∷ []

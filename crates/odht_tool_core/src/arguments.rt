@@ -6,6 +6,7 @@ use crate::forms::{GivenForms, Kinds};
 use crate::progress::Watch;
 use crate::shapes::Hash;
 use crate::status::Status;
+use crate::targets::Allowed;
 use odht_base::load::Percent;
 use std::alloc::Global;
 
@@ -35,7 +36,7 @@ pub struct BuildOptions {
     /// For how many items room is made at first.
     pub capacity: usize,
     pub percent: Percent,
-    pub breaks_links: bool,
+    pub allowed: Allowed,
     /// Whether lines of progress are requested.
     pub watch: Watch,
 }
@@ -90,7 +91,7 @@ pub struct MergeOptions {
     pub percent: Percent,
     /// The bound of searches, in groups, by which the files are checked; none with `--whole`.
     pub bound: Option<usize>,
-    pub breaks_links: bool,
+    pub allowed: Allowed,
     pub has_progress: bool,
 }
 

@@ -18,6 +18,10 @@ pub enum Failure {
     Write(io::Error),
     /// The file is not replaced, for this reason.
     Obstacle(Obstacle),
+    /// The file is not replaced, since it is no table.
+    NoTable,
+    /// The file is written, and the system could not store its name.
+    Folder(io::Error),
     /// There is a file of the name that the new one has until it is stored.
     Beside(String),
     /// The bytes are no table, or not one of this shape.
@@ -73,6 +77,14 @@ impl fmt::Display for Failure {
             Failure::Read(error) => write!(f, "cannot be read: {error}"),
             Failure::Write(error) => write!(f, "cannot be written: {error}"),
             Failure::Obstacle(obstacle) => write!(f, "cannot be written: {obstacle}"),
+            Failure::NoTable => write!(
+                f,
+                "cannot be written: it is not an odht table, and would be lost; --force replaces it"
+            ),
+            Failure::Folder(error) => write!(
+                f,
+                "is written, but a power cut may undo that, as its folder cannot be stored: {error}"
+            ),
             Failure::Beside(name) => write!(
                 f,
                 "{name} is there: another run is at work, or was interrupted; remove it if none is"

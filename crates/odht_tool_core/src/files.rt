@@ -1,11 +1,8 @@
-//! Whole files: read at once, and written as a new file, which then replaces the old one.
+//! Whole files, read at once.
 use crate::failure::Failure;
-use crate::targets::{Kept, Target, beside};
 use std::alloc::Global;
-use std::fs::{self, OpenFile, OpenOptions};
-use std::io::{self, BufRead, Read, Write};
-use std::os::fd::AsFd;
-use std::os::unix::fs::OpenOptionsExt;
+use std::fs::{self, OpenFile};
+use std::io::{self, BufRead, Read};
 use std::rt::Files;
 
 /// All bytes of a file. The memory is allocated once, for the length that the file has at first.
@@ -53,70 +50,4 @@ pub fn read_input<I: BufRead>(alloc: Global, input: &mut I) -> Result<Vec<u8>, F
         }
     }
     Ok(bytes)
-}
-
-/// Writes a new file beside the target, whose name is that of the target with `.new` after it, and
-/// renames it to the target's name once all of it is stored. On a failure the target is unchanged,
-/// and the new file is removed.
-///
-/// Where the target is there, nobody but the owner of the new file may read it while it is
-/// written; then it gets the permissions, owner and group that it keeps. A target that has become
-/// none is rejected, as by [`Target::find`].
-///
-/// Where a file of the new name exists already, nothing is written: another run may be writing it.
-pub fn replace_file<R: Files + AllocGlobal>(
-    rt: &R,
-    target: &Target,
-    bytes: &[u8],
-) -> Result<(), Failure>
-where
-    R::File: AsFd,
-{
-    let target = target.again(rt)?;
-    let path = target.path();
-    let beside = beside(rt.alloc(), path)?;
-    let file = match create(rt, beside.as_str(), target.kept().is_some()) {
-        Ok(file) => file,
-        Err(error) if error.kind() == io::ErrorKind::AlreadyExists => {
-            return Err(Failure::Beside(beside));
-        }
-        Err(error) => return Err(Failure::Write(error)),
-    };
-    match store(rt, file, bytes, target.kept(), beside.as_str(), path) {
-        Ok(()) => Ok(()),
-        Err(error) => {
-            // A new file that cannot be removed remains, and the next run reports it.
-            let _ = fs::remove_file(rt, beside.as_str());
-            Err(Failure::Write(error))
-        }
-    }
-}
-
-// A new file for its owner alone, or with the permissions that new files have.
-fn create<R: Files>(rt: &R, path: &str, is_private: bool) -> io::Result<R::File> {
-    let mode = if is_private { 0o600 } else { 0o666 };
-    OpenOptions::new()
-        .write(true)
-        .create_new(true)
-        .mode(mode)
-        .open(rt, path)
-}
-
-fn store<R: Files>(
-    rt: &R,
-    mut file: R::File,
-    bytes: &[u8],
-    kept: Option<Kept>,
-    beside: &str,
-    path: &str,
-) -> io::Result<()>
-where
-    R::File: AsFd,
-{
-    file.write_all(bytes)?;
-    if let Some(kept) = kept {
-        kept.give(&file)?;
-    }
-    file.sync_all()?;
-    fs::rename(rt, beside, path)
 }

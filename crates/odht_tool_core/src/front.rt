@@ -2,6 +2,7 @@
 ghost use Rattle.std.specs.Prelude.{◌≡◌, ◌≤◌, IfOk, OnOk, drop, length, take};
 ghost use Rattle.std.specs.Result.{result_err};
 ghost use Rattle.odht_tool_core.specs.Fronts.{stated_len, front_refusal, table_front, offset_failure};
+ghost use Rattle.odht_tool_core.specs.Fronts.{begins_table};
 ghost use Rattle.odht_tool_core.specs.InfoNumbers.{info_refusal};
 
 use crate::failure::Failure;
@@ -25,6 +26,16 @@ pub fn table_at(bytes: &[u8], offset: usize) -> Result<&[u8], Failure>
     match front_of(rest) {
         Ok(table) => Ok(table),
         Err(_) => Ok(rest),
+    }
+}
+
+/// Whether these bytes begin with the header of a table, whatever comes after it.
+pub fn begins_table(bytes: &[u8]) -> bool
+    ensures { result ≡ begins_table bytes.now }
+{
+    match front_of(bytes) {
+        Ok(_) | Err(Error::WrongLength { .. }) => true,
+        Err(_) => false,
     }
 }
 

@@ -5,13 +5,12 @@ ghost use Rattle.odht_tool_writes.specs.Faults.{IsTold};
 ghost use Rattle.odht_tool_writes.specs.Inserted.{AreInserted, IsNewInsert};
 
 use odht_tool_core::failure::Failure;
-use odht_tool_core::files::replace_file;
 use odht_tool_core::forms::Forms;
 use odht_tool_core::line_messages::line_message;
 use odht_tool_core::lines::read_pair_as;
+use odht_tool_core::new_file::{NewFile, replace_file};
 use odht_tool_core::progress::{Progress, Taken, Watch};
 use odht_tool_core::status::Status;
-use odht_tool_core::targets::Target;
 use odht_tool_core::text::Text;
 use std::alloc::Global;
 use std::io::{BufRead, Write};
@@ -63,10 +62,10 @@ pub trait Inserts: Drop {
         ensures { result.now ≡ bytes self.now };
 }
 
-/// Adds the lines to the table, and stores it as the file.
+/// Adds the lines to the table, and stores it by the new file.
 pub fn insert_into_file<T: Inserts, F: Forms, R: Files + AllocGlobal + Clock, I: BufRead, E: Write>(
     rt: &R,
-    target: Target,
+    new: &mut NewFile<R::File>,
     mut table: T,
     forms: F,
     watch: Watch,
@@ -78,7 +77,7 @@ where
 {
     let progress = Progress::new(rt, watch);
     fill(rt, &mut table, progress, forms, input, errors)?;
-    replace_file(rt, &target, table.all_bytes())?;
+    replace_file(rt, new, table.all_bytes())?;
     Ok(Status::Done)
 }
 

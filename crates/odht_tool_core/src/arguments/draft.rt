@@ -10,6 +10,7 @@ use crate::digits::parse_number;
 use crate::forms::{GivenForms, Kind, Kinds};
 use crate::progress::Watch;
 use crate::shapes::Hash;
+use crate::targets::Allowed;
 use odht_base::load::Percent;
 use odht_raw::memory_layout::DEFAULT_GROUPS;
 use std::alloc::Global;
@@ -37,7 +38,7 @@ pub(super) struct Draft {
     is_json: bool,
     is_whole: bool,
     is_check: bool,
-    breaks_links: bool,
+    allowed: Allowed,
     has_progress: bool,
 }
 
@@ -64,7 +65,7 @@ impl Draft {
             is_json: false,
             is_whole: false,
             is_check: false,
-            breaks_links: false,
+            allowed: Allowed::new(),
             has_progress: false,
         }
     }
@@ -115,7 +116,8 @@ impl Draft {
             Setting::Whole => self.is_whole = true,
             Setting::CheckOnly => self.is_check = true,
             Setting::Progress => self.has_progress = true,
-            Setting::BreakLinks => self.breaks_links = true,
+            Setting::BreakLinks => self.allowed.breaks_links = true,
+            Setting::Force => self.allowed.any_content = true,
             _ => {}
         }
     }
@@ -187,7 +189,7 @@ impl Draft {
                 hash: self.hash,
                 kinds: self.kinds,
                 bound: bound_of(self.is_whole),
-                breaks_links: self.breaks_links,
+                breaks_links: self.allowed.breaks_links,
                 watch: Watch::of(self.has_progress),
             }),
             Topic::Get => self.get(is_stream),
@@ -215,7 +217,7 @@ impl Draft {
             hash: self.hash,
             kinds: self.kinds,
             bound: bound_of(self.is_whole),
-            breaks_links: self.breaks_links,
+            breaks_links: self.allowed.breaks_links,
             has_progress: self.has_progress,
         }))
     }
@@ -226,7 +228,7 @@ impl Draft {
             percent: self.percent,
             hash: self.hash,
             bound: bound_of(self.is_whole),
-            breaks_links: self.breaks_links,
+            breaks_links: self.allowed.breaks_links,
             has_progress: self.has_progress,
         }
     }
@@ -334,7 +336,7 @@ impl Draft {
             kinds: self.kinds,
             percent: self.percent,
             bound: bound_of(self.is_whole),
-            breaks_links: self.breaks_links,
+            allowed: self.allowed,
             has_progress: self.has_progress,
         }))
     }
@@ -360,7 +362,7 @@ impl Draft {
             is_check: self.is_check,
             capacity: self.capacity,
             percent: self.percent,
-            breaks_links: self.breaks_links,
+            allowed: self.allowed,
             watch: Watch::of(self.has_progress),
         }))
     }

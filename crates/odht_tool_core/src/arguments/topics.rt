@@ -160,6 +160,7 @@ impl Topic {
                 Setting::Capacity,
                 Setting::Progress,
                 Setting::BreakLinks,
+                Setting::Force,
             ],
             Topic::Put => &[
                 Setting::Help,
@@ -196,6 +197,7 @@ impl Topic {
                 Setting::Percent,
                 Setting::Progress,
                 Setting::BreakLinks,
+                Setting::Force,
             ],
         }
     }
@@ -216,6 +218,7 @@ pub enum Setting {
     Whole,
     Progress,
     BreakLinks,
+    Force,
     CheckOnly,
     At,
     Hash,
@@ -262,6 +265,7 @@ impl Setting {
             Setting::Whole => "--whole",
             Setting::Progress => "--progress",
             Setting::BreakLinks => "--break-links",
+            Setting::Force => "--force",
             Setting::CheckOnly => "--check-only",
             Setting::At => "--at",
             Setting::Hash => "--hash",
@@ -283,6 +287,7 @@ impl Setting {
             | Setting::Whole
             | Setting::Progress
             | Setting::BreakLinks
+            | Setting::Force
             | Setting::CheckOnly => None,
             Setting::At | Setting::Capacity => Some("a number below 2^64"),
             Setting::Hash => Some("fx or unhash"),

@@ -5,7 +5,7 @@ ghost use Rattle.odht.specs.Inserts.{IsFresh};
 ghost use Rattle.odht_tool_writes.specs.Inserted.{copy_failure};
 
 use crate::inserts::insert_into_file;
-use crate::inserts::lines::{Place, check_lines, insert_lines, makes_no_table};
+use crate::inserts::lines::{Place, check_lines, insert_lines, left, makes_no_table, place_of};
 use crate::shapes::for_shape;
 use crate::sized::builds::{build_other, put_other};
 use odht::HashTableOwned;
@@ -15,11 +15,12 @@ use odht::load::Percent;
 use odht_tool_core::any::{AnyShape, read_any};
 use odht_tool_core::arguments::BuildOptions;
 use odht_tool_core::failure::Failure;
+use odht_tool_core::files::read_file;
 use odht_tool_core::forms::{Forms, GivenForms, Kinds, LineForms, OwnForms};
+use odht_tool_core::new_file::NewFile;
 use odht_tool_core::progress::Watch;
 use odht_tool_core::shapes::{Hash, Shape};
 use odht_tool_core::status::Status;
-use odht_tool_core::targets::Target;
 use odht_tool_core::text::Text;
 use odht_tool_tables::sized::check_lengths;
 use std::alloc::Global;
@@ -40,23 +41,40 @@ pub fn build<R: Files + AllocGlobal + Clock, I: BufRead, O: Write, E: Write>(
 where
     R::File: AsFd,
 {
+    let mut place = place_of(rt, file, options.is_check, options.allowed)?;
+    let done = build_at(rt, &mut place, options, input, output, errors);
+    left(rt, place, done)
+}
+
+// The same where the place of the table is known.
+fn build_at<R: Files + AllocGlobal + Clock, I: BufRead, O: Write, E: Write>(
+    rt: &R,
+    place: &mut Place<R::File>,
+    options: BuildOptions,
+    input: &mut I,
+    output: &mut O,
+    errors: &mut E,
+) -> Result<Status, Failure>
+where
+    R::File: AsFd,
+{
     let (forms, delimiter) = (options.forms, options.delimiter);
     match options.shape {
         AnyShape::Ready(shape) if forms.are_own() && delimiter == b'\t' => {
-            build_in(rt, file, shape, OwnForms, options, input, output, errors)
+            build_in(rt, place, shape, OwnForms, options, input, output, errors)
         }
         AnyShape::Ready(shape) => {
             let forms = LineForms { forms, delimiter };
-            build_in(rt, file, shape, forms, options, input, output, errors)
+            build_in(rt, place, shape, forms, options, input, output, errors)
         }
-        AnyShape::Other(shape) => { build_other(rt, file, shape, options, input, output, errors) }
+        AnyShape::Other(shape) => { build_other(rt, place, shape, options, input, output, errors) }
     }
 }
 
 // The same of a ready shape, where the forms are known.
 fn build_in<F: Forms, R: Files + AllocGlobal + Clock, I: BufRead, O: Write, E: Write>(
     rt: &R,
-    file: &str,
+    place: &mut Place<R::File>,
     shape: Shape,
     forms: F,
     options: BuildOptions,
@@ -69,13 +87,13 @@ where
 {
     for_shape!(
         shape,
-        build_ready[F, R, I, O, E](rt, file, forms, options, input, output, errors)
+        build_ready[F, R, I, O, E](rt, place, forms, options, input, output, errors)
     )
 }
 
 fn build_ready<C: Config, F: Forms, R: Files + AllocGlobal + Clock, I: BufRead, O: Write, E: Write>(
     rt: &R,
-    file: &str,
+    place: &mut Place<R::File>,
     forms: F,
     options: BuildOptions,
     input: &mut I,
@@ -89,11 +107,9 @@ where
 {
     let (duplicates, is_check) = (options.duplicates, options.is_check);
     let (capacity, percent, watch) = (options.capacity, options.percent, options.watch);
-    let breaks_links = options.breaks_links;
     if makes_no_table(duplicates, is_check) {
         return check_lines::<C::Key, C::Value, F, R, I, E>(rt, forms, watch, input, errors);
     }
-    let place = Place::find(rt, file, is_check, breaks_links)?;
     let table = make_table::<C>(rt.alloc(), capacity, percent)?;
     insert_lines(rt, place, table, forms, options, input, output, errors)
 }
@@ -108,12 +124,11 @@ fn make_table<C: Config>(
     HashTableOwned::with_capacity(alloc, capacity, percent.value()).map_err(Failure::of_table)
 }
 
-/// Adds the lines to the table of the target, which has these bytes. They are checked whole
+/// Adds the lines to the table in the file that the new one is to replace. It is checked whole
 /// before, with the bound of searches where there is one.
 pub fn put<R: Files + AllocGlobal + Clock, I: BufRead, E: Write>(
     rt: &R,
-    target: Target,
-    bytes: Vec<u8>,
+    new: &mut NewFile<R::File>,
     hash: Option<Hash>,
     kinds: Kinds,
     bound: Option<usize>,
@@ -124,13 +139,14 @@ pub fn put<R: Files + AllocGlobal + Clock, I: BufRead, E: Write>(
 where
     R::File: AsFd,
 {
+    let bytes = read_file(rt, new.path())?;
     let (shape, forms) = read_any(bytes.as_slice(), hash, kinds)?;
     match shape {
         AnyShape::Ready(shape) => put_ready(
-            rt, target, shape, forms, bytes, bound, watch, input, errors,
+            rt, new, shape, forms, bytes, bound, watch, input, errors,
         ),
         AnyShape::Other(shape) => put_other(
-            rt, target, shape, forms, bytes, bound, watch, input, errors,
+            rt, new, shape, forms, bytes, bound, watch, input, errors,
         ),
     }
 }
@@ -138,7 +154,7 @@ where
 // The same of a ready shape, in these forms.
 fn put_ready<R: Files + AllocGlobal + Clock, I: BufRead, E: Write>(
     rt: &R,
-    target: Target,
+    new: &mut NewFile<R::File>,
     shape: Shape,
     forms: GivenForms,
     bytes: Vec<u8>,
@@ -151,18 +167,16 @@ where
     R::File: AsFd,
 {
     if forms.are_own() {
-        put_in(
-            rt, target, shape, OwnForms, bytes, bound, watch, input, errors,
-        )
+        put_in(rt, new, shape, OwnForms, bytes, bound, watch, input, errors)
     } else {
-        put_in(rt, target, shape, forms, bytes, bound, watch, input, errors)
+        put_in(rt, new, shape, forms, bytes, bound, watch, input, errors)
     }
 }
 
 // The same where the shape and the forms are known.
 fn put_in<F: Forms, R: Files + AllocGlobal + Clock, I: BufRead, E: Write>(
     rt: &R,
-    target: Target,
+    new: &mut NewFile<R::File>,
     shape: Shape,
     forms: F,
     bytes: Vec<u8>,
@@ -176,14 +190,14 @@ where
 {
     for_shape!(
         shape,
-        put_file[F, R, I, E](rt, target, forms, bytes, bound, watch, input, errors)
+        put_file[F, R, I, E](rt, new, forms, bytes, bound, watch, input, errors)
     )
 }
 
 // The bytes are freed once the table has a copy.
 fn put_file<C: Config, F: Forms, R: Files + AllocGlobal + Clock, I: BufRead, E: Write>(
     rt: &R,
-    target: Target,
+    new: &mut NewFile<R::File>,
     forms: F,
     bytes: Vec<u8>,
     bound: Option<usize>,
@@ -197,7 +211,7 @@ where
     R::File: AsFd,
 {
     let table = copy_table::<C>(rt.alloc(), bytes, bound)?;
-    insert_into_file(rt, target, table, forms, watch, input, errors)
+    insert_into_file(rt, new, table, forms, watch, input, errors)
 }
 
 fn copy_table<C: Config>(

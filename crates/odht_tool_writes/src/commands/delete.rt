@@ -16,9 +16,10 @@ use odht::{FxHashFn, UnHashFn};
 use odht_tool_core::any::{AnyShape, read_any};
 use odht_tool_core::arguments::{DeleteOptions, Keys};
 use odht_tool_core::failure::Failure;
-use odht_tool_core::files::{read_file, replace_file};
+use odht_tool_core::files::read_file;
 use odht_tool_core::forms::Form;
 use odht_tool_core::keys::{Word, parse_keys};
+use odht_tool_core::new_file::{NewFile, ended, make_new, replace_file};
 use odht_tool_core::progress::{Progress, Watch};
 use odht_tool_core::shapes::Hash;
 use odht_tool_core::status::Status;
@@ -43,10 +44,27 @@ pub fn delete<R: Files + AllocGlobal + Clock, I: BufRead, E: Write>(
 where
     R::File: AsFd,
 {
-    let target = Target::find(rt, file, options.breaks_links)?;
-    let bytes = read_file(rt, target.path())?;
+    let target = Target::find_table(rt, file, options.breaks_links)?;
+    let mut new = make_new(rt, target)?;
+    let done = delete_as(rt, file, &mut new, options, input, errors);
+    ended(rt, new, done)
+}
+
+// The same with the new file that replaces the older one.
+fn delete_as<R: Files + AllocGlobal + Clock, I: BufRead, E: Write>(
+    rt: &R,
+    file: &str,
+    new: &mut NewFile<R::File>,
+    options: &DeleteOptions,
+    input: &mut I,
+    errors: &mut E,
+) -> Result<Status, Failure>
+where
+    R::File: AsFd,
+{
+    let bytes = read_file(rt, new.path())?;
     let (bytes, status) = deleted_by(rt, file, bytes, options, input, errors)?;
-    replace_file(rt, &target, bytes.as_slice())?;
+    replace_file(rt, new, bytes.as_slice())?;
     Ok(status)
 }
 

@@ -15,9 +15,9 @@ use odht::{FxHashFn, UnHashFn};
 use odht_tool_core::any::AnyShape;
 use odht_tool_core::arguments::{MergeOptions, is_stream};
 use odht_tool_core::failure::Failure;
-use odht_tool_core::files::replace_file;
 use odht_tool_core::forms::{GivenForms, Kinds};
 use odht_tool_core::keys::write_repeated;
+use odht_tool_core::new_file::{NewFile, ended, make_new, replace_file};
 use odht_tool_core::progress::{Progress, Watch};
 use odht_tool_core::shapes::Hash;
 use odht_tool_core::status::{Status, of_output};
@@ -50,10 +50,26 @@ where
             None => Ok(Status::NotDone),
         };
     }
-    let target = Target::find_place(rt, file, options.breaks_links)?;
-    match merged_files(rt, &options, input, errors)? {
+    let target = Target::find(rt, file, options.allowed)?;
+    let mut new = make_new(rt, target)?;
+    let done = merge_as(rt, &mut new, &options, input, errors);
+    ended(rt, new, done)
+}
+
+// The same with the new file that becomes this file.
+fn merge_as<R: Files + AllocGlobal + Clock, I: BufRead, E: Write>(
+    rt: &R,
+    new: &mut NewFile<R::File>,
+    options: &MergeOptions,
+    input: &mut I,
+    errors: &mut E,
+) -> Result<Status, Failure>
+where
+    R::File: AsFd,
+{
+    match merged_files(rt, options, input, errors)? {
         Some(bytes) => {
-            replace_file(rt, &target, bytes.as_slice())?;
+            replace_file(rt, new, bytes.as_slice())?;
             Ok(Status::Done)
         }
         None => Ok(Status::NotDone),

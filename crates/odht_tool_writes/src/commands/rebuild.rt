@@ -24,8 +24,9 @@ use odht::{FxHashFn, UnHashFn};
 use odht_tool_core::any::{AnyShape, named_any};
 use odht_tool_core::arguments::RebuildOptions;
 use odht_tool_core::failure::Failure;
-use odht_tool_core::files::{read_file, replace_file};
+use odht_tool_core::files::read_file;
 use odht_tool_core::found::found_any;
+use odht_tool_core::new_file::{NewFile, ended, make_new, replace_file};
 use odht_tool_core::progress::{Progress, Watch};
 use odht_tool_core::shapes::Hash;
 use odht_tool_core::status::Status;
@@ -49,10 +50,25 @@ pub fn rebuild<R: Files + AllocGlobal + Clock, E: Write>(
 where
     R::File: AsFd,
 {
-    let target = Target::find(rt, file, options.breaks_links)?;
-    let bytes = read_file(rt, target.path())?;
+    let target = Target::find_table(rt, file, options.breaks_links)?;
+    let mut new = make_new(rt, target)?;
+    let done = rebuild_as(rt, &mut new, options, errors);
+    ended(rt, new, done)
+}
+
+// The same with the new file that replaces the older one.
+fn rebuild_as<R: Files + AllocGlobal + Clock, E: Write>(
+    rt: &R,
+    new: &mut NewFile<R::File>,
+    options: RebuildOptions,
+    errors: &mut E,
+) -> Result<Status, Failure>
+where
+    R::File: AsFd,
+{
+    let bytes = read_file(rt, new.path())?;
     let bytes = rebuilt(rt, bytes, options, errors)?;
-    replace_file(rt, &target, bytes.as_slice())?;
+    replace_file(rt, new, bytes.as_slice())?;
     Ok(Status::Done)
 }
 

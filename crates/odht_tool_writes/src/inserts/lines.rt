@@ -9,13 +9,13 @@ ghost use Rattle.odht_tool_writes.specs.Inserted.{IsLineRefused, IsLineTaken};
 use crate::inserts::{BATCH, Inserts, fill, report, report_all, told, with_line};
 use odht_tool_core::arguments::{BuildOptions, Duplicates, is_stream};
 use odht_tool_core::failure::Failure;
-use odht_tool_core::files::replace_file;
 use odht_tool_core::forms::Forms;
 use odht_tool_core::line_messages::repeated_message;
 use odht_tool_core::lines::read_pair_as;
+use odht_tool_core::new_file::{NewFile, ended, make_new, replace_file};
 use odht_tool_core::progress::{Progress, Watch};
 use odht_tool_core::status::{Status, of_output};
-use odht_tool_core::targets::Target;
+use odht_tool_core::targets::{Allowed, Target};
 use odht_tool_core::text::Text;
 use std::alloc::Global;
 use std::io::{BufRead, Write};
@@ -24,32 +24,42 @@ use std::rt::{Clock, Files};
 
 /// Where a table goes.
 #[derive(Drop)]
-pub enum Place {
+pub enum Place<F: Drop> {
     /// It is not stored.
     Nowhere,
     /// To standard output.
     Output,
-    /// It is stored as this file.
-    File(Target),
+    /// It is stored by this new file.
+    File(NewFile<F>),
 }
 
-impl Place {
-    /// The place that the name of a file stands for, as [`Target::find_place`] finds it. With
-    /// `--check-only` it is not looked at.
-    pub fn find<R: Files + AllocGlobal>(
-        rt: &R,
-        file: &str,
-        is_check: bool,
-        breaks_links: bool,
-    ) -> Result<Place, Failure> {
-        if is_check {
-            Ok(Place::Nowhere)
-        } else if is_stream(file) {
-            Ok(Place::Output)
-        } else {
-            let target = Target::find_place(rt, file, breaks_links)?;
-            Ok(Place::File(target))
-        }
+/// The place that the name of a file stands for. With `--check-only` it is not looked at. The
+/// caller hands it to [`left`], whether or not it fails later.
+pub fn place_of<R: Files + AllocGlobal>(
+    rt: &R,
+    file: &str,
+    is_check: bool,
+    allowed: Allowed,
+) -> Result<Place<R::File>, Failure> {
+    if is_check {
+        Ok(Place::Nowhere)
+    } else if is_stream(file) {
+        Ok(Place::Output)
+    } else {
+        let target = Target::find(rt, file, allowed)?;
+        Ok(Place::File(make_new(rt, target)?))
+    }
+}
+
+/// How a command ends that did this with its place. A new file that replaced nothing is removed.
+pub fn left<R: Files>(
+    rt: &R,
+    place: Place<R::File>,
+    done: Result<Status, Failure>,
+) -> Result<Status, Failure> {
+    match place {
+        Place::File(new) => ended(rt, new, done),
+        Place::Nowhere | Place::Output => done,
     }
 }
 
@@ -71,7 +81,7 @@ pub fn insert_lines<
     E: Write,
 >(
     rt: &R,
-    place: Place,
+    place: &mut Place<R::File>,
     mut table: T,
     forms: F,
     options: BuildOptions,
@@ -91,8 +101,8 @@ where
     match place {
         Place::Nowhere => Ok(Status::Done),
         Place::Output => of_output(output.write_all(table.all_bytes())),
-        Place::File(target) => {
-            replace_file(rt, &target, table.all_bytes())?;
+        Place::File(new) => {
+            replace_file(rt, new, table.all_bytes())?;
             Ok(Status::Done)
         }
     }

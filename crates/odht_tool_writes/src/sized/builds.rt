@@ -21,10 +21,10 @@ use odht_tool_core::any::OtherShape;
 use odht_tool_core::arguments::BuildOptions;
 use odht_tool_core::failure::Failure;
 use odht_tool_core::forms::{GivenForms, LineForms};
+use odht_tool_core::new_file::NewFile;
 use odht_tool_core::progress::Watch;
 use odht_tool_core::shapes::Hash;
 use odht_tool_core::status::Status;
-use odht_tool_core::targets::Target;
 use odht_tool_tables::sized::{check_lengths, lengths_of};
 use std::alloc::Global;
 use std::io::{BufRead, Write};
@@ -34,7 +34,7 @@ use std::rt::{Clock, Files};
 /// `odht build` of a table of a shape.
 pub fn build_other<R: Files + AllocGlobal + Clock, I: BufRead, O: Write, E: Write>(
     rt: &R,
-    file: &str,
+    place: &mut Place<R::File>,
     shape: OtherShape,
     options: BuildOptions,
     input: &mut I,
@@ -48,10 +48,10 @@ where
     let forms = line_forms(shape, options.forms, options.delimiter);
     match shape.hash {
         Hash::Fx => build_lengths::<FxHashFn, R, I, O, E>(
-            rt, file, layout, forms, options, input, output, errors,
+            rt, place, layout, forms, options, input, output, errors,
         ),
         Hash::Unhash => build_lengths::<UnHashFn, R, I, O, E>(
-            rt, file, layout, forms, options, input, output, errors,
+            rt, place, layout, forms, options, input, output, errors,
         ),
     }
 }
@@ -69,7 +69,7 @@ fn line_forms(shape: OtherShape, forms: GivenForms, delimiter: u8) -> LineForms
 
 fn build_lengths<H: HashFn, R: Files + AllocGlobal + Clock, I: BufRead, O: Write, E: Write>(
     rt: &R,
-    file: &str,
+    place: &mut Place<R::File>,
     layout: Layout,
     forms: LineForms,
     options: BuildOptions,
@@ -82,13 +82,11 @@ where
 {
     let (duplicates, is_check) = (options.duplicates, options.is_check);
     let (capacity, percent, watch) = (options.capacity, options.percent, options.watch);
-    let breaks_links = options.breaks_links;
     if makes_no_table(duplicates, is_check) {
         return check_lines::<ShortBytes, ShortBytes, LineForms, R, I, E>(
             rt, forms, watch, input, errors,
         );
     }
-    let place = Place::find(rt, file, is_check, breaks_links)?;
     let table = make_lengths::<H>(rt.alloc(), layout, capacity, percent)?;
     insert_lines(rt, place, table, forms, options, input, output, errors)
 }
@@ -119,7 +117,7 @@ pub fn make_lengths<H: HashFn>(
 /// `odht put` of bytes of a shape.
 pub fn put_other<R: Files + AllocGlobal + Clock, I: BufRead, E: Write>(
     rt: &R,
-    target: Target,
+    new: &mut NewFile<R::File>,
     shape: OtherShape,
     forms: GivenForms,
     bytes: Vec<u8>,
@@ -135,10 +133,10 @@ where
     let (layout, forms) = (lengths_of(shape.key, shape.value), forms.of(shape));
     match shape.hash {
         Hash::Fx => put_lengths::<FxHashFn, R, I, E>(
-            rt, target, layout, forms, bytes, bound, watch, input, errors,
+            rt, new, layout, forms, bytes, bound, watch, input, errors,
         ),
         Hash::Unhash => put_lengths::<UnHashFn, R, I, E>(
-            rt, target, layout, forms, bytes, bound, watch, input, errors,
+            rt, new, layout, forms, bytes, bound, watch, input, errors,
         ),
     }
 }
@@ -146,7 +144,7 @@ where
 // The bytes are freed once the table has a copy.
 fn put_lengths<H: HashFn, R: Files + AllocGlobal + Clock, I: BufRead, E: Write>(
     rt: &R,
-    target: Target,
+    new: &mut NewFile<R::File>,
     layout: Layout,
     forms: GivenForms,
     bytes: Vec<u8>,
@@ -160,7 +158,7 @@ where
     requires { H.MIN_LEN ≤ layout.key_len }
 {
     let table = copy_lengths::<H>(rt.alloc(), layout, bytes, bound)?;
-    insert_into_file(rt, target, table, forms, watch, input, errors)
+    insert_into_file(rt, new, table, forms, watch, input, errors)
 }
 
 fn copy_lengths<H: HashFn>(

@@ -30,6 +30,7 @@ pub mod line_messages;
 pub mod lines;
 pub mod misread;
 mod near;
+pub mod new_file;
 mod numbers;
 mod obstacles;
 pub mod places;

@@ -6,6 +6,7 @@ use crate::erased::core::forms::{GivenForms, Kinds};
 use crate::erased::core::progress::Watch;
 use crate::erased::core::shapes::Hash;
 use crate::erased::core::status::Status;
+use crate::erased::core::targets::Allowed;
 use crate::host::prelude::*;
 use crate::proved::base::load::Percent;
 use crate::shim::Global;
@@ -36,7 +37,7 @@ pub struct BuildOptions {
     /// For how many items room is made at first.
     pub capacity: usize,
     pub percent: Percent,
-    pub breaks_links: bool,
+    pub allowed: Allowed,
     /// Whether lines of progress are requested.
     pub watch: Watch,
 }
@@ -88,7 +89,7 @@ pub struct MergeOptions {
     pub percent: Percent,
     /// The bound of searches, in groups, by which the files are checked; none with `--whole`.
     pub bound: Option<usize>,
-    pub breaks_links: bool,
+    pub allowed: Allowed,
     pub has_progress: bool,
 }
 

@@ -22,6 +22,14 @@ pub fn table_at(bytes: &[u8], offset: usize) -> Result<&[u8], Failure> {
     }
 }
 
+/// Whether these bytes begin with the header of a table, whatever comes after it.
+pub fn begins_table(bytes: &[u8]) -> bool {
+    match front_of(bytes) {
+        Ok(_) | Err(Error::WrongLength { .. }) => true,
+        Err(_) => false,
+    }
+}
+
 /// The table that these bytes begin with. The errors are those of opening by the header, but
 /// `WrongLength` only where there are fewer bytes than the header says.
 pub fn front_of(bytes: &[u8]) -> Result<&[u8], Error> {

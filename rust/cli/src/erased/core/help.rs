@@ -259,14 +259,15 @@ const BUILD: &str = "\
 odht build FILE --key SHAPE --value SHAPE [--duplicates last|first|error]
                 [--delimiter C] [--check-only] [--hash fx|unhash]
                 [--percent P] [--capacity N] [--progress] [--break-links]
+                [--force]
     Makes a table of the lines of standard input, KEY, a tab and VALUE, and stores
     it as FILE, in the place of an older one, which stays where something fails;
     with - as FILE it goes to standard output. The last line of a key wins, unless
     --duplicates says otherwise; an empty last line that is no pair is left out.
     Owner, group, permissions and symbolic links of an older file are kept; one with
-    hard links is not replaced without --break-links. Keys and values may have other
-    sizes than the ready shapes, of any SHAPE; the hash function is fx then, or
-    --hash.
+    hard links is not replaced without --break-links, and one that is no table, and
+    not empty, not without --force. Keys and values may have other sizes than the
+    ready shapes, of any SHAPE; the hash function is fx then, or --hash.
     SHAPE          u32, u64, none (no bytes), hexN or bytes:N (2 N digits);
                    i32 and i64 with a sign; u32be and u64be, the highest byte first;
                    text:N, a text of at most N bytes, with zeros behind it
@@ -279,6 +280,7 @@ odht build FILE --key SHAPE --value SHAPE [--duplicates last|first|error]
     --capacity     the number of items for which room is made at first, else 12
     --progress     a line on standard error each second; the last one has the totals
     --break-links  replaces this name of a file; its other names keep the old one
+    --force        replaces a file that is no table, whose bytes are lost
 ";
 
 const PUT: &str = "\
@@ -340,15 +342,17 @@ const MERGE: &str = "\
 odht merge FILE INPUT.. [--duplicates last|first|error] [--key SHAPE]
                         [--value SHAPE] [--whole] [--hash fx|unhash]
                         [--percent P] [--progress] [--break-links]
+                        [--force]
     Makes a new table for as many items as all INPUT have, inserts their pairs, file
     after file and each in slot order, and stores it as FILE, in the place of an
     older one, which stays where something fails; with - as FILE it goes to standard
-    output. FILE may be an INPUT too. All have the key and value sizes of the first,
-    whose hash function the new table has. Each is checked before, as by `odht
-    check`; --whole is as there. The hash function is the one that all control bytes
-    fit, unless --hash names that of all files. Owner, group, permissions and
-    symbolic links of FILE are kept; one with hard links is not replaced without
-    --break-links.
+    output. What an older FILE has is not kept, unless FILE is an INPUT too. All
+    have the key and value sizes of the first, whose hash function the new table
+    has. Each is checked before, as by `odht check`; --whole is as there. The hash
+    function is the one that all control bytes fit, unless --hash names that of all
+    files. Owner, group, permissions and symbolic links of FILE are kept; one with
+    hard links is not replaced without --break-links, and one that is no table, and
+    not empty, not without --force.
     --duplicates   which file's pair of a key counts: last, first, or error: a key
                    that an earlier file has is a failure; else last
     --key, --value the types and texts of the first INPUT, as in `odht build`; where
@@ -356,5 +360,6 @@ odht merge FILE INPUT.. [--duplicates last|first|error] [--key SHAPE]
     --percent      the load factor of the new table, 1 to 100, else 87
     --progress     a line on standard error each second; the last one has the totals
     --break-links  replaces this name of a file; its other names keep the old one
+    --force        replaces a file that is no table, whose bytes are lost
 ";
 // end texts

@@ -1,12 +1,14 @@
 // Made by `make rust` of crates/odht_tool_core/src/targets.rt.
 //! The file that a new one is to replace: where it is, and what it has that the new one keeps.
 use crate::erased::core::failure::Failure;
+use crate::erased::core::front::begins_table;
 use crate::erased::core::obstacles::{kept_mode, obstacle_of};
-use crate::host::fs::{self, Metadata, OpenFile, Permissions};
+use crate::host::fs::{self, Metadata, OpenFile, OpenOptions, Permissions};
 use crate::host::prelude::*;
 use crate::host::rt::Files;
+use crate::proved::header::header::HEADER_SIZE;
 use crate::shim::Global;
-use std::io::{self, ErrorKind};
+use std::io::{self, ErrorKind, Read};
 use std::os::fd::AsFd;
 use std::os::unix::fs::{fchown, MetadataExt, PermissionsExt};
 
@@ -18,7 +20,16 @@ pub struct Target {
     // The name at which the links end.
     path: String,
     kept: Option<Kept>,
-    breaks_links: bool,
+    allowed: Allowed,
+}
+
+/// Which files a command replaces.
+#[derive(Clone, Copy)]
+pub struct Allowed {
+    /// One that has other names, which keep the old file.
+    pub breaks_links: bool,
+    /// One that is no table.
+    pub any_content: bool,
 }
 
 /// What a new file keeps of the one that it replaces.
@@ -29,22 +40,29 @@ pub(crate) struct Kept {
     group: u32,
 }
 
+impl Allowed {
+    /// One that has no other names, and is a table.
+    pub fn new() -> Allowed {
+        Allowed { breaks_links: false, any_content: false }
+    }
+}
+
 impl Target {
-    /// Follows the links of the name. No file is opened.
+    /// Follows the links of the name, and looks whether a new file may replace what is there.
     ///
     /// It fails with [`Failure::Obstacle`] where what is there is not a regular file, where its
-    /// owner may not write it, and where it has other names, unless `breaks_links`; with
-    /// [`Failure::Beside`] where a file has the name that the new one has until it is stored; with
-    /// [`Failure::Write`] where the system does not follow the links, or the file has no name
-    /// where they end; and without memory.
+    /// owner may not write it, and where it has other names, unless that is allowed; with
+    /// [`Failure::Write`] where the caller may not write it, where the system does not follow the
+    /// links, or the file has no name where they end; with [`Failure::NoTable`] where it is no
+    /// table by its header, and not empty, unless that is allowed; and without memory.
     pub fn find<R: Files + AllocGlobal>(
         rt: &R,
         path: &str,
-        breaks_links: bool,
+        allowed: Allowed,
     ) -> Result<Target, Failure> {
         let there = if_there(fs::metadata(rt, path)).map_err(Failure::Write)?;
         if let Some(file) = &there {
-            if let Some(obstacle) = obstacle_of(file.mode(), file.nlink(), breaks_links) {
+            if let Some(obstacle) = obstacle_of(file.mode(), file.nlink(), allowed.breaks_links) {
                 return Err(Failure::Obstacle(obstacle));
             }
         }
@@ -55,25 +73,27 @@ impl Target {
                 io::Error::other("no name of the file is known, or it was replaced just now");
             return Err(Failure::Write(error));
         }
-        check_beside(rt, path.as_str())?;
+        if there.is_some() {
+            check_content(rt, path.as_str(), allowed)?;
+        }
         let kept = there.as_ref().map(Kept::of);
-        Ok(Target { path, kept, breaks_links })
+        Ok(Target { path, kept, allowed })
     }
 
-    /// The same of a file that need not be there. [`Failure::Write`] too where its folder is not.
-    pub fn find_place<R: Files + AllocGlobal>(
+    /// The same of a file that the command reads before it replaces it. [`Failure::Read`] where no
+    /// file is there.
+    pub fn find_table<R: Files + AllocGlobal>(
         rt: &R,
         path: &str,
         breaks_links: bool,
     ) -> Result<Target, Failure> {
-        let target = Target::find(rt, path, breaks_links)?;
-        match target.path().rsplit_once('/') {
-            Some((folder, _)) if !folder.is_empty() => {
-                fs::metadata(rt, folder).map_err(Failure::Write)?;
-                Ok(target)
-            }
-            _ => Ok(target),
+        // What it reads is checked to be a table.
+        let allowed = Allowed { breaks_links, any_content: true };
+        let target = Target::find(rt, path, allowed)?;
+        if target.kept.is_none() {
+            fs::metadata(rt, path).map_err(Failure::Read)?;
         }
+        Ok(target)
     }
 
     /// The name at which the links end.
@@ -81,17 +101,16 @@ impl Target {
         self.path.as_str()
     }
 
-    /// The same found anew, since another run may have changed it. What is kept of a file that is
-    /// no longer there is what was kept before.
-    pub(crate) fn again<R: Files + AllocGlobal>(&self, rt: &R) -> Result<Target, Failure> {
-        let mut target = Target::find(rt, self.path(), self.breaks_links)?;
-        target.kept = target.kept.or(self.kept);
-        Ok(target)
-    }
-
     /// What a new file keeps, where it replaces one.
     pub(crate) fn kept(&self) -> Option<Kept> {
         self.kept
+    }
+
+    /// The same as it is now, since another program may have changed the file. What is kept of a
+    /// file that is no longer there is what was kept before.
+    pub(crate) fn kept_now<R: Files + AllocGlobal>(&self, rt: &R) -> Result<Option<Kept>, Failure> {
+        let target = Target::find(rt, self.path(), self.allowed)?;
+        Ok(target.kept.or(self.kept))
     }
 }
 
@@ -113,23 +132,46 @@ impl Kept {
     }
 }
 
+/// Gives the owner of a file alone the right to read and to write it.
+pub(crate) fn make_private<F: OpenFile>(file: &F) -> io::Result<()> {
+    file.set_permissions(Permissions::from_mode(0o600))
+}
+
 /// The name that the new file has until it is stored.
 pub(crate) fn beside(alloc: Global, path: &str) -> Result<String, Failure> {
     Ok(crate::host::texts::formatted(alloc, format_args!("{path}.new"))?)
 }
 
-// A failure where a file has this name.
-fn check_beside<R: Files + AllocGlobal>(rt: &R, path: &str) -> Result<(), Failure> {
-    let beside = beside(rt.alloc(), path)?;
-    match if_there(fs::symlink_metadata(rt, beside.as_str())) {
-        Ok(None) => Ok(()),
-        Ok(Some(_)) => Err(Failure::Beside(beside)),
-        Err(error) => Err(Failure::Write(error)),
+// A failure where the caller may not write the file, or it is no table and has to be one.
+fn check_content<R: Files>(rt: &R, path: &str, allowed: Allowed) -> Result<(), Failure> {
+    // That the folder may be written would be enough to replace the file. It is opened and not
+    // written.
+    OpenOptions::new().write(true).open(rt, path).map_err(Failure::Write)?;
+    if allowed.any_content || is_replaceable(rt, path).map_err(Failure::Read)? {
+        Ok(())
+    } else {
+        Err(Failure::NoTable)
     }
 }
 
-// None where there is no file of the name.
-fn if_there(found: io::Result<Metadata>) -> io::Result<Option<Metadata>> {
+// Whether a file is empty or begins with the header of a table. So is one that may not be read.
+fn is_replaceable<R: Files>(rt: &R, path: &str) -> io::Result<bool> {
+    let mut file = match fs::open(rt, path) {
+        Ok(file) => file,
+        Err(error) if error.kind() == ErrorKind::PermissionDenied => return Ok(true),
+        Err(error) => return Err(error),
+    };
+    let len = file.metadata()?.len();
+    if len < HEADER_SIZE as u64 {
+        return Ok(len == 0);
+    }
+    let mut header = [0; HEADER_SIZE];
+    file.read_exact(&mut header)?;
+    Ok(begins_table(&header))
+}
+
+/// None where there is no file of the name.
+pub(crate) fn if_there(found: io::Result<Metadata>) -> io::Result<Option<Metadata>> {
     match found {
         Ok(file) => Ok(Some(file)),
         Err(error) if error.kind() == ErrorKind::NotFound => Ok(None),
@@ -137,8 +179,8 @@ fn if_there(found: io::Result<Metadata>) -> io::Result<Option<Metadata>> {
     }
 }
 
-// Whether both are the same file, or neither is there.
-fn is_same(one: &Option<Metadata>, other: &Option<Metadata>) -> bool {
+/// Whether both are the same file, or neither is there.
+pub(crate) fn is_same(one: &Option<Metadata>, other: &Option<Metadata>) -> bool {
     match (one, other) {
         (Some(one), Some(other)) => one.dev() == other.dev() && one.ino() == other.ino(),
         (None, None) => true,

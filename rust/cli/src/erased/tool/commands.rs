@@ -2,10 +2,10 @@
 //! Runs the commands, each from its parsed words to the status of the program.
 use crate::erased::core::arguments::{parse, Command, Keys, Reading, Request};
 use crate::erased::core::failure::Failure;
-use crate::erased::core::files::read_file;
 use crate::erased::core::front::table_at;
 use crate::erased::core::help::{write_help, write_version};
 use crate::erased::core::inside::{first_inside, write_inside};
+use crate::erased::core::new_file::{ended, make_new};
 use crate::erased::core::status::{of_output, Status};
 use crate::erased::core::targets::Target;
 use crate::erased::reads::commands::diff;
@@ -92,19 +92,11 @@ where
         Command::Diff(options) => diff::diff(rt, file, options, input, output, errors),
         Command::Merge(options) => merge::merge(rt, file, options, input, output, errors),
         Command::Put { hash, kinds, bound, breaks_links, watch } => {
-            let target = Target::find(rt, file, breaks_links)?;
-            let bytes = read_file(rt, target.path())?;
-            build::put(
-                rt,
-                target,
-                bytes,
-                hash,
-                kinds,
-                bound,
-                watch.with_bar(rt, errors),
-                input,
-                errors,
-            )
+            let target = Target::find_table(rt, file, breaks_links)?;
+            let mut new = make_new(rt, target)?;
+            let watch = watch.with_bar(rt, errors);
+            let done = build::put(rt, &mut new, hash, kinds, bound, watch, input, errors);
+            ended(rt, new, done)
         }
     }
 }

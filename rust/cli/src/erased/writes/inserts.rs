@@ -2,13 +2,12 @@
 //! Pairs of lines that are inserted into a table, a batch at a time, and the file that it becomes.
 
 use crate::erased::core::failure::Failure;
-use crate::erased::core::files::replace_file;
 use crate::erased::core::forms::Forms;
 use crate::erased::core::line_messages::line_message;
 use crate::erased::core::lines::read_pair_as;
+use crate::erased::core::new_file::{replace_file, NewFile};
 use crate::erased::core::progress::{Progress, Taken, Watch};
 use crate::erased::core::status::Status;
-use crate::erased::core::targets::Target;
 use crate::erased::core::text::Text;
 use crate::host::prelude::*;
 use crate::host::rt::{Clock, Files};
@@ -44,7 +43,7 @@ pub trait Inserts {
     fn all_bytes(&self) -> &[u8];
 }
 
-/// Adds the lines to the table, and stores it as the file.
+/// Adds the lines to the table, and stores it by the new file.
 pub fn insert_into_file<
     T: Inserts,
     F: Forms,
@@ -53,7 +52,7 @@ pub fn insert_into_file<
     E: Write,
 >(
     rt: &R,
-    target: Target,
+    new: &mut NewFile<R::File>,
     mut table: T,
     forms: F,
     watch: Watch,
@@ -65,7 +64,7 @@ where
 {
     let progress = Progress::new(rt, watch);
     fill(rt, &mut table, progress, forms, input, errors)?;
-    replace_file(rt, &target, table.all_bytes())?;
+    replace_file(rt, new, table.all_bytes())?;
     Ok(Status::Done)
 }
 

@@ -11,6 +11,7 @@ use crate::erased::core::digits::parse_number;
 use crate::erased::core::forms::{GivenForms, Kind, Kinds};
 use crate::erased::core::progress::Watch;
 use crate::erased::core::shapes::Hash;
+use crate::erased::core::targets::Allowed;
 use crate::host::prelude::*;
 use crate::proved::base::load::Percent;
 use crate::proved::raw::memory_layout::DEFAULT_GROUPS;
@@ -38,7 +39,7 @@ pub(super) struct Draft {
     is_json: bool,
     is_whole: bool,
     is_check: bool,
-    breaks_links: bool,
+    allowed: Allowed,
     has_progress: bool,
 }
 
@@ -62,7 +63,7 @@ impl Draft {
             is_json: false,
             is_whole: false,
             is_check: false,
-            breaks_links: false,
+            allowed: Allowed::new(),
             has_progress: false,
         }
     }
@@ -113,7 +114,8 @@ impl Draft {
             Setting::Whole => self.is_whole = true,
             Setting::CheckOnly => self.is_check = true,
             Setting::Progress => self.has_progress = true,
-            Setting::BreakLinks => self.breaks_links = true,
+            Setting::BreakLinks => self.allowed.breaks_links = true,
+            Setting::Force => self.allowed.any_content = true,
             _ => {}
         }
     }
@@ -185,7 +187,7 @@ impl Draft {
                 hash: self.hash,
                 kinds: self.kinds,
                 bound: bound_of(self.is_whole),
-                breaks_links: self.breaks_links,
+                breaks_links: self.allowed.breaks_links,
                 watch: Watch::of(self.has_progress),
             }),
             Topic::Get => self.get(is_stream),
@@ -209,7 +211,7 @@ impl Draft {
             hash: self.hash,
             kinds: self.kinds,
             bound: bound_of(self.is_whole),
-            breaks_links: self.breaks_links,
+            breaks_links: self.allowed.breaks_links,
             has_progress: self.has_progress,
         }))
     }
@@ -220,7 +222,7 @@ impl Draft {
             percent: self.percent,
             hash: self.hash,
             bound: bound_of(self.is_whole),
-            breaks_links: self.breaks_links,
+            breaks_links: self.allowed.breaks_links,
             has_progress: self.has_progress,
         }
     }
@@ -315,7 +317,7 @@ impl Draft {
             kinds: self.kinds,
             percent: self.percent,
             bound: bound_of(self.is_whole),
-            breaks_links: self.breaks_links,
+            allowed: self.allowed,
             has_progress: self.has_progress,
         }))
     }
@@ -338,7 +340,7 @@ impl Draft {
             is_check: self.is_check,
             capacity: self.capacity,
             percent: self.percent,
-            breaks_links: self.breaks_links,
+            allowed: self.allowed,
             watch: Watch::of(self.has_progress),
         }))
     }

@@ -137,6 +137,7 @@ impl Topic {
                 Setting::Capacity,
                 Setting::Progress,
                 Setting::BreakLinks,
+                Setting::Force,
             ],
             Topic::Put => &[
                 Setting::Help,
@@ -173,6 +174,7 @@ impl Topic {
                 Setting::Percent,
                 Setting::Progress,
                 Setting::BreakLinks,
+                Setting::Force,
             ],
         }
     }
@@ -193,6 +195,7 @@ pub enum Setting {
     Whole,
     Progress,
     BreakLinks,
+    Force,
     CheckOnly,
     At,
     Hash,
@@ -228,6 +231,7 @@ impl Setting {
             Setting::Whole => "--whole",
             Setting::Progress => "--progress",
             Setting::BreakLinks => "--break-links",
+            Setting::Force => "--force",
             Setting::CheckOnly => "--check-only",
             Setting::At => "--at",
             Setting::Hash => "--hash",
@@ -249,6 +253,7 @@ impl Setting {
             | Setting::Whole
             | Setting::Progress
             | Setting::BreakLinks
+            | Setting::Force
             | Setting::CheckOnly => None,
             Setting::At | Setting::Capacity => Some("a number below 2^64"),
             Setting::Hash => Some("fx or unhash"),

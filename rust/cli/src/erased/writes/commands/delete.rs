@@ -4,9 +4,10 @@
 use crate::erased::core::any::{read_any, AnyShape};
 use crate::erased::core::arguments::{DeleteOptions, Keys};
 use crate::erased::core::failure::Failure;
-use crate::erased::core::files::{read_file, replace_file};
+use crate::erased::core::files::read_file;
 use crate::erased::core::forms::Form;
 use crate::erased::core::keys::{parse_keys, Word};
+use crate::erased::core::new_file::{ended, make_new, replace_file, NewFile};
 use crate::erased::core::progress::{Progress, Watch};
 use crate::erased::core::shapes::Hash;
 use crate::erased::core::status::Status;
@@ -36,10 +37,27 @@ pub fn delete<R: Files + AllocGlobal + Clock, I: BufRead, E: Write>(
 where
     R::File: AsFd,
 {
-    let target = Target::find(rt, file, options.breaks_links)?;
-    let bytes = read_file(rt, target.path())?;
+    let target = Target::find_table(rt, file, options.breaks_links)?;
+    let mut new = make_new(rt, target)?;
+    let done = delete_as(rt, file, &mut new, options, input, errors);
+    ended(rt, new, done)
+}
+
+// The same with the new file that replaces the older one.
+fn delete_as<R: Files + AllocGlobal + Clock, I: BufRead, E: Write>(
+    rt: &R,
+    file: &str,
+    new: &mut NewFile<R::File>,
+    options: &DeleteOptions,
+    input: &mut I,
+    errors: &mut E,
+) -> Result<Status, Failure>
+where
+    R::File: AsFd,
+{
+    let bytes = read_file(rt, new.path())?;
     let (bytes, status) = deleted_by(rt, file, bytes, options, input, errors)?;
-    replace_file(rt, &target, bytes.as_slice())?;
+    replace_file(rt, new, bytes.as_slice())?;
     Ok(status)
 }
 

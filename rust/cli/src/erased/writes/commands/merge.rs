@@ -4,9 +4,9 @@
 use crate::erased::core::any::AnyShape;
 use crate::erased::core::arguments::{is_stream, MergeOptions};
 use crate::erased::core::failure::Failure;
-use crate::erased::core::files::replace_file;
 use crate::erased::core::forms::{GivenForms, Kinds};
 use crate::erased::core::keys::write_repeated;
+use crate::erased::core::new_file::{ended, make_new, replace_file, NewFile};
 use crate::erased::core::progress::{Progress, Watch};
 use crate::erased::core::shapes::Hash;
 use crate::erased::core::status::{of_output, Status};
@@ -42,10 +42,26 @@ where
             None => Ok(Status::NotDone),
         };
     }
-    let target = Target::find_place(rt, file, options.breaks_links)?;
-    match merged_files(rt, &options, input, errors)? {
+    let target = Target::find(rt, file, options.allowed)?;
+    let mut new = make_new(rt, target)?;
+    let done = merge_as(rt, &mut new, &options, input, errors);
+    ended(rt, new, done)
+}
+
+// The same with the new file that becomes this file.
+fn merge_as<R: Files + AllocGlobal + Clock, I: BufRead, E: Write>(
+    rt: &R,
+    new: &mut NewFile<R::File>,
+    options: &MergeOptions,
+    input: &mut I,
+    errors: &mut E,
+) -> Result<Status, Failure>
+where
+    R::File: AsFd,
+{
+    match merged_files(rt, options, input, errors)? {
         Some(bytes) => {
-            replace_file(rt, &target, bytes.as_slice())?;
+            replace_file(rt, new, bytes.as_slice())?;
             Ok(Status::Done)
         }
         None => Ok(Status::NotDone),

@@ -4,8 +4,9 @@
 use crate::erased::core::any::{named_any, AnyShape};
 use crate::erased::core::arguments::RebuildOptions;
 use crate::erased::core::failure::Failure;
-use crate::erased::core::files::{read_file, replace_file};
+use crate::erased::core::files::read_file;
 use crate::erased::core::found::found_any;
+use crate::erased::core::new_file::{ended, make_new, replace_file, NewFile};
 use crate::erased::core::progress::{Progress, Watch};
 use crate::erased::core::shapes::Hash;
 use crate::erased::core::status::Status;
@@ -37,10 +38,25 @@ pub fn rebuild<R: Files + AllocGlobal + Clock, E: Write>(
 where
     R::File: AsFd,
 {
-    let target = Target::find(rt, file, options.breaks_links)?;
-    let bytes = read_file(rt, target.path())?;
+    let target = Target::find_table(rt, file, options.breaks_links)?;
+    let mut new = make_new(rt, target)?;
+    let done = rebuild_as(rt, &mut new, options, errors);
+    ended(rt, new, done)
+}
+
+// The same with the new file that replaces the older one.
+fn rebuild_as<R: Files + AllocGlobal + Clock, E: Write>(
+    rt: &R,
+    new: &mut NewFile<R::File>,
+    options: RebuildOptions,
+    errors: &mut E,
+) -> Result<Status, Failure>
+where
+    R::File: AsFd,
+{
+    let bytes = read_file(rt, new.path())?;
     let bytes = rebuilt(rt, bytes, options, errors)?;
-    replace_file(rt, &target, bytes.as_slice())?;
+    replace_file(rt, new, bytes.as_slice())?;
     Ok(Status::Done)
 }
 

@@ -4,13 +4,13 @@
 
 use crate::erased::core::arguments::{is_stream, BuildOptions, Duplicates};
 use crate::erased::core::failure::Failure;
-use crate::erased::core::files::replace_file;
 use crate::erased::core::forms::Forms;
 use crate::erased::core::line_messages::repeated_message;
 use crate::erased::core::lines::read_pair_as;
+use crate::erased::core::new_file::{ended, make_new, replace_file, NewFile};
 use crate::erased::core::progress::{Progress, Watch};
 use crate::erased::core::status::{of_output, Status};
-use crate::erased::core::targets::Target;
+use crate::erased::core::targets::{Allowed, Target};
 use crate::erased::core::text::Text;
 use crate::erased::writes::inserts::{fill, report, report_all, told, with_line, Inserts, BATCH};
 use crate::host::prelude::*;
@@ -20,32 +20,42 @@ use std::io::{BufRead, Write};
 use std::os::fd::AsFd;
 
 /// Where a table goes.
-pub enum Place {
+pub enum Place<F> {
     /// It is not stored.
     Nowhere,
     /// To standard output.
     Output,
-    /// It is stored as this file.
-    File(Target),
+    /// It is stored by this new file.
+    File(NewFile<F>),
 }
 
-impl Place {
-    /// The place that the name of a file stands for, as [`Target::find_place`] finds it. With
-    /// `--check-only` it is not looked at.
-    pub fn find<R: Files + AllocGlobal>(
-        rt: &R,
-        file: &str,
-        is_check: bool,
-        breaks_links: bool,
-    ) -> Result<Place, Failure> {
-        if is_check {
-            Ok(Place::Nowhere)
-        } else if is_stream(file) {
-            Ok(Place::Output)
-        } else {
-            let target = Target::find_place(rt, file, breaks_links)?;
-            Ok(Place::File(target))
-        }
+/// The place that the name of a file stands for. With `--check-only` it is not looked at. The
+/// caller hands it to [`left`], whether or not it fails later.
+pub fn place_of<R: Files + AllocGlobal>(
+    rt: &R,
+    file: &str,
+    is_check: bool,
+    allowed: Allowed,
+) -> Result<Place<R::File>, Failure> {
+    if is_check {
+        Ok(Place::Nowhere)
+    } else if is_stream(file) {
+        Ok(Place::Output)
+    } else {
+        let target = Target::find(rt, file, allowed)?;
+        Ok(Place::File(make_new(rt, target)?))
+    }
+}
+
+/// How a command ends that did this with its place. A new file that replaced nothing is removed.
+pub fn left<R: Files>(
+    rt: &R,
+    place: Place<R::File>,
+    done: Result<Status, Failure>,
+) -> Result<Status, Failure> {
+    match place {
+        Place::File(new) => ended(rt, new, done),
+        Place::Nowhere | Place::Output => done,
     }
 }
 
@@ -67,7 +77,7 @@ pub fn insert_lines<
     E: Write,
 >(
     rt: &R,
-    place: Place,
+    place: &mut Place<R::File>,
     mut table: T,
     forms: F,
     options: BuildOptions,
@@ -87,8 +97,8 @@ where
     match place {
         Place::Nowhere => Ok(Status::Done),
         Place::Output => of_output(output.write_all(table.all_bytes())),
-        Place::File(target) => {
-            replace_file(rt, &target, table.all_bytes())?;
+        Place::File(new) => {
+            replace_file(rt, new, table.all_bytes())?;
             Ok(Status::Done)
         }
     }

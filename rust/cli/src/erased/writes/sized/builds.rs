@@ -5,10 +5,10 @@ use crate::erased::core::any::OtherShape;
 use crate::erased::core::arguments::BuildOptions;
 use crate::erased::core::failure::Failure;
 use crate::erased::core::forms::{GivenForms, LineForms};
+use crate::erased::core::new_file::NewFile;
 use crate::erased::core::progress::Watch;
 use crate::erased::core::shapes::Hash;
 use crate::erased::core::status::Status;
-use crate::erased::core::targets::Target;
 use crate::erased::tables::sized::{check_lengths, lengths_of};
 use crate::erased::writes::inserts::insert_into_file;
 use crate::erased::writes::inserts::lines::{check_lines, insert_lines, makes_no_table, Place};
@@ -25,7 +25,7 @@ use std::os::fd::AsFd;
 /// `odht build` of a table of a shape.
 pub fn build_other<R: Files + AllocGlobal + Clock, I: BufRead, O: Write, E: Write>(
     rt: &R,
-    file: &str,
+    place: &mut Place<R::File>,
     shape: OtherShape,
     options: BuildOptions,
     input: &mut I,
@@ -39,10 +39,10 @@ where
     let forms = line_forms(shape, options.forms, options.delimiter);
     match shape.hash {
         Hash::Fx => build_lengths::<FxHashFn, R, I, O, E>(
-            rt, file, layout, forms, options, input, output, errors,
+            rt, place, layout, forms, options, input, output, errors,
         ),
         Hash::Unhash => build_lengths::<UnHashFn, R, I, O, E>(
-            rt, file, layout, forms, options, input, output, errors,
+            rt, place, layout, forms, options, input, output, errors,
         ),
     }
 }
@@ -54,7 +54,7 @@ fn line_forms(shape: OtherShape, forms: GivenForms, delimiter: u8) -> LineForms 
 
 fn build_lengths<H: HashFn, R: Files + AllocGlobal + Clock, I: BufRead, O: Write, E: Write>(
     rt: &R,
-    file: &str,
+    place: &mut Place<R::File>,
     layout: Layout,
     forms: LineForms,
     options: BuildOptions,
@@ -67,13 +67,11 @@ where
 {
     let (duplicates, is_check) = (options.duplicates, options.is_check);
     let (capacity, percent, watch) = (options.capacity, options.percent, options.watch);
-    let breaks_links = options.breaks_links;
     if makes_no_table(duplicates, is_check) {
         return check_lines::<ShortBytes, ShortBytes, LineForms, R, I, E>(
             rt, forms, watch, input, errors,
         );
     }
-    let place = Place::find(rt, file, is_check, breaks_links)?;
     let table = make_lengths::<H>(rt.alloc(), layout, capacity, percent)?;
     insert_lines(rt, place, table, forms, options, input, output, errors)
 }
@@ -99,7 +97,7 @@ pub fn make_lengths<H: HashFn>(
 /// `odht put` of bytes of a shape.
 pub fn put_other<R: Files + AllocGlobal + Clock, I: BufRead, E: Write>(
     rt: &R,
-    target: Target,
+    new: &mut NewFile<R::File>,
     shape: OtherShape,
     forms: GivenForms,
     bytes: Vec<u8>,
@@ -114,10 +112,10 @@ where
     let (layout, forms) = (lengths_of(shape.key, shape.value), forms.of(shape));
     match shape.hash {
         Hash::Fx => put_lengths::<FxHashFn, R, I, E>(
-            rt, target, layout, forms, bytes, bound, watch, input, errors,
+            rt, new, layout, forms, bytes, bound, watch, input, errors,
         ),
         Hash::Unhash => put_lengths::<UnHashFn, R, I, E>(
-            rt, target, layout, forms, bytes, bound, watch, input, errors,
+            rt, new, layout, forms, bytes, bound, watch, input, errors,
         ),
     }
 }
@@ -125,7 +123,7 @@ where
 // The bytes are freed once the table has a copy.
 fn put_lengths<H: HashFn, R: Files + AllocGlobal + Clock, I: BufRead, E: Write>(
     rt: &R,
-    target: Target,
+    new: &mut NewFile<R::File>,
     layout: Layout,
     forms: GivenForms,
     bytes: Vec<u8>,
@@ -138,7 +136,7 @@ where
     R::File: AsFd,
 {
     let table = copy_lengths::<H>(rt.alloc(), layout, bytes, bound)?;
-    insert_into_file(rt, target, table, forms, watch, input, errors)
+    insert_into_file(rt, new, table, forms, watch, input, errors)
 }
 
 fn copy_lengths<H: HashFn>(
