@@ -18,9 +18,9 @@ sys.path.insert(0, f"{TOP}/crates/odht_tool/data")
 import model
 import tables
 
-# the words of a shape, the lengths of its keys and values, and their texts
-SHAPES = [("u64", "u32", 8, 4, tables.number, tables.number),
-          ("hex3", "hex5", 3, 5, bytes.hex, bytes.hex)]
+# the words of a shape, the lengths of its keys and values, their texts, and the hash function where none is named
+SHAPES = [("u64", "u32", 8, 4, tables.number, tables.number, model.fx),
+          ("hex3", "hex5", 3, 5, bytes.hex, bytes.hex, model.xxh64)]
 COUNT = 2600
 # lines that repeat the key of another one, which is so far before them
 NEAR, FAR, FURTHER = 1, 1024, 2300
@@ -67,7 +67,7 @@ def image(shape, numbers, found, data):
 
 
 def computed(shape, numbers, found, data):
-    table = model.Table(shape[2], shape[3], model.fx, 87, 12)
+    table = model.Table(shape[2], shape[3], shape[6], 87, 12)
     for number in dict.fromkeys(numbers):
         table.put(key_bytes(shape, number), data[found[number]])
     return table.image()

@@ -22,7 +22,7 @@ ASKED = [
     (["cou"], ["count"], ["check"]),
     (["keys", "--"], ["--hash"], ["--slots"]),
     (["dump", "--sl"], ["--slots"], ["--whole"]),
-    (["get", "--hash", ""], ["fx", "unhash"], ["--at"]),
+    (["get", "--hash", ""], ["fx", "unhash", "xxh64"], ["--at"]),
     (["merge", "x", "--duplicates", ""], ["last", "first", "error"], ["--at"]),
     (["get", "x", "--key", ""], ["u32", "u64be", "hex", "text:"], ["none", "SHAPE"]),
     (["build", "x", "--value", "n"], ["none"], ["u32"]),
@@ -50,7 +50,7 @@ def fault_of_manual():
     status, printed = run("man", "--warnings", "-l", f"{PACKAGING}/odht.1", env={**os.environ, "MANWIDTH": "100"})
     wanted = ["ODHT(1)", "odht build FILE --key SHAPE --value SHAPE", "EXIT STATUS", "hex16  hex16  unhash"]
     # an option has a line of its own
-    wanted += ["\n       --key, --value\n", "\n       --break-links\n", "\n       SHAPE  u32, u64, none"]
+    wanted += ["\n       --key, --value\n", "\n       --break-links\n", "\n       SHAPE  u32,"]
     missing = [it for it in wanted if it not in printed]
     return f"status {status}, without {missing}" if status or missing or "warning:" in printed else None
 

@@ -47,7 +47,7 @@ def as_info(name, text, words):
     lines = text.decode().splitlines()
     said = {it[:14].strip(): it[14:] for it in lines if it[:14].strip() and not it.startswith("  ")}
     found = {"file": name, "at": None, **{key: int(said[it].split()[0]) for key, it in HEADINGS.items()}}
-    is_known = said["hash"] != "neither fx nor unhash"
+    is_known = said["hash"] != "none of fx, unhash and xxh64"
     found["hash"] = said["hash"] if is_known else None
     found["bound"] = None if "--whole" in words else 128
     counts = [re.match(r" +(\d+)\+? +(\d+)  ", it) for it in lines]
@@ -106,8 +106,10 @@ def field(name, text):
 
 
 READ = {"info": as_info, "check": as_check, "find": as_find, "dump": as_dump, "get": as_get}
-WORDS = [["info"], ["info", "--whole"], ["check"], ["check", "--whole"], ["check", "--hash=unhash"], ["find"],
-         ["find", "--whole"], ["dump"], ["dump", "--slots"], ["get"]]
+WORDS = [["info"], ["info", "--whole"], ["check"], ["check", "--whole"], ["check", "--hash=unhash"],
+         ["check", "--hash=xxh64"], ["find"], ["find", "--whole"], ["dump"], ["dump", "--slots"], ["get"]]
+# those that write keys and values
+LISTS = WORDS[-3:]
 TEXTS = ["--key=text:16", "--value=text:16"]
 
 
@@ -147,10 +149,10 @@ def files(program, room):
     for it in sorted(os.listdir(TABLES)):
         if it.endswith((".odht", ".bin")):
             with open(f"{TABLES}/{it}", "rb") as file:
-                yield it, file.read(), [[*words, *TEXTS] for words in WORDS[7:] if it.startswith("text16")]
+                yield it, file.read(), [[*words, *TEXTS] for words in LISTS if it.startswith("text16")]
     lines = b"".join(b"%s\t%s\n" % (it, PLAIN[at - 1]) for at, it in enumerate(PLAIN))
     built = subprocess.run([program, "build", "-", *TEXTS], input=lines, capture_output=True, cwd=room)
-    yield "plain texts", built.stdout, [[*words, *TEXTS] for words in WORDS[7:]]
+    yield "plain texts", built.stdout, [[*words, *TEXTS] for words in LISTS]
     yield "no table", b"no table, but longer than a header of thirty-two bytes", []
 
 

@@ -1,6 +1,6 @@
 #!/usr/bin/env python3
 """Runs a program `odht` on a table of each pair of types of each ready shape (shapes.txt): numbers as they are, with a sign
-and with the highest byte first, and bytes as digits and as texts.
+and with the highest byte first, and bytes as digits and as texts. Each is of the hash function of the shape, and of xxh64.
 
   tests/pairs.py PROGRAM
 
@@ -8,6 +8,7 @@ and with the highest byte first, and bytes as digits and as texts.
 lines of `order`, built again, are the same bytes and lines, and those of `dump` the same pairs. The last line counts the
 pairs of types.
 """
+import itertools
 import os
 import re
 import subprocess
@@ -18,7 +19,7 @@ TOP = os.path.dirname(os.path.dirname(os.path.realpath(__file__)))
 sys.path.insert(0, f"{TOP}/crates/odht_tool/data")
 import tables
 
-HASHES = {"fx": tables.fx, "unhash": tables.unhash}
+HASHES = {it.__name__: it for it in tables.HASHES}
 PAIRS = 20
 # how the bytes of each type are written: of a text without its zeros
 NUMBERS = {"u": tables.number, "i": tables.signed, "be": tables.high_first}
@@ -84,14 +85,20 @@ def fault_of(program, room, key, value, hash):
     return None
 
 
+def cases():
+    """Each pair of types of each ready shape, and the name of a hash function."""
+    for stored_key, stored_value, hash in shapes():
+        for key, value in itertools.product(forms(stored_key), forms(stored_value)):
+            yield key, value, hash
+            yield key, value, "xxh64"
+
+
 def main(program):
     program, faults, count = os.path.abspath(program), [], 0
-    for stored_key, stored_value, hash in shapes():
-        for key in forms(stored_key):
-            for value in forms(stored_value):
-                with tempfile.TemporaryDirectory() as room:
-                    fault, count = fault_of(program, room, key, value, hash), count + 1
-                    faults += [f"FAILED {key[0]} to {value[0]} by {hash}: {fault}"] if fault else []
+    for key, value, hash in cases():
+        with tempfile.TemporaryDirectory() as room:
+            fault, count = fault_of(program, room, key, value, hash), count + 1
+            faults += [f"FAILED {key[0]} to {value[0]} by {hash}: {fault}"] if fault else []
     print("".join(f"{it}\n" for it in faults), end="")
     print(f"{count - len(faults)} passed, {len(faults)} failed")
     return 1 if faults else 0

@@ -43,7 +43,8 @@ def typed():
         for value, value_size, value_text in TYPES:
             if key == "none" or (key_size, value_size) in READY:
                 continue
-            hash = tables.unhash if key_size >= 4 and value_size % 2 else tables.fx
+            hashes = tables.HASHES if key_size >= 4 else [tables.fx, tables.xxh64]
+            hash = hashes[value_size % len(hashes)]
             pairs = [(stored(key, key_size, at + 1), b"\0" * value_size if at == 4 else stored(value, value_size, at + 9))
                      for at in range(9)]
             case = tables.Case("x", "", key_size, value_size, hash, 87, 12, pairs, key_text, value_text)
@@ -79,6 +80,7 @@ def sizes():
         yield 12, size, tables.fx, 5, 5
         yield 3, size, tables.fx, 40, 12
         yield 0, size, tables.fx, 1, 1
+        yield size, size % 6, tables.xxh64, 9, 9
         if size >= 4:
             yield size, size % 7, tables.unhash, 9, 9
 

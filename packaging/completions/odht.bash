@@ -12,7 +12,7 @@ _odht() {
     case $before in
         help) COMPREPLY=($(compgen -W 'info check count get dump keys find order diff build put delete rebuild merge' -- "$word")); return;;
         --at) COMPREPLY=(); return;;
-        --hash) COMPREPLY=($(compgen -W 'fx unhash' -- "$word")); return;;
+        --hash) COMPREPLY=($(compgen -W 'fx unhash xxh64' -- "$word")); return;;
         --key) COMPREPLY=($(compgen -W 'u32 u64 i32 i64 u32be u64be hex text:' -- "$word")); return;;
         --value) COMPREPLY=($(compgen -W 'u32 u64 i32 i64 u32be u64be none hex text:' -- "$word")); return;;
         --duplicates) COMPREPLY=($(compgen -W 'last first error' -- "$word")); return;;

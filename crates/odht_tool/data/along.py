@@ -1,10 +1,11 @@
 """The tables and the cases of what `odht info` tells of how full a table is along its slots, of where it stands in a file,
-and of what may help where searches are long: tests/tool/tables/along.cases. Run by tables.py."""
+and of what helps where searches are long: tests/tool/tables/along.cases. Run by tables.py."""
+import functools
 import itertools
 import json
 import os
 
-from model import Table, fx, unhash
+from model import Table, fx, unhash, xxh64
 
 # docs/TOOL.md: the bound of searches, in groups, where `--whole` is not given, and what is long
 BOUND, LONG = 128, 24
@@ -22,20 +23,25 @@ def signs(table):
     return "".join("." if count == 0 else "9" if count == size else str(count * 8 // size + 1) for count in counts)
 
 
+@functools.lru_cache(maxsize=None)
 def longest_miss(table):
     return max(table.groups_to_free(home) for home in range(len(table.cells)))
 
 
+@functools.lru_cache(maxsize=None)
 def advice(table):
-    """What may help, in words and as options of `odht rebuild`, if searches for absent keys are long."""
+    """What helps, in words and as options of `odht rebuild`, if searches for absent keys are long: with which a rebuild has
+    none that is."""
     miss = longest_miss(table)
     if miss <= LONG:
         return None
     whole = " --whole" if miss > BOUND else ""
-    if table.count() * 100 // len(table.cells) > 50:
+    is_high = table.count() * 100 // len(table.cells) > 50
+    if is_high and longest_miss(rebuilt(table, "--percent 50")) <= LONG:
         return "a lower load", "--percent 50" + whole
-    other = "fx" if table.hash is unhash else "unhash"
-    return ("the other hash function", f"--hash {other}{whole}") if other == "fx" or table.key_size >= 4 else None
+    if table.hash is not xxh64 and longest_miss(rebuilt(table, "--hash xxh64")) <= LONG:
+        return "another hash function", "--hash xxh64" + whole
+    return None
 
 
 def advice_line(table, name):
@@ -53,7 +59,7 @@ def info_object(table, percent, name, bound, at=None):
         "file": name, "at": at, "key_bytes": table.key_size, "value_bytes": table.value_size, "header_bytes": 32,
         "all_bytes": len(table.image()), "items": table.count(), "slots": len(table.cells), "maximum": table.most(),
         "load_percent": table.count() * 100 // len(table.cells), "maximum_load_percent": percent,
-        "along_slots": stretches(table)[0], "hash": "fx" if table.hash is fx else "unhash", "bound": bound,
+        "along_slots": stretches(table)[0], "hash": table.hash.__name__, "bound": bound,
         "histogram": [sum(min(it, 64) == n for it in groups) for n in range(1, min(longest, 64) + 1)],
         "longest_hit": longest, "longest_miss": capped(longest_miss(table)), "may_help": told and told[1],
     }
@@ -80,7 +86,7 @@ def of_one_home(hash, slots, count, size=4):
 
 
 def tables():
-    """Each with its name, what it is, its load factor in percent, and whether something may help."""
+    """Each with its name, what it is, its load factor in percent, and what helps."""
     # of the 16 slots of stretch p, p modulo 17 are occupied: each count, beside others
     slots = [16 * p + i for p in range(64) for i in range(p % 17)]
     yield "stretches", "each count of occupied slots", 87, filled(unhash, 87, 1024, numbered(slots)), None
@@ -95,19 +101,27 @@ def tables():
     keys = of_one_home(unhash, 1024, 523)
     yield "long_over_half", "51 percent", 87, filled(unhash, 87, 1024, keys), "--percent 50"
     keys = of_one_home(unhash, 1024, 522, 8)
-    yield "long_unhash", "50 percent, by unhash", 87, filled(unhash, 87, 1024, keys), "--hash fx"
+    yield "long_unhash", "50 percent, by unhash", 87, filled(unhash, 87, 1024, keys), "--hash xxh64"
     keys = numbered([it << 32 for it in range(400)], 8)
-    yield "long_fx", "a low load, by fx", 87, filled(fx, 87, 1024, keys), "--hash unhash"
-    # unhash takes keys of four bytes, and no shorter ones
+    yield "long_fx", "a low load, by fx", 87, filled(fx, 87, 1024, keys), "--hash xxh64"
+    # xxh64 takes keys of any length
     keys = of_one_home(fx, 1024, 400, 4)
-    yield "long_four_bytes", "keys of four bytes", 87, filled(fx, 87, 1024, keys), "--hash unhash"
+    yield "long_four_bytes", "keys of four bytes", 87, filled(fx, 87, 1024, keys), "--hash xxh64"
     keys = of_one_home(fx, 1024, 400, 3)
-    yield "long_three_bytes", "keys of three bytes", 87, filled(fx, 87, 1024, keys), None
+    yield "long_three_bytes", "keys of three bytes", 87, filled(fx, 87, 1024, keys), "--hash xxh64"
+    # keys of one hash have one home at each load, so that a lower one does not help
+    keys = [(it << 32).to_bytes(8, "big") for it in range(400)]
+    yield "long_one_hash", "a high load, of one hash", 87, filled(unhash, 87, 512, keys), "--hash xxh64"
+    keys = of_one_home(xxh64, 512, 400)
+    yield "long_xxh64", "a low load, by xxh64", 87, filled(xxh64, 87, 1024, keys), None
+    keys = numbered(range(511))
+    yield "long_full", "all but one slot, by xxh64", 100, filled(xxh64, 100, 512, keys), "--percent 50"
 
 
+@functools.lru_cache(maxsize=None)
 def rebuilt(table, words):
     """The table that `odht rebuild` makes with these options."""
-    hash = {"--hash fx": fx, "--hash unhash": unhash}.get(words.replace(" --whole", ""), table.hash)
+    hash = xxh64 if "--hash xxh64" in words else table.hash
     new = Table(table.key_size, table.value_size, hash, 50 if "--percent" in words else 87, table.count())
     for key, value in filter(None, table.cells):
         new.put(key, value)
@@ -140,8 +154,7 @@ def text_of(here, info_text, block):
                  + block("stdout", info_text(table, percent, name="FILE")) + "\n")
         if told:
             new = rebuilt(table, told[1])
-            # by both functions keys of four bytes with one home have one home
-            assert advice(new) is None or name == "long_four_bytes", name
-            text += (f"== {name}: what may help\nargs: rebuild {file} {told[1]}\nbefore {file}: {held}\n"
+            assert longest_miss(new) <= LONG, name
+            text += (f"== {name}: what helps\nargs: rebuild {file} {told[1]}\nbefore {file}: {held}\n"
                      f"after {file}: {file_of(f'{name}_rebuilt', new.image())}\n\n")
     return text

@@ -4,7 +4,7 @@ writes the cases of them in tests/tool/tables, and the tables that they make.
 It shares no code with the programs. Run it anywhere: `python3 changes.py`."""
 import os
 
-from model import Table, fx, unhash
+from model import Table, fx, unhash, xxh64
 from tables import HERE, block, cases, head, le, write_test
 
 HEAD = head("changes.py")
@@ -34,7 +34,10 @@ def write_rebuilt_cases():
             ("empty", "--percent 1", fx, 1), ("no_pairs", "", fx, 87), ("no_pairs", "--hash unhash", unhash, 87),
             ("one_home", "--whole --hash fx", fx, 87), ("odd_sizes", "", fx, 87), ("words_12_5", "--percent 20", unhash, 20),
             ("words_12_5", "--hash fx", fx, 87), ("long_key", "--hash unhash", unhash, 87),
-            ("bytes16_set", "--hash fx", fx, 87), ("short_direct", "--hash fx --percent 100", fx, 100)]:
+            ("bytes16_set", "--hash fx", fx, 87), ("short_direct", "--hash fx --percent 100", fx, 100),
+            ("text16_u32", "", xxh64, 87), ("text16_u32", "--hash fx", fx, 87), ("u32_xxh64", "--hash unhash", unhash, 87),
+            ("u64_u32", "--hash xxh64", xxh64, 87), ("direct", "--hash xxh64 --percent 30", xxh64, 30),
+            ("odd_sizes", "--hash=xxh64", xxh64, 87), ("one_home", "--whole --hash xxh64", xxh64, 87)]:
         file = "_".join(["rebuilt", name, *(it.strip("-") for it in words.replace("=", " ").split())])
         with open(os.path.join(HERE, f"{file}.odht"), "wb") as out:
             out.write(rebuilt(made[name], hash, percent).image())
@@ -78,7 +81,9 @@ def write_deleted_cases():
             ("bytes16_set", "", 4, "00" * 16), ("bytes20_u64", "", 2, ""), ("bytes32_u64", "", 2, ""),
             ("bytes32_set", "", 1, ""), ("i64_i32", "", 2, "-3"), ("i32_u32be", "", 3, ""), ("u64be_i64", "", 2, "3"),
             ("text16_text16", "", 3, "no_value"), ("odd_sizes", "", 3, "ffffff"), ("empty_key", "", 1, ""),
-            ("words_12_5", "", 5, ""), ("long_key", "", 2, "ff" * 255), ("short_direct", "", 2, ""), ("empty", "", 1, "1")]:
+            ("words_12_5", "", 5, ""), ("long_key", "", 2, "ff" * 255), ("short_direct", "", 2, ""), ("empty", "", 1, "1"),
+            ("u64be_u32", "", 3, "7"), ("bytes16_xxh64", "", 2, ""), ("u32_xxh64", "--hash xxh64", 7, "1"),
+            ("odd_xxh64", "", 3, "")]:
         case, file = made[name], "_".join(["deleted", name, str(step)])
         keys = [key for key, _ in filter(None, case.table.cells) if " " not in case.key_text(key)][::step]
         with open(os.path.join(HERE, f"{file}.odht"), "wb") as out:
@@ -126,7 +131,9 @@ def write_merged_cases():
             ("bytes32_u64 bytes32_u64", "--percent 50", 50), ("bytes32_set", "", 87), ("text16_text16", "", 87),
             ("odd_sizes odd_sizes", "", 87), ("no_bytes no_bytes", "", 87), ("empty_key", "", 87), ("long_key", "", 87),
             ("words_12_5 words_12_5", "--percent 30", 30), ("long_direct", "", 87), ("short_direct", "", 87),
-            ("empty no_pairs", "", 87), ("empty " * 9 + "u64_u32", "", 87), ("no_pairs " * 5 + "one_pair " * 5, "", 87)]:
+            ("empty no_pairs", "", 87), ("empty " * 9 + "u64_u32", "", 87), ("no_pairs " * 5 + "one_pair " * 5, "", 87),
+            ("text16_u32 text16_u32", "", 87), ("u32_xxh64 u32_u32 direct", "--percent 50", 50),
+            ("u32_u32 u32_xxh64", "", 87)]:
         names = names.split()
         tables = [made[it].table for it in names]
         for duplicates in ["last", "first", "error"]:

@@ -49,6 +49,7 @@ COMPARED = [
     ("bytes16_set", "bytes16_less", ""), ("bytes16_less", "bytes16_set", ""), ("bytes16_set", "bytes16_set", ""),
     ("text16_text16", "text16_text16", ""), ("no_bytes", "no_bytes", ""), ("empty_key", "empty_key", ""),
     ("long_key", "long_key", ""), ("direct", "direct_back", " --hash unhash"), ("u32_u32", "direct_fx", " --hash=fx"),
+    ("text16_u32", "text16_u32", ""), ("u32_xxh64", "direct", ""), ("direct", "u32_xxh64", ""), ("u32_u32", "u32_xxh64", ""),
 ]
 
 

@@ -1,6 +1,5 @@
 """A reading of docs/FORMAT.md: a table with its bytes, and what commands have to tell of it. It shares no code with the
 programs."""
-import itertools
 import struct
 
 FREE = 255
@@ -23,6 +22,44 @@ def fx(key):
 
 def unhash(key):
     return int.from_bytes(key[-4:], "little")
+
+
+def xxh64(key):
+    """XXH64 with seed 0, by its published description; the low 32 bits."""
+    first, second, third, fourth, fifth = (
+        0x9E3779B185EBCA87, 0xC2B2AE3D27D4EB4F, 0x165667B19E3779F9, 0x85EBCA77C2B2AE63, 0x27D4EB2F165667C5)
+
+    def turned(number, bits):
+        return (number << bits | number >> (64 - bits)) % 2 ** 64
+
+    def mixed(state, lane):
+        return turned((state + lane * second) % 2 ** 64, 31) * first % 2 ** 64
+
+    def number(at, size):
+        return int.from_bytes(key[at:at + size], "little")
+
+    at, state = 0, fifth
+    if len(key) >= 32:
+        states = [(first + second) % 2 ** 64, second, 0, -first % 2 ** 64]
+        while len(key) - at >= 32:
+            states, at = [mixed(it, number(at + 8 * n, 8)) for n, it in enumerate(states)], at + 32
+        state = sum(turned(it, bits) for it, bits in zip(states, (1, 7, 12, 18))) % 2 ** 64
+        for it in states:
+            state = ((state ^ mixed(0, it)) * first + fourth) % 2 ** 64
+    state = (state + len(key)) % 2 ** 64
+    while len(key) - at >= 8:
+        state, at = (turned(state ^ mixed(0, number(at, 8)), 27) * first + fourth) % 2 ** 64, at + 8
+    if len(key) - at >= 4:
+        state, at = (turned(state ^ number(at, 4) * first % 2 ** 64, 23) * second + third) % 2 ** 64, at + 4
+    for byte in key[at:]:
+        state = turned(state ^ byte * fifth % 2 ** 64, 11) * first % 2 ** 64
+    state = (state ^ state >> 33) * second % 2 ** 64
+    state = (state ^ state >> 29) * third % 2 ** 64
+    return (state ^ state >> 32) % 2 ** 32
+
+
+# all hash functions, of which the first that fits a file is taken
+HASHES = [fx, unhash, xxh64]
 
 
 class Table:
@@ -78,15 +115,19 @@ class Table:
         """The slots as inserts may have filled them, in passes over the slots: each takes the slots that are ready, whose
         keys pass no slot that is not taken yet. None where no inserts make this table."""
         taken, order, more = set(), [], True
+        # of each slot that is not taken, the slots that its key passes; those before the first of them are taken
+        paths = {slot: (it for _, it in self.order(cell[0])) for slot, cell in enumerate(self.cells) if cell is not None}
+        waits_for = {slot: next(path) for slot, path in paths.items()}
         while more:
             more = False
-            for slot, cell in enumerate(self.cells):
-                if cell is not None and slot not in taken:
-                    before = itertools.takewhile(lambda it: it != slot, (it for _, it in self.order(cell[0])))
-                    if all(it in taken for it in before):
-                        taken.add(slot)
-                        order.append(slot)
-                        more = True
+            for slot in sorted(waits_for):
+                while waits_for[slot] != slot and waits_for[slot] in taken:
+                    waits_for[slot] = next(paths[slot])
+                if waits_for[slot] == slot:
+                    taken.add(slot)
+                    order.append(slot)
+                    del waits_for[slot]
+                    more = True
         return order if len(order) == self.count() else None
 
     def controls(self):

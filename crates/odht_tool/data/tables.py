@@ -5,7 +5,7 @@ It shares no code with the programs. Run it anywhere: `python3 tables.py`."""
 import os
 
 import along
-from model import Table, fx, unhash
+from model import HASHES, Table, fx, unhash, xxh64
 
 # docs/TOOL.md: the bound of searches, in groups, where `--whole` is not given, and what `check` then writes
 BOUND = 128
@@ -45,7 +45,7 @@ def info_text(table, percent, bound=BOUND, name="", at=None):
         ("all bytes", len(table.image())), ("items", table.count()), ("slots", len(table.cells)),
         ("maximum", table.most()), ("load", f"{table.count() * 100 // len(table.cells)} percent"),
         ("maximum load", f"{percent} percent"), ("along slots", along.signs(table)),
-        ("hash", "fx" if table.hash is fx else "unhash"),
+        ("hash", fits_word(table).split(",")[0]),
     ]
     text = "".join(f"{name:<14}{value}\n" for name, value in lines)
     text += "  groups         items\n"
@@ -86,7 +86,10 @@ def slots_text(table, key_text, value_text):
 
 
 def misfits(table, hash):
-    """The slots whose control byte is not the tag of their key by another hash function, with both numbers."""
+    """The slots whose control byte is not the tag of their key by another hash function, with both numbers. None where keys
+    are too short for it."""
+    if hash is unhash and table.key_size < 4:
+        return
     for slot, cell in enumerate(table.cells):
         if cell is not None and hash(cell[0]) >> 25 != table.hash(cell[0]) >> 25:
             yield slot, hash(cell[0]) >> 25, table.hash(cell[0]) >> 25
@@ -112,7 +115,7 @@ class Case:
         self.key_kind = self.kinds.split(" --value")[0]
         for key, value in pairs:
             self.table.put(key, value)
-        self.hash_words = " --hash unhash" if hash is unhash and (key_size == 4 or is_other) else ""
+        self.hash_words = f" --hash {hash.__name__}"
         self.percent, self.info = percent, info_text(self.table, percent, name=f"{name}.odht")
         self.key_text, self.value_text = key_text, value_text
         self.dump = dump_text(self.table, key_text, value_text)
@@ -131,17 +134,20 @@ class Case:
         return (f"== {title}\nargs: {args}\n{kind} {self.name}.odht: < crates/odht_tool/data/{self.name}.odht\n"
                 + block("stdin", stdin) + block("stdout", stdout) + "\n")
 
-    def rejected_text(self, other, other_name, name):
-        """The case of `check` under another hash function, which is that of the list where none is named."""
+    def rejected_text(self, other):
+        """The case of `check` under another hash function, which is named."""
         slot, expected, found = next(misfits(self.table, other))
         rule = f"Control byte does not match hash value for entry {slot}. Expected {expected}, found {found}.\n"
-        file = f"{self.name}.odht"
-        rule = f"{file}: {rule}"
-        hint = f"odht: {file}: all control bytes fit {name}: try --hash {name}, or `odht info`\n"
-        runs = [("check without --hash", f"check {file}", hint), ("check under another", f"check {file} --hash {other_name}", "")]
-        return "".join(
-            self.run_text(title, args, "", rule).rstrip("\n") + "\n" + block("stderr", errors) + "status: 1\n\n"
-            for title, args, errors in runs)
+        args = f"check {self.name}.odht --hash {other.__name__}"
+        ran = self.run_text(f"check under {other.__name__}", args, "", f"{self.name}.odht: {rule}")
+        return ran.rstrip("\n") + "\nstatus: 1\n\n"
+
+    def found_text(self):
+        """The case of `find`, with the hash functions that all control bytes fit."""
+        table = self.table
+        columns = [0, len(table.image()), table.key_size, table.value_size, table.count(), len(table.cells),
+                   table.count() * 100 // len(table.cells), fits_word(table), "valid"]
+        return self.run_text("find", f"find {self.name}.odht", "", "\t".join(str(it) for it in columns) + "\n")
 
     def ordered_text(self):
         """The case of `order`, and that what it writes makes the table."""
@@ -155,10 +161,11 @@ class Case:
         file, hash = f"{self.name}.odht", self.hash_words
         text = HEAD + self.run_text("info", f"info {file}", "", self.info)
         if self.words:
-            text += self.run_text("check", f"check {file}{hash}", "", f"{file}: {VALID}")
+            text += self.run_text("check", f"check {file}", "", f"{file}: {VALID}")
+            text += self.run_text("check --hash", f"check {file}{hash}", "", f"{file}: {VALID}")
             text += self.run_text("check --whole", f"check --whole {file}{hash}", "", f"{file}: valid\n")
-            if hash:
-                text += self.rejected_text(fx, "fx", "unhash")
+            text += "".join(self.rejected_text(it) for it in HASHES if any(misfits(self.table, it)))
+            text += self.found_text()
             text += self.run_text("dump", f"dump {file}{self.kinds}", "", self.dump)
             text += self.run_text("keys", f"keys {file}{self.key_kind}", "", self.key_lines)
             text += self.run_text("count", f"count {file}", "", f"{self.table.count()}\n")
@@ -240,16 +247,16 @@ def cases():
     yield Case("i32_u32be", "--key i32 --value u32be", 4, 4, fx, 87, 12,
                [(two(k, 4), le(n, 4)) for n, k in enumerate([-2 ** 31, -1, 0, 1, 2 ** 31 - 1])], signed, high_first,
                "--key i32 --value u32be")
-    yield Case("u64be_i64", "--key u64be --value i64", 8, 8, fx, 87, 12,
+    yield Case("u64be_i64", "--key u64be --value i64 --hash fx", 8, 8, fx, 87, 12,
                [(k.to_bytes(8, "big"), two(-k if k < 2 ** 63 else k - 2 ** 64, 8))
                 for k in [0, 1, 258, 2 ** 32, 2 ** 63, 2 ** 64 - 1]], high_first, signed, "--key u64be --value i64")
     # Texts with zeros behind them: of all bytes, of one, of none, and with spaces.
     words = [("no value", ""), ("a", "z"), ("sixteen bytes ok", "exactly sixteen!"), (" x ", "-1"), ("b/c", "0" * 15)]
-    yield Case("text16_text16", "--key text:16 --value text:16", 16, 16, unhash, 87, 12,
+    yield Case("text16_text16", "--key text:16 --value text:16 --hash unhash", 16, 16, unhash, 87, 12,
                [(k.encode().ljust(16, b"\0"), v.encode().ljust(16, b"\0")) for k, v in words], plain, plain,
                "--key text:16 --value text:16")
     # No ready shape has these sizes.
-    yield Case("odd_sizes", "--key hex3 --value bytes:5 --percent 60", 3, 5, fx, 60, 12,
+    yield Case("odd_sizes", "--key hex3 --value bytes:5 --hash fx --percent 60", 3, 5, fx, 60, 12,
                [(le(k * 77 % 2 ** 24, 3), le(k, 5)) for k in range(12)], bytes.hex, bytes.hex, is_other=True)
     for name, key_size, value_size, hash, count in [
             ("no_bytes", 0, 0, fx, 1), ("empty_key", 0, 255, fx, 1), ("long_key", 255, 1, fx, 9),
@@ -259,6 +266,34 @@ def cases():
                    [(spread(k + 1, key_size), spread(k + 99, value_size)) for k in range(count)], bytes.hex, bytes.hex,
                    is_other=True)
     yield Case("empty", "", 8, 4, fx, 87, 12, [])
+    yield from mixing_cases()
+
+
+def mixing_cases():
+    """Tables by xxh64: where no hash function is named that of texts, of `bytes:N`, of numbers whose highest byte comes first
+    and of few or many bytes; and where it is named."""
+    texts = [f"key {k}" for k in range(30)]
+    yield Case("text16_u32", "--key text:16 --value u32", 16, 4, xxh64, 87, 12,
+               [(k.encode().ljust(16, b"\0"), le(n * n, 4)) for n, k in enumerate(texts)], plain, number, "--key text:16")
+    # What text16_u32 is before its pairs are added, and after one and two.
+    for name, count in ("one_text", 1), ("two_texts", 2):
+        yield Case(name, "--key text:16 --value u32", 16, 4, xxh64, 87, 12,
+                   [(k.encode().ljust(16, b"\0"), le(n * n, 4)) for n, k in enumerate(texts[:count])], plain, number,
+                   "--key text:16")
+    yield Case("no_texts", "--key text:16 --value u32", 16, 4, xxh64, 87, 12, [], plain, number, "--key text:16")
+    yield Case("u64be_u32", "--key u64be --value u32", 8, 4, xxh64, 87, 12,
+               [(k.to_bytes(8, "big"), le(k % 2 ** 32, 4)) for k in [0, *range(1000, 1020), 2 ** 64 - 1]], high_first, number,
+               "--key u64be")
+    yield Case("bytes16_xxh64", "--key bytes:16 --value u64", 16, 8, xxh64, 87, 12,
+               [(spread(k + 1, 16), le(k << 33, 8)) for k in range(30)], bytes.hex)
+    yield Case("u32_xxh64", "--key u32 --value u32 --hash xxh64 --percent 95", 4, 4, xxh64, 95, 12,
+               [(le(4096 * k, 4), le(k, 4)) for k in range(40)])
+    for name, size in ("short_xxh64", 7), ("odd_xxh64", 33), ("long_xxh64_key", 255):
+        yield Case(name, f"--key hex{size} --value hex5", size, 5, xxh64, 87, 12,
+                   [(spread(k + 1, size), spread(k + 99, 5)) for k in range(20)], bytes.hex, bytes.hex, is_other=True)
+    for name, size in ("least_unhash", 8), ("most_unhash", 32):
+        yield Case(name, f"--key hex{size} --value hex5", size, 5, unhash, 87, 12,
+                   [(spread(k + 1, size), spread(k + 99, 5)) for k in range(20)], bytes.hex, bytes.hex, is_other=True)
 
 
 def wrong_tag():
@@ -284,9 +319,8 @@ def late_tag():
 
 def fits_word(table):
     """The hash functions that give all control bytes of a table."""
-    named = {"fx": fx, "unhash": unhash} if table.key_size >= 4 else {"fx": fx}
-    fitting = [name for name, hash in named.items() if not any(misfits(table, hash))]
-    return "both" if len(fitting) == 2 else fitting[0]
+    named = [it for it in HASHES if it is not unhash or table.key_size >= 4]
+    return ",".join(it.__name__ for it in named if not any(misfits(table, it)))
 
 
 def write_find_cases():
@@ -345,16 +379,39 @@ def write_bound_cases():
 
     text = HEAD + case("info", "info one_home.odht", made.info)
     text += case("info --whole", "info --whole one_home.odht", info_text(made.table, 87, None, "one_home.odht"))
-    text += case("check", "check one_home.odht --hash unhash", long).rstrip("\n") + "\nstatus: 1\n\n"
+    text += case("check", "check one_home.odht", long).rstrip("\n") + "\nstatus: 1\n\n"
     text += case("check --whole", "check one_home.odht --hash unhash --whole", "one_home.odht: valid\n")
     text += case("find", "find one_home.odht", f"{row}\tlong\n")
     text += case("find --whole", "find one_home.odht --whole", f"{row}\tvalid\n")
     text += case("get", "get one_home.odht 8450048", "8450048\t0\n")
     text += case("put", "put one_home.odht", "", "0\t0\n").rstrip("\n") + "\n" + failure
-    text += case("put --whole", "put one_home.odht --whole", "", "0\t0\n")
+    warned = "odht: one_home.odht: searches may read more than 128 groups, and `odht check` rejects it"
+    warned += ": try odht rebuild one_home.odht --hash xxh64 --whole\n"
+    words = "--key u32 --value u32 --hash unhash --capacity 2064"
+    text += made.run_text("build", f"build one_home.odht {words}", made.pairs, "", "after").rstrip("\n") + "\n" + block("stderr", warned) + "\n"
+    text += case("put --whole", "put one_home.odht --whole", "", "0\t0\n").rstrip("\n") + "\n" + block("stderr", warned) + "\n"
     text += case("order", "order one_home.odht", "").rstrip("\n") + "\n" + failure
     text += case("order --whole", "order one_home.odht --whole", made.order)
     write_test("tool/tables/one_home.cases", text)
+
+
+def write_two_fit_cases():
+    """A table of one key whose tag is the same by fx and unhash. It is in the first group of its search by unhash, and not in
+    that by fx, so `check` takes fx, rejects it, and says that unhash fits."""
+    key = next(it for it in (le(k, 4) for k in range(2 ** 20))
+               if fx(it) >> 25 == unhash(it) >> 25 and xxh64(it) >> 25 != fx(it) >> 25 and (unhash(it) - fx(it)) % 64 >= 16)
+    made = Case("two_fit", "", 4, 4, unhash, 87, 48, [(key, le(7, 4))])
+    assert len(made.table.cells) == 64 and fits_word(made.table) == "fx,unhash"
+    made.write_file()
+    slot = made.table.find(key)[1]
+    rule = f"two_fit.odht: Key in slot {slot} is not reachable by its search\n"
+    hint = "odht: two_fit.odht: all control bytes fit unhash: try --hash unhash, or `odht info`\n"
+    text = HEAD
+    for args, errors in ("check two_fit.odht", hint), ("check two_fit.odht --hash fx", ""):
+        text += made.run_text(args, args, "", rule).rstrip("\n") + "\n" + block("stderr", errors) + "status: 1\n\n"
+    text += made.run_text("check --hash unhash", "check two_fit.odht --hash unhash", "", f"two_fit.odht: {VALID}")
+    write_test("tool/tables/two_fit.cases", text)
+    return slot
 
 
 def write_unmade_cases():
@@ -394,5 +451,6 @@ if __name__ == "__main__":
     write_hex_case()
     write_find_cases()
     write_bound_cases()
+    write_two_fit_cases()
     write_test("tool/tables/along.cases", HEAD + along.text_of(HERE, info_text, block))
     write_unmade_cases()

@@ -10,7 +10,7 @@
 --     other_of p q h       the shape of keys of the type p and values of the type q, and of the hash function h; or the
 --                          failure that it needs longer keys
 --     any_of_sizes p q h   the first ready shape of the lengths of these types and of the hash function h, where one is named;
---                          else another of these types, of fx where none is named
+--                          else another of these types, of the default of such keys where none is named
 --     named_any B h        that of the lengths in the header of the bytes B; with an early error, since any will do, a ready one
 --     fitting_any k v T    the first ready shape that fits the parts T; else the shape of the first hash function that all
 --                          control bytes agree with; or the failure that there is none
@@ -20,18 +20,20 @@
 --                          lengths, and keys are long enough
 --     kind_of_size k p     what stored bytes of the type p are read as, of which k, or nothing, is said; none where k is of
 --                          another length
+--     with_ready_types o   the types o, but those of the first ready shape of their lengths, where there is one
 --     read_any B h ks      the shape that is found, with its forms, where ks is said of keys and values: a ready shape keeps
---                          its types, and another one has those of the same lengths that are said
+--                          its types, and another one has those of the same lengths that are said, or with_ready_types
+--     checked_any B h      the shape that is found; but where no hash function fits, the one that is named
 use Rattle.std.specs.Prelude.{ℕ, ⊤, ◌≤◌, List, ◌&&◌, ◌==◌, nat_lt, is_none, is_some, slice_index, Option, None, Some, Result, Ok, Err, if◌then◌else◌}
 use Rattle.std.specs.Bool.{then_some}
-use Rattle.std.specs.Option.{unwrap_or}
+use Rattle.std.specs.Option.{option_map_or, unwrap_or}
 use Rattle.odht_base.specs.Format.{Format, format_of}
 use Rattle.odht_header.specs.Coding.{Coding}
 use Rattle.odht_raw.specs.Sized.{bytes_coding}
-use Rattle.odht_tool_core.specs.FoundShapes.{has_items, fitting_shape}
+use Rattle.odht_tool_core.specs.FoundShapes.{has_items, fitting_shape, said_hash}
 use Rattle.odht_tool_core.specs.InfoNumbers.{SizedParts, sized_parts, least_key_len, found_hash}
 use Rattle.odht_tool_core.specs.ReadAs.{form_for}
-use Rattle.odht_tool_core.specs.ReadyShapes.{hash_of, shape_format, shape_of_parts, shape_of_sizes, typed_len, early_refusal}
+use Rattle.odht_tool_core.specs.ReadyShapes.{default_hash, hash_of, shape_format, shape_of_parts, shape_of_sizes, typed_len, early_refusal}
 use Rattle.odht_tool_core.specs.ShapeList.{key_part, value_part, shape_hash}
 use Rattle.odht_tool_core.specs.declared.any.AnyShape.{AnyShape}
 use Rattle.odht_tool_core.specs.declared.any.AnyShape.TheVariants.{Ready, Other}
@@ -44,7 +46,6 @@ use Rattle.odht_tool_core.specs.declared.forms.GivenForms.{GivenForms}
 use Rattle.odht_tool_core.specs.declared.forms.Kind.{Kind}
 use Rattle.odht_tool_core.specs.declared.forms.Kinds.{Kinds}
 use Rattle.odht_tool_core.specs.declared.shapes.Hash.{Hash}
-use Rattle.odht_tool_core.specs.declared.shapes.Hash.TheVariants.{Fx}
 use Rattle.odht_tool_core.specs.declared.shapes.Part.{Part}
 use Rattle.odht_tool_core.specs.declared.shapes.Part.TheVariants.{Bytes}
 use Rattle.odht_tool_core.specs.declared.shapes.ready.Shape.{Shape}
@@ -90,7 +91,7 @@ ready_or r None = r
 ready_or r (Some s) = Ok (Ready s)
 
 abbrev pub any_of_sizes : Part → Part → Option Hash → Result AnyShape Failure
-any_of_sizes p q h = ready_or (other_of p q (unwrap_or h Fx)) (shape_of_sizes (typed_len p) (typed_len q) h)
+any_of_sizes p q h = ready_or (other_of p q (unwrap_or h (default_hash p))) (shape_of_sizes (typed_len p) (typed_len q) h)
 
 abbrev pub named_any : List ℕ → Option Hash → Result AnyShape Failure
 named_any B h =
@@ -109,6 +110,13 @@ abbrev pub found_any : List ℕ → Option Hash → Result AnyShape Failure
 found_any B h =
     if is_none h && has_items B then fitting_any (slice_index B 5) (slice_index B 6) (sized_parts B)
     else named_any B h
+
+abbrev pub found_or : Result AnyShape Failure → Result AnyShape Failure → Result AnyShape Failure
+found_or (Err (NoHash k v)) named = named
+found_or found named = found
+
+abbrev pub checked_any : List ℕ → Option Hash → Result AnyShape Failure
+checked_any B h = found_or (found_any B h) (named_any B h)
 
 -- ---- that is named
 abbrev pub other_alone : Result AnyShape Failure → Option AnyShape
@@ -138,10 +146,20 @@ with_kinds o None v = Err (OtherKey o.key)
 with_kinds o (Some k) None = Err (OtherValue o.value)
 with_kinds o (Some k) (Some v) = Ok (Other (record { key = k.part; value = v.part; hash = o.hash }), record { key = k.form; value = v.form })
 
+abbrev pub with_ready_types : OtherShape → OtherShape
+with_ready_types o =
+    option_map_or
+    (λ (s : Shape). record { key = key_part s; value = value_part s; hash = o.hash })
+    (shape_of_sizes (typed_len o.key) (typed_len o.value) None)
+    o
+
+abbrev pub other_formed : Kinds → OtherShape → Result (AnyShape × GivenForms) Failure
+other_formed ks o = with_kinds o (kind_of_size ks.key o.key) (kind_of_size ks.value o.value)
+
 abbrev pub any_formed : Kinds → Result AnyShape Failure → Result (AnyShape × GivenForms) Failure
 any_formed ks (Ok (Ready s)) = with_ready_forms s (form_for ks.key (key_part s)) (form_for ks.value (value_part s))
-any_formed ks (Ok (Other o)) = with_kinds o (kind_of_size ks.key o.key) (kind_of_size ks.value o.value)
+any_formed ks (Ok (Other o)) = other_formed ks (with_ready_types o)
 any_formed ks (Err failure) = Err failure
 
 abbrev pub read_any : List ℕ → Option Hash → Kinds → Result (AnyShape × GivenForms) Failure
-read_any B h ks = any_formed ks (found_any B h)
+read_any B h ks = any_formed ks (found_any B (said_hash B h ks.hash))

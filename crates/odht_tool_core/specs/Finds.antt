@@ -9,7 +9,7 @@
 --     AreTables B p ts     the offsets ts are those of the tables in B from p on: the first of all, then those behind its end
 --     false_slots B p ts   how many slots the headers state in all that begin from p on, outside of the tables ts, and are
 --                          not those of tables
---     fits_word T          which hash functions all control bytes of T agree with
+--     fits_word T          which hash functions all control bytes of T agree with, with commas between their names
 --     row_text at B w      the line of the table B that begins at the offset `at`, where w is what the check says of it
 --     IsSeen B l           the look l at the bytes B tells what they begin with
 --     IsFindFailure B f    the failure f is that of memory; or that of forged headers, which state more slots than B has
@@ -24,7 +24,7 @@ use Rattle.odht_tool_core.specs.Fronts.{stated_len, front_refusal}
 use Rattle.odht_tool_core.specs.InfoNumbers.{SizedParts, sized_parts, info_refusal, occupied, agrees, found_hash}
 use Rattle.odht_tool_core.specs.declared.failure.Failure.{Failure}
 use Rattle.odht_tool_core.specs.declared.failure.Failure.TheVariants.{Memory, Forged, Output, Refused}
-use Rattle.odht_tool_core.specs.declared.shapes.Hash.TheVariants.{Fx, Unhash}
+use Rattle.odht_tool_core.specs.declared.shapes.Hash.TheVariants.{Fx, Unhash, Xxh64}
 use Rattle.odht_tool_core.specs.declared.find.Look.{Look}
 use Rattle.odht_tool_core.specs.declared.find.Look.TheVariants.{Table, False, Nothing}
 
@@ -91,9 +91,11 @@ IsRowFailure B _ = ⊥
 -- the line of the table B at the offset `at`, of which the check says `checked`
 abbrev pub fits_word : SizedParts → List ℕ
 fits_word T =
-    if agrees T Fx then (if agrees T Unhash then codes "both" else codes "fx")
-    else if agrees T Unhash then codes "unhash"
-    else codes "none"
+    if agrees T Fx then
+    (if agrees T Unhash then (if agrees T Xxh64 then codes "fx,unhash,xxh64" else codes "fx,unhash")
+    else (if agrees T Xxh64 then codes "fx,xxh64" else codes "fx"))
+    else (if agrees T Unhash then (if agrees T Xxh64 then codes "unhash,xxh64" else codes "unhash")
+    else (if agrees T Xxh64 then codes "xxh64" else codes "none"))
 
 abbrev pub row_text : ℕ → List ℕ → List ℕ → List ℕ
 row_text at B checked =

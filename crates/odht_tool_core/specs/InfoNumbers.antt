@@ -6,21 +6,23 @@
 --     info_refusal B       the error of opening by header and length for the header's sizes, if there is one
 --     least_key_len h      how many bytes the hash function h needs at least
 --     agrees T h           keys are long enough for h, and no control byte below 128 differs from the tag of its key
---     found_hash T         the first of fx and unhash that agrees
+--     found_hash T         the first of fx, unhash and xxh64 that agrees
 --     occupied_in T a n    those of the n slots from the slot a on that do not count as free, in slot order
 --     occupied T n         those of the first n slots
 --     group_numbers T h o n    of each of these, how many groups a search for its key reads, by the bound o
 --     found_groups T o     the same of all slots, by the hash function that agrees; nothing where none does
 --     longest_miss T o     how many groups the longest search for an absent key reads at most, by the bound o
+--     has_long_search T    some search for an absent key reads more than 24 groups, which is long: those seen of random keys
+--                          do not, in tables of up to 2 ^ 24 slots that are at most 87 percent full
 --     stretch_len s        how many slots a stretch has: a 64th of s slots, but at least one
 --     stretch_counts T     how many slots of each stretch are occupied; the stretches have all slots, in slot order
 --     tallies xs           how often each of the numbers 1 to 63 is in xs, and how many of xs are 64 or more
 --     largest xs           the largest of xs, or 0
 --     nearest_percent f    the percentage that the load factor f is nearest to
 --     IsHistogram xs h     h has the tallies of xs, and the largest
---     AreNumbers B o n     n are the numbers of B, those of groups by the bound o
+--     AreNumbers B o a n   n are the numbers of B, those of groups by the bound o, with the advice a
 --     IsInfoFailure B f    f is the error of opening, or out of memory where there is none
-use Rattle.std.specs.Prelude.{◌≡◌, ℕ, ◌+◌, ◌*◌, ◌/◌, min, max, Bool, not, ◌&&◌, nat_le, ◌==◌, List, [], ◌∷◌, length, map, filter, find, fold, count_by, slice_index, is_none, Option, Some, None}
+use Rattle.std.specs.Prelude.{◌≡◌, ℕ, ◌+◌, ◌*◌, ◌/◌, min, max, Bool, not, ◌&&◌, nat_le, nat_lt, ◌==◌, List, [], ◌∷◌, length, map, filter, find, fold, count_by, slice_index, is_none, Option, Some, None}
 use Rattle.std.specs.List.{range_with_len}
 use Rattle.std.specs.Option.{option_map_or}
 use Rattle.odht_base.specs.Decoded.{header_count, header_slots, header_factor, entries_of, controls_of, slot_key, counts_as_free}
@@ -29,13 +31,14 @@ use Rattle.odht_base.specs.Load.{max_items}
 use Rattle.odht_header.specs.Refusals.{first_slot, control_mismatch, opening_refusal}
 use Rattle.odht_header.specs.declared.error.Error.{Error}
 use Rattle.odht_tool_core.specs.GroupNumbers.{groups_to, groups_to_free, capped}
-use Rattle.odht_tool_core.specs.ReadyShapes.{hash_of}
+use Rattle.odht_tool_core.specs.ReadyShapes.{hash_of, hashes}
+use Rattle.odht_tool_core.specs.declared.advice.Advice.{Advice}
 use Rattle.odht_tool_core.specs.declared.failure.Failure.{Failure}
 use Rattle.odht_tool_core.specs.declared.failure.Failure.TheVariants.{Refused, Memory}
 use Rattle.odht_tool_core.specs.declared.histogram.Histogram.{Histogram}
 use Rattle.odht_tool_core.specs.declared.numbers.Numbers.{Numbers}
 use Rattle.odht_tool_core.specs.declared.shapes.Hash.{Hash}
-use Rattle.odht_tool_core.specs.declared.shapes.Hash.TheVariants.{Fx, Unhash}
+use Rattle.odht_tool_core.specs.declared.shapes.Hash.TheVariants.{Fx, Unhash, Xxh64}
 
 pub record SizedParts : Type 0 where
   pub key_len : ℕ
@@ -67,13 +70,14 @@ info_refusal B = opening_refusal (format_by B Fx) B
 abbrev pub least_key_len : Hash → ℕ
 least_key_len Fx = 0
 least_key_len Unhash = 4
+least_key_len Xxh64 = 0
 
 abbrev pub agrees : SizedParts → Hash → Bool
 agrees T h =
     nat_le (least_key_len h) T.key_len && is_none (first_slot (control_mismatch (sized_format T h) T.entries T.control) T.slots)
 
 abbrev pub found_hash : SizedParts → Option Hash
-found_hash T = find (agrees T) (Fx ∷ Unhash ∷ [])
+found_hash T = find (agrees T) hashes
 
 -- ---- the histogram
 abbrev pub occupied_in : SizedParts → ℕ → ℕ → List ℕ
@@ -101,6 +105,9 @@ miss_numbers T o n = map (λ b. capped o (groups_to_free T.control b)) (range_wi
 abbrev pub longest_miss : SizedParts → Option ℕ → ℕ
 longest_miss T o = largest (miss_numbers T o T.slots)
 
+abbrev pub has_long_search : SizedParts → Bool
+has_long_search T = nat_lt 24 (longest_miss T (Some 24))
+
 pub record IsHistogram (xs : List ℕ) (h : Histogram) : Type 0 where
   pub counts : h.counts.items ≡ tallies xs
   pub longest : h.longest ≡ largest xs
@@ -119,7 +126,7 @@ stretch_counts T = map (stretch_count T) (range_with_len 0 (min T.slots 64))
 abbrev pub nearest_percent : ℕ → ℕ
 nearest_percent f = (f * 100 + 32767) / 65535
 
-pub record AreNumbers (B : List ℕ) (o : Option ℕ) (n : Numbers) : Type 0 where
+pub record AreNumbers (B : List ℕ) (o : Option ℕ) (a : Option Advice) (n : Numbers) : Type 0 where
   pub opens : info_refusal B ≡ None
   pub key_size : n.key_size ≡ slice_index B 5
   pub value_size : n.value_size ≡ slice_index B 6
@@ -134,6 +141,7 @@ pub record AreNumbers (B : List ℕ) (o : Option ℕ) (n : Numbers) : Type 0 whe
   pub bound : n.bound ≡ o
   pub histogram : IsHistogram (found_groups (sized_parts B) o) n.histogram
   pub miss : n.longest_miss ≡ longest_miss (sized_parts B) o
+  pub advice : n.advice ≡ a
 
 abbrev pub IsInfoFailure : List ℕ → Failure → Type 0
 IsInfoFailure B (Refused error) = info_refusal B ≡ Some error

@@ -17,19 +17,20 @@
 --     groups_text h o cs l the lines of the hash function h, or of none, of the histogram, and of the longest search for a
 --                          present key, by the bound o
 --     info_text at name n  all lines, of the file of this name
---     IsInfoDone t B o old new r   `info` of the bytes B by the bound o, which took the writer from the bytes old to new and
---                          returned r, wrote the text t of the numbers of B; only opening, memory or the writer may have
+--     IsInfoDone t B o a old new r   `info` of the bytes B by the bound o and with the advice a, which took the writer from
+--                          the bytes old to new and returned r, wrote the text t of the numbers of B; only opening, memory or the writer may have
 --                          kept it from that
 use Rattle.std.specs.Prelude.{◌≡◌, ℕ, ◌+◌, ◌-◌, ◌*◌, ◌/◌, min, max, ◌&&◌, ◌==◌, nat_lt, List, [], ◌∷◌, ◌++◌, length, map, replicate, flat_map, slice_index, codes, decimal, Option, Some, None, Result, Ok, Err, if◌then◌else◌}
 use Rattle.std.specs.Io.KnownBytes.{Appends, Keeps}
 use Rattle.std.specs.List.{range_with_len}
 use Rattle.odht_tool_core.specs.Advice.{advice_text}
 use Rattle.odht_tool_core.specs.InfoNumbers.{largest, stretch_len, info_refusal, AreNumbers, IsInfoFailure}
+use Rattle.odht_tool_core.specs.declared.advice.Advice.{Advice}
 use Rattle.odht_tool_core.specs.declared.failure.Failure.{Failure}
 use Rattle.odht_tool_core.specs.declared.failure.Failure.TheVariants.{Output}
 use Rattle.odht_tool_core.specs.declared.numbers.Numbers.{Numbers}
 use Rattle.odht_tool_core.specs.declared.shapes.Hash.{Hash}
-use Rattle.odht_tool_core.specs.declared.shapes.Hash.TheVariants.{Fx, Unhash}
+use Rattle.odht_tool_core.specs.declared.shapes.Hash.TheVariants.{Fx, Unhash, Xxh64}
 use Rattle.odht_tool_core.specs.declared.status.Status.{Status}
 use Rattle.odht_tool_core.specs.declared.status.Status.TheVariants.{Done}
 
@@ -80,6 +81,7 @@ tallies_text cs l = flat_map (tally_line cs l) (range_with_len 0 (min l 64))
 abbrev pub hash_name : Hash → List ℕ
 hash_name Fx = codes "fx"
 hash_name Unhash = codes "unhash"
+hash_name Xxh64 = codes "xxh64"
 
 abbrev pub groups_line : List ℕ → Option ℕ → ℕ → List ℕ
 groups_line label None x = number_line label x (codes " groups")
@@ -88,7 +90,7 @@ groups_line label (Some bound) x =
     else number_line label x (codes " groups")
 
 abbrev pub groups_text : Option Hash → Option ℕ → List ℕ → ℕ → List ℕ
-groups_text None o cs l = codes "hash          neither fx nor unhash\n"
+groups_text None o cs l = codes "hash          none of fx, unhash and xxh64\n"
 groups_text (Some h) o cs l =
     codes "hash          " ++ hash_name h ++ codes "\n  groups         items\n"
     ++ tallies_text cs l
@@ -106,7 +108,7 @@ info_text at name n =
     ++ groups_line (codes "longest miss  ") n.bound n.longest_miss
     ++ advice_text at name n
 
-abbrev pub IsInfoDone : (Numbers → List ℕ) → List ℕ → Option ℕ → Option (List ℕ) → Option (List ℕ) → Result Status Failure → Type 0
-IsInfoDone t B o old new (Ok status) = (status ≡ Done) × ((n : Numbers) × AreNumbers B o n × Appends old new (t n))
-IsInfoDone t B o old new (Err (Output error)) = info_refusal B ≡ None
-IsInfoDone t B o old new (Err failure) = IsInfoFailure B failure × Keeps old new
+abbrev pub IsInfoDone : (Numbers → List ℕ) → List ℕ → Option ℕ → Option Advice → Option (List ℕ) → Option (List ℕ) → Result Status Failure → Type 0
+IsInfoDone t B o a old new (Ok status) = (status ≡ Done) × ((n : Numbers) × AreNumbers B o a n × Appends old new (t n))
+IsInfoDone t B o a old new (Err (Output error)) = info_refusal B ≡ None
+IsInfoDone t B o a old new (Err failure) = IsInfoFailure B failure × Keeps old new

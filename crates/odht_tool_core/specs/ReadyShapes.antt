@@ -7,6 +7,9 @@
 --     IsTypedWord f p w    the word w is the text of some x of the type p
 --     StandsFor f p w x    it is that of this x
 --     hash_of h            the hash function that is named h
+--     hashes               all hash functions; of several that a file fits the first is taken
+--     default_hash p       that of new tables of keys of the type p, where none is named: fx for numbers, unhash for 8 to 32
+--                          bytes, which are hashes, and else xxh64
 --     shape_format s       the format of its tables
 --     shape_coding s       how they encode and decode keys and values
 --     is_hashed_by h s     s has the hash function h, where one is named
@@ -16,11 +19,12 @@
 --     shape_of_sizes k v h the first ready shape of this kind, if there is one
 --     early_refusal B      the error of opening the bytes B that comes before those of the key and value sizes, if there
 --                          is one; it is the same for each shape
-use Rattle.std.specs.Prelude.{◌≡◌, ℕ, List, [], ◌∷◌, Bool, true, false, ◌&&◌, ◌==◌, nat_lt, length, find, Option}
+use Rattle.std.specs.Prelude.{◌≡◌, ℕ, List, [], ◌∷◌, Bool, true, false, ◌&&◌, ◌==◌, nat_lt, nat_le, length, find, Option, if◌then◌else◌}
 use Rattle.std.specs.Int.{w32, w64, to_le_bytes, from_le_bytes}
 use Rattle.std.specs.Option.{option_or, option_map_or}
 use Rattle.odht_base.specs.Format.{Format, format_of}
 use Rattle.odht_base.specs.Hashes.{fx, un}
+use Rattle.odht_base.specs.Xxh64.{xxh64_low}
 use Rattle.odht_header.specs.Coding.{Coding}
 use Rattle.odht_header.specs.Refusals.{◌gives◌, first_of, tag_refusal, version_refusal, wrong_size}
 use Rattle.odht_header.specs.declared.error.Error.{Error}
@@ -30,7 +34,7 @@ use Rattle.odht_tool_core.specs.ShapeList.{key_part, value_part, shape_hash, rea
 use Rattle.odht_tool_core.specs.Forms.{number_text, IsNumberText, StandsForNumber, bytes_text, IsBytesText, StandsForBytes}
 use Rattle.odht_tool_core.specs.declared.forms.Form.{Form}
 use Rattle.odht_tool_core.specs.declared.shapes.Hash.{Hash}
-use Rattle.odht_tool_core.specs.declared.shapes.Hash.TheVariants.{Fx, Unhash}
+use Rattle.odht_tool_core.specs.declared.shapes.Hash.TheVariants.{Fx, Unhash, Xxh64}
 use Rattle.odht_tool_core.specs.declared.shapes.Part.{Part}
 use Rattle.odht_tool_core.specs.declared.shapes.Part.TheVariants.{Nothing, U32, U64, Bytes}
 use Rattle.odht_tool_core.specs.declared.shapes.ready.Shape.{Shape}
@@ -82,6 +86,16 @@ StandsFor f (Bytes n) word bytes = StandsForBytes f word bytes
 abbrev pub hash_of : Hash → List ℕ → ℕ
 hash_of Fx = fx
 hash_of Unhash = un
+hash_of Xxh64 = xxh64_low
+
+abbrev pub hashes : List Hash
+hashes = Fx ∷ Unhash ∷ Xxh64 ∷ []
+
+abbrev pub default_hash : Part → Hash
+default_hash Nothing = Xxh64
+default_hash U32 = Fx
+default_hash U64 = Fx
+default_hash (Bytes n) = if nat_le 8 n && nat_le n 32 then Unhash else Xxh64
 
 abbrev pub shape_format : Shape → Format
 shape_format s = format_of (typed_len (key_part s)) (typed_len (value_part s)) (hash_of (shape_hash s))
@@ -99,8 +113,13 @@ shape_coding s = record {
 abbrev pub same_hash : Hash → Hash → Bool
 same_hash Fx Fx = true
 same_hash Fx Unhash = false
+same_hash Fx Xxh64 = false
 same_hash Unhash Fx = false
 same_hash Unhash Unhash = true
+same_hash Unhash Xxh64 = false
+same_hash Xxh64 Fx = false
+same_hash Xxh64 Unhash = false
+same_hash Xxh64 Xxh64 = true
 
 abbrev pub same_part : Part → Part → Bool
 same_part Nothing Nothing = true

@@ -1,83 +1,45 @@
-//! What may help where the searches of a table are long.
+//! What helps where the searches of a table are long.
 ghost use Rattle.std.specs.Prelude.{◌≡◌, ◌∷◌, OnOk, Some, codes};
 ghost use Rattle.std.specs.Io.KnownBytes.{Appends};
-ghost use Rattle.odht_tool_core.specs.Advice.{advice, advice_by, advice_text, advice_or_null};
+ghost use Rattle.odht_tool_core.specs.Advice.{advice_text, advice_or_null};
 ghost use Rattle.odht_tool_core.specs.Advice.{line_of, needs_whole, options, reason, rebuilt_name};
 ghost use Rattle.odht_tool_core.specs.Json.{json_field};
 
 use crate::arguments::is_stream;
 use crate::json::{write_string_field, write_word_field};
 use crate::numbers::Numbers;
-use crate::shapes::Hash;
-use crate::stored::least_key_size;
 use odht_raw::memory_layout::DEFAULT_GROUPS;
 use std::io::{self, Write};
 
-/// A search of more groups is long. In tables of up to 2^24 slots of random keys at 87 percent,
-/// the load that tables get where none is named, those seen have up to so many; at 50 percent up
-/// to 5.
-const LONG_SEARCH: usize = 24;
-
-/// The load in percent above which a lower one may help.
-const HIGH_LOAD: u128 = 50;
-
-/// What may help where searches are long.
+/// What makes the searches of a table short.
 #[derive(Clone, Copy)]
-pub(crate) enum Advice {
+pub enum Advice {
     /// A lower load.
     LowerLoad,
-    /// This hash function, which is not that of the table.
-    OtherHash(Hash),
+    /// The hash function `xxh64`.
+    Mixing,
 }
 
 impl Advice {
-    // What may help a table of these numbers, if its searches are long.
-    fn of(numbers: &Numbers) -> Option<Advice>
-        ensures { result ≡ advice numbers.now }
-    {
-        match numbers.hash {
-            Some(hash) if numbers.longest_miss > LONG_SEARCH => {
-                Advice::by(hash, numbers.load, numbers.key_size)
-            }
-            _ => None,
-        }
-    }
-
-    // What may help a table of this hash function whose searches are long.
-    fn by(hash: Hash, load: u128, key_size: u8) -> Option<Advice>
-        ensures { result ≡ advice_by hash load key_size }
-    {
-        let other = hash.other();
-        if load > HIGH_LOAD {
-            Some(Advice::LowerLoad)
-        } else if least_key_size(other) <= key_size as usize {
-            Some(Advice::OtherHash(other))
-        } else {
-            None
-        }
-    }
-
     // The words for it.
     fn reason(self) -> &'static str
         ensures { result.now ≡ reason self }
     {
         match self {
             Advice::LowerLoad => "a lower load",
-            Advice::OtherHash(_) => "the other hash function",
+            Advice::Mixing => "another hash function",
         }
     }
 
-    // The options of `odht rebuild` for it, with `--whole` or without.
-    fn options(self, is_whole: bool) -> &'static str
+    /// The options of `odht rebuild` for it, with `--whole` or without.
+    pub fn options(self, is_whole: bool) -> &'static str
         ensures { result.now ≡ options self is_whole }
     {
         match (self, is_whole) {
             (Advice::LowerLoad, false) => "--percent 50",
             (Advice::LowerLoad, true) => "--percent 50 --whole",
-            (Advice::OtherHash(Hash::Fx), false) => "--hash fx",
-            (Advice::OtherHash(Hash::Fx), true) => "--hash fx --whole",
-            (Advice::OtherHash(Hash::Unhash), false) => "--hash unhash",
-            (Advice::OtherHash(Hash::Unhash), true) => "--hash unhash --whole",
+            (Advice::Mixing, false) => "--hash xxh64",
+            (Advice::Mixing, true) => "--hash xxh64 --whole",
         }
     }
 }
@@ -101,7 +63,7 @@ fn rebuilt_name<'a>(at: Option<usize>, file: &'a str) -> &'a str
     }
 }
 
-/// Writes the line of what may help the table at this byte of the file of this name, if anything.
+/// Writes the line of what helps the table at this byte of the file of this name, if anything.
 pub(crate) fn write_advice<O: Write>(
     file: &str,
     at: Option<usize>,
@@ -112,13 +74,13 @@ pub(crate) fn write_advice<O: Write>(
         (advice_text at file.now numbers.now)) }
 {
     let name = rebuilt_name(at, file);
-    match Advice::of(numbers) {
+    match numbers.advice {
         Some(advice) => write_line(advice, name, needs_whole(numbers), output),
         None => Ok(()),
     }
 }
 
-// Writes the line of what may help a file of this name.
+// Writes the line of what helps a file of this name.
 fn write_line<O: Write>(
     advice: Advice,
     name: &str,
@@ -135,12 +97,12 @@ fn write_line<O: Write>(
     )
 }
 
-/// Writes the field of an object of JSON: a string of the options for what may help, or null.
+/// Writes the field of an object of JSON: a string of the options for what helps, or null.
 pub(crate) fn write_field<O: Write>(numbers: &Numbers, output: &mut O) -> io::Result<()>
     ensures { let field = json_field (codes "may_help", advice_or_null numbers.now)
         in OnOk result (Appends (O.contents output.old) (O.contents output.new) (44 ∷ field)) }
 {
-    match Advice::of(numbers) {
+    match numbers.advice {
         Some(advice) => {
             let options = advice.options(needs_whole(numbers));
             write_string_field("may_help", options, output)

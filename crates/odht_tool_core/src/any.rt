@@ -3,7 +3,7 @@
 ghost use Rattle.std.specs.Prelude.{◌≡◌, ◌≤◌, IfOk, IfSome, IsFalse, is_some, length};
 ghost use Rattle.odht_tool_core.specs.AnyShapes.{HasLongKeys, any_of_kinds, any_of_sizes, other_of};
 ghost use Rattle.odht_tool_core.specs.AnyShapes.{any_hash, any_key, any_value, kind_of_size};
-ghost use Rattle.odht_tool_core.specs.AnyShapes.{types_of};
+ghost use Rattle.odht_tool_core.specs.AnyShapes.{types_of, with_ready_types};
 ghost use Rattle.odht_tool_core.specs.AnyShapes.{named_any, read_any, with_kinds, with_ready_forms};
 ghost use Rattle.odht_tool_core.specs.InfoNumbers.{least_key_len};
 ghost use Rattle.odht_tool_core.specs.ReadAs.{form_for};
@@ -12,7 +12,7 @@ ghost use Rattle.odht_tool_core.specs.ShapeList.{key_part, value_part};
 
 use crate::failure::Failure;
 use crate::forms::{Form, GivenForms, Kind, Kinds, form_for};
-use crate::found::found_any;
+use crate::found::{found_any, said_hash};
 use crate::shapes::{Hash, Part, Shape};
 use crate::stored::least_key_size;
 use odht_header::header::{HEADER_SIZE, Header};
@@ -27,6 +27,24 @@ pub struct OtherShape {
     pub value: Part,
     /// The hash function.
     pub hash: Hash,
+}
+
+impl OtherShape {
+    /// The same with the types of the first ready shape of its lengths, where there is one.
+    fn with_ready_types(self) -> OtherShape
+        ensures types { result ≡ with_ready_types self }
+        ensures key { typed_len result.key ≡ typed_len self.key }
+        ensures hash { result.hash ≡ self.hash }
+    {
+        match Shape::of_sizes(self.key.size(), self.value.size(), None) {
+            Some(shape) => OtherShape {
+                key: shape.key(),
+                value: shape.value(),
+                hash: self.hash,
+            },
+            None => self,
+        }
+    }
 }
 
 /// The shape of a table: a ready one, or another.
@@ -81,9 +99,9 @@ impl AnyShape {
     }
 
     /// The shape of keys and values that are said to be these, and of the hash function, where one
-    /// is given: the first ready one of their types; else another one, of `fx` where none is
-    /// given. None where a ready shape of other types has as many bytes, since a file is read as
-    /// that, or the hash function needs longer keys.
+    /// is given: the first ready one of their types; else another one, of the default of these
+    /// keys where none is given. None where a ready shape of other types has as many bytes, since
+    /// a file is read as that, or the hash function needs longer keys.
     pub(crate) fn of_kinds(key: Kind, value: Kind, hash: Option<Hash>) -> Option<AnyShape>
         ensures shape { result ≡ any_of_kinds key value hash }
         ensures long { IfSome result HasLongKeys }
@@ -105,7 +123,7 @@ impl AnyShape {
     {
         match Shape::of_sizes(key.size(), value.size(), hash) {
             Some(shape) => Ok(AnyShape::Ready(shape)),
-            None => AnyShape::of_types(key, value, hash.unwrap_or(Hash::Fx)),
+            None => AnyShape::of_types(key, value, hash.unwrap_or(key.default_hash())),
         }
     }
 
@@ -124,8 +142,8 @@ impl AnyShape {
 }
 
 /// The shape of these bytes: the ready one of the key and value sizes in the header, and of the
-/// hash function, where one is given; where there is none, another one, of `fx` where none is
-/// given. Where the check fails before it comes to the sizes, some shape is returned: opening has
+/// hash function, where one is given; where there is none, another one, of the default of such
+/// keys where none is given. Where the check fails before it comes to the sizes, some shape is returned: opening has
 /// the same error for each. `ShortKeys` where the hash function needs longer keys.
 pub fn named_any(bytes: &[u8], hash: Option<Hash>) -> Result<AnyShape, Failure>
     ensures shape { result ≡ named_any bytes.now hash }
@@ -154,10 +172,11 @@ fn has_early_refusal(bytes: &[u8]) -> bool
         || header.check_metadata_size().is_err()
 }
 
-/// The shape that the bytes of a file are read as, as `found_any` finds it, and the forms of its
-/// keys and values: those that are said, or its own. Where it is no ready shape, its types are
-/// those that are said, if they have its lengths. `OtherKey` or `OtherValue` where what is said is
-/// of another type, or of another length.
+/// The shape that the bytes of a file are read as, as `found_any` finds it by the hash function of
+/// `said_hash`, and the forms of its keys and values: those that are said, or its own. Where it is
+/// no ready shape, its types are those that are said, if they have its lengths, or else those of
+/// `with_ready_types`. `OtherKey` or `OtherValue` where what is said is of another type, or of
+/// another length.
 pub fn read_any(
     bytes: &[u8],
     hash: Option<Hash>,
@@ -166,9 +185,9 @@ pub fn read_any(
     ensures forms { result ≡ read_any bytes.now hash kinds }
     ensures long { IfOk result (λ x. HasLongKeys x.0) }
 {
-    match found_any(bytes, hash)? {
+    match found_any(bytes, said_hash(bytes, hash, kinds.hash))? {
         AnyShape::Ready(shape) => read_ready(shape, kinds),
-        AnyShape::Other(shape) => read_other(shape, kinds),
+        AnyShape::Other(shape) => read_other(shape.with_ready_types(), kinds),
     }
 }
 

@@ -6,7 +6,7 @@ ghost use Rattle.odht_tool_core.specs.ReadAs.{form_for};
 ghost use Rattle.odht_tool_core.specs.SizedTexts.{sized_forms};
 
 use crate::any::OtherShape;
-use crate::shapes::Part;
+use crate::shapes::{Hash, Part};
 
 /// How a key or a value is written and read. It has two bytes, so that it is passed in registers.
 #[derive(Clone, Copy)]
@@ -271,6 +271,17 @@ pub struct Kind {
 }
 
 impl Kind {
+    /// The hash function of new tables of keys of this kind, which is of this name, where none is
+    /// named: `fx` for `u32`, `u64`, `i32` and `i64`, `unhash` for `hex8` to `hex32`, and `xxh64`
+    /// for all others.
+    pub(crate) fn default_hash(self, name: &str) -> Hash {
+        match self.form {
+            Form::Signed => Hash::Fx,
+            Form::Own if name.strip_prefix("bytes:").is_none() => self.part.default_hash(),
+            _ => Hash::Xxh64,
+        }
+    }
+
     /// The kind of this name: that of a type (`Part::named`), `i32` or `i64`, `u32be` or `u64be`,
     /// or `text:` and a number of bytes from 1 to 255.
     pub(crate) fn named(name: &str) -> Option<Kind> {
@@ -293,6 +304,8 @@ impl Kind {
 pub struct Kinds {
     pub key: Option<Kind>,
     pub value: Option<Kind>,
+    /// The hash function of new tables of such keys, where something is said of them.
+    pub hash: Option<Hash>,
 }
 
 /// The form of keys or values of this type of which this is said, if anything is. None where that

@@ -2,12 +2,12 @@
 ghost use Rattle.std.specs.Prelude.{◌≡◌, ◌≤◌, length, slice_index, is_some, IfOk, IfSome, OnSome};
 ghost use Rattle.odht_tool_core.specs.InfoNumbers.{sized_parts};
 ghost use Rattle.odht_tool_core.specs.FoundShapes.{fits, fitting_shape, has_items};
-ghost use Rattle.odht_tool_core.specs.FoundShapes.{hinted_hash};
-ghost use Rattle.odht_tool_core.specs.AnyShapes.{HasLongKeys, fitting_any, found_any};
+ghost use Rattle.odht_tool_core.specs.FoundShapes.{agrees_with, hinted_hash, is_other, other_hash, said_hash};
+ghost use Rattle.odht_tool_core.specs.AnyShapes.{HasLongKeys, checked_any, fitting_any, found_any};
 
 use crate::any::{AnyShape, OtherShape, named_any};
 use crate::failure::Failure;
-use crate::shapes::{Hash, Part, SHAPES, Shape};
+use crate::shapes::{HASHES, Hash, Part, SHAPES, Shape};
 use crate::stored::StoredTable;
 use odht_header::header::Header;
 
@@ -82,17 +82,63 @@ fn open_with_items(bytes: &[u8]) -> Option<StoredTable<'_>>
     }
 }
 
-/// The hash function that is not this one, where header and length fit, the header counts items
-/// and all control bytes agree with it: then the file may be read by it, though it is rejected
-/// under this one.
+/// The hash function by which a file is read: the one that is named, or else the default of what
+/// its keys are said to be, where header and length fit and all control bytes agree with it. So
+/// that default counts where a file does not show its hash function, as an empty one.
+pub fn said_hash(bytes: &[u8], named: Option<Hash>, default: Option<Hash>) -> Option<Hash>
+    ensures { result ≡ said_hash bytes.now named default }
+{
+    match (named, default) {
+        (None, Some(default)) if agrees_with(bytes, default) => Some(default),
+        _ => named,
+    }
+}
+
+// Whether header and length fit, and all control bytes agree with a hash function.
+fn agrees_with(bytes: &[u8], hash: Hash) -> bool
+    ensures { result ≡ agrees_with bytes.now hash }
+{
+    match StoredTable::open(bytes) {
+        Ok(table) => table.agrees(hash),
+        Err(_) => false,
+    }
+}
+
+/// The shape of bytes that are checked: as `found_any` has it; but where no hash function fits, as
+/// `named_any` has it, so that the check says which rule is broken.
+pub fn checked_any(bytes: &[u8], hash: Option<Hash>) -> Result<AnyShape, Failure>
+    ensures shape { result ≡ checked_any bytes.now hash }
+    ensures long { IfOk result HasLongKeys }
+{
+    match found_any(bytes, hash) {
+        Err(Failure::NoHash { .. }) => named_any(bytes, hash),
+        found => found,
+    }
+}
+
+/// The first hash function that is not this one, where header and length fit, the header counts
+/// items and all control bytes agree with it: then the file may be read by it, though it is
+/// rejected under this one.
 pub fn hinted_hash(bytes: &[u8], hash: Hash) -> Option<Hash>
     ensures { result ≡ hinted_hash bytes.now hash }
 {
-    let other = hash.other();
     let table = open_with_items(bytes)?;
-    if table.agrees(other) {
-        Some(other)
-    } else {
-        None
-    }
+    other_hash(&table, hash)
+}
+
+// The first hash function that is not this one and that all control bytes agree with.
+fn other_hash(table: &StoredTable<'_>, hash: Hash) -> Option<Hash>
+    ensures { result ≡ other_hash table.now hash }
+{
+    HASHES
+        .iter()
+        .copied()
+        .find(|other| is_other(*other, hash, table))
+}
+
+// Whether a hash function is not this one, and all control bytes agree with it.
+fn is_other(other: Hash, hash: Hash, table: &StoredTable<'_>) -> bool
+    ensures { result ≡ is_other hash table.now other }
+{
+    !other.is(hash) && table.agrees(other)
 }

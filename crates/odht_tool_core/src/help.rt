@@ -122,8 +122,9 @@ odht info FILE.. [--whole] [--json] [--at OFFSET]
     slots, the hash function that the control bytes agree with, how many items are
     found by reading one group of control bytes, two, and so on, how many groups the
     longest search reads for a key that is there (hit) and for one that is not
-    (miss), and, where that is above 24, what may help. Above 128 groups it does not
-    count further, so that no file takes long; with --whole it does. Along its slots
+    (miss), and, where that is above 24, what may help: a command that was tried in
+    memory, and whose table has no such search. Above 128 groups it does not count
+    further, so that no file takes long; with --whole it does. Along its slots
     there is a sign for each of at most 64 stretches of equal length: . where no
     slot is occupied, 9 where all are, else a digit, 1 and how many whole eighths of
     its slots are. Where there are more files, the name of each comes first. The
@@ -133,8 +134,8 @@ odht info FILE.. [--whole] [--json] [--at OFFSET]
     --json         an object of JSON for each file: file, at (null without --at),
                    key_bytes, value_bytes, header_bytes, all_bytes, items, slots,
                    maximum, load_percent, maximum_load_percent, along_slots (how
-                   many slots of each stretch are occupied), hash (fx, unhash or
-                   null), bound (of groups; null with --whole), histogram (how many
+                   many slots of each stretch are occupied), hash (fx, unhash,
+                   xxh64 or null), bound (of groups; null with --whole), histogram (how many
                    items by one group, by two, and so on; the 64th has all above),
                    longest_hit (null without a hash function), longest_miss,
                    may_help (options of `odht rebuild`, or null). A number of groups
@@ -142,13 +143,14 @@ odht info FILE.. [--whole] [--json] [--at OFFSET]
 ";
 
 const CHECK: &str = "\
-odht check FILE.. [--whole] [--json] [--hash fx|unhash] [--at OFFSET]
+odht check FILE.. [--whole] [--json] [--hash fx|unhash|xxh64]
+                  [--at OFFSET]
     Prints the name of each file, and that it is valid, or the first rule of the
     format that it breaks, and then ends with status 1. A search that may read
     more than 128 groups of control bytes breaks a rule too, so that no file takes
-    long to check; with --whole it does not. The shape is the first of the file's
-    key and value sizes, and of the hash function that --hash names; `odht build
-    --help` lists them. Other sizes are of fx, unless --hash names unhash.
+    long to check; with --whole it does not. The hash function is the one that all
+    control bytes fit, unless --hash names it; where none fits, the rule is that of
+    the default for keys of this size, which `odht build --help` tells.
     --json         an object of JSON for each file: file, valid (true or false),
                    bound (of groups; null with --whole), rule (the first that it
                    breaks, or null)
@@ -157,7 +159,7 @@ odht check FILE.. [--whole] [--json] [--hash fx|unhash] [--at OFFSET]
 ";
 
 const COUNT: &str = "\
-odht count FILE.. [--whole] [--hash fx|unhash] [--at OFFSET]
+odht count FILE.. [--whole] [--hash fx|unhash|xxh64] [--at OFFSET]
     Prints how many items the table in the file has, after the file's name and a tab
     where there are more files. Each is checked before, as by `odht check`; --whole
     is as there. Where one is not valid the others are still counted, and the status
@@ -169,7 +171,7 @@ odht count FILE.. [--whole] [--hash fx|unhash] [--at OFFSET]
 
 const GET: &str = "\
 odht get FILE KEY.. [--json] [--key SHAPE] [--value SHAPE]
-                    [--hash fx|unhash] [--at OFFSET]
+                    [--hash fx|unhash|xxh64] [--at OFFSET]
     Writes a line for each key, in their order: KEY, a tab and VALUE; or KEY alone
     where it is absent, and then ends with status 1. With the one word - the keys
     are the lines of standard input, but for an empty last one that is no key. The
@@ -185,7 +187,7 @@ odht get FILE KEY.. [--json] [--key SHAPE] [--value SHAPE]
 
 const DUMP: &str = "\
 odht dump FILE [--slots] [--json] [--key SHAPE] [--value SHAPE]
-               [--hash fx|unhash] [--at OFFSET]
+               [--hash fx|unhash|xxh64] [--at OFFSET]
     Writes a line for each pair, in slot order: KEY, a tab and VALUE. With --slots
     the slot, the control byte and the number of groups that a search for the key
     looks at stand before them, with tabs too. The hash function is the one that
@@ -201,7 +203,7 @@ odht dump FILE [--slots] [--json] [--key SHAPE] [--value SHAPE]
 ";
 
 const KEYS: &str = "\
-odht keys FILE [--key SHAPE] [--hash fx|unhash] [--at OFFSET]
+odht keys FILE [--key SHAPE] [--hash fx|unhash|xxh64] [--at OFFSET]
     Writes each key on a line, in slot order. The hash function is the one that all
     control bytes fit, unless --hash names it. Keys have the texts of the ready
     shape, or of other sizes hexadecimal digits, unless --key names others of these
@@ -214,10 +216,10 @@ const FIND: &str = "\
 odht find FILE [--whole] [--json]
     Prints each table that is inside a file, at whatever byte it begins: its offset,
     for --at, its length, the sizes of keys and values, the item count, the slot
-    count, the load in percent, the hash function that the control bytes fit (fx,
-    unhash or both), and what the check finds: valid, rejected, or long where a
-    search may read more than 128 groups of control bytes (not so with --whole).
-    Status 1 where there is none.
+    count, the load in percent, the hash functions that the control bytes fit (fx,
+    unhash and xxh64, with commas between them), and what the check finds: valid,
+    rejected, or long where a search may read more than 128 groups of control bytes
+    (not so with --whole). Status 1 where there is none.
     --json         an object of JSON: file, and tables, an array of objects: offset,
                    bytes, key_bytes, value_bytes, items, slots, load_percent, hash
                    and check, as above
@@ -225,7 +227,7 @@ odht find FILE [--whole] [--json]
 
 const ORDER: &str = "\
 odht order FILE [--whole] [--key SHAPE] [--value SHAPE]
-                [--hash fx|unhash] [--at OFFSET]
+                [--hash fx|unhash|xxh64] [--at OFFSET]
     Writes a line for each pair, as `odht dump` does, in an order in which inserts
     into an empty table of as many slots and the same load factor make the same
     bytes. Where no inserts make the table a line on standard error says so, and
@@ -240,7 +242,7 @@ odht order FILE [--whole] [--key SHAPE] [--value SHAPE]
 
 const DIFF: &str = "\
 odht diff FILE OTHER [--whole] [--key SHAPE] [--value SHAPE]
-                     [--hash fx|unhash]
+                     [--hash fx|unhash|xxh64]
     Writes a line for each pair of FILE whose key is not in OTHER, in slot order: a
     hyphen, KEY and VALUE, with tabs between; where OTHER has another value: ~, KEY,
     VALUE and that value. Then +, KEY and VALUE for each pair of OTHER whose key is
@@ -255,7 +257,7 @@ odht diff FILE OTHER [--whole] [--key SHAPE] [--value SHAPE]
 
 const BUILD: &str = "\
 odht build FILE --key SHAPE --value SHAPE [--duplicates last|first|error]
-                [--delimiter C] [--check-only] [--hash fx|unhash]
+                [--delimiter C] [--check-only] [--hash fx|unhash|xxh64]
                 [--percent P] [--capacity N] [--progress] [--break-links]
                 [--force]
     Makes a table of the lines of standard input, KEY, a tab and VALUE, and stores
@@ -265,10 +267,15 @@ odht build FILE --key SHAPE --value SHAPE [--duplicates last|first|error]
     Owner, group, permissions and symbolic links of an older file are kept; one with
     hard links is not replaced without --break-links, and one that is no table, and
     not empty, not without --force. Keys and values may have other sizes than the
-    ready shapes, of any SHAPE; the hash function is fx then, or --hash.
+    ready shapes, of any SHAPE. Where a search may read more than 128 groups, so that
+    `odht check` rejects the file, a line on standard error says so, with the command
+    that helps, if there is one.
     SHAPE          u32, u64, none (no bytes), hexN or bytes:N (2 N digits);
                    i32 and i64 with a sign; u32be and u64be, the highest byte first;
                    text:N, a text of at most N bytes, with zeros behind it
+    --hash         the hash function. If left out, that of --key: fx for u32, u64,
+                   i32 and i64; unhash for hex8 to hex32, which are hashes; xxh64
+                   for text:N, bytes:N, u32be, u64be and all others
     --duplicates   which line of a key counts: last, first, or error: a second one
                    is a failure; else last
     --delimiter    stands between key and value, else a tab: a printable character
@@ -282,16 +289,18 @@ odht build FILE --key SHAPE --value SHAPE [--duplicates last|first|error]
 ";
 
 const PUT: &str = "\
-odht put FILE [--key SHAPE] [--value SHAPE] [--whole] [--hash fx|unhash]
-              [--progress] [--break-links]
+odht put FILE [--key SHAPE] [--value SHAPE] [--whole]
+              [--hash fx|unhash|xxh64] [--progress] [--break-links]
     Adds the lines of standard input, KEY, a tab and VALUE, to the table in FILE,
     which grows as needed, and stores it in the place of the older one, which
     stays where something fails. The last line of a key wins; an empty last line
     that is no pair is left out. The file is checked before, as by `odht check`;
-    --whole is as there. The hash function is the one that all control bytes fit,
-    unless --hash names it. Keys and values have the texts of the ready shape, or of
-    other sizes hexadecimal digits, unless --key and --value name others of these
-    sizes, as in `odht build`.
+    --whole is as there. The table keeps its hash function: --hash, or else the one
+    that all control bytes fit. Where several do, as in a table without items, that
+    of --key is taken, as in `odht build`, if it fits. Keys and values have the texts
+    of the ready shape, or of other sizes hexadecimal digits, unless --key and
+    --value name others of these sizes, as in `odht build`. Where a search may then
+    read more than 128 groups, a line on standard error says so, as there.
     Owner, group, permissions and symbolic links of the file are kept; one with hard
     links is not replaced without --break-links, with which its other names keep the
     old file.
@@ -299,7 +308,7 @@ odht put FILE [--key SHAPE] [--value SHAPE] [--whole] [--hash fx|unhash]
 ";
 
 const DELETE: &str = "\
-odht delete FILE KEY.. [--key SHAPE] [--whole] [--hash fx|unhash]
+odht delete FILE KEY.. [--key SHAPE] [--whole] [--hash fx|unhash|xxh64]
                        [--progress] [--break-links]
     Makes a new table of the slot count, the load factor and the hash function of
     FILE, inserts the pairs of all other keys in slot order, and stores it in the
@@ -319,15 +328,15 @@ odht delete FILE KEY.. [--key SHAPE] [--whole] [--hash fx|unhash]
 ";
 
 const REBUILD: &str = "\
-odht rebuild FILE [--percent P] [--whole] [--hash fx|unhash] [--progress]
-                  [--break-links]
+odht rebuild FILE [--percent P] [--whole] [--hash fx|unhash|xxh64]
+                  [--progress] [--break-links]
     Makes a new table for as many items as FILE has, inserts its pairs in slot
     order, and stores it in the place of the older one, which stays where something
     fails. So long searches become short, and a load factor or a hash function is
     changed. The file is checked before, as by `odht check`, by the hash function
     that all control bytes fit; --whole is as there, for a file whose searches are
     so long that it is rejected. The hash function unhash needs keys of 4 bytes or
-    more; number keys are read as hexN then, but from u32 to u32. Owner, group,
+    more; number keys of 8 bytes are read as hex8 then. Owner, group,
     permissions and symbolic links of the file are kept; one with hard links is not
     replaced without --break-links.
     --percent      the load factor of the new table, 1 to 100, else 87
@@ -338,9 +347,9 @@ odht rebuild FILE [--percent P] [--whole] [--hash fx|unhash] [--progress]
 
 const MERGE: &str = "\
 odht merge FILE INPUT.. [--duplicates last|first|error] [--key SHAPE]
-                        [--value SHAPE] [--whole] [--hash fx|unhash]
-                        [--percent P] [--progress] [--break-links]
-                        [--force]
+                        [--value SHAPE] [--whole]
+                        [--hash fx|unhash|xxh64] [--percent P]
+                        [--progress] [--break-links] [--force]
     Makes a new table for as many items as all INPUT have, inserts their pairs, file
     after file and each in slot order, and stores it as FILE, in the place of an
     older one, which stays where something fails; with - as FILE it goes to standard

@@ -6,7 +6,7 @@ ghost use Rattle.odht_tool_core.specs.InfoTexts.{number_line, lengths_text, size
 ghost use Rattle.odht_tool_core.specs.InfoTexts.{at_line, groups_line, groups_text, info_text};
 ghost use Rattle.odht_tool_core.specs.InfoTexts.{IsInfoDone};
 
-use crate::advice::write_advice;
+use crate::advice::{Advice, write_advice};
 use crate::failure::Failure;
 use crate::histogram::Histogram;
 use crate::info_json::write_object;
@@ -20,8 +20,7 @@ use std::io::{self, Write};
 
 /// `odht info` of the bytes of the file of this name, or of the table at a byte of it: writes that
 /// byte, sizes, counts, load factors, how full the table is along its slots, how many groups a
-/// search reads for the items and for absent keys, up to the bound, and what may help where that
-/// is many; after a line of the name where it is not the only one; with `is_json` as an object of
+/// search reads for the items and for absent keys, up to the bound, and the advice, if any; after a line of the name where it is not the only one; with `is_json` as an object of
 /// JSON.
 pub fn info_file<O: Write>(
     alloc: Global,
@@ -31,12 +30,13 @@ pub fn info_file<O: Write>(
     bytes: &[u8],
     bound: Option<usize>,
     is_json: bool,
+    advice: Option<Advice>,
     output: &mut O,
 ) -> Result<Status, Failure>
-    ensures { IsInfoDone (info_as is_json is_one at file.now) bytes.now bound
+    ensures { IsInfoDone (info_as is_json is_one at file.now) bytes.now bound advice
         (O.contents output.old) (O.contents output.new) result }
 {
-    let numbers = numbers_of(alloc, bytes, bound)?;
+    let numbers = numbers_of(alloc, bytes, bound, advice)?;
     match write_as(file, is_one, at, &numbers, is_json, output) {
         Ok(()) => Ok(Status::Done),
         Err(error) => Err(Failure::Output(error)),
@@ -122,7 +122,7 @@ fn write_hash<O: Write>(numbers: &Numbers, output: &mut O) -> io::Result<()>
         (groups_text numbers.now.hash numbers.now.bound h.counts.items h.longest)) }
 {
     match numbers.hash {
-        None => writeln!(output, "hash          neither fx nor unhash"),
+        None => writeln!(output, "hash          none of fx, unhash and xxh64"),
         Some(hash) => write_groups(hash, &numbers.histogram, numbers.bound, output),
     }
 }
@@ -196,6 +196,7 @@ pub fn name_of(hash: Hash) -> &'static str
     match hash {
         Hash::Fx => "fx",
         Hash::Unhash => "unhash",
+        Hash::Xxh64 => "xxh64",
     }
 }
 

@@ -3,7 +3,7 @@
 //! sizes.
 #![tactic(auto)]
 
-mod advice;
+pub mod advice;
 pub mod answers;
 pub mod any;
 pub mod arguments;
@@ -42,7 +42,7 @@ mod sized_bytes;
 pub mod sized_slots;
 pub mod slots;
 pub mod status;
-mod stored;
+pub mod stored;
 mod stretches;
 pub mod targets;
 pub mod text;

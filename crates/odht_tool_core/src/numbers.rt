@@ -3,6 +3,7 @@ ghost use Rattle.std.specs.Prelude.{◌≡◌, ◌<◌, ◌*◌, ◌/◌, IfOk, 
 ghost use Rattle.odht_tool_core.specs.InfoNumbers.{AreNumbers, IsInfoFailure, IsHistogram};
 ghost use Rattle.odht_tool_core.specs.InfoNumbers.{found_groups, found_hash, nearest_percent};
 
+use crate::advice::Advice;
 use crate::failure::Failure;
 use crate::histogram::Histogram;
 use crate::shapes::Hash;
@@ -43,12 +44,19 @@ pub struct Numbers {
     pub histogram: Histogram,
     /// How many groups the longest search for an absent key reads at most.
     pub longest_miss: usize,
+    /// What makes searches short, where some are long and something was found.
+    pub advice: Option<Advice>,
 }
 
-/// The numbers of the bytes of a file, or the first error of their header and length. With a bound
-/// it takes time in proportion to the bytes and the bound.
-pub fn numbers_of(alloc: Global, bytes: &[u8], bound: Option<usize>) -> Result<Numbers, Failure>
-    ensures ok { IfOk result (AreNumbers bytes.now bound) }
+/// The numbers of the bytes of a file, or the first error of their header and length. What was found
+/// to make searches short is among them. With a bound it takes time in proportion to the bytes and the bound.
+pub fn numbers_of(
+    alloc: Global,
+    bytes: &[u8],
+    bound: Option<usize>,
+    advice: Option<Advice>,
+) -> Result<Numbers, Failure>
+    ensures ok { IfOk result (AreNumbers bytes.now bound advice) }
     ensures err { IfErr result (IsInfoFailure bytes.now) }
 {
     let table = StoredTable::open(bytes).map_err(Failure::Refused)?;
@@ -72,6 +80,7 @@ pub fn numbers_of(alloc: Global, bytes: &[u8], bound: Option<usize>) -> Result<N
         bound,
         histogram,
         longest_miss: table.longest_miss(bound),
+        advice,
     })
 }
 

@@ -4,7 +4,7 @@ ghost use Rattle.std.specs.Prelude.{◌≡◌};
 ghost use Rattle.odht_tool_core.specs.ReadyShapes.{typed_len, same_part, same_hash, is_hashed_by};
 ghost use Rattle.odht_tool_core.specs.ReadyShapes.{has_parts, shape_of_parts, is_shape_of};
 ghost use Rattle.odht_tool_core.specs.ReadyShapes.{shape_of_sizes};
-ghost use Rattle.odht_tool_core.specs.FoundShapes.{other_hash};
+ghost use Rattle.odht_tool_core.specs.ReadyShapes.{default_hash};
 
 use std::fmt;
 
@@ -20,6 +20,8 @@ pub enum Hash {
     Fx,
     /// `UnHashFn`.
     Unhash,
+    /// `Xxh64HashFn`.
+    Xxh64,
 }
 
 impl Hash {
@@ -28,30 +30,25 @@ impl Hash {
         match name {
             "fx" => Some(Hash::Fx),
             "unhash" => Some(Hash::Unhash),
+            "xxh64" => Some(Hash::Xxh64),
             _ => None,
         }
     }
 
-    /// The other hash function.
-    pub(crate) fn other(self) -> Hash
-        ensures { result ≡ other_hash self }
-    {
-        match self {
-            Hash::Fx => Hash::Unhash,
-            Hash::Unhash => Hash::Fx,
-        }
-    }
-
-    // Whether both are the same one.
-    fn is(self, other: Hash) -> bool
+    /// Whether both are the same one.
+    pub fn is(self, other: Hash) -> bool
         ensures { result ≡ same_hash self other }
     {
         match (self, other) {
-            (Hash::Fx, Hash::Fx) | (Hash::Unhash, Hash::Unhash) => true,
+            (Hash::Fx, Hash::Fx) | (Hash::Unhash, Hash::Unhash) | (Hash::Xxh64, Hash::Xxh64) =>
+                true,
             _ => false,
         }
     }
 }
+
+/// The hash functions. Of several that a file fits the first is taken.
+pub(crate) const HASHES: [Hash; 3] = [Hash::Fx, Hash::Unhash, Hash::Xxh64];
 
 /// The type of a key or of a value.
 #[derive(Clone, Copy, Debug)]
@@ -103,6 +100,18 @@ impl Part {
             Part::U32 => 4,
             Part::U64 => 8,
             Part::Bytes(size) => size,
+        }
+    }
+
+    /// The hash function of new tables of such keys, where none is named: `fx` for numbers,
+    /// `unhash` for 8 to 32 bytes, which are hashes, and else `xxh64`.
+    pub(crate) fn default_hash(self) -> Hash
+        ensures { result ≡ default_hash self }
+    {
+        match self {
+            Part::U32 | Part::U64 => Hash::Fx,
+            Part::Bytes(size) if 8 <= size && size <= 32 => Hash::Unhash,
+            _ => Hash::Xxh64,
         }
     }
 

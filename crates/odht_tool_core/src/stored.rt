@@ -1,6 +1,6 @@
 //! The bytes of a table of any key and value sizes.
-ghost use Rattle.std.specs.Prelude.{◌≡◌, ◌≤◌, ◌<◌, ◌+◌, length, not, is_some, slice_index};
-ghost use Rattle.std.specs.Prelude.{IfOk, OnOk};
+ghost use Rattle.std.specs.Prelude.{◌≡◌, ◌≤◌, ◌<◌, ◌+◌, ◌*◌, ◌/◌, ◌%◌, length, not, is_some};
+ghost use Rattle.std.specs.Prelude.{IfOk, IfSome, OnOk, Some, nat_lt, slice_index};
 ghost use Rattle.std.specs.Result.{result_err};
 ghost use Rattle.odht_base.specs.Decoded.{counts_as_free, slot_key};
 ghost use Rattle.odht_header.specs.Refusals.{control_mismatch};
@@ -8,7 +8,8 @@ ghost use Rattle.odht_tool_core.specs.InfoNumbers.{sized_format, sized_parts};
 ghost use Rattle.odht_tool_core.specs.InfoNumbers.{info_refusal, least_key_len};
 ghost use Rattle.odht_tool_core.specs.InfoNumbers.{agrees, found_hash, group_numbers, IsHistogram, occupied};
 ghost use Rattle.odht_tool_core.specs.InfoNumbers.{occupied_in, stretch_counts};
-ghost use Rattle.odht_tool_core.specs.InfoNumbers.{longest_miss};
+ghost use Rattle.odht_tool_core.specs.InfoNumbers.{has_long_search, longest_miss};
+ghost use Rattle.odht_tool_core.specs.GroupNumbers.{capped, groups_to_free};
 ghost use Rattle.odht_tool_core.specs.Finds.{has_mirror};
 ghost use Rattle.odht_tool_core.specs.ReadyShapes.{hash_of};
 
@@ -16,13 +17,19 @@ use crate::groups::{groups_to, groups_to_free};
 use crate::histogram::Histogram;
 use crate::shapes::Hash;
 use crate::stretches::{STRETCHES, stretch_len};
-use odht_base::hash::{FxHashFn, HashFn, UnHashFn};
+use odht_base::hash::{FxHashFn, HashFn, UnHashFn, Xxh64HashFn};
 use odht_base::swisstable_group_query::is_empty_or_deleted;
 use odht_header::error::Error;
+use odht_header::layout::Layout;
 use odht_raw::memory_layout::{self, check_by_header, stated_layout};
 use odht_raw::raw_table::{SizedTable, tag_of};
 use std::alloc::{AllocError, Global};
 use std::marker::Model;
+
+/// A search of more groups is long. In tables of up to 2^24 slots of random keys at 87 percent,
+/// the load that tables get where none is named, those seen have up to so many; at 50 percent up
+/// to 5.
+const LONG_SEARCH: usize = 24;
 
 /// The parts of a table whose header and length fit the header's own key and value sizes.
 ///
@@ -70,6 +77,8 @@ impl<'a> StoredTable<'a> {
             Some(Hash::Fx)
         } else if self.agrees(Hash::Unhash) {
             Some(Hash::Unhash)
+        } else if self.agrees(Hash::Xxh64) {
+            Some(Hash::Xxh64)
         } else {
             None
         }
@@ -126,6 +135,59 @@ impl<'a> StoredTable<'a> {
             counts.push(self.count_in(stretch * len, len))?;
         }
         Ok(counts)
+    }
+
+    /// The key and the value of a slot, where it is occupied.
+    pub fn pair(&self, slot: usize) -> Option<(&'a [u8], &'a [u8])>
+        requires { slot < self.now.slots }
+        ensures some { is_some result ≡ not (counts_as_free (slice_index self.now.control slot)) }
+        ensures key { IfSome result (λ p. length p.0.now ≡ self.now.key_len) }
+        ensures value { IfSome result (λ p. length p.1.now ≡ self.now.value_len) }
+    {
+        if self.is_occupied(slot) {
+            Some((self.table.key(slot), self.table.value(slot)))
+        } else {
+            None
+        }
+    }
+
+    /// How many slots there are.
+    pub fn slot_count(&self) -> usize
+        ensures { result ≡ self.now.slots }
+    {
+        self.table.len()
+    }
+
+    /// The lengths of keys and values.
+    pub fn layout(&self) -> Layout
+        ensures key { result.key_len ≡ self.now.key_len }
+        ensures value { result.value_len ≡ self.now.value_len }
+    {
+        self.table.layout()
+    }
+
+    /// Whether more than half of the slots are occupied, in percent rounded down.
+    pub fn has_high_load(&self) -> bool
+        ensures { result
+            ≡ nat_lt 50 (length (occupied self.now self.now.slots) * 100 / self.now.slots) }
+    {
+        self.count() as u128 * 100 / self.table.len() as u128 > 50
+    }
+
+    /// Whether a search for an absent key may be long.
+    pub fn has_long_search(&self) -> bool
+        ensures { result ≡ has_long_search self.now }
+    {
+        self.longest_miss(Some(LONG_SEARCH)) > LONG_SEARCH
+    }
+
+    /// Whether a search for an absent key of this hash is long.
+    pub fn is_long_from(&self, hash: u32) -> bool
+        ensures { result ≡ nat_lt 24
+            (capped (Some 24) (groups_to_free self.now.control (hash % self.now.slots))) }
+    {
+        let (control, slots) = (self.table.controls(), self.table.len());
+        groups_to_free(control, hash as usize % slots, slots, Some(LONG_SEARCH)) > LONG_SEARCH
     }
 
     /// Whether the mirror is the first sixteen control bytes.
@@ -209,6 +271,7 @@ pub(crate) fn least_key_size(hash: Hash) -> usize
     match hash {
         Hash::Fx => FxHashFn::MIN_LEN,
         Hash::Unhash => UnHashFn::MIN_LEN,
+        Hash::Xxh64 => Xxh64HashFn::MIN_LEN,
     }
 }
 
@@ -220,5 +283,6 @@ fn hash_key(key: &[u8], hash: Hash) -> u32
     match hash {
         Hash::Fx => FxHashFn::hash(key),
         Hash::Unhash => UnHashFn::hash(key),
+        Hash::Xxh64 => Xxh64HashFn::hash(key),
     }
 }

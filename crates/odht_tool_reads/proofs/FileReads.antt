@@ -1,6 +1,7 @@
 -- Lookups in a table that is read by position, and the hash function that its first slots leave.
 use Rattle.std.proofs.Common.{arith, refl, ◌≡◌, ◌∙◌, ℕ, ◌+◌, ◌*◌, ◌<◌, ◌≤◌, ◌&&◌, ◌==◌, Bool, true, false, not, List, [], ◌∷◌, length, drop, take, find, is_none, is_some, Option, Some, None, Ok, sym, ap, ap₂, subst, cond, slice_index, le-ltb, mul-le-mul_right, add-mul, zero-add, length-drop}
 use Rattle.std.specs.Prelude.{if◌then◌else◌}
+use Rattle.std.specs.Bool.{then_some}
 use Rattle.std.specs.Option.{option_or}
 use Rattle.std.proofs.lemmas.Bool.{and_parts, eqb-true, leb-true, false_from_ne_true, true≢false}
 use Rattle.std.proofs.lemmas.List.{get_or-drop}
@@ -22,8 +23,8 @@ use Rattle.odht_tool_core.specs.InfoNumbers.{SizedParts, agrees, found_hash, inf
 use Rattle.odht_tool_core.specs.AnyShapes.{any_of_sizes, fitting_any, found_any, named_any, other_by, other_of, ready_or}
 use Rattle.odht_tool_core.specs.ReadyShapes.{early_refusal, hash_of, is_shape_of, same_hash, typed_len}
 use Rattle.odht_tool_core.specs.ShapeList.{key_part, value_part, shape_hash, ready_shapes}
-use Rattle.odht_tool_core.specs.FoundShapes.{fits, other_hash}
-use Rattle.odht_tool_core.specs.declared.shapes.Hash.TheVariants.{Fx, Unhash}
+use Rattle.odht_tool_core.specs.FoundShapes.{agrees_with, fits, said_hash}
+use Rattle.odht_tool_core.specs.declared.shapes.Hash.TheVariants.{Fx, Unhash, Xxh64}
 use Rattle.odht_tool_core.specs.declared.failure.Failure.TheVariants.{ShortKeys}
 use Rattle.odht_tool_core.proofs.Refusals.{early_passes}
 use Rattle.odht_raw.proofs.lemmas.Accepted.{IsAccepted-IsValidBytes, accepted_opening, accepted_len}
@@ -49,6 +50,7 @@ use Rattle.odht_tool_reads.specs.Gets.{AreFileWordsGot, words_of_types, words_of
 use Rattle.odht_tool_reads.proofs.Shaped.{with_shape_said}
 use Rattle.odht_tool_reads.specs.Positions.{ByPosition, IsAnsweredBy, IsTableIn, IsNamed, IsStartOf, slots_parts}
 use Rattle.odht_tool_reads.specs.declared.positions.Start.{Start}
+use Rattle.odht_tool_reads.specs.declared.positions.names.Fitting.{Fitting}
 
 -- ---- the tags of slots
 -- slot i has the tag of its key, where it is occupied
@@ -146,11 +148,66 @@ left_place B start p first h is e =
     (sym e)
     (left_alone B start (header_slots start.header) (slice_index start.header 5) (slice_index start.header 6) first h is refl refl refl)
 
+-- each of the hash functions that some slots do not fit disagrees with the slots P
+pub record Excluded (P : SizedParts) (fx unhash xxh64 : Bool) : Type 0 where
+  pub by_fx : fx ≡ false → agrees P Fx ≡ false
+  pub by_unhash : unhash ≡ false → agrees P Unhash ≡ false
+  pub by_xxh64 : xxh64 ≡ false → agrees P Xxh64 ≡ false
+
+pub none_excluded : (P : SizedParts) → Excluded P true true true
+none_excluded P = record {
+  by_fx = λ e. absurd (true≢false e);
+  by_unhash = λ e. absurd (true≢false e);
+  by_xxh64 = λ e. absurd (true≢false e);
+}
+
+-- the parts of the sixteen slots from one on
+abbrev group_parts : List ℕ → ReadPlace → ℕ → SizedParts
+group_parts B p first =
+    slots_parts p.layout.key_len p.layout.value_len (bytes_at B (p.entries_at + first * (p.layout.key_len + p.layout.value_len)) (16 * (p.layout.key_len + p.layout.value_len))) (bytes_at B (p.control_at + first) 16)
+
+-- what two tests exclude one of the two excludes
+pub either_false : {X : Type 0} (a b c : Bool) → c ≡ (a && b) → (a ≡ false → X) → (b ≡ false → X) → c ≡ false → X
+either_false false b c e f g h = f refl
+either_false true b c e f g h = g (sym e ∙ h)
+
+-- what sixteen slots exclude, and what was excluded before them
+pub more_excluded : (B : List ℕ) (start : Start) (p : ReadPlace) (first : ℕ) (l m n : Fitting) → IsStartOf B start
+    → p ≡ table_place start.at (header_slots start.header) (slice_index start.header 5) (slice_index start.header 6)
+    → 32 + p.slots * (p.layout.key_len + p.layout.value_len) + p.slots + 16 ≡ start.len → first + 16 ≤ p.slots
+    → (m.fx ≡ agrees (group_parts B p first) Fx) × (m.unhash ≡ agrees (group_parts B p first) Unhash) × (m.xxh64 ≡ agrees (group_parts B p first) Xxh64)
+    → n.fx ≡ (l.fx && m.fx) → n.unhash ≡ (l.unhash && m.unhash) → n.xxh64 ≡ (l.xxh64 && m.xxh64)
+    → Excluded (sized_parts (bytes_at B start.at start.len)) l.fx l.unhash l.xxh64 → Excluded (sized_parts (bytes_at B start.at start.len)) n.fx n.unhash n.xxh64
+more_excluded B start p first l m n is place long low fitting fx unhash xxh64 before = record {
+  by_fx = either_false l.fx m.fx n.fx fx before.by_fx (λ e. left_place B start p first Fx is place long low (sym fitting.0 ∙ e));
+  by_unhash = either_false l.unhash m.unhash n.unhash unhash before.by_unhash (λ e. left_place B start p first Unhash is place long low (sym fitting.1 ∙ e));
+  by_xxh64 = either_false l.xxh64 m.xxh64 n.xxh64 xxh64 before.by_xxh64 (λ e. left_place B start p first Xxh64 is place long low (sym fitting.2 ∙ e));
+}
+
+-- the one that is left, where the others are excluded
+pub left_fx : (P : SizedParts) (a b c : Bool) → Excluded P a b c → b ≡ false → c ≡ false → (g : Hash) → same_hash g Fx ≡ false → agrees P g ≡ false
+left_fx P a b c x e f Fx s = absurd (true≢false s)
+left_fx P a b c x e f Unhash s = x.by_unhash e
+left_fx P a b c x e f Xxh64 s = x.by_xxh64 f
+
+pub left_unhash : (P : SizedParts) (a b c : Bool) → Excluded P a b c → a ≡ false → c ≡ false → (g : Hash) → same_hash g Unhash ≡ false → agrees P g ≡ false
+left_unhash P a b c x e f Fx s = x.by_fx e
+left_unhash P a b c x e f Unhash s = absurd (true≢false s)
+left_unhash P a b c x e f Xxh64 s = x.by_xxh64 f
+
+pub left_xxh64 : (P : SizedParts) (a b c : Bool) → Excluded P a b c → a ≡ false → b ≡ false → (g : Hash) → same_hash g Xxh64 ≡ false → agrees P g ≡ false
+left_xxh64 P a b c x e f Fx s = x.by_fx e
+left_xxh64 P a b c x e f Unhash s = x.by_unhash f
+left_xxh64 P a b c x e f Xxh64 s = absurd (true≢false s)
+
 -- how long a table is by its header
 pub start_length : (k v len : ℕ) (header : List ℕ) → Ok tt ≡ checked (header_refusal (format_of k v (λ b. 0)) len header) → len ≡ 32 + header_slots header * (k + v) + header_slots header + 16
 start_length k v len header e = (IsHeader-header_refusal (format_of k v (λ b. 0)) len header (Ok-checked _ e)).length_is
 
 -- ---- the shape
+some_none : {d : Hash} → ◌≡◌ {A = Option Hash} (Some d) None → ⊥
+some_none e = cc
+
 module _ (T H : List ℕ) (long : 32 ≤ length T) (is : H ≡ bytes_at T 0 32) where
   -- the header has the errors of all bytes that come first
   late : (B : List ℕ) → 32 ≤ length B → early_refusal B ≡ first_of (tag_refusal B ∷ version_refusal B ∷ wrong_size B 4 EntryMetadata 1 ∷ [])
@@ -177,11 +234,12 @@ module _ (T H : List ℕ) (long : 32 ≤ length T) (is : H ≡ bytes_at T 0 32) 
   no_items B e = ap (λ b. if b then fitting_any (slice_index B 5) (slice_index B 6) (sized_parts B) else named_any B None) (ap (λ n. is_none (info_refusal B) && not (n == 0)) e ∙ and-false _)
 
   -- and the shape of all bytes, where a hash function is named that is to be
-  pub found_same : (h g : Option Hash) → IsNamed T h g → found_any H g ≡ found_any T g
-  found_same (Some h) None named = cc
-  found_same (Some h) (Some g) named = named_same (Some g)
-  found_same None None none = no_items H (ap num (part 8 8 (omega arith)) ∙ none) ∙ named_same None ∙ sym (no_items T none)
-  found_same None (Some g) left = named_same (Some g)
+  pub found_same : (h d g : Option Hash) → IsNamed T h d g → found_any H (said_hash H g d) ≡ found_any T (said_hash T g d)
+  found_same (Some h) d None named = cc
+  found_same (Some h) d (Some g) named = named_same (Some g)
+  found_same None None None none = no_items H (ap num (part 8 8 (omega arith)) ∙ none.0) ∙ named_same None ∙ sym (no_items T none.0)
+  found_same None (Some d) None none = absurd (some_none none.1)
+  found_same None d (Some g) left = named_same (Some g)
 
 -- what is read first of a table
 pub started : (B : List ℕ) (start : Start) → IsStartOf B start → 32 ≤ start.len → start.header ≡ bytes_at (bytes_at B start.at start.len) 0 32
@@ -200,7 +258,7 @@ counted_none B start is long e = sym (counted B start is long) ∙ e
 
 -- with this shape the words are those of a named hash function
 pub named_words : (B : List ℕ) (start : Start) → IsStartOf B start → 32 ≤ start.len → (h name : Option Hash) (ks : Kinds) (j : Bool) (ws : List (List ℕ)) (old new : Option (List ℕ))
-    (x : AnyShape × GivenForms) → IsNamed (bytes_at B start.at start.len) h name → Ok x ≡ read_any start.header name ks
+    (x : AnyShape × GivenForms) → IsNamed (bytes_at B start.at start.len) h ks.hash name → Ok x ≡ read_any start.header name ks
     → (r : Result (Option Status) Failure) → ByPosition old new (λ r. words_of_types (x.1.key, x.1.value) j (bytes_at B start.at start.len) ws old new r (types_of x.0)) r
     → ByPosition old new (IsAnsweredBy (bytes_at B start.at start.len) h ks j ws old new) r
 named_words B start is long h name ks j ws old new x named found r said = go r said
@@ -211,7 +269,7 @@ named_words B start is long h name ks j ws old new x named found r said = go r s
       is = named;
       answered =
           with_shape_said (read_any (bytes_at B start.at start.len) name ks) x (words_of_forms j (bytes_at B start.at start.len) ws old new r) (λ f. (r ≡ Err f) × Keeps old new)
-          (found ∙ ap (any_formed ks) (found_same (bytes_at B start.at start.len) start.header (started_long B start is long) (started B start is long) h name named)) w;
+          (found ∙ ap (any_formed ks) (found_same (bytes_at B start.at start.len) start.header (started_long B start is long) (started B start is long) h ks.hash name named)) w;
     }
 
     go : (r : Result (Option Status) Failure) → ByPosition old new (λ r. words_of_types (x.1.key, x.1.value) j (bytes_at B start.at start.len) ws old new r (types_of x.0)) r
@@ -225,30 +283,43 @@ named_words B start is long h name ks j ws old new x named found r said = go r s
 find_same : {X : Type 0} (p q : X → Bool) → ((x : X) → p x ≡ q x) → (xs : List X) → find p xs ≡ find q xs
 find_same p q same xs = λ i. find (λ x. same x i) xs
 
-same_by : (P : SizedParts) (h g : Hash) → agrees P h ≡ true → agrees P (other_hash h) ≡ false → agrees P g ≡ same_hash g h
+abbrev Excludes : SizedParts → Hash → Type 0
+Excludes P h = (g : Hash) → same_hash g h ≡ false → agrees P g ≡ false
+
+same_by : (P : SizedParts) (h g : Hash) → agrees P h ≡ true → Excludes P h → agrees P g ≡ same_hash g h
 same_by P Fx Fx fit unfit = fit
-same_by P Fx Unhash fit unfit = unfit
-same_by P Unhash Fx fit unfit = unfit
+same_by P Fx Unhash fit unfit = unfit Unhash refl
+same_by P Fx Xxh64 fit unfit = unfit Xxh64 refl
+same_by P Unhash Fx fit unfit = unfit Fx refl
 same_by P Unhash Unhash fit unfit = fit
+same_by P Unhash Xxh64 fit unfit = unfit Xxh64 refl
+same_by P Xxh64 Fx fit unfit = unfit Fx refl
+same_by P Xxh64 Unhash fit unfit = unfit Unhash refl
+same_by P Xxh64 Xxh64 fit unfit = fit
 
 three : (a b x y : Bool) → x ≡ y → ((a && b && true) && x) ≡ (a && b && y)
 three true true x y e = e
 three true false x y e = refl
 three false b x y e = refl
 
-left_shape : (P : SizedParts) (k v : ℕ) (h : Hash) → P.key_len ≡ k → agrees P h ≡ true → agrees P (other_hash h) ≡ false → fitting_any k v P ≡ any_of_sizes (Bytes k) (Bytes v) (Some h)
+left_shape : (P : SizedParts) (k v : ℕ) (h : Hash) → P.key_len ≡ k → agrees P h ≡ true → Excludes P h → fitting_any k v P ≡ any_of_sizes (Bytes k) (Bytes v) (Some h)
 left_shape P k v h is fit unfit =
     ap₂ ready_or (other P k v h is fit unfit)
     (find_same (fits k v P) (is_shape_of k v (Some h)) (λ (s : Shape). three (typed_len (key_part s) == k) (typed_len (value_part s) == v) _ _ (same_by P h (shape_hash s) fit unfit)) ready_shapes)
   where
-    other : (P : SizedParts) (k v : ℕ) (h : Hash) → P.key_len ≡ k → agrees P h ≡ true → agrees P (other_hash h) ≡ false → other_by k v (found_hash P) ≡ other_of (Bytes k) (Bytes v) h
+    other : (P : SizedParts) (k v : ℕ) (h : Hash) → P.key_len ≡ k → agrees P h ≡ true → Excludes P h → other_by k v (found_hash P) ≡ other_of (Bytes k) (Bytes v) h
     other P k v Fx is fit unfit =
-        ap (λ b. other_by k v (cond b (Some Fx) (find (agrees P) (Unhash ∷ [])))) fit
+        ap (λ b. other_by k v (cond b (Some Fx) (find (agrees P) (Unhash ∷ Xxh64 ∷ [])))) fit
         ∙ sym (ap (λ b. if b then Err (ShortKeys k) else Ok (Other (record { key = Bytes k; value = Bytes v; hash = Fx }))) (le-ltb k 0 (omega arith)))
     other P k v Unhash is fit unfit =
-        ap (λ b. other_by k v (cond b (Some Fx) (find (agrees P) (Unhash ∷ [])))) unfit
-        ∙ ap (λ b. other_by k v (cond b (Some Unhash) None)) fit
+        ap (λ b. other_by k v (cond b (Some Fx) (find (agrees P) (Unhash ∷ Xxh64 ∷ [])))) (unfit Fx refl)
+        ∙ ap (λ b. other_by k v (cond b (Some Unhash) (find (agrees P) (Xxh64 ∷ [])))) fit
         ∙ sym (ap (λ b. if b then Err (ShortKeys k) else Ok (Other (record { key = Bytes k; value = Bytes v; hash = Unhash }))) (le-ltb k 4 (omega (arith, is, long_enough P Unhash fit))))
+    other P k v Xxh64 is fit unfit =
+        ap (λ b. other_by k v (cond b (Some Fx) (find (agrees P) (Unhash ∷ Xxh64 ∷ [])))) (unfit Fx refl)
+        ∙ ap (λ b. other_by k v (cond b (Some Unhash) (find (agrees P) (Xxh64 ∷ [])))) (unfit Unhash refl)
+        ∙ ap (λ b. other_by k v (cond b (Some Xxh64) None)) fit
+        ∙ sym (ap (λ b. if b then Err (ShortKeys k) else Ok (Other (record { key = Bytes k; value = Bytes v; hash = Xxh64 }))) (le-ltb k 0 (omega arith)))
 
 -- all slots of valid bytes have the tags of their keys
 pub valid_agrees : (T : List ℕ) (k v : ℕ) (h : Hash) → IsFormat (format_of k v (hash_of h)) → least_key_len h ≤ k → IsValidBytes (format_of k v (hash_of h)) T → agrees (sized_parts T) h ≡ true
@@ -265,11 +336,16 @@ valid_agrees T k v h f long valid =
     (all_fit (record { key_len = k; value_len = v; slots = header_slots T; entries = entries_of F T; control = controls_of F T }) h long (λ i low. (sound.slots_fit i (omega (arith, size, low))).occupied_tag)))
 
 -- a hash function that agrees is the one that is left
-left_same : (P : SizedParts) (h g : Hash) → agrees P g ≡ true → agrees P (other_hash h) ≡ false → g ≡ h
+left_same : (P : SizedParts) (h g : Hash) → agrees P g ≡ true → Excludes P h → g ≡ h
 left_same P Fx Fx fit unfit = refl
-left_same P Fx Unhash fit unfit = absurd (true≢false (sym fit ∙ unfit))
-left_same P Unhash Fx fit unfit = absurd (true≢false (sym fit ∙ unfit))
+left_same P Fx Unhash fit unfit = absurd (true≢false (sym fit ∙ unfit Unhash refl))
+left_same P Fx Xxh64 fit unfit = absurd (true≢false (sym fit ∙ unfit Xxh64 refl))
+left_same P Unhash Fx fit unfit = absurd (true≢false (sym fit ∙ unfit Fx refl))
 left_same P Unhash Unhash fit unfit = refl
+left_same P Unhash Xxh64 fit unfit = absurd (true≢false (sym fit ∙ unfit Xxh64 refl))
+left_same P Xxh64 Fx fit unfit = absurd (true≢false (sym fit ∙ unfit Fx refl))
+left_same P Xxh64 Unhash fit unfit = absurd (true≢false (sym fit ∙ unfit Unhash refl))
+left_same P Xxh64 Xxh64 fit unfit = refl
 
 -- so for valid bytes the shape is the same as by all slots
 module _ (T : List ℕ) (k v : ℕ) (g : Hash) (f : IsFormat (format_of k v (hash_of g))) (long : least_key_len g ≤ k) (valid : IsValidBytes (format_of k v (hash_of g)) T) where
@@ -285,12 +361,12 @@ module _ (T : List ℕ) (k v : ℕ) (g : Hash) (f : IsFormat (format_of k v (has
   early : early_refusal T ≡ None
   early = early_passes T opens
 
-  pub valid_found : (h name : Option Hash) → IsNamed T h name → found_any T name ≡ found_any T h
-  valid_found (Some h) name is = ap (found_any T) is
-  valid_found None None none = refl
-  valid_found None (Some h) left = go (header_count T == 0) refl
+  pub valid_found : (h d name : Option Hash) → IsNamed T h d name → found_any T (said_hash T name d) ≡ found_any T (said_hash T h d)
+  valid_found (Some h) d name is = ap (λ n. found_any T (said_hash T n d)) is
+  valid_found None d None none = refl
+  valid_found None d (Some h) left = go (header_count T == 0) refl ∙ by_default d
     where
-      unfit : agrees (sized_parts T) (other_hash h) ≡ false
+      unfit : Excludes (sized_parts T) h
       unfit = left.1 opens
 
       same : g ≡ h
@@ -302,12 +378,20 @@ module _ (T : List ℕ) (k v : ℕ) (g : Hash) (f : IsFormat (format_of k v (has
       named : named_any T (Some h) ≡ any_of_sizes (Bytes (slice_index T 5)) (Bytes (slice_index T 6)) (Some h)
       named = ap (λ o. if is_some o then Ok (Ready U64ToU32) else any_of_sizes (Bytes (slice_index T 5)) (Bytes (slice_index T 6)) (Some h)) early
 
+      chosen : (d : Hash) (b : Bool) → agrees_with T d ≡ b → found_any T None ≡ found_any T (Some h) → found_any T None ≡ found_any T (then_some b d)
+      chosen d false e same_shape = refl
+      chosen d true e same_shape = same_shape ∙ ap (λ x. found_any T (Some x)) (sym (left_same (sized_parts T) h d (and_parts _ _ e).1 unfit))
+
       go : (b : Bool) → (header_count T == 0) ≡ b → found_any T (Some h) ≡ found_any T None
       go true e = absurd (left.0 (eqb-true _ _ e))
       go false e =
           named ∙ sym (left_shape (sized_parts T) (slice_index T 5) (slice_index T 6) h refl fit unfit)
           ∙ sym (ap (λ b. if is_none (info_refusal T) && not b then fitting_any (slice_index T 5) (slice_index T 6) (sized_parts T) else named_any T None) e
           ∙ ap (λ o. if is_none o && true then fitting_any (slice_index T 5) (slice_index T 6) (sized_parts T) else named_any T None) opens)
+
+      by_default : (d : Option Hash) → found_any T None ≡ found_any T (said_hash T None d)
+      by_default None = refl
+      by_default (Some d) = chosen d (agrees_with T d) refl (sym (go (header_count T == 0) refl))
 
 -- ready shapes have keys that are long enough
 pub ready_long : (s : Shape) → least_key_len (shape_hash s) ≤ typed_len (key_part s)
@@ -334,9 +418,9 @@ pub valid_words : (T : List ℕ) (s : AnyShape) → IsTableIn T s → (h : Optio
     → ByPosition old new (IsAnsweredBy T h ks j ws old new) r → ByPosition old new (AreFileWordsGot T h ks j ws old new) r
 valid_words T s is h ks j ws old new r said = go r said
   where
-    same : (s : AnyShape) → IsTableIn T s → (name : Option Hash) → IsNamed T h name → found_any T name ≡ found_any T h
-    same (Ready x) is name named = valid_found T (typed_len (key_part x)) (typed_len (value_part x)) (shape_hash x) is.format (ready_long x) is.valid h name named
-    same (Other o) is name named = valid_found T (typed_len o.key) (typed_len o.value) o.hash is.format is.long is.valid h name named
+    same : (s : AnyShape) → IsTableIn T s → (name : Option Hash) → IsNamed T h ks.hash name → found_any T (said_hash T name ks.hash) ≡ found_any T (said_hash T h ks.hash)
+    same (Ready x) is name named = valid_found T (typed_len (key_part x)) (typed_len (value_part x)) (shape_hash x) is.format (ready_long x) is.valid h ks.hash name named
+    same (Other o) is name named = valid_found T (typed_len o.key) (typed_len o.value) o.hash is.format is.long is.valid h ks.hash name named
 
     answered : (r : Result Status Failure) → IsAnsweredBy T h ks j ws old new r → AreFileWordsGot T h ks j ws old new r
     answered r a = subst (λ f. MatchResult (any_formed ks f) (words_of_forms j T ws old new r) (λ x. (r ≡ Err x) × Keeps old new)) (same s is a.named a.is) a.answered

@@ -13,7 +13,7 @@ use Rattle.odht_header.specs.Refusals.{checked, check_refusal_by}
 use Rattle.odht_header.specs.declared.error.Error.{Error}
 use Rattle.odht_tool_reads.specs.FindLines.{tables_text as lines_of}
 use Rattle.odht_tool_reads.specs.Outcomes.{by_shape, check_word}
-use Rattle.odht_tool_core.specs.AnyShapes.{any_format, found_any, named_any}
+use Rattle.odht_tool_core.specs.AnyShapes.{any_format, found_any, checked_any}
 use Rattle.odht_tool_core.specs.Endings.{Outcome}
 use Rattle.odht_tool_core.specs.Endings.Outcome.{writes}
 use Rattle.odht_tool_core.specs.FindJson.{table_object}
@@ -44,7 +44,7 @@ check_json_of_any name B o s =
     writes (checked_object name o (rule_text r)) (if is_ok r then Done else NotDone)
 
 abbrev pub check_json_outcome : List ℕ → List ℕ → Option Hash → Option ℕ → Outcome
-check_json_outcome name B h o = by_shape (named_any B h) (check_json_of_any name B o)
+check_json_outcome name B h o = by_shape (checked_any B h) (check_json_of_any name B o)
 
 -- ---- find
 abbrev pub table_text : List ℕ → Option ℕ → ℕ → List ℕ

@@ -18,7 +18,7 @@ use Rattle.odht_header.specs.declared.error.Error.TheVariants.{SearchTooLong}
 use Rattle.odht_tool_core.specs.DumpTexts.{dumped}
 use Rattle.odht_tool_core.specs.Endings.{Outcome}
 use Rattle.odht_tool_core.specs.Endings.Outcome.{writes, fails}
-use Rattle.odht_tool_core.specs.AnyShapes.{any_format, any_hash, named_any, read_any}
+use Rattle.odht_tool_core.specs.AnyShapes.{any_format, any_hash, checked_any, read_any}
 use Rattle.odht_tool_core.specs.FoundShapes.{hinted_hash}
 use Rattle.odht_tool_core.specs.InfoTexts.{hash_name}
 use Rattle.odht_tool_core.specs.Refusals.{checked_text}
@@ -41,10 +41,10 @@ check_of_any name B o s =
     writes (checked_text name o r) (if is_ok r then Done else NotDone)
 
 abbrev pub check_outcome : List ℕ → List ℕ → Option Hash → Option ℕ → Outcome
-check_outcome name B h o = by_shape (named_any B h) (check_of_any name B o)
+check_outcome name B h o = by_shape (checked_any B h) (check_of_any name B o)
 
 abbrev pub hint_of : List ℕ → Option Hash → Option Hash
-hint_of B h = if is_none h then option_and_then (λ s. hinted_hash B (any_hash s)) (result_ok (named_any B None)) else None
+hint_of B h = if is_none h then option_and_then (λ s. hinted_hash B (any_hash s)) (result_ok (checked_any B None)) else None
 
 abbrev pub hint_text : List ℕ → Hash → List ℕ
 hint_text file h =

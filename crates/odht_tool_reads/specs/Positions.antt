@@ -8,10 +8,11 @@
 --     len_by at n H            how many bytes the table has that is read: n, which is all, or where it begins at an
 --                              offset, as many as its header H says
 --     table_read B at          these of the bytes B, from that offset on, or from the first
---     IsLeft T h               where header and length fit, some control byte of the table T excludes the hash function
+--     IsLeft T h               where header and length fit, some control byte of the table T excludes each hash function
 --                              that is not h
---     IsNamed T h g            g is the hash function that is to be named for the table T, where h, or none, is named: h;
---                              else none where the header counts no items; else one that is left
+--     IsNamed T h d g          g is the hash function that is to be named for the table T, where h, or none, is named, and d
+--                              is the default of such keys, or there is none: h; else none where the header counts no
+--                              items and there is no default; else one that is left
 --     IsAnsweredBy T h ks j ws old new r   r is what `get` returns of the bytes T, and writes, with j as objects of JSON,
 --                              where a hash function that is to be named for them is named
 --     IsTableIn T s            the bytes T are those of a valid table of the shape s
@@ -24,8 +25,8 @@ use Rattle.odht_base.specs.Format.{IsFormat}
 use Rattle.odht_base.specs.Valid.{IsValidBytes}
 use Rattle.odht_tool_core.specs.AnyShapes.{HasLongKeys, any_format}
 use Rattle.odht_tool_core.specs.declared.any.AnyShape.{AnyShape}
-use Rattle.odht_tool_core.specs.FoundShapes.{other_hash}
 use Rattle.odht_tool_core.specs.Fronts.{stated_len}
+use Rattle.odht_tool_core.specs.ReadyShapes.{same_hash}
 use Rattle.odht_tool_core.specs.InfoNumbers.{SizedParts, agrees, info_refusal, sized_parts}
 use Rattle.odht_tool_reads.specs.Gets.{AreFileWordsGot}
 use Rattle.odht_tool_core.specs.declared.forms.Kinds.{Kinds}
@@ -62,16 +63,16 @@ abbrev pub table_read : List ℕ → Option ℕ → List ℕ
 table_read B at = bytes_at B (unwrap_or at 0) (len_by at (length B) (bytes_at B (unwrap_or at 0) 32))
 
 abbrev pub IsLeft : List ℕ → Hash → Type 0
-IsLeft T h = info_refusal T ≡ None → agrees (sized_parts T) (other_hash h) ≡ false
+IsLeft T h = info_refusal T ≡ None → (g : Hash) → same_hash g h ≡ false → agrees (sized_parts T) g ≡ false
 
-abbrev pub IsNamed : List ℕ → Option Hash → Option Hash → Type 0
-IsNamed T (Some h) g = g ≡ Some h
-IsNamed T None None = header_count T ≡ 0
-IsNamed T None (Some g) = (header_count T ≢ 0) × IsLeft T g
+abbrev pub IsNamed : List ℕ → Option Hash → Option Hash → Option Hash → Type 0
+IsNamed T (Some h) d g = g ≡ Some h
+IsNamed T None d None = (header_count T ≡ 0) × (d ≡ None)
+IsNamed T None d (Some g) = (header_count T ≢ 0) × IsLeft T g
 
 pub record IsAnsweredBy (T : List ℕ) (h : Option Hash) (ks : Kinds) (j : Bool) (ws : List (List ℕ)) (old new : Option (List ℕ)) (r : Result Status Failure) : Type 0 where
   pub named : Option Hash
-  pub is : IsNamed T h named
+  pub is : IsNamed T h ks.hash named
   pub answered : AreFileWordsGot T named ks j ws old new r
 
 pub record IsTableIn (T : List ℕ) (s : AnyShape) : Type 0 where

@@ -159,7 +159,7 @@ fn get_table_words<S: ReadAt + Drop, O: Write>(
         (AreFileWordsGot T hash kinds is_json (map string_bytes words.now)
         (O.contents output.old) (O.contents output.new)) result) }
 {
-    let Some(name) = found_name(&source, start, hash) else {
+    let Some(name) = found_name(&source, start, hash, kinds.hash) else {
         return Ok(None);
     };
     let Ok(found) = read_any(&start.header, name, kinds) else {

@@ -6,7 +6,7 @@ ghost use Rattle.odht_tool_core.specs.AnyShapes.{HasLongKeys, any_format};
 
 use crate::sized::{check_lengths, lengths_of};
 use odht::error::Error;
-use odht::{FxHashFn, UnHashFn};
+use odht::{FxHashFn, UnHashFn, Xxh64HashFn};
 use odht_tool_core::any::AnyShape;
 use odht_tool_core::shapes::Hash;
 
@@ -21,5 +21,6 @@ pub fn check_any(shape: AnyShape, bytes: &[u8], bound: Option<usize>) -> Result<
     match shape.hash() {
         Hash::Fx => check_lengths::<FxHashFn>(layout, bytes, bound),
         Hash::Unhash => check_lengths::<UnHashFn>(layout, bytes, bound),
+        Hash::Xxh64 => check_lengths::<Xxh64HashFn>(layout, bytes, bound),
     }
 }

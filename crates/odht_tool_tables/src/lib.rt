@@ -5,4 +5,5 @@
 pub mod checks;
 pub mod files;
 pub mod sized;
+pub mod trials;
 pub mod whole;

@@ -154,7 +154,7 @@ shape_beside s n (Ok x) = if have_same_sizes s x.0 then Ok x.0 else Err (OtherSi
 shape_beside s n (Err failure) = Err (Failed n failure)
 
 abbrev pub shape_of_other : AnyShape → Option Hash → Option ℕ → ℕ → List ℕ → Result AnyShape Unmerged
-shape_of_other s h o n B = shape_beside s n (whole_any B h (record { key = None; value = None }) o)
+shape_of_other s h o n B = shape_beside s n (whole_any B h (record { key = None; value = None; hash = None }) o)
 
 abbrev pub with_pairs : List ℕ → Result AnyShape Unmerged → Result (List (List Pair)) Unmerged → Result (List (List Pair)) Unmerged
 with_pairs B (Ok s) later = result_map_both (λ xss. decoded_pairs (any_format s) B ∷ xss) (λ u. u) later

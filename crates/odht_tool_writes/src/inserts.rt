@@ -4,6 +4,7 @@ ghost use Rattle.odht_tool_core.specs.declared.failure.Failure.TheVariants.{Memo
 ghost use Rattle.odht_tool_writes.specs.Faults.{IsTold};
 ghost use Rattle.odht_tool_writes.specs.Inserted.{AreInserted, IsNewInsert};
 
+use crate::warnings::warn_of_long;
 use odht_tool_core::failure::Failure;
 use odht_tool_core::forms::Forms;
 use odht_tool_core::line_messages::line_message;
@@ -78,6 +79,7 @@ where
     let progress = Progress::new(rt, watch);
     fill(rt, &mut table, progress, forms, input, errors)?;
     replace_file(rt, new, table.all_bytes())?;
+    warn_of_long(rt.alloc(), new.path(), table.all_bytes(), errors);
     Ok(Status::Done)
 }
 

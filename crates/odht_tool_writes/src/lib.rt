@@ -5,3 +5,4 @@ pub mod commands;
 mod inserts;
 mod shapes;
 mod sized;
+mod warnings;

@@ -6,6 +6,7 @@ use odht_tool_core::info::info_file;
 use odht_tool_core::shapes::Hash;
 use odht_tool_core::status::Status;
 use odht_tool_reads::commands::{check, check_json, count, dump, find, get, keys, order};
+use odht_tool_tables::trials::advice_of;
 use std::alloc::Global;
 use std::io::{BufRead, Write};
 
@@ -24,7 +25,10 @@ pub fn run_reading<I: BufRead, O: Write, E: Write>(
 ) -> Result<Status, Failure> {
     match reading {
         Reading::Info { bound, is_json } => {
-            info_file(alloc, file, is_one, at, bytes, *bound, *is_json, output)
+            let advice = advice_of(alloc, bytes);
+            info_file(
+                alloc, file, is_one, at, bytes, *bound, *is_json, advice, output,
+            )
         }
         Reading::Check {
             hash,

@@ -27,10 +27,10 @@ abbrev pub kind : Part → Form → Kind
 kind p f = record { part = p; form = f }
 
 abbrev pub unsaid : Kinds
-unsaid = record { key = None; value = None }
+unsaid = record { key = None; value = None; hash = None }
 
 abbrev pub said : Kind → Kind → Kinds
-said k v = record { key = Some k; value = Some v }
+said k v = record { key = Some k; value = Some v; hash = None }
 
 -- ---- numbers with a sign
 -- the count of a type's numbers

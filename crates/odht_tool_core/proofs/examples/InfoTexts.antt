@@ -5,11 +5,11 @@ use Rattle.std.specs.Fmt.{digits}
 use Rattle.odht_header.specs.declared.error.Error.TheVariants.{TooShort}
 use Rattle.odht_header.proofs.examples.Apart.{unequal_lists}
 use Rattle.odht_header.proofs.examples.Opened.{opened}
-use Rattle.odht_tool_core.specs.Advice.{advice, line_of, needs_whole, rebuilt_name, string_of}
+use Rattle.odht_tool_core.specs.Advice.{line_of, needs_whole, rebuilt_name, string_of}
 use Rattle.odht_tool_core.specs.InfoJson.{place_text}
 use Rattle.odht_tool_core.specs.InfoNumbers.{tallies, largest, IsHistogram}
 use Rattle.odht_tool_core.specs.InfoTexts.{number_line, at_line, stretch_sign, stretches_line, aligned, bar, longer_mark, tallies_text, groups_line, groups_text, info_text, IsInfoDone}
-use Rattle.odht_tool_core.specs.declared.advice.Advice.TheVariants.{LowerLoad, OtherHash}
+use Rattle.odht_tool_core.specs.declared.advice.Advice.TheVariants.{LowerLoad, Mixing}
 use Rattle.odht_tool_core.specs.declared.failure.Failure.TheVariants.{Refused, Memory}
 use Rattle.odht_tool_core.specs.declared.numbers.Numbers.{Numbers}
 use Rattle.odht_tool_core.specs.declared.shapes.Hash.TheVariants.{Fx, Unhash}
@@ -41,7 +41,7 @@ unfolding tallies largest digits aligned bar
 histogram = refl
 
 -- no hash function, and one with no item
-pub hashes : (groups_text None None (tallies []) 0 ≡ codes "hash          neither fx nor unhash\n")
+pub hashes : (groups_text None None (tallies []) 0 ≡ codes "hash          none of fx, unhash and xxh64\n")
     × (groups_text (Some Fx) None (tallies []) 0 ≡ codes "hash          fx\n  groups         items\nlongest hit   0 groups\n")
 unfolding digits
 hashes = (refl, refl)
@@ -79,6 +79,7 @@ pub whole : (n : Numbers) → IsHistogram (1 ∷ []) n.histogram → n.stretches
   hash = Some Unhash;
   bound = Some 128;
   longest_miss = 1;
+  advice = None;
 }) ≡ codes "key bytes     4\nvalue bytes   4\nheader bytes  32\nall bytes     192\nitems         1\nslots         16\nmaximum       1\nload          6 percent\nmaximum load  7 percent\nalong slots   .....9..........\nhash          unhash\n  groups         items\n       1             1  ########################################\nlongest hit   1 groups\nlongest miss  1 groups\n"
 unfolding tallies largest digits aligned bar
 whole n is along =
@@ -87,23 +88,11 @@ whole n is along =
     ap (λ counts. front ++ stretches_line 1 counts ++ groups_text (Some Unhash) (Some 128) n.histogram.counts.items n.histogram.longest ++ miss ++ []) along
     ∙ ap₂ (λ cs l. codes "key bytes     4\nvalue bytes   4\nheader bytes  32\nall bytes     192\nitems         1\nslots         16\nmaximum       1\nload          6 percent\nmaximum load  7 percent\nalong slots   .....9..........\n" ++ groups_text (Some Unhash) (Some 128) cs l ++ miss ++ []) is.counts is.longest
 
--- ---- what may help
--- nothing up to 24 groups, or where no hash function agrees
-pub no_help : (n : Numbers) → (advice (record n { longest_miss = 24 }) ≡ None) × (advice (record n { longest_miss = 25; hash = None }) ≡ None)
-no_help n = (refl, refl)
-
--- a lower load above 50 percent, else the other hash function, but unhash for keys of less than four bytes
-pub some_help : (n : Numbers)
-    → (advice (record n { longest_miss = 25; hash = Some Fx; load = 51; key_size = 8 }) ≡ Some LowerLoad)
-    × (advice (record n { longest_miss = 25; hash = Some Fx; load = 50; key_size = 4 }) ≡ Some (OtherHash Unhash))
-    × (advice (record n { longest_miss = 25; hash = Some Fx; load = 50; key_size = 3 }) ≡ None)
-    × (advice (record n { longest_miss = 25; hash = Some Unhash; load = 50; key_size = 4 }) ≡ Some (OtherHash Fx))
-some_help n = (refl, refl, refl, refl)
-
+-- ---- what helps
 -- its line; from more than 128 groups on with `--whole`, and with FILE for a table inside a file, or on standard input
 pub helps : (line_of None (codes "a") true ≡ [])
     × (line_of (Some LowerLoad) (codes "a") false ≡ codes "may help      a lower load: odht rebuild a --percent 50\n")
-    × (line_of (Some (OtherHash Unhash)) (codes "a") true ≡ codes "may help      the other hash function: odht rebuild a --hash unhash --whole\n")
+    × (line_of (Some Mixing) (codes "a") true ≡ codes "may help      another hash function: odht rebuild a --hash xxh64 --whole\n")
     × (rebuilt_name None (codes "a") ≡ codes "a")
     × (rebuilt_name (Some 2) (codes "a") ≡ codes "FILE")
     × (rebuilt_name None (codes "-") ≡ codes "FILE")
@@ -113,30 +102,30 @@ pub whole_help : (n : Numbers) → (needs_whole (record n { longest_miss = 128 }
 whole_help n = (refl, refl)
 
 -- and its string
-pub help_strings : (string_of None true ≡ codes "null") × (string_of (Some (OtherHash Fx)) false ≡ codes "\"--hash fx\"") × (string_of (Some LowerLoad) true ≡ codes "\"--percent 50 --whole\"")
+pub help_strings : (string_of None true ≡ codes "null") × (string_of (Some Mixing) false ≡ codes "\"--hash xxh64\"") × (string_of (Some LowerLoad) true ≡ codes "\"--percent 50 --whole\"")
 help_strings = (refl, refl, refl)
 
 -- ---- what a call did
 -- bytes that do not open: their error, and nothing is written
-pub refused : IsInfoDone (info_text None (codes "a")) (79 ∷ 68 ∷ []) None (Some (codes "a")) (Some (codes "a")) (Err (Refused (TooShort 2)))
+pub refused : IsInfoDone (info_text None (codes "a")) (79 ∷ 68 ∷ []) None None (Some (codes "a")) (Some (codes "a")) (Err (Refused (TooShort 2)))
 unfolding opened
 refused = (refl, refl)
 
-pub refused_late : IsInfoDone (info_text None (codes "a")) (79 ∷ 68 ∷ []) None (Some (codes "a")) (Some (codes "ab")) (Err (Refused (TooShort 2))) → ⊥
+pub refused_late : IsInfoDone (info_text None (codes "a")) (79 ∷ 68 ∷ []) None None (Some (codes "a")) (Some (codes "ab")) (Err (Refused (TooShort 2))) → ⊥
 refused_late h = unequal_lists (codes "ab") (codes "a") refl h.1
 
-pub not_refused : IsInfoDone (info_text None (codes "a")) (79 ∷ 68 ∷ []) None (Some (codes "a")) (Some (codes "ab")) (Ok Done) → ⊥
+pub not_refused : IsInfoDone (info_text None (codes "a")) (79 ∷ 68 ∷ []) None None (Some (codes "a")) (Some (codes "ab")) (Ok Done) → ⊥
 unfolding opened
 not_refused h = cc (h.1.1.opens)
 
 -- out of memory: nothing is written
-pub no_memory : IsInfoDone (info_text None (codes "a")) one_bytes None (Some (codes "a")) (Some (codes "a")) (Err Memory)
+pub no_memory : IsInfoDone (info_text None (codes "a")) one_bytes None None (Some (codes "a")) (Some (codes "a")) (Err Memory)
 unfolding opened
 no_memory = (refl, refl)
 
 -- a text is written, and the status is `Done`
-pub silent : IsInfoDone (info_text None (codes "a")) one_bytes None (Some []) (Some []) (Ok Done) → ⊥
+pub silent : IsInfoDone (info_text None (codes "a")) one_bytes None None (Some []) (Some []) (Ok Done) → ⊥
 silent h = cc (h.1.2)
 
-pub other_status : IsInfoDone (info_text None (codes "a")) one_bytes None None None (Ok NotDone) → ⊥
+pub other_status : IsInfoDone (info_text None (codes "a")) one_bytes None None None None (Ok NotDone) → ⊥
 other_status h = cc

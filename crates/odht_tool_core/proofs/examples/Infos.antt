@@ -11,10 +11,11 @@ use Rattle.odht_header.specs.declared.error.Error.TheVariants.{TooShort, WrongLe
 use Rattle.odht_header.proofs.examples.Opened.{opened}
 use Rattle.odht_tool_core.specs.GroupNumbers.{groups_to, groups_to_free}
 use Rattle.odht_tool_core.specs.InfoNumbers.{SizedParts, sized_parts, info_refusal, agrees, found_hash, occupied, occupied_in, group_numbers, found_groups, longest_miss, stretch_len, stretch_counts, tallies, largest, nearest_percent, IsHistogram, AreNumbers, IsInfoFailure}
+use Rattle.odht_tool_core.specs.declared.advice.Advice.TheVariants.{Mixing}
 use Rattle.odht_tool_core.specs.declared.failure.Failure.TheVariants.{Refused, Memory, NoHash}
 use Rattle.odht_tool_core.specs.declared.histogram.Histogram.{Histogram}
 use Rattle.odht_tool_core.specs.declared.numbers.Numbers.{Numbers}
-use Rattle.odht_tool_core.specs.declared.shapes.Hash.TheVariants.{Fx, Unhash}
+use Rattle.odht_tool_core.specs.declared.shapes.Hash.TheVariants.{Fx, Unhash, Xxh64}
 use Rattle.odht_tool_core.proofs.examples.Shapes.{one_bytes}
 
 -- its parts
@@ -39,6 +40,11 @@ pub hashes : (agrees one_parts Fx ≡ false)
     × (found_hash (sized_parts (image direct_config (empty 16 0))) ≡ Some Fx)
 unfolding opened
 hashes = (refl, refl, refl, refl, refl)
+
+-- an empty table fits all three
+pub all_fit : (agrees (sized_parts (image direct_config (empty 16 0))) Unhash ≡ true) × (agrees (sized_parts (image direct_config (empty 16 0))) Xxh64 ≡ true) × (agrees one_parts Xxh64 ≡ false)
+unfolding opened
+all_fit = (refl, refl, refl)
 
 -- keys of three bytes are too short for unhash, even where no slot is occupied
 pub short_keys : (agrees (record one_parts { key_len = 3; slots = 0 }) Unhash ≡ false) × (agrees (record one_parts { key_len = 3; slots = 0 }) Fx ≡ true)
@@ -94,7 +100,7 @@ percentages = (refl, refl, refl)
 
 -- ---- all numbers
 -- those of the table: 192 bytes, one item in sixteen slots, at most one of them occupied
-pub of_table : (n : Numbers) → IsHistogram (1 ∷ []) n.histogram → n.stretches.items ≡ set (replicate 16 0) 5 1 → AreNumbers one_bytes (Some 128) (record n {
+pub of_table : (n : Numbers) → IsHistogram (1 ∷ []) n.histogram → n.stretches.items ≡ set (replicate 16 0) 5 1 → AreNumbers one_bytes (Some 128) (Some Mixing) (record n {
   key_size = 4;
   value_size = 4;
   len = 192;
@@ -106,6 +112,7 @@ pub of_table : (n : Numbers) → IsHistogram (1 ∷ []) n.histogram → n.stretc
   hash = Some Unhash;
   bound = Some 128;
   longest_miss = 1;
+  advice = Some Mixing;
 })
 unfolding opened largest groups_to groups_to_free
 of_table n is along = record {
@@ -123,16 +130,17 @@ of_table n is along = record {
   bound = refl;
   histogram = is;
   miss = refl;
+  advice = refl;
 }
 
 -- and no others
-pub of_table_alone : (n : Numbers) → AreNumbers one_bytes (Some 128) n → (n.key_size ≡ 4) × (n.value_size ≡ 4) × (n.len ≡ 192) × (n.item_count ≡ 1) × (n.slot_count ≡ 16)
-    × (n.max_item_count ≡ 1) × (n.load ≡ 6) × (n.max_load ≡ 7) × (n.stretches.items ≡ set (replicate 16 0) 5 1) × (n.hash ≡ Some Unhash) × IsHistogram (1 ∷ []) n.histogram × (n.longest_miss ≡ 1)
+pub of_table_alone : (n : Numbers) → AreNumbers one_bytes (Some 128) None n → (n.key_size ≡ 4) × (n.value_size ≡ 4) × (n.len ≡ 192) × (n.item_count ≡ 1) × (n.slot_count ≡ 16)
+    × (n.max_item_count ≡ 1) × (n.load ≡ 6) × (n.max_load ≡ 7) × (n.stretches.items ≡ set (replicate 16 0) 5 1) × (n.hash ≡ Some Unhash) × IsHistogram (1 ∷ []) n.histogram × (n.longest_miss ≡ 1) × (n.advice ≡ None)
 unfolding opened largest groups_to groups_to_free
-of_table_alone n is = (is.key_size, is.value_size, is.len, is.items, is.slots, is.maximum, is.load, is.max_load, is.stretches, is.hash, is.histogram, is.miss)
+of_table_alone n is = (is.key_size, is.value_size, is.len, is.items, is.slots, is.maximum, is.load, is.max_load, is.stretches, is.hash, is.histogram, is.miss, is.advice)
 
 -- bytes that do not open have none
-pub of_two_bytes : (n : Numbers) → AreNumbers (79 ∷ 68 ∷ []) None n → ⊥
+pub of_two_bytes : (n : Numbers) → AreNumbers (79 ∷ 68 ∷ []) None None n → ⊥
 unfolding opened
 of_two_bytes n is = cc (is.opens)
 

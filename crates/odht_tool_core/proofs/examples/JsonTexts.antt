@@ -67,6 +67,7 @@ one n = record n {
   hash = Some Unhash;
   bound = Some 128;
   longest_miss = 1;
+  advice = None;
 }
 
 pub whole : (n : Numbers) → IsHistogram (1 ∷ []) n.histogram → n.stretches.items ≡ set (replicate 16 0) 5 1

@@ -16,7 +16,7 @@ use Rattle.odht_tool_core.specs.declared.failure.Failure.TheVariants.{OtherKey, 
 use Rattle.odht_tool_core.specs.declared.forms.Form.TheVariants.{Own, Signed, BigEndian, Plain, OfNumber, OfBytes, OfText}
 use Rattle.odht_tool_core.specs.declared.forms.NumberType.TheVariants.{U32 as Unsigned32, I32, U64BigEndian}
 use Rattle.odht_tool_core.specs.declared.misread.Wanted.TheVariants.{Nothing as WantedNothing, Bytes as WantedBytes, Text as WantedText, I32 as WantedI32}
-use Rattle.odht_tool_core.specs.declared.shapes.Hash.TheVariants.{Unhash}
+use Rattle.odht_tool_core.specs.declared.shapes.Hash.TheVariants.{Unhash, Xxh64}
 use Rattle.odht_tool_core.specs.declared.shapes.Part.TheVariants.{Nothing, U32, U64, Bytes}
 use Rattle.odht_tool_core.proofs.examples.Forms.{kind, said, unsaid}
 use Rattle.odht_tool_core.proofs.examples.FoundShapes.{other, other_bytes}
@@ -79,11 +79,13 @@ high_first = (refl, refl)
 pub low_first : StandsForSized (bytes_form BigEndian U32) (codes "258") (2 ∷ 1 ∷ 0 ∷ 0 ∷ []) → ⊥
 low_first h = omega (arith, h.1)
 
--- of a table that is no ready shape types of the same lengths are taken, and each for its own
+-- of a table that is no ready shape types of the same lengths are taken, and each for its own; or those of a ready shape of
+-- these lengths
 pub read_other : (read_any other_bytes (Some Unhash) unsaid ≡ Ok (Other (other 6 2 Unhash), record { key = Own; value = Own }))
     × (read_any other_bytes (Some Unhash) (said (kind (Bytes 6) Plain) (kind (Bytes 2) Own)) ≡ Ok (Other (other 6 2 Unhash), record { key = Plain; value = Own }))
     × (read_any wide_bytes (Some Unhash) (said (kind (Bytes 6) Plain) (kind U64 Signed)) ≡ Ok (Other (record { key = Bytes 6; value = U64; hash = Unhash }), record { key = Plain; value = Signed }))
     × (read_any wide_bytes (Some Unhash) (said (kind (Bytes 5) Plain) (kind U64 Own)) ≡ Err (OtherKey (Bytes 6)))
     × (read_any wide_bytes (Some Unhash) (said (kind (Bytes 6) Plain) (kind U32 Own)) ≡ Err (OtherValue (Bytes 8)))
+    × (read_any (overwritten_at one_bytes 5 (4 ∷ 4 ∷ [])) (Some Xxh64) unsaid ≡ Ok (Other (record { key = U32; value = U32; hash = Xxh64 }), record { key = Own; value = Own }))
 unfolding opened
-read_other = (refl, refl, refl, refl, refl)
+read_other = (refl, refl, refl, refl, refl, refl)

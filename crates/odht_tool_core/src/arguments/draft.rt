@@ -55,6 +55,7 @@ impl Draft {
             kinds: Kinds {
                 key: None,
                 value: None,
+                hash: None,
             },
             duplicates: Duplicates::Last,
             delimiter: b'\t',
@@ -138,7 +139,7 @@ impl Draft {
         match setting {
             Setting::At => self.at = Some(parse_number(value.as_bytes())? as usize),
             Setting::Hash => self.hash = Some(Hash::named(value)?),
-            Setting::Key => self.kinds.key = Some(Kind::named(value)?),
+            Setting::Key => self.set_key(value)?,
             Setting::Value => self.kinds.value = Some(Kind::named(value)?),
             Setting::Duplicates => self.duplicates = Duplicates::named(value)?,
             Setting::Delimiter => self.delimiter = delimiter_named(value)?,
@@ -146,6 +147,14 @@ impl Draft {
             Setting::Capacity => self.capacity = parse_number(value.as_bytes())? as usize,
             _ => return None,
         }
+        Some(())
+    }
+
+    // Sets what keys are said to be, to the kind of this name.
+    fn set_key(&mut self, name: &str) -> Option<()> {
+        let kind = Kind::named(name)?;
+        self.kinds.key = Some(kind);
+        self.kinds.hash = Some(kind.default_hash(name));
         Some(())
     }
 
@@ -348,7 +357,8 @@ impl Draft {
         let Some(value) = self.kinds.value else {
             return Err(CommandMisuse::Missing("--value"));
         };
-        let Some(shape) = AnyShape::of_kinds(key, value, self.hash) else {
+        let hash = self.hash.or(self.kinds.hash);
+        let Some(shape) = AnyShape::of_kinds(key, value, hash) else {
             return Err(CommandMisuse::NoShape);
         };
         Ok(Command::Build(BuildOptions {

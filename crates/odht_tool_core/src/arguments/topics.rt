@@ -290,7 +290,7 @@ impl Setting {
             | Setting::Force
             | Setting::CheckOnly => None,
             Setting::At | Setting::Capacity => Some("a number below 2^64"),
-            Setting::Hash => Some("fx or unhash"),
+            Setting::Hash => Some("fx, unhash or xxh64"),
             Setting::Key => Some("u32, u64, i32, i64, u32be, u64be, hexN or text:N"),
             Setting::Value => Some("u32, u64, i32, i64, u32be, u64be, none, hexN or text:N"),
             Setting::Duplicates => Some("last, first or error"),

@@ -99,10 +99,14 @@ pub found : (dump_outcome one_bytes None unsaid false false ≡ writes (codes "5
 unfolding opened digits
 found = (refl, refl)
 
--- the hint is for bytes that are rejected where none is named
-pub hinted : (hint_of one_bytes None ≡ Some Unhash) × (hint_of one_bytes (Some Fx) ≡ None) × (hint_of (overwritten_at one_bytes 165 (1 ∷ [])) None ≡ None)
+-- the hint is for bytes that are rejected where none is named: another hash function than the first that fits, as where
+-- the header counts an item and no slot is occupied
+pub hinted : (hint_of (overwritten_at one_bytes 165 (255 ∷ [])) None ≡ Some Unhash)
+    × (hint_of (overwritten_at one_bytes 165 (255 ∷ [])) (Some Fx) ≡ None)
+    × (hint_of one_bytes None ≡ None)
+    × (hint_of (overwritten_at one_bytes 165 (1 ∷ [])) None ≡ None)
 unfolding opened
-hinted = (refl, refl, refl)
+hinted = (refl, refl, refl, refl)
 
 pub hint_line : hint_text (codes "a.odht") Unhash ≡ codes "odht: a.odht: all control bytes fit unhash: try --hash unhash, or `odht info`\n"
 hint_line = refl

@@ -6,9 +6,8 @@ ghost use Rattle.odht_tool_core.specs.Refusals.{checked_text};
 ghost use Rattle.odht_tool_reads.specs.Outcomes.{check_outcome, hint_of, hint_text};
 
 use odht::error::Error;
-use odht_tool_core::any::named_any;
 use odht_tool_core::failure::Failure;
-use odht_tool_core::found::hinted_hash;
+use odht_tool_core::found::{checked_any, hinted_hash};
 use odht_tool_core::info::name_of;
 use odht_tool_core::refusal::Refusal;
 use odht_tool_core::shapes::Hash;
@@ -29,7 +28,7 @@ pub fn check_file<O: Write>(
     ensures { IsDone (check_outcome file.now bytes.now hash bound)
         (O.contents output.old) (O.contents output.new) result }
 {
-    let shape = named_any(bytes, hash)?;
+    let shape = checked_any(bytes, hash)?;
     let checked = check_any(shape, bytes, bound);
     write_checked(file, &checked, bound, output).map_err(Failure::Output)?;
     Ok(Status::of(checked.is_ok()))
@@ -60,12 +59,12 @@ fn write_checked<O: Write>(
     }
 }
 
-/// The hash function to name for bytes that were rejected where none was named: the other one than
-/// that of their shape, where all control bytes agree with it.
+/// The hash function to name for bytes that were rejected where none was named: the first one that
+/// is not that of their shape, where all control bytes agree with it.
 pub fn hint_of(bytes: &[u8], hash: Option<Hash>) -> Option<Hash>
     ensures { result ≡ hint_of bytes.now hash }
 {
-    match (hash, named_any(bytes, None)) {
+    match (hash, checked_any(bytes, None)) {
         (None, Ok(shape)) => hinted_hash(bytes, shape.hash()),
         _ => None,
     }

@@ -7,8 +7,8 @@ ghost use Rattle.odht_tool_core.specs.Endings.{IsDoneInMemory};
 ghost use Rattle.odht_tool_reads.specs.JsonTexts.{checked_object, check_json_outcome, rule_text, string_or_null};
 
 use odht::error::Error;
-use odht_tool_core::any::named_any;
 use odht_tool_core::failure::Failure;
+use odht_tool_core::found::checked_any;
 use odht_tool_core::json::{
     write_file_field, write_optional_field, write_string_field, write_word_field,
 };
@@ -31,7 +31,7 @@ pub fn check_file<O: Write>(
     ensures { IsDoneInMemory (check_json_outcome file.now bytes.now hash bound)
         (O.contents output.old) (O.contents output.new) result }
 {
-    let shape = named_any(bytes, hash)?;
+    let shape = checked_any(bytes, hash)?;
     let checked = check_any(shape, bytes, bound);
     let rule = rule_of(alloc, &checked)?;
     write_checked(file, bound, &rule, output).map_err(Failure::Output)?;

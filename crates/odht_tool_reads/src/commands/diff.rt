@@ -1,13 +1,19 @@
 //! `odht diff`: how the pairs of two table files differ.
-ghost use Rattle.std.specs.Prelude.{IsTrue, None};
+ghost use Rattle.std.specs.Prelude.{◌≤◌, IsTrue, None};
+ghost use Rattle.odht_base.specs.Decoded.{decoded_pairs};
+ghost use Rattle.odht_base.specs.Format.{format_of};
 ghost use Rattle.odht_base.specs.Valid.{IsValidBytes};
 ghost use Rattle.odht_tool_core.specs.AnyShapes.{HasLongKeys, any_format};
 ghost use Rattle.odht_tool_core.specs.Endings.{IsDone};
-ghost use Rattle.odht_tool_reads.specs.Diffs.{IsDiffed, diff_of};
+ghost use Rattle.odht_tool_core.specs.InfoNumbers.{least_key_len};
+ghost use Rattle.odht_tool_core.specs.ReadyShapes.{hash_of, typed_len};
+ghost use Rattle.odht_tool_core.specs.StoredTexts.{key_text, value_text};
+ghost use Rattle.odht_tool_reads.specs.Diffs.{IsDiffed, diff_of, pairs_diff};
 ghost use Rattle.odht_tool_tables.specs.Wholes.{have_same_sizes, whole_any};
 
 use crate::sized::diffs::diff_lengths;
-use odht::{FxHashFn, UnHashFn};
+use odht::hash::HashFn;
+use odht::{FxHashFn, UnHashFn, Xxh64HashFn};
 use odht_tool_core::any::AnyShape;
 use odht_tool_core::arguments::DiffOptions;
 use odht_tool_core::failure::Failure;
@@ -64,7 +70,7 @@ fn diff_beside<O: Write, E: Write>(
     requires long { HasLongKeys shape }
     requires valid { IsValidBytes (any_format shape) first.now }
     ensures { let o = options.now in IsDiffed shape forms first.now
-        (whole_any second.now o.hash (record { key = None; value = None }) o.bound) second.now
+        (whole_any second.now o.hash (record { key = None; value = None; hash = None }) o.bound) second.now
         (O.contents output.old) (O.contents output.new) result }
 {
     let other = options.other.as_str();
@@ -72,6 +78,7 @@ fn diff_beside<O: Write, E: Write>(
     let kinds = Kinds {
         key: None,
         value: None,
+        hash: None,
     };
     match read_whole(second, options.hash, kinds, options.bound) {
         Ok((beside, _)) if have_same_sizes(shape, beside) => {
@@ -105,18 +112,37 @@ pub fn diff_tables<O: Write>(
         (O.contents output.old) (O.contents output.new) result }
 {
     let texts = Texts::of(shape, forms);
-    match (shape.hash(), beside.hash()) {
-        (Hash::Fx, Hash::Fx) => {
-            diff_lengths::<FxHashFn, FxHashFn, O>(texts, first, second, output)
-        }
-        (Hash::Fx, Hash::Unhash) => {
-            diff_lengths::<FxHashFn, UnHashFn, O>(texts, first, second, output)
-        }
-        (Hash::Unhash, Hash::Fx) => {
-            diff_lengths::<UnHashFn, FxHashFn, O>(texts, first, second, output)
-        }
-        (Hash::Unhash, Hash::Unhash) => {
-            diff_lengths::<UnHashFn, UnHashFn, O>(texts, first, second, output)
-        }
+    let hash = beside.hash();
+    match shape.hash() {
+        Hash::Fx => diff_with::<FxHashFn, O>(texts, first, hash, second, output),
+        Hash::Unhash => diff_with::<UnHashFn, O>(texts, first, hash, second, output),
+        Hash::Xxh64 => diff_with::<Xxh64HashFn, O>(texts, first, hash, second, output),
+    }
+}
+
+// The same of texts, and of the hash functions of the first and of the second.
+fn diff_with<H: HashFn, O: Write>(
+    texts: Texts,
+    first: &[u8],
+    hash: Hash,
+    second: &[u8],
+    output: &mut O,
+) -> Result<Status, Failure>
+    requires hashes { H.MIN_LEN ≤ typed_len texts.key }
+    requires hashes_second { least_key_len hash ≤ typed_len texts.key }
+    requires valid { IsValidBytes
+        (format_of (typed_len texts.key) (typed_len texts.value) H.hash) first.now }
+    requires valid_second { IsValidBytes
+        (format_of (typed_len texts.key) (typed_len texts.value) (hash_of hash)) second.now }
+    ensures { let F = format_of (typed_len texts.key) (typed_len texts.value)
+        in let xs = decoded_pairs (F H.hash) first.now
+        in let ys = decoded_pairs (F (hash_of hash)) second.now
+        in IsDone (pairs_diff (key_text texts) (value_text texts) first.now second.now xs ys)
+        (O.contents output.old) (O.contents output.new) result }
+{
+    match hash {
+        Hash::Fx => diff_lengths::<H, FxHashFn, O>(texts, first, second, output),
+        Hash::Unhash => diff_lengths::<H, UnHashFn, O>(texts, first, second, output),
+        Hash::Xxh64 => diff_lengths::<H, Xxh64HashFn, O>(texts, first, second, output),
     }
 }

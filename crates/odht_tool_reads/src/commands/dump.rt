@@ -13,7 +13,7 @@ ghost use Rattle.odht_tool_reads.specs.Outcomes.{dump_outcome};
 
 use odht::hash::HashFn;
 use odht::raw_table::SizedIter;
-use odht::{FxHashFn, UnHashFn};
+use odht::{FxHashFn, UnHashFn, Xxh64HashFn};
 use odht_tool_core::any::read_any;
 use odht_tool_core::failure::Failure;
 use odht_tool_core::forms::{Form, Kinds};
@@ -45,6 +45,7 @@ pub fn dump_file<O: Write>(
     match shape.hash() {
         Hash::Fx => dump_table::<FxHashFn, O>(texts, bytes, is_slots, is_json, output),
         Hash::Unhash => dump_table::<UnHashFn, O>(texts, bytes, is_slots, is_json, output),
+        Hash::Xxh64 => dump_table::<Xxh64HashFn, O>(texts, bytes, is_slots, is_json, output),
     }
 }
 

@@ -10,7 +10,7 @@ ghost use Rattle.odht_tool_reads.specs.Listings.{keys_outcome, keys_text, listed
 
 use odht::hash::HashFn;
 use odht::raw_table::SizedIter;
-use odht::{FxHashFn, UnHashFn};
+use odht::{FxHashFn, UnHashFn, Xxh64HashFn};
 use odht_tool_core::any::read_any;
 use odht_tool_core::failure::Failure;
 use odht_tool_core::forms::{Form, Kinds};
@@ -37,6 +37,7 @@ pub fn keys_file<O: Write>(
     match shape.hash() {
         Hash::Fx => list_keys::<FxHashFn, O>(texts, bytes, output),
         Hash::Unhash => list_keys::<UnHashFn, O>(texts, bytes, output),
+        Hash::Xxh64 => list_keys::<Xxh64HashFn, O>(texts, bytes, output),
     }
 }
 

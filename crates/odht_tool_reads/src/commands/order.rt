@@ -13,7 +13,7 @@ ghost use Rattle.odht_tool_reads.specs.Orders.{IsFileOrdered, IsOrdered, stored_
 use odht::bytes::Borrowed;
 use odht::dynamic::{DynTable, Layout};
 use odht::hash::HashFn;
-use odht::{FxHashFn, UnHashFn};
+use odht::{FxHashFn, UnHashFn, Xxh64HashFn};
 use odht_tool_core::failure::Failure;
 use odht_tool_core::forms::Kinds;
 use odht_tool_core::shapes::Hash;
@@ -44,6 +44,7 @@ pub fn order_file<O: Write>(
     match shape.hash() {
         Hash::Fx => order_pairs::<FxHashFn, O>(alloc, texts, bytes, output),
         Hash::Unhash => order_pairs::<UnHashFn, O>(alloc, texts, bytes, output),
+        Hash::Xxh64 => order_pairs::<Xxh64HashFn, O>(alloc, texts, bytes, output),
     }
 }
 

@@ -1,7 +1,7 @@
 //! The hash function of a table that is read by position: the one that the first groups of slots
 //! leave.
 ghost use Rattle.std.specs.Prelude.{◌≡◌, ◌≤◌, ◌<◌, ◌+◌, ◌*◌, ◌^◌, ℕ, List, length, is_some};
-ghost use Rattle.std.specs.Prelude.{IfSome, slice_index};
+ghost use Rattle.std.specs.Prelude.{◌&&◌, IfSome, slice_index};
 ghost use Rattle.odht_base.specs.Bytes.{bytes_at};
 ghost use Rattle.odht_base.specs.Decoded.{header_slots};
 ghost use Rattle.odht_raw.specs.Reads.{IsPlaceFitting};
@@ -18,7 +18,7 @@ use odht::memory_layout::{HEADER_SIZE, Header};
 use odht::raw_table::{ReadPlace, tag_of};
 use odht::read_at::{ReadAt, read_exact_at};
 use odht::swisstable_group_query::is_empty_or_deleted;
-use odht::{FxHashFn, UnHashFn};
+use odht::{FxHashFn, UnHashFn, Xxh64HashFn};
 use odht_tool_core::shapes::Hash;
 
 /// How many slots are read at once.
@@ -30,24 +30,49 @@ const MOST_ENTRIES: usize = 8160;
 /// How many groups are read before all bytes are.
 const MOST_GROUPS: usize = 64;
 
+/// Which hash functions some slots fit.
+#[derive(Clone, Copy)]
+struct Fitting {
+    fx: bool,
+    unhash: bool,
+    xxh64: bool,
+}
+
+impl Fitting {
+    // Those that both fit.
+    fn and(self, other: Fitting) -> Fitting
+        ensures fx { result.fx ≡ (self.fx && other.fx) }
+        ensures unhash { result.unhash ≡ (self.unhash && other.unhash) }
+        ensures xxh64 { result.xxh64 ≡ (self.xxh64 && other.xxh64) }
+    {
+        Fitting {
+            fx: self.fx && other.fx,
+            unhash: self.unhash && other.unhash,
+            xxh64: self.xxh64 && other.xxh64,
+        }
+    }
+}
+
 /// The hash function that is to be named for a table, none where it has no items: the one that is
-/// named, or the one that is left when the first groups of slots exclude the other. None where
-/// they exclude none, or both, or a read failed.
+/// named, or the one that is left when the first groups of slots exclude the others. None where
+/// they leave several, or none, or a read failed, or the table has no items and there is a default
+/// for such a table.
 pub(super) fn found_name<S: ReadAt>(
     source: &S,
     start: &Start,
     hash: Option<Hash>,
+    default: Option<Hash>,
 ) -> Option<Option<Hash>>
     requires fits { start.now.at + start.now.len < 2 ^ 64 }
     requires long { 32 ≤ start.now.len }
     ensures given { (B : List ℕ) → S.gives source.now B → IsStartOf B start.now
-        → IfSome result (IsNamed (bytes_at B start.now.at start.now.len) hash) }
+        → IfSome result (IsNamed (bytes_at B start.now.at start.now.len) hash default) }
 {
     match hash {
         Some(_) => Some(hash),
         None => {
             if Header::of(&start.header).item_count() == 0 {
-                return Some(None);
+                return if default.is_none() { Some(None) } else { None };
             }
             let hash = left_hash(source, start)?;
             Some(Some(hash))
@@ -55,7 +80,7 @@ pub(super) fn found_name<S: ReadAt>(
     }
 }
 
-// The hash function that is left when the first groups of slots exclude the other.
+// The hash function that is left when the first groups of slots exclude the others.
 fn left_hash<S: ReadAt>(source: &S, start: &Start) -> Option<Hash>
     requires fits { start.now.at + start.now.len < 2 ^ 64 }
     requires long { 32 ≤ start.now.len }
@@ -63,16 +88,19 @@ fn left_hash<S: ReadAt>(source: &S, start: &Start) -> Option<Hash>
         → IfSome result (IsLeft (bytes_at B start.now.at start.now.len)) }
 {
     let place = place_of(start)?;
+    let mut left = Fitting {
+        fx: true,
+        unhash: true,
+        xxh64: true,
+    };
     for group in 0..(place.slots / GROUP).min(MOST_GROUPS) {
-        let (fx, unhash) = group_fits(source, &place, group * GROUP)?;
-        if !fx && !unhash {
-            return None;
-        }
-        if !unhash {
-            return Some(Hash::Fx);
-        }
-        if !fx {
-            return Some(Hash::Unhash);
+        left = left.and(group_fits(source, &place, group * GROUP)?);
+        match (left.fx, left.unhash, left.xxh64) {
+            (true, false, false) => return Some(Hash::Fx),
+            (false, true, false) => return Some(Hash::Unhash),
+            (false, false, true) => return Some(Hash::Xxh64),
+            (false, false, false) => return None,
+            _ => {}
         }
     }
     None
@@ -104,15 +132,16 @@ fn place_of(start: &Start) -> Option<ReadPlace>
     })
 }
 
-// Whether the sixteen slots from one on fit either hash function.
-fn group_fits<S: ReadAt>(source: &S, place: &ReadPlace, first: usize) -> Option<(bool, bool)>
+// Which hash functions the sixteen slots from one on fit.
+fn group_fits<S: ReadAt>(source: &S, place: &ReadPlace, first: usize) -> Option<Fitting>
     requires within { first + 16 ≤ place.now.slots }
     requires fits { IsPlaceFitting place.now }
     ensures given { let k = place.now.layout.key_len in let v = place.now.layout.value_len
         in (B : List ℕ) → S.gives source.now B → (let T = slots_parts k v
         (bytes_at B (place.now.entries_at + first * (k + v)) (16 * (k + v)))
         (bytes_at B (place.now.control_at + first) 16)
-        in IfSome result (λ r. (r.0 ≡ agrees T Hash.Fx) × (r.1 ≡ agrees T Hash.Unhash))) }
+        in IfSome result (λ r. (r.fx ≡ agrees T Hash.Fx) × (r.unhash ≡ agrees T Hash.Unhash)
+        × (r.xxh64 ≡ agrees T Hash.Xxh64))) }
 {
     let layout = place.layout;
     let mut control = [0; GROUP];
@@ -121,9 +150,11 @@ fn group_fits<S: ReadAt>(source: &S, place: &ReadPlace, first: usize) -> Option<
     let mut bytes = [0; MOST_ENTRIES];
     let (entries, _) = bytes.split_at_mut(GROUP * layout.entry_len());
     read_exact_at(source, entries_at, entries).ok()?;
-    let fx = fits(&control, &*entries, layout, Hash::Fx);
-    let unhash = fits(&control, &*entries, layout, Hash::Unhash);
-    Some((fx, unhash))
+    Some(Fitting {
+        fx: fits(&control, &*entries, layout, Hash::Fx),
+        unhash: fits(&control, &*entries, layout, Hash::Unhash),
+        xxh64: fits(&control, &*entries, layout, Hash::Xxh64),
+    })
 }
 
 // Whether the keys are long enough for a hash function, and each occupied slot of sixteen has the
@@ -167,6 +198,7 @@ fn least_len(hash: Hash) -> usize
     match hash {
         Hash::Fx => FxHashFn::MIN_LEN,
         Hash::Unhash => UnHashFn::MIN_LEN,
+        Hash::Xxh64 => Xxh64HashFn::MIN_LEN,
     }
 }
 
@@ -178,5 +210,6 @@ fn hash_key(key: &[u8], hash: Hash) -> u32
     match hash {
         Hash::Fx => FxHashFn::hash(key),
         Hash::Unhash => UnHashFn::hash(key),
+        Hash::Xxh64 => Xxh64HashFn::hash(key),
     }
 }

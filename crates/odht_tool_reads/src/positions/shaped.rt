@@ -16,7 +16,7 @@ use super::lookups::answer_words_at;
 use odht::dynamic::{FileTable, Layout};
 use odht::hash::HashFn;
 use odht::read_at::ReadAt;
-use odht::{FxHashFn, UnHashFn};
+use odht::{FxHashFn, UnHashFn, Xxh64HashFn};
 use odht_tool_core::any::OtherShape;
 use odht_tool_core::failure::Failure;
 use odht_tool_core::forms::GivenForms;
@@ -54,6 +54,9 @@ pub(super) fn words_of<S: ReadAt + Drop, O: Write>(
             alloc, source, at, len, layout, forms, is_json, words, output,
         ),
         Hash::Unhash => words_sized::<UnHashFn, S, O>(
+            alloc, source, at, len, layout, forms, is_json, words, output,
+        ),
+        Hash::Xxh64 => words_sized::<Xxh64HashFn, S, O>(
             alloc, source, at, len, layout, forms, is_json, words, output,
         ),
     }

@@ -12,7 +12,7 @@ ghost use Rattle.odht_tool_reads.specs.Gets.{AreWordsGot, words_of_types};
 use crate::lookups::{answer_lines, answer_words};
 use odht::dynamic::Layout;
 use odht::hash::HashFn;
-use odht::{FxHashFn, UnHashFn};
+use odht::{FxHashFn, UnHashFn, Xxh64HashFn};
 use odht_tool_core::any::OtherShape;
 use odht_tool_core::failure::Failure;
 use odht_tool_core::forms::GivenForms;
@@ -45,6 +45,9 @@ pub fn get_words_of<O: Write>(
         Hash::Unhash => get_words_sized::<UnHashFn, O>(
             alloc, layout, forms, is_json, bytes, words, output,
         ),
+        Hash::Xxh64 => get_words_sized::<Xxh64HashFn, O>(
+            alloc, layout, forms, is_json, bytes, words, output,
+        ),
     }
 }
 
@@ -68,6 +71,9 @@ pub fn get_lines_other<I: BufRead, O: Write>(
             alloc, layout, forms, is_json, bytes, input, output,
         ),
         Hash::Unhash => get_lines_sized::<UnHashFn, I, O>(
+            alloc, layout, forms, is_json, bytes, input, output,
+        ),
+        Hash::Xxh64 => get_lines_sized::<Xxh64HashFn, I, O>(
             alloc, layout, forms, is_json, bytes, input, output,
         ),
     }

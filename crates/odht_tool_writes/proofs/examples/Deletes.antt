@@ -60,7 +60,7 @@ gone F P B deleted = deleted.maps (1 ∷ [])
 
 -- ---- failures
 abbrev pub own : Kinds
-own = record { key = None; value = None }
+own = record { key = None; value = None; hash = None }
 
 -- no table, a bound, and a text of another type; but not a rule that no bytes break
 pub failed : IsDeleteFailure (79 ∷ 68 ∷ []) None own None [] (Refused (TooShort 2))
@@ -75,6 +75,6 @@ pub bound : IsDeleteFailure one_bytes None own (Some 0) [] (Refused (SearchTooLo
 unfolding opened first_longer
 bound = refl
 
-pub other_text : IsDeleteFailure one_bytes None (record { key = Some (record { part = U64; form = Own }); value = None }) None [] (OtherKey U32)
+pub other_text : IsDeleteFailure one_bytes None (record { key = Some (record { part = U64; form = Own }); value = None; hash = None }) None [] (OtherKey U32)
 unfolding opened
 other_text = refl

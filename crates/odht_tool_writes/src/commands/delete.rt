@@ -12,7 +12,7 @@ ghost use Rattle.odht_tool_writes.specs.Deletes.{are_keys, is_fault};
 use crate::commands::delete_lines::deleted_by_lines;
 use crate::sized::deletes::delete_lengths;
 use odht::dynamic::ShortBytes;
-use odht::{FxHashFn, UnHashFn};
+use odht::{FxHashFn, UnHashFn, Xxh64HashFn};
 use odht_tool_core::any::{AnyShape, read_any};
 use odht_tool_core::arguments::{DeleteOptions, Keys};
 use odht_tool_core::failure::Failure;
@@ -149,6 +149,9 @@ pub fn deleted_for<W: Word, R: AllocGlobal + Clock, E: Write>(
             rt, file, layout, bytes, words, keys, progress, errors,
         ),
         Hash::Unhash => delete_lengths::<UnHashFn, W, R, E>(
+            rt, file, layout, bytes, words, keys, progress, errors,
+        ),
+        Hash::Xxh64 => delete_lengths::<Xxh64HashFn, W, R, E>(
             rt, file, layout, bytes, words, keys, progress, errors,
         ),
     }

@@ -11,7 +11,7 @@ ghost use Rattle.odht_tool_writes.specs.Merges.{IsMergedFrom, IsMergedOf, IsRead
 ghost use Rattle.odht_tool_writes.specs.Merges.{IsTableOf, all_pairs, input_pairs, shape_of_other};
 
 use crate::sized::merges::{Input, Unmerged, merge_lengths};
-use odht::{FxHashFn, UnHashFn};
+use odht::{FxHashFn, UnHashFn, Xxh64HashFn};
 use odht_tool_core::any::AnyShape;
 use odht_tool_core::arguments::{MergeOptions, is_stream};
 use odht_tool_core::failure::Failure;
@@ -233,6 +233,9 @@ fn merged_inputs<R: AllocGlobal + Clock, E: Write>(
         Hash::Unhash => merge_lengths::<UnHashFn, R, E>(
             rt, texts, inputs, duplicates, percent, progress, errors,
         ),
+        Hash::Xxh64 => merge_lengths::<Xxh64HashFn, R, E>(
+            rt, texts, inputs, duplicates, percent, progress, errors,
+        ),
     }
 }
 
@@ -305,6 +308,7 @@ fn shape_of_other(
     let kinds = Kinds {
         key: None,
         value: None,
+        hash: None,
     };
     match read_whole(bytes, hash, kinds, bound) {
         Ok((other, _)) if have_same_sizes(shape, other) => Ok(other),

@@ -10,6 +10,7 @@ ghost use Rattle.odht.specs.Lists.{IsAfterInserts};
 ghost use Rattle.odht.specs.Tables.{OfTable};
 ghost use Rattle.odht_tool_core.specs.AnyShapes.{HasLongKeys, any_format};
 ghost use Rattle.odht_tool_core.specs.InfoNumbers.{least_key_len};
+ghost use Rattle.odht_tool_core.specs.ReadyShapes.{hash_of};
 ghost use Rattle.odht_tool_core.specs.declared.failure.Failure.TheVariants.{Memory};
 ghost use Rattle.odht_tool_writes.specs.Rebuilds.{IsRebuilt, IsRebuiltOf, IsNewFailure};
 ghost use Rattle.odht_tool_writes.specs.Rebuilds.{IsRebuildFailure, new_hash, rehashed};
@@ -20,7 +21,7 @@ use odht::dynamic::{DynTable, DynTableOwned, Layout};
 use odht::hash::HashFn;
 use odht::load::Percent;
 use odht::raw_table::SizedIter;
-use odht::{FxHashFn, UnHashFn};
+use odht::{FxHashFn, UnHashFn, Xxh64HashFn};
 use odht_tool_core::any::{AnyShape, named_any};
 use odht_tool_core::arguments::RebuildOptions;
 use odht_tool_core::failure::Failure;
@@ -119,18 +120,46 @@ fn rebuilt_for<R: AllocGlobal + Clock, E: Write>(
         key_len: shape.key().size(),
         value_len: shape.value().size(),
     };
-    match (shape.hash(), hash) {
-        (Hash::Fx, Hash::Fx) => {
-            rebuilt_as::<FxHashFn, FxHashFn, R, E>(rt, layout, bytes, percent, progress, errors)
+    match shape.hash() {
+        Hash::Fx => {
+            rebuilt_from::<FxHashFn, R, E>(rt, layout, hash, bytes, percent, progress, errors)
         }
-        (Hash::Fx, Hash::Unhash) => {
-            rebuilt_as::<FxHashFn, UnHashFn, R, E>(rt, layout, bytes, percent, progress, errors)
+        Hash::Unhash => {
+            rebuilt_from::<UnHashFn, R, E>(rt, layout, hash, bytes, percent, progress, errors)
         }
-        (Hash::Unhash, Hash::Fx) => {
-            rebuilt_as::<UnHashFn, FxHashFn, R, E>(rt, layout, bytes, percent, progress, errors)
+        Hash::Xxh64 => {
+            rebuilt_from::<Xxh64HashFn, R, E>(rt, layout, hash, bytes, percent, progress, errors)
         }
-        (Hash::Unhash, Hash::Unhash) => {
-            rebuilt_as::<UnHashFn, UnHashFn, R, E>(rt, layout, bytes, percent, progress, errors)
+    }
+}
+
+// The same of lengths and of the hash function of the old table.
+fn rebuilt_from<S: HashFn, R: AllocGlobal + Clock, E: Write>(
+    rt: &R,
+    layout: Layout,
+    hash: Hash,
+    bytes: &[u8],
+    percent: Percent,
+    progress: Progress,
+    errors: &mut E,
+) -> Result<Vec<u8>, Failure>
+    requires valid { IsValidBytes (format_of layout.key_len layout.value_len S.hash) bytes.now }
+    requires hashes { S.MIN_LEN ≤ layout.key_len }
+    ensures ok { let F = format_of layout.key_len layout.value_len (hash_of hash)
+        in OfTable (format_of layout.key_len layout.value_len S.hash) bytes.now
+        (λ P. IfOk result (λ new. IsRebuilt F percent P new.items)) }
+    ensures err { let F = format_of layout.key_len layout.value_len (hash_of hash)
+        in IfErr result (IsNewFailure (least_key_len hash) F (header_count bytes.now) percent) }
+{
+    match hash {
+        Hash::Fx => {
+            rebuilt_as::<S, FxHashFn, R, E>(rt, layout, bytes, percent, progress, errors)
+        }
+        Hash::Unhash => {
+            rebuilt_as::<S, UnHashFn, R, E>(rt, layout, bytes, percent, progress, errors)
+        }
+        Hash::Xxh64 => {
+            rebuilt_as::<S, Xxh64HashFn, R, E>(rt, layout, bytes, percent, progress, errors)
         }
     }
 }

@@ -7,6 +7,7 @@ ghost use Rattle.odht_tool_writes.specs.Faults.{TellsRepeated};
 ghost use Rattle.odht_tool_writes.specs.Inserted.{IsLineRefused, IsLineTaken};
 
 use crate::inserts::{BATCH, Inserts, fill, report, report_all, told, with_line};
+use crate::warnings::warn_of_long;
 use odht_tool_core::arguments::{BuildOptions, Duplicates, is_stream};
 use odht_tool_core::failure::Failure;
 use odht_tool_core::forms::Forms;
@@ -100,9 +101,14 @@ where
     }
     match place {
         Place::Nowhere => Ok(Status::Done),
-        Place::Output => of_output(output.write_all(table.all_bytes())),
+        Place::Output => {
+            let status = of_output(output.write_all(table.all_bytes()))?;
+            warn_of_long(rt.alloc(), "FILE", table.all_bytes(), errors);
+            Ok(status)
+        }
         Place::File(new) => {
             replace_file(rt, new, table.all_bytes())?;
+            warn_of_long(rt.alloc(), new.path(), table.all_bytes(), errors);
             Ok(Status::Done)
         }
     }

@@ -16,7 +16,7 @@ use crate::inserts::lines::{Place, check_lines, insert_lines, makes_no_table};
 use odht::dynamic::{DynError, DynTableOwned, Layout, ShortBytes};
 use odht::hash::HashFn;
 use odht::load::Percent;
-use odht::{FxHashFn, UnHashFn};
+use odht::{FxHashFn, UnHashFn, Xxh64HashFn};
 use odht_tool_core::any::OtherShape;
 use odht_tool_core::arguments::BuildOptions;
 use odht_tool_core::failure::Failure;
@@ -51,6 +51,9 @@ where
             rt, place, layout, forms, options, input, output, errors,
         ),
         Hash::Unhash => build_lengths::<UnHashFn, R, I, O, E>(
+            rt, place, layout, forms, options, input, output, errors,
+        ),
+        Hash::Xxh64 => build_lengths::<Xxh64HashFn, R, I, O, E>(
             rt, place, layout, forms, options, input, output, errors,
         ),
     }
@@ -136,6 +139,9 @@ where
             rt, new, layout, forms, bytes, bound, watch, input, errors,
         ),
         Hash::Unhash => put_lengths::<UnHashFn, R, I, E>(
+            rt, new, layout, forms, bytes, bound, watch, input, errors,
+        ),
+        Hash::Xxh64 => put_lengths::<Xxh64HashFn, R, I, E>(
             rt, new, layout, forms, bytes, bound, watch, input, errors,
         ),
     }

@@ -22,7 +22,7 @@ use odht::dynamic::{DynTableOwned, Layout};
 use odht::hash::HashFn;
 use odht::load::Percent;
 use odht::raw_table::SizedIter;
-use odht::{FxHashFn, UnHashFn};
+use odht::{FxHashFn, UnHashFn, Xxh64HashFn};
 use odht_tool_core::any::AnyShape;
 use odht_tool_core::arguments::Duplicates;
 use odht_tool_core::failure::Failure;
@@ -191,6 +191,7 @@ fn input_count(texts: Texts, input: &Input) -> usize
     match input.shape.hash() {
         Hash::Fx => stated_len::<FxHashFn>(texts, bytes),
         Hash::Unhash => stated_len::<UnHashFn>(texts, bytes),
+        Hash::Xxh64 => stated_len::<Xxh64HashFn>(texts, bytes),
     }
 }
 
@@ -231,6 +232,10 @@ fn repeated_in<H: HashFn>(
         }
         (Duplicates::Error, Hash::Unhash) => {
             let old = open_valid::<UnHashFn>(texts, input.bytes.as_slice());
+            repeated_key(alloc, texts, table, old.iter())
+        }
+        (Duplicates::Error, Hash::Xxh64) => {
+            let old = open_valid::<Xxh64HashFn>(texts, input.bytes.as_slice());
             repeated_key(alloc, texts, table, old.iter())
         }
         _ => Ok(None),
@@ -301,6 +306,10 @@ fn insert_input<H: HashFn, R: Clock, E: Write>(
         }
         Hash::Unhash => {
             let old = open_valid::<UnHashFn>(texts, input.bytes.as_slice());
+            insert_kept(rt, table, old.iter(), duplicates, count, progress, errors)
+        }
+        Hash::Xxh64 => {
+            let old = open_valid::<Xxh64HashFn>(texts, input.bytes.as_slice());
             insert_kept(rt, table, old.iter(), duplicates, count, progress, errors)
         }
     }

@@ -5,7 +5,7 @@
 
 use crate::host::prelude::*;
 
-mod advice;
+pub mod advice;
 pub mod answers;
 pub mod any;
 pub mod arguments;
@@ -44,7 +44,7 @@ mod sized_bytes;
 pub mod sized_slots;
 pub mod slots;
 pub mod status;
-mod stored;
+pub mod stored;
 mod stretches;
 pub mod targets;
 pub mod text;

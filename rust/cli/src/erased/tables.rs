@@ -7,4 +7,5 @@ use crate::host::prelude::*;
 pub mod checks;
 pub mod files;
 pub mod sized;
+pub mod trials;
 pub mod whole;

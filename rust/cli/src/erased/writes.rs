@@ -7,3 +7,4 @@ pub mod commands;
 mod inserts;
 mod shapes;
 mod sized;
+mod warnings;

@@ -17,4 +17,5 @@ returns-clause-ok c = record {
   bound = search rules;
   histogram = search rules;
   miss = search rules;
+  advice = search rules;
 }

@@ -4,7 +4,7 @@
 
 use crate::erased::core::failure::Failure;
 use crate::erased::core::forms::{form_for, Form, GivenForms, Kind, Kinds};
-use crate::erased::core::found::found_any;
+use crate::erased::core::found::{found_any, said_hash};
 use crate::erased::core::shapes::{Hash, Part, Shape};
 use crate::erased::core::stored::least_key_size;
 use crate::host::prelude::*;
@@ -20,6 +20,16 @@ pub struct OtherShape {
     pub value: Part,
     /// The hash function.
     pub hash: Hash,
+}
+
+impl OtherShape {
+    /// The same with the types of the first ready shape of its lengths, where there is one.
+    fn with_ready_types(self) -> OtherShape {
+        match Shape::of_sizes(self.key.size(), self.value.size(), None) {
+            Some(shape) => OtherShape { key: shape.key(), value: shape.value(), hash: self.hash },
+            None => self,
+        }
+    }
 }
 
 /// The shape of a table: a ready one, or another.
@@ -62,9 +72,9 @@ impl AnyShape {
     }
 
     /// The shape of keys and values that are said to be these, and of the hash function, where one
-    /// is given: the first ready one of their types; else another one, of `fx` where none is
-    /// given. None where a ready shape of other types has as many bytes, since a file is read as
-    /// that, or the hash function needs longer keys.
+    /// is given: the first ready one of their types; else another one, of the default of these
+    /// keys where none is given. None where a ready shape of other types has as many bytes, since
+    /// a file is read as that, or the hash function needs longer keys.
     pub(crate) fn of_kinds(key: Kind, value: Kind, hash: Option<Hash>) -> Option<AnyShape> {
         if let Some(shape) = Shape::of_parts(key.part, value.part, hash) {
             return Some(AnyShape::Ready(shape));
@@ -80,7 +90,7 @@ impl AnyShape {
     fn of_sizes(key: Part, value: Part, hash: Option<Hash>) -> Result<AnyShape, Failure> {
         match Shape::of_sizes(key.size(), value.size(), hash) {
             Some(shape) => Ok(AnyShape::Ready(shape)),
-            None => AnyShape::of_types(key, value, hash.unwrap_or(Hash::Fx)),
+            None => AnyShape::of_types(key, value, hash.unwrap_or(key.default_hash())),
         }
     }
 
@@ -96,8 +106,8 @@ impl AnyShape {
 }
 
 /// The shape of these bytes: the ready one of the key and value sizes in the header, and of the
-/// hash function, where one is given; where there is none, another one, of `fx` where none is
-/// given. Where the check fails before it comes to the sizes, some shape is returned: opening has
+/// hash function, where one is given; where there is none, another one, of the default of such
+/// keys where none is given. Where the check fails before it comes to the sizes, some shape is returned: opening has
 /// the same error for each. `ShortKeys` where the hash function needs longer keys.
 pub fn named_any(bytes: &[u8], hash: Option<Hash>) -> Result<AnyShape, Failure> {
     if has_early_refusal(bytes) {
@@ -120,18 +130,19 @@ fn has_early_refusal(bytes: &[u8]) -> bool {
         || header.check_metadata_size().is_err()
 }
 
-/// The shape that the bytes of a file are read as, as `found_any` finds it, and the forms of its
-/// keys and values: those that are said, or its own. Where it is no ready shape, its types are
-/// those that are said, if they have its lengths. `OtherKey` or `OtherValue` where what is said is
-/// of another type, or of another length.
+/// The shape that the bytes of a file are read as, as `found_any` finds it by the hash function of
+/// `said_hash`, and the forms of its keys and values: those that are said, or its own. Where it is
+/// no ready shape, its types are those that are said, if they have its lengths, or else those of
+/// `with_ready_types`. `OtherKey` or `OtherValue` where what is said is of another type, or of
+/// another length.
 pub fn read_any(
     bytes: &[u8],
     hash: Option<Hash>,
     kinds: Kinds,
 ) -> Result<(AnyShape, GivenForms), Failure> {
-    match found_any(bytes, hash)? {
+    match found_any(bytes, said_hash(bytes, hash, kinds.hash))? {
         AnyShape::Ready(shape) => read_ready(shape, kinds),
-        AnyShape::Other(shape) => read_other(shape, kinds),
+        AnyShape::Other(shape) => read_other(shape.with_ready_types(), kinds),
     }
 }
 

@@ -107,13 +107,18 @@ fn write_words<O: Write>(fits: &str, checked: &str, output: &mut O) -> io::Resul
     writeln!(output, "{fits}\t{checked}")
 }
 
-/// The hash functions that all control bytes agree with.
+/// The names of the hash functions that all control bytes agree with, with commas between them.
 pub(crate) fn fits_word(table: &StoredTable<'_>) -> &'static str {
-    match (table.agrees(Hash::Fx), table.agrees(Hash::Unhash)) {
-        (true, true) => "both",
-        (true, false) => "fx",
-        (false, true) => "unhash",
-        (false, false) => "none",
+    let has_xxh64 = table.agrees(Hash::Xxh64);
+    match (table.agrees(Hash::Fx), table.agrees(Hash::Unhash), has_xxh64) {
+        (true, true, true) => "fx,unhash,xxh64",
+        (true, true, false) => "fx,unhash",
+        (true, false, true) => "fx,xxh64",
+        (true, false, false) => "fx",
+        (false, true, true) => "unhash,xxh64",
+        (false, true, false) => "unhash",
+        (false, false, true) => "xxh64",
+        (false, false, false) => "none",
     }
 }
 

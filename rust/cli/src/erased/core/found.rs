@@ -3,7 +3,7 @@
 
 use crate::erased::core::any::{named_any, AnyShape, OtherShape};
 use crate::erased::core::failure::Failure;
-use crate::erased::core::shapes::{Hash, Part, Shape, SHAPES};
+use crate::erased::core::shapes::{Hash, Part, Shape, HASHES, SHAPES};
 use crate::erased::core::stored::StoredTable;
 use crate::host::prelude::*;
 use crate::proved::header::header::Header;
@@ -56,15 +56,47 @@ fn open_with_items(bytes: &[u8]) -> Option<StoredTable<'_>> {
     }
 }
 
-/// The hash function that is not this one, where header and length fit, the header counts items
-/// and all control bytes agree with it: then the file may be read by it, though it is rejected
-/// under this one.
-pub fn hinted_hash(bytes: &[u8], hash: Hash) -> Option<Hash> {
-    let other = hash.other();
-    let table = open_with_items(bytes)?;
-    if table.agrees(other) {
-        Some(other)
-    } else {
-        None
+/// The hash function by which a file is read: the one that is named, or else the default of what
+/// its keys are said to be, where header and length fit and all control bytes agree with it. So
+/// that default counts where a file does not show its hash function, as an empty one.
+pub fn said_hash(bytes: &[u8], named: Option<Hash>, default: Option<Hash>) -> Option<Hash> {
+    match (named, default) {
+        (None, Some(default)) if agrees_with(bytes, default) => Some(default),
+        _ => named,
     }
+}
+
+// Whether header and length fit, and all control bytes agree with a hash function.
+fn agrees_with(bytes: &[u8], hash: Hash) -> bool {
+    match StoredTable::open(bytes) {
+        Ok(table) => table.agrees(hash),
+        Err(_) => false,
+    }
+}
+
+/// The shape of bytes that are checked: as `found_any` has it; but where no hash function fits, as
+/// `named_any` has it, so that the check says which rule is broken.
+pub fn checked_any(bytes: &[u8], hash: Option<Hash>) -> Result<AnyShape, Failure> {
+    match found_any(bytes, hash) {
+        Err(Failure::NoHash { .. }) => named_any(bytes, hash),
+        found => found,
+    }
+}
+
+/// The first hash function that is not this one, where header and length fit, the header counts
+/// items and all control bytes agree with it: then the file may be read by it, though it is
+/// rejected under this one.
+pub fn hinted_hash(bytes: &[u8], hash: Hash) -> Option<Hash> {
+    let table = open_with_items(bytes)?;
+    other_hash(&table, hash)
+}
+
+// The first hash function that is not this one and that all control bytes agree with.
+fn other_hash(table: &StoredTable<'_>, hash: Hash) -> Option<Hash> {
+    HASHES.iter().copied().find(|other| is_other(*other, hash, table))
+}
+
+// Whether a hash function is not this one, and all control bytes agree with it.
+fn is_other(other: Hash, hash: Hash, table: &StoredTable<'_>) -> bool {
+    !other.is(hash) && table.agrees(other)
 }

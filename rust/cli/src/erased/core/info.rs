@@ -1,7 +1,7 @@
 // Made by `make rust` of crates/odht_tool_core/src/info.rt.
 //! `odht info`: what a table file of any shape holds.
 
-use crate::erased::core::advice::write_advice;
+use crate::erased::core::advice::{write_advice, Advice};
 use crate::erased::core::failure::Failure;
 use crate::erased::core::histogram::Histogram;
 use crate::erased::core::info_json::write_object;
@@ -16,8 +16,7 @@ use std::io::{self, Write};
 
 /// `odht info` of the bytes of the file of this name, or of the table at a byte of it: writes that
 /// byte, sizes, counts, load factors, how full the table is along its slots, how many groups a
-/// search reads for the items and for absent keys, up to the bound, and what may help where that
-/// is many; after a line of the name where it is not the only one; with `is_json` as an object of
+/// search reads for the items and for absent keys, up to the bound, and the advice, if any; after a line of the name where it is not the only one; with `is_json` as an object of
 /// JSON.
 pub fn info_file<O: Write>(
     alloc: Global,
@@ -27,9 +26,10 @@ pub fn info_file<O: Write>(
     bytes: &[u8],
     bound: Option<usize>,
     is_json: bool,
+    advice: Option<Advice>,
     output: &mut O,
 ) -> Result<Status, Failure> {
-    let numbers = numbers_of(alloc, bytes, bound)?;
+    let numbers = numbers_of(alloc, bytes, bound, advice)?;
     match write_as(file, is_one, at, &numbers, is_json, output) {
         Ok(()) => Ok(Status::Done),
         Err(error) => Err(Failure::Output(error)),
@@ -91,7 +91,7 @@ fn write_all<O: Write>(
 // The lines of the hash function, where there is one with the histogram.
 fn write_hash<O: Write>(numbers: &Numbers, output: &mut O) -> io::Result<()> {
     match numbers.hash {
-        None => writeln!(output, "hash          neither fx nor unhash"),
+        None => writeln!(output, "hash          none of fx, unhash and xxh64"),
         Some(hash) => write_groups(hash, &numbers.histogram, numbers.bound, output),
     }
 }
@@ -147,6 +147,7 @@ pub fn name_of(hash: Hash) -> &'static str {
     match hash {
         Hash::Fx => "fx",
         Hash::Unhash => "unhash",
+        Hash::Xxh64 => "xxh64",
     }
 }
 

@@ -1,6 +1,7 @@
 // Made by `make rust` of crates/odht_tool_core/src/numbers.rt.
 //! The numbers that `odht info` writes of a table of any key and value sizes.
 
+use crate::erased::core::advice::Advice;
 use crate::erased::core::failure::Failure;
 use crate::erased::core::histogram::Histogram;
 use crate::erased::core::shapes::Hash;
@@ -41,11 +42,18 @@ pub struct Numbers {
     pub histogram: Histogram,
     /// How many groups the longest search for an absent key reads at most.
     pub longest_miss: usize,
+    /// What makes searches short, where some are long and something was found.
+    pub advice: Option<Advice>,
 }
 
-/// The numbers of the bytes of a file, or the first error of their header and length. With a bound
-/// it takes time in proportion to the bytes and the bound.
-pub fn numbers_of(alloc: Global, bytes: &[u8], bound: Option<usize>) -> Result<Numbers, Failure> {
+/// The numbers of the bytes of a file, or the first error of their header and length. What was found
+/// to make searches short is among them. With a bound it takes time in proportion to the bytes and the bound.
+pub fn numbers_of(
+    alloc: Global,
+    bytes: &[u8],
+    bound: Option<usize>,
+    advice: Option<Advice>,
+) -> Result<Numbers, Failure> {
     let table = StoredTable::open(bytes).map_err(Failure::Refused)?;
     let hash = table.hash();
     let histogram = histogram_of(alloc, &table, hash, bound)?;
@@ -67,6 +75,7 @@ pub fn numbers_of(alloc: Global, bytes: &[u8], bound: Option<usize>) -> Result<N
         bound,
         histogram,
         longest_miss: table.longest_miss(bound),
+        advice,
     })
 }
 

@@ -17,6 +17,8 @@ pub enum Hash {
     Fx,
     /// `UnHashFn`.
     Unhash,
+    /// `Xxh64HashFn`.
+    Xxh64,
 }
 
 impl Hash {
@@ -25,26 +27,24 @@ impl Hash {
         match name {
             "fx" => Some(Hash::Fx),
             "unhash" => Some(Hash::Unhash),
+            "xxh64" => Some(Hash::Xxh64),
             _ => None,
         }
     }
 
-    /// The other hash function.
-    pub(crate) fn other(self) -> Hash {
-        match self {
-            Hash::Fx => Hash::Unhash,
-            Hash::Unhash => Hash::Fx,
-        }
-    }
-
-    // Whether both are the same one.
-    fn is(self, other: Hash) -> bool {
+    /// Whether both are the same one.
+    pub fn is(self, other: Hash) -> bool {
         match (self, other) {
-            (Hash::Fx, Hash::Fx) | (Hash::Unhash, Hash::Unhash) => true,
+            (Hash::Fx, Hash::Fx) | (Hash::Unhash, Hash::Unhash) | (Hash::Xxh64, Hash::Xxh64) => {
+                true
+            }
             _ => false,
         }
     }
 }
+
+/// The hash functions. Of several that a file fits the first is taken.
+pub(crate) const HASHES: [Hash; 3] = [Hash::Fx, Hash::Unhash, Hash::Xxh64];
 
 /// The type of a key or of a value.
 #[derive(Clone, Copy, Debug)]
@@ -94,6 +94,16 @@ impl Part {
             Part::U32 => 4,
             Part::U64 => 8,
             Part::Bytes(size) => size,
+        }
+    }
+
+    /// The hash function of new tables of such keys, where none is named: `fx` for numbers,
+    /// `unhash` for 8 to 32 bytes, which are hashes, and else `xxh64`.
+    pub(crate) fn default_hash(self) -> Hash {
+        match self {
+            Part::U32 | Part::U64 => Hash::Fx,
+            Part::Bytes(size) if 8 <= size && size <= 32 => Hash::Unhash,
+            _ => Hash::Xxh64,
         }
     }
 

@@ -6,12 +6,18 @@ use crate::erased::core::histogram::Histogram;
 use crate::erased::core::shapes::Hash;
 use crate::erased::core::stretches::{stretch_len, STRETCHES};
 use crate::host::prelude::*;
-use crate::proved::base::hash::{FxHashFn, HashFn, UnHashFn};
+use crate::proved::base::hash::{FxHashFn, HashFn, UnHashFn, Xxh64HashFn};
 use crate::proved::base::swisstable_group_query::is_empty_or_deleted;
 use crate::proved::header::error::Error;
+use crate::proved::header::layout::Layout;
 use crate::proved::raw::memory_layout::{self, check_by_header, stated_layout};
 use crate::proved::raw::raw_table::{tag_of, SizedTable};
 use crate::shim::{AllocError, Global};
+
+/// A search of more groups is long. In tables of up to 2^24 slots of random keys at 87 percent,
+/// the load that tables get where none is named, those seen have up to so many; at 50 percent up
+/// to 5.
+const LONG_SEARCH: usize = 24;
 
 /// The parts of a table whose header and length fit the header's own key and value sizes.
 ///
@@ -35,6 +41,8 @@ impl<'a> StoredTable<'a> {
             Some(Hash::Fx)
         } else if self.agrees(Hash::Unhash) {
             Some(Hash::Unhash)
+        } else if self.agrees(Hash::Xxh64) {
+            Some(Hash::Xxh64)
         } else {
             None
         }
@@ -82,6 +90,41 @@ impl<'a> StoredTable<'a> {
             counts.try_push(self.count_in(stretch * len, len))?;
         }
         Ok(counts)
+    }
+
+    /// The key and the value of a slot, where it is occupied.
+    pub fn pair(&self, slot: usize) -> Option<(&'a [u8], &'a [u8])> {
+        if self.is_occupied(slot) {
+            Some((self.table.key(slot), self.table.value(slot)))
+        } else {
+            None
+        }
+    }
+
+    /// How many slots there are.
+    pub fn slot_count(&self) -> usize {
+        self.table.len()
+    }
+
+    /// The lengths of keys and values.
+    pub fn layout(&self) -> Layout {
+        self.table.layout()
+    }
+
+    /// Whether more than half of the slots are occupied, in percent rounded down.
+    pub fn has_high_load(&self) -> bool {
+        self.count() as u128 * 100 / self.table.len() as u128 > 50
+    }
+
+    /// Whether a search for an absent key may be long.
+    pub fn has_long_search(&self) -> bool {
+        self.longest_miss(Some(LONG_SEARCH)) > LONG_SEARCH
+    }
+
+    /// Whether a search for an absent key of this hash is long.
+    pub fn is_long_from(&self, hash: u32) -> bool {
+        let (control, slots) = (self.table.controls(), self.table.len());
+        groups_to_free(control, hash as usize % slots, slots, Some(LONG_SEARCH)) > LONG_SEARCH
     }
 
     /// Whether the mirror is the first sixteen control bytes.
@@ -143,6 +186,7 @@ pub(crate) fn least_key_size(hash: Hash) -> usize {
     match hash {
         Hash::Fx => FxHashFn::MIN_LEN,
         Hash::Unhash => UnHashFn::MIN_LEN,
+        Hash::Xxh64 => Xxh64HashFn::MIN_LEN,
     }
 }
 
@@ -151,5 +195,6 @@ fn hash_key(key: &[u8], hash: Hash) -> u32 {
     match hash {
         Hash::Fx => FxHashFn::hash(key),
         Hash::Unhash => UnHashFn::hash(key),
+        Hash::Xxh64 => Xxh64HashFn::hash(key),
     }
 }

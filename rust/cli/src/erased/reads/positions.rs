@@ -122,7 +122,7 @@ fn get_table_words<S: ReadAt, O: Write>(
     words: &[String],
     output: &mut O,
 ) -> Result<Option<Status>, Failure> {
-    let Some(name) = found_name(&source, start, hash) else {
+    let Some(name) = found_name(&source, start, hash, kinds.hash) else {
         return Ok(None);
     };
     let Ok(found) = read_any(&start.header, name, kinds) else {

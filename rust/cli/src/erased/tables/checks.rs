@@ -6,7 +6,7 @@ use crate::erased::core::shapes::Hash;
 use crate::erased::tables::sized::{check_lengths, lengths_of};
 use crate::host::prelude::*;
 use crate::proved::tables::error::Error;
-use crate::proved::tables::{FxHashFn, UnHashFn};
+use crate::proved::tables::{FxHashFn, UnHashFn, Xxh64HashFn};
 
 /// The first rule that the bytes break, as a table of this shape, the bound of searches among them
 /// where there is one. Bytes without an error are valid.
@@ -15,5 +15,6 @@ pub fn check_any(shape: AnyShape, bytes: &[u8], bound: Option<usize>) -> Result<
     match shape.hash() {
         Hash::Fx => check_lengths::<FxHashFn>(layout, bytes, bound),
         Hash::Unhash => check_lengths::<UnHashFn>(layout, bytes, bound),
+        Hash::Xxh64 => check_lengths::<Xxh64HashFn>(layout, bytes, bound),
     }
 }

@@ -9,6 +9,7 @@ use crate::erased::core::new_file::{replace_file, NewFile};
 use crate::erased::core::progress::{Progress, Taken, Watch};
 use crate::erased::core::status::Status;
 use crate::erased::core::text::Text;
+use crate::erased::writes::warnings::warn_of_long;
 use crate::host::prelude::*;
 use crate::host::rt::{Clock, Files};
 use crate::shim::Global;
@@ -65,6 +66,7 @@ where
     let progress = Progress::new(rt, watch);
     fill(rt, &mut table, progress, forms, input, errors)?;
     replace_file(rt, new, table.all_bytes())?;
+    warn_of_long(rt.alloc(), new.path(), table.all_bytes(), errors);
     Ok(Status::Done)
 }
 

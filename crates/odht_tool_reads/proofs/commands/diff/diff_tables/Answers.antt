@@ -1,29 +1,23 @@
 use Rattle.std.proofs.Common.{◌∙◌, sym, subst}
 use Rattle.odht_tool_core.specs.Endings.{IsDone}
-use Rattle.odht_tool_core.specs.declared.shapes.Hash.TheVariants.{Fx, Unhash}
+use Rattle.odht_tool_core.specs.declared.shapes.Hash.TheVariants.{Fx, Unhash, Xxh64}
 use Rattle.odht_tool_reads.proofs.Diffed.{told_of}
 use Rattle.odht_tool_reads.proofs.commands.diff.diff_tables.Goals as goal
 
-pub returns-in-Fx-Fx : goal.returns-in-Fx-Fx
-returns-in-Fx-Fx g c =
-    let told = told_of c.args.shape c.args.beside c.args.forms c.args.first.now c.args.second.now c.of-texts.result Fx Fx c.of-texts.ensures
-    (sym c.hash.ensures ∙ c.in-Fx-Fx.is-0) (sym c.hash-2.ensures ∙ c.in-Fx-Fx.is-1) c.requires.sizes in
-    subst (λ o. IsDone o (g.O.Write.contents c.args.output.now) (g.O.Write.contents c.diff_lengths.new.output) c.diff_lengths.result) told c.diff_lengths.ensures
+pub returns-in-Fx : goal.returns-in-Fx
+returns-in-Fx g c =
+    let told = told_of c.args.shape c.args.beside c.args.forms c.args.first.now c.args.second.now c.of-texts.result Fx c.hash-hash.result c.of-texts.ensures
+    (sym c.hash.ensures ∙ c.in-Fx.is) (sym c.hash-hash.ensures) c.requires.sizes in
+    subst (λ o. IsDone o (g.O.Write.contents c.args.output.now) (g.O.Write.contents c.diff_with.new.output) c.diff_with.result) told c.diff_with.ensures
 
-pub returns-in-Fx-Unhash : goal.returns-in-Fx-Unhash
-returns-in-Fx-Unhash g c =
-    let told = told_of c.args.shape c.args.beside c.args.forms c.args.first.now c.args.second.now c.of-texts.result Fx Unhash c.of-texts.ensures
-    (sym c.hash.ensures ∙ c.in-Fx-Unhash.is-0) (sym c.hash-2.ensures ∙ c.in-Fx-Unhash.is-1) c.requires.sizes in
-    subst (λ o. IsDone o (g.O.Write.contents c.args.output.now) (g.O.Write.contents c.diff_lengths-in-Fx-Unhash.new.output) c.diff_lengths-in-Fx-Unhash.result) told c.diff_lengths-in-Fx-Unhash.ensures
+pub returns-in-Unhash : goal.returns-in-Unhash
+returns-in-Unhash g c =
+    let told = told_of c.args.shape c.args.beside c.args.forms c.args.first.now c.args.second.now c.of-texts.result Unhash c.hash-hash.result c.of-texts.ensures
+    (sym c.hash.ensures ∙ c.in-Unhash.is) (sym c.hash-hash.ensures) c.requires.sizes in
+    subst (λ o. IsDone o (g.O.Write.contents c.args.output.now) (g.O.Write.contents c.diff_with-in-Unhash.new.output) c.diff_with-in-Unhash.result) told c.diff_with-in-Unhash.ensures
 
-pub returns-in-Unhash-Fx : goal.returns-in-Unhash-Fx
-returns-in-Unhash-Fx g c =
-    let told = told_of c.args.shape c.args.beside c.args.forms c.args.first.now c.args.second.now c.of-texts.result Unhash Fx c.of-texts.ensures
-    (sym c.hash.ensures ∙ c.in-Unhash-Fx.is-0) (sym c.hash-2.ensures ∙ c.in-Unhash-Fx.is-1) c.requires.sizes in
-    subst (λ o. IsDone o (g.O.Write.contents c.args.output.now) (g.O.Write.contents c.diff_lengths-in-Unhash-Fx.new.output) c.diff_lengths-in-Unhash-Fx.result) told c.diff_lengths-in-Unhash-Fx.ensures
-
-pub returns-in-Unhash-Unhash : goal.returns-in-Unhash-Unhash
-returns-in-Unhash-Unhash g c =
-    let told = told_of c.args.shape c.args.beside c.args.forms c.args.first.now c.args.second.now c.of-texts.result Unhash Unhash c.of-texts.ensures
-    (sym c.hash.ensures ∙ c.in-Unhash-Unhash.is-0) (sym c.hash-2.ensures ∙ c.in-Unhash-Unhash.is-1) c.requires.sizes in
-    subst (λ o. IsDone o (g.O.Write.contents c.args.output.now) (g.O.Write.contents c.diff_lengths-in-Unhash-Unhash.new.output) c.diff_lengths-in-Unhash-Unhash.result) told c.diff_lengths-in-Unhash-Unhash.ensures
+pub returns-in-Xxh64 : goal.returns-in-Xxh64
+returns-in-Xxh64 g c =
+    let told = told_of c.args.shape c.args.beside c.args.forms c.args.first.now c.args.second.now c.of-texts.result Xxh64 c.hash-hash.result c.of-texts.ensures
+    (sym c.hash.ensures ∙ c.in-Xxh64.is) (sym c.hash-hash.ensures) c.requires.sizes in
+    subst (λ o. IsDone o (g.O.Write.contents c.args.output.now) (g.O.Write.contents c.diff_with-in-Xxh64.new.output) c.diff_with-in-Xxh64.result) told c.diff_with-in-Xxh64.ensures

@@ -4,7 +4,7 @@ use Rattle.odht_tool_reads.specs.Outcomes.{dump_of_forms}
 use Rattle.odht_tool_core.specs.DumpTexts.{dumped}
 use Rattle.odht_tool_core.specs.AnyShapes.{read_any}
 use Rattle.odht_tool_core.specs.Endings.{IsDone}
-use Rattle.odht_tool_core.specs.declared.shapes.Hash.TheVariants.{Fx, Unhash}
+use Rattle.odht_tool_core.specs.declared.shapes.Hash.TheVariants.{Fx, Unhash, Xxh64}
 use Rattle.odht_tool_core.specs.declared.typed.Texts.{Texts}
 use Rattle.odht_tool_reads.proofs.Shaped.{table_of, without_shape, with_shape}
 use Rattle.odht_tool_reads.proofs.commands.dump.dump_file.Goals as goal
@@ -36,3 +36,13 @@ returns-in-Unhash g c =
     let table = table_of found.0 found.1 c.of-texts.result Unhash c.of-texts.ensures (sym c.hash.ensures ∙ c.in-Unhash.is) in
     with_shape (read_any B c.args.hash c.args.kinds) (dump_of_forms B c.args.is_slots c.args.is_json) found old new _ (sym c.in_ok-found.was ∙ c.read_any.ensures.forms)
     (subst (λ (x : Format × Texts). IsDone (dumped c.args.is_slots c.args.is_json x.0 x.1 B) old new c.dump_table-in-Unhash.result) table c.dump_table-in-Unhash.ensures)
+
+pub returns-in-Xxh64 : goal.returns-in-Xxh64
+returns-in-Xxh64 g c =
+    let B = c.args.bytes.now in
+    let old = g.O.Write.contents c.args.output.now in
+    let new = g.O.Write.contents c.dump_table-in-Xxh64.new.output in
+    let found = c.in_ok-found.found in
+    let table = table_of found.0 found.1 c.of-texts.result Xxh64 c.of-texts.ensures (sym c.hash.ensures ∙ c.in-Xxh64.is) in
+    with_shape (read_any B c.args.hash c.args.kinds) (dump_of_forms B c.args.is_slots c.args.is_json) found old new _ (sym c.in_ok-found.was ∙ c.read_any.ensures.forms)
+    (subst (λ (x : Format × Texts). IsDone (dumped c.args.is_slots c.args.is_json x.0 x.1 B) old new c.dump_table-in-Xxh64.result) table c.dump_table-in-Xxh64.ensures)

@@ -3,7 +3,7 @@ use Rattle.odht_base.specs.Format.{Format}
 use Rattle.odht_tool_reads.specs.Listings.{keys_of_forms, listed}
 use Rattle.odht_tool_core.specs.AnyShapes.{read_any}
 use Rattle.odht_tool_core.specs.Endings.{IsDone}
-use Rattle.odht_tool_core.specs.declared.shapes.Hash.TheVariants.{Fx, Unhash}
+use Rattle.odht_tool_core.specs.declared.shapes.Hash.TheVariants.{Fx, Unhash, Xxh64}
 use Rattle.odht_tool_core.specs.declared.typed.Texts.{Texts}
 use Rattle.odht_tool_reads.proofs.Shaped.{table_of, without_shape, with_shape}
 use Rattle.odht_tool_reads.proofs.commands.keys.keys_file.Goals as goal
@@ -35,3 +35,13 @@ returns-in-Unhash g c =
     let table = table_of found.0 found.1 c.of-texts.result Unhash c.of-texts.ensures (sym c.hash.ensures ∙ c.in-Unhash.is) in
     with_shape (read_any B c.args.hash c.args.kinds) (keys_of_forms B) found old new _ (sym c.in_ok-found.was ∙ c.read_any.ensures.forms)
     (subst (λ (x : Format × Texts). IsDone (listed x.0 x.1 B) old new c.list_keys-in-Unhash.result) table c.list_keys-in-Unhash.ensures)
+
+pub returns-in-Xxh64 : goal.returns-in-Xxh64
+returns-in-Xxh64 g c =
+    let B = c.args.bytes.now in
+    let old = g.O.Write.contents c.args.output.now in
+    let new = g.O.Write.contents c.list_keys-in-Xxh64.new.output in
+    let found = c.in_ok-found.found in
+    let table = table_of found.0 found.1 c.of-texts.result Xxh64 c.of-texts.ensures (sym c.hash.ensures ∙ c.in-Xxh64.is) in
+    with_shape (read_any B c.args.hash c.args.kinds) (keys_of_forms B) found old new _ (sym c.in_ok-found.was ∙ c.read_any.ensures.forms)
+    (subst (λ (x : Format × Texts). IsDone (listed x.0 x.1 B) old new c.list_keys-in-Xxh64.result) table c.list_keys-in-Xxh64.ensures)

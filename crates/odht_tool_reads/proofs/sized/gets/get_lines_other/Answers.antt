@@ -7,7 +7,7 @@ use Rattle.odht_tool_core.specs.ReadyShapes.{hash_of, typed_len}
 use Rattle.odht_tool_core.specs.SizedTexts.{IsSizedOf, sized_forms, sized_text, sized_wanted}
 use Rattle.odht_tool_core.specs.declared.forms.GivenForms.{GivenForms}
 use Rattle.odht_tool_core.specs.declared.shapes.Hash.{Hash}
-use Rattle.odht_tool_core.specs.declared.shapes.Hash.TheVariants.{Fx, Unhash}
+use Rattle.odht_tool_core.specs.declared.shapes.Hash.TheVariants.{Fx, Unhash, Xxh64}
 use Rattle.odht_tool_reads.proofs.sized.gets.get_lines_other.Goals as goal
 
 -- the lengths and the hash function are those of the shape
@@ -34,3 +34,15 @@ returns-in-Unhash g c =
     (subst (λ (v : ℕ). got made.key_len v (hash_of o.hash) fs) c.lengths_of-layout.ensures.value
     (subst (λ (h : Hash). got made.key_len made.value_len (hash_of h) fs) (sym c.in-Unhash.is)
     (subst (λ (f : GivenForms). got made.key_len made.value_len (hash_of Unhash) f) c.of-forms.ensures c.get_lines_sized-in-Unhash.ensures)))
+
+pub returns-in-Xxh64 : goal.returns-in-Xxh64
+returns-in-Xxh64 g c =
+    let got = λ (k v : ℕ) (h : List ℕ → ℕ) (f : GivenForms). AreLinesGot (bytes_coding (format_of k v h)) (answer_in c.args.is_json (sized_text f.key) (sized_text f.value)) (IsSizedOf f.key) (sized_wanted f.key)
+    c.args.bytes.now (g.I.Read.remaining c.args.input.now) (g.O.Write.contents c.args.output.now) (g.O.Write.contents c.get_lines_sized-in-Xxh64.new.output) c.get_lines_sized-in-Xxh64.result in
+    let o = c.args.shape in
+    let fs = sized_forms o c.args.forms in
+    let made = c.lengths_of-layout.result in
+    subst (λ (k : ℕ). got k (typed_len o.value) (hash_of o.hash) fs) c.lengths_of-layout.ensures.key
+    (subst (λ (v : ℕ). got made.key_len v (hash_of o.hash) fs) c.lengths_of-layout.ensures.value
+    (subst (λ (h : Hash). got made.key_len made.value_len (hash_of h) fs) (sym c.in-Xxh64.is)
+    (subst (λ (f : GivenForms). got made.key_len made.value_len (hash_of Xxh64) f) c.of-forms.ensures c.get_lines_sized-in-Xxh64.ensures)))

@@ -53,7 +53,7 @@ impl Draft {
             is_ended: false,
             at: None,
             hash: None,
-            kinds: Kinds { key: None, value: None },
+            kinds: Kinds { key: None, value: None, hash: None },
             duplicates: Duplicates::Last,
             delimiter: b'\t',
             percent: Percent::new(87).unwrap(),
@@ -136,7 +136,7 @@ impl Draft {
         match setting {
             Setting::At => self.at = Some(parse_number(value.as_bytes())? as usize),
             Setting::Hash => self.hash = Some(Hash::named(value)?),
-            Setting::Key => self.kinds.key = Some(Kind::named(value)?),
+            Setting::Key => self.set_key(value)?,
             Setting::Value => self.kinds.value = Some(Kind::named(value)?),
             Setting::Duplicates => self.duplicates = Duplicates::named(value)?,
             Setting::Delimiter => self.delimiter = delimiter_named(value)?,
@@ -144,6 +144,14 @@ impl Draft {
             Setting::Capacity => self.capacity = parse_number(value.as_bytes())? as usize,
             _ => return None,
         }
+        Some(())
+    }
+
+    // Sets what keys are said to be, to the kind of this name.
+    fn set_key(&mut self, name: &str) -> Option<()> {
+        let kind = Kind::named(name)?;
+        self.kinds.key = Some(kind);
+        self.kinds.hash = Some(kind.default_hash(name));
         Some(())
     }
 
@@ -329,7 +337,8 @@ impl Draft {
         let Some(value) = self.kinds.value else {
             return Err(CommandMisuse::Missing("--value"));
         };
-        let Some(shape) = AnyShape::of_kinds(key, value, self.hash) else {
+        let hash = self.hash.or(self.kinds.hash);
+        let Some(shape) = AnyShape::of_kinds(key, value, hash) else {
             return Err(CommandMisuse::NoShape);
         };
         Ok(Command::Build(BuildOptions {

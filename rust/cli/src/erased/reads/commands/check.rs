@@ -1,9 +1,8 @@
 // Made by `make rust` of crates/odht_tool_reads/src/commands/check.rt.
 //! `odht check`: whether a file is a valid table.
 
-use crate::erased::core::any::named_any;
 use crate::erased::core::failure::Failure;
-use crate::erased::core::found::hinted_hash;
+use crate::erased::core::found::{checked_any, hinted_hash};
 use crate::erased::core::info::name_of;
 use crate::erased::core::refusal::Refusal;
 use crate::erased::core::shapes::Hash;
@@ -23,7 +22,7 @@ pub fn check_file<O: Write>(
     bound: Option<usize>,
     output: &mut O,
 ) -> Result<Status, Failure> {
-    let shape = named_any(bytes, hash)?;
+    let shape = checked_any(bytes, hash)?;
     let checked = check_any(shape, bytes, bound);
     write_checked(file, &checked, bound, output).map_err(Failure::Output)?;
     Ok(Status::of(checked.is_ok()))
@@ -48,10 +47,10 @@ fn write_checked<O: Write>(
     }
 }
 
-/// The hash function to name for bytes that were rejected where none was named: the other one than
-/// that of their shape, where all control bytes agree with it.
+/// The hash function to name for bytes that were rejected where none was named: the first one that
+/// is not that of their shape, where all control bytes agree with it.
 pub fn hint_of(bytes: &[u8], hash: Option<Hash>) -> Option<Hash> {
-    match (hash, named_any(bytes, None)) {
+    match (hash, checked_any(bytes, None)) {
         (None, Ok(shape)) => hinted_hash(bytes, shape.hash()),
         _ => None,
     }

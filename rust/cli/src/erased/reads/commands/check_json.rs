@@ -1,8 +1,8 @@
 // Made by `make rust` of crates/odht_tool_reads/src/commands/check_json.rt.
 //! `odht check --json`: whether a file is a valid table, as an object of JSON.
 
-use crate::erased::core::any::named_any;
 use crate::erased::core::failure::Failure;
+use crate::erased::core::found::checked_any;
 use crate::erased::core::json::{
     write_file_field, write_optional_field, write_string_field, write_word_field,
 };
@@ -24,7 +24,7 @@ pub fn check_file<O: Write>(
     bound: Option<usize>,
     output: &mut O,
 ) -> Result<Status, Failure> {
-    let shape = named_any(bytes, hash)?;
+    let shape = checked_any(bytes, hash)?;
     let checked = check_any(shape, bytes, bound);
     let rule = rule_of(alloc, &checked)?;
     write_checked(file, bound, &rule, output).map_err(Failure::Output)?;

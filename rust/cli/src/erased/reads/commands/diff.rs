@@ -13,7 +13,8 @@ use crate::erased::tables::files::{finish_as, read_bytes};
 use crate::erased::tables::whole::{have_same_sizes, read_whole, sizes_of, write_sizes};
 use crate::host::prelude::*;
 use crate::host::rt::Files;
-use crate::proved::tables::{FxHashFn, UnHashFn};
+use crate::proved::tables::hash::HashFn;
+use crate::proved::tables::{FxHashFn, UnHashFn, Xxh64HashFn};
 use std::io::{BufRead, Write};
 
 /// Compares a file with another one. A failure of the other is reported here.
@@ -50,7 +51,7 @@ fn diff_beside<O: Write, E: Write>(
 ) -> Result<Status, Failure> {
     let other = options.other.as_str();
     // Its keys and values are written in the texts of the first one.
-    let kinds = Kinds { key: None, value: None };
+    let kinds = Kinds { key: None, value: None, hash: None };
     match read_whole(second, options.hash, kinds, options.bound) {
         Ok((beside, _)) if have_same_sizes(shape, beside) => {
             diff_tables(shape, forms, first, beside, second, output)
@@ -75,16 +76,25 @@ pub fn diff_tables<O: Write>(
     output: &mut O,
 ) -> Result<Status, Failure> {
     let texts = Texts::of(shape, forms);
-    match (shape.hash(), beside.hash()) {
-        (Hash::Fx, Hash::Fx) => diff_lengths::<FxHashFn, FxHashFn, O>(texts, first, second, output),
-        (Hash::Fx, Hash::Unhash) => {
-            diff_lengths::<FxHashFn, UnHashFn, O>(texts, first, second, output)
-        }
-        (Hash::Unhash, Hash::Fx) => {
-            diff_lengths::<UnHashFn, FxHashFn, O>(texts, first, second, output)
-        }
-        (Hash::Unhash, Hash::Unhash) => {
-            diff_lengths::<UnHashFn, UnHashFn, O>(texts, first, second, output)
-        }
+    let hash = beside.hash();
+    match shape.hash() {
+        Hash::Fx => diff_with::<FxHashFn, O>(texts, first, hash, second, output),
+        Hash::Unhash => diff_with::<UnHashFn, O>(texts, first, hash, second, output),
+        Hash::Xxh64 => diff_with::<Xxh64HashFn, O>(texts, first, hash, second, output),
+    }
+}
+
+// The same of texts, and of the hash functions of the first and of the second.
+fn diff_with<H: HashFn, O: Write>(
+    texts: Texts,
+    first: &[u8],
+    hash: Hash,
+    second: &[u8],
+    output: &mut O,
+) -> Result<Status, Failure> {
+    match hash {
+        Hash::Fx => diff_lengths::<H, FxHashFn, O>(texts, first, second, output),
+        Hash::Unhash => diff_lengths::<H, UnHashFn, O>(texts, first, second, output),
+        Hash::Xxh64 => diff_lengths::<H, Xxh64HashFn, O>(texts, first, second, output),
     }
 }

@@ -14,7 +14,7 @@ use crate::erased::tables::sized::{lengths_of, open_lengths};
 use crate::host::prelude::*;
 use crate::proved::tables::hash::HashFn;
 use crate::proved::tables::raw_table::SizedIter;
-use crate::proved::tables::{FxHashFn, UnHashFn};
+use crate::proved::tables::{FxHashFn, UnHashFn, Xxh64HashFn};
 use std::io::{self, Write};
 
 /// `odht dump` of the bytes of a file, with `--slots` and with `--json` or without: writes a line
@@ -33,6 +33,7 @@ pub fn dump_file<O: Write>(
     match shape.hash() {
         Hash::Fx => dump_table::<FxHashFn, O>(texts, bytes, is_slots, is_json, output),
         Hash::Unhash => dump_table::<UnHashFn, O>(texts, bytes, is_slots, is_json, output),
+        Hash::Xxh64 => dump_table::<Xxh64HashFn, O>(texts, bytes, is_slots, is_json, output),
     }
 }
 

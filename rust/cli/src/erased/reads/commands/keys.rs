@@ -12,7 +12,7 @@ use crate::erased::tables::sized::{lengths_of, open_lengths};
 use crate::host::prelude::*;
 use crate::proved::tables::hash::HashFn;
 use crate::proved::tables::raw_table::SizedIter;
-use crate::proved::tables::{FxHashFn, UnHashFn};
+use crate::proved::tables::{FxHashFn, UnHashFn, Xxh64HashFn};
 use std::io::{self, Write};
 
 /// `odht keys` of the bytes of a file: writes each key on a line, in slot order.
@@ -28,6 +28,7 @@ pub fn keys_file<O: Write>(
     match shape.hash() {
         Hash::Fx => list_keys::<FxHashFn, O>(texts, bytes, output),
         Hash::Unhash => list_keys::<UnHashFn, O>(texts, bytes, output),
+        Hash::Xxh64 => list_keys::<Xxh64HashFn, O>(texts, bytes, output),
     }
 }
 

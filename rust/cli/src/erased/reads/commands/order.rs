@@ -12,7 +12,7 @@ use crate::host::prelude::*;
 use crate::proved::tables::bytes::Borrowed;
 use crate::proved::tables::dynamic::{DynTable, Layout};
 use crate::proved::tables::hash::HashFn;
-use crate::proved::tables::{FxHashFn, UnHashFn};
+use crate::proved::tables::{FxHashFn, UnHashFn, Xxh64HashFn};
 use crate::shim::{AllocError, Global};
 use std::io::{self, Write};
 
@@ -33,6 +33,7 @@ pub fn order_file<O: Write>(
     match shape.hash() {
         Hash::Fx => order_pairs::<FxHashFn, O>(alloc, texts, bytes, output),
         Hash::Unhash => order_pairs::<UnHashFn, O>(alloc, texts, bytes, output),
+        Hash::Xxh64 => order_pairs::<Xxh64HashFn, O>(alloc, texts, bytes, output),
     }
 }
 

@@ -11,7 +11,7 @@ use crate::proved::tables::memory_layout::{Header, HEADER_SIZE};
 use crate::proved::tables::raw_table::{tag_of, ReadPlace};
 use crate::proved::tables::read_at::{read_exact_at, ReadAt};
 use crate::proved::tables::swisstable_group_query::is_empty_or_deleted;
-use crate::proved::tables::{FxHashFn, UnHashFn};
+use crate::proved::tables::{FxHashFn, UnHashFn, Xxh64HashFn};
 
 /// How many slots are read at once.
 const GROUP: usize = 16;
@@ -22,19 +22,40 @@ const MOST_ENTRIES: usize = 8160;
 /// How many groups are read before all bytes are.
 const MOST_GROUPS: usize = 64;
 
+/// Which hash functions some slots fit.
+#[derive(Clone, Copy)]
+struct Fitting {
+    fx: bool,
+    unhash: bool,
+    xxh64: bool,
+}
+
+impl Fitting {
+    // Those that both fit.
+    fn and(self, other: Fitting) -> Fitting {
+        Fitting {
+            fx: self.fx && other.fx,
+            unhash: self.unhash && other.unhash,
+            xxh64: self.xxh64 && other.xxh64,
+        }
+    }
+}
+
 /// The hash function that is to be named for a table, none where it has no items: the one that is
-/// named, or the one that is left when the first groups of slots exclude the other. None where
-/// they exclude none, or both, or a read failed.
+/// named, or the one that is left when the first groups of slots exclude the others. None where
+/// they leave several, or none, or a read failed, or the table has no items and there is a default
+/// for such a table.
 pub(super) fn found_name<S: ReadAt>(
     source: &S,
     start: &Start,
     hash: Option<Hash>,
+    default: Option<Hash>,
 ) -> Option<Option<Hash>> {
     match hash {
         Some(_) => Some(hash),
         None => {
             if Header::of(&start.header).item_count() == 0 {
-                return Some(None);
+                return if default.is_none() { Some(None) } else { None };
             }
             let hash = left_hash(source, start)?;
             Some(Some(hash))
@@ -42,19 +63,18 @@ pub(super) fn found_name<S: ReadAt>(
     }
 }
 
-// The hash function that is left when the first groups of slots exclude the other.
+// The hash function that is left when the first groups of slots exclude the others.
 fn left_hash<S: ReadAt>(source: &S, start: &Start) -> Option<Hash> {
     let place = place_of(start)?;
+    let mut left = Fitting { fx: true, unhash: true, xxh64: true };
     for group in 0..(place.slots / GROUP).min(MOST_GROUPS) {
-        let (fx, unhash) = group_fits(source, &place, group * GROUP)?;
-        if !fx && !unhash {
-            return None;
-        }
-        if !unhash {
-            return Some(Hash::Fx);
-        }
-        if !fx {
-            return Some(Hash::Unhash);
+        left = left.and(group_fits(source, &place, group * GROUP)?);
+        match (left.fx, left.unhash, left.xxh64) {
+            (true, false, false) => return Some(Hash::Fx),
+            (false, true, false) => return Some(Hash::Unhash),
+            (false, false, true) => return Some(Hash::Xxh64),
+            (false, false, false) => return None,
+            _ => {}
         }
     }
     None
@@ -74,8 +94,8 @@ fn place_of(start: &Start) -> Option<ReadPlace> {
     Some(ReadPlace { entries_at, control_at, slots, layout })
 }
 
-// Whether the sixteen slots from one on fit either hash function.
-fn group_fits<S: ReadAt>(source: &S, place: &ReadPlace, first: usize) -> Option<(bool, bool)> {
+// Which hash functions the sixteen slots from one on fit.
+fn group_fits<S: ReadAt>(source: &S, place: &ReadPlace, first: usize) -> Option<Fitting> {
     let layout = place.layout;
     let mut control = [0; GROUP];
     read_exact_at(source, place.control_at + first as u64, &mut control).ok()?;
@@ -83,9 +103,11 @@ fn group_fits<S: ReadAt>(source: &S, place: &ReadPlace, first: usize) -> Option<
     let mut bytes = [0; MOST_ENTRIES];
     let (entries, _) = bytes.split_at_mut(GROUP * layout.entry_len());
     read_exact_at(source, entries_at, entries).ok()?;
-    let fx = fits(&control, &*entries, layout, Hash::Fx);
-    let unhash = fits(&control, &*entries, layout, Hash::Unhash);
-    Some((fx, unhash))
+    Some(Fitting {
+        fx: fits(&control, &*entries, layout, Hash::Fx),
+        unhash: fits(&control, &*entries, layout, Hash::Unhash),
+        xxh64: fits(&control, &*entries, layout, Hash::Xxh64),
+    })
 }
 
 // Whether the keys are long enough for a hash function, and each occupied slot of sixteen has the
@@ -115,6 +137,7 @@ fn least_len(hash: Hash) -> usize {
     match hash {
         Hash::Fx => FxHashFn::MIN_LEN,
         Hash::Unhash => UnHashFn::MIN_LEN,
+        Hash::Xxh64 => Xxh64HashFn::MIN_LEN,
     }
 }
 
@@ -123,5 +146,6 @@ fn hash_key(key: &[u8], hash: Hash) -> u32 {
     match hash {
         Hash::Fx => FxHashFn::hash(key),
         Hash::Unhash => UnHashFn::hash(key),
+        Hash::Xxh64 => Xxh64HashFn::hash(key),
     }
 }

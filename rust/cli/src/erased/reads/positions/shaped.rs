@@ -13,7 +13,7 @@ use crate::host::prelude::*;
 use crate::proved::tables::dynamic::{FileTable, Layout};
 use crate::proved::tables::hash::HashFn;
 use crate::proved::tables::read_at::ReadAt;
-use crate::proved::tables::{FxHashFn, UnHashFn};
+use crate::proved::tables::{FxHashFn, UnHashFn, Xxh64HashFn};
 use crate::shim::Global;
 use std::io::Write;
 
@@ -37,6 +37,9 @@ pub(super) fn words_of<S: ReadAt, O: Write>(
             alloc, source, at, len, layout, forms, is_json, words, output,
         ),
         Hash::Unhash => words_sized::<UnHashFn, S, O>(
+            alloc, source, at, len, layout, forms, is_json, words, output,
+        ),
+        Hash::Xxh64 => words_sized::<Xxh64HashFn, S, O>(
             alloc, source, at, len, layout, forms, is_json, words, output,
         ),
     }

@@ -12,7 +12,7 @@ use crate::erased::tables::sized::{lengths_of, open_lengths};
 use crate::host::prelude::*;
 use crate::proved::tables::dynamic::Layout;
 use crate::proved::tables::hash::HashFn;
-use crate::proved::tables::{FxHashFn, UnHashFn};
+use crate::proved::tables::{FxHashFn, UnHashFn, Xxh64HashFn};
 use crate::shim::Global;
 use std::io::{BufRead, Write};
 
@@ -33,6 +33,9 @@ pub fn get_words_of<O: Write>(
         }
         Hash::Unhash => {
             get_words_sized::<UnHashFn, O>(alloc, layout, forms, is_json, bytes, words, output)
+        }
+        Hash::Xxh64 => {
+            get_words_sized::<Xxh64HashFn, O>(alloc, layout, forms, is_json, bytes, words, output)
         }
     }
 }
@@ -55,6 +58,9 @@ pub fn get_lines_other<I: BufRead, O: Write>(
         Hash::Unhash => {
             get_lines_sized::<UnHashFn, I, O>(alloc, layout, forms, is_json, bytes, input, output)
         }
+        Hash::Xxh64 => get_lines_sized::<Xxh64HashFn, I, O>(
+            alloc, layout, forms, is_json, bytes, input, output,
+        ),
     }
 }
 

@@ -7,6 +7,7 @@ use crate::erased::core::info::info_file;
 use crate::erased::core::shapes::Hash;
 use crate::erased::core::status::Status;
 use crate::erased::reads::commands::{check, check_json, count, dump, find, get, keys, order};
+use crate::erased::tables::trials::advice_of;
 use crate::host::prelude::*;
 use crate::shim::Global;
 use std::io::{BufRead, Write};
@@ -26,7 +27,8 @@ pub fn run_reading<I: BufRead, O: Write, E: Write>(
 ) -> Result<Status, Failure> {
     match reading {
         Reading::Info { bound, is_json } => {
-            info_file(alloc, file, is_one, at, bytes, *bound, *is_json, output)
+            let advice = advice_of(alloc, bytes);
+            info_file(alloc, file, is_one, at, bytes, *bound, *is_json, advice, output)
         }
         Reading::Check { hash, bound, is_json } => {
             check_one(alloc, file, bytes, *hash, *bound, *is_json, output, errors)

@@ -19,7 +19,7 @@ use crate::erased::writes::sized::deletes::delete_lengths;
 use crate::host::prelude::*;
 use crate::host::rt::{Clock, Files};
 use crate::proved::tables::dynamic::ShortBytes;
-use crate::proved::tables::{FxHashFn, UnHashFn};
+use crate::proved::tables::{FxHashFn, UnHashFn, Xxh64HashFn};
 use crate::shim::Global;
 use std::io::{BufRead, Write};
 use std::os::fd::AsFd;
@@ -116,6 +116,9 @@ pub fn deleted_for<W: Word, R: AllocGlobal + Clock, E: Write>(
             rt, file, layout, bytes, words, keys, progress, errors,
         ),
         Hash::Unhash => delete_lengths::<UnHashFn, W, R, E>(
+            rt, file, layout, bytes, words, keys, progress, errors,
+        ),
+        Hash::Xxh64 => delete_lengths::<Xxh64HashFn, W, R, E>(
             rt, file, layout, bytes, words, keys, progress, errors,
         ),
     }

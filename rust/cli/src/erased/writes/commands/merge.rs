@@ -17,7 +17,7 @@ use crate::erased::tables::whole::{have_same_sizes, read_whole, sizes_of, write_
 use crate::erased::writes::sized::merges::{merge_lengths, Input, Unmerged};
 use crate::host::prelude::*;
 use crate::host::rt::{Clock, Files};
-use crate::proved::tables::{FxHashFn, UnHashFn};
+use crate::proved::tables::{FxHashFn, UnHashFn, Xxh64HashFn};
 use crate::shim::Global;
 use std::io::{BufRead, Write};
 use std::os::fd::AsFd;
@@ -189,6 +189,9 @@ fn merged_inputs<R: AllocGlobal + Clock, E: Write>(
         Hash::Unhash => merge_lengths::<UnHashFn, R, E>(
             rt, texts, inputs, duplicates, percent, progress, errors,
         ),
+        Hash::Xxh64 => merge_lengths::<Xxh64HashFn, R, E>(
+            rt, texts, inputs, duplicates, percent, progress, errors,
+        ),
     }
 }
 
@@ -233,7 +236,7 @@ fn shape_of_other(
     at: usize,
     bytes: &[u8],
 ) -> Result<AnyShape, Unmerged> {
-    let kinds = Kinds { key: None, value: None };
+    let kinds = Kinds { key: None, value: None, hash: None };
     match read_whole(bytes, hash, kinds, bound) {
         Ok((other, _)) if have_same_sizes(shape, other) => Ok(other),
         Ok((other, _)) => {

@@ -20,7 +20,7 @@ use crate::proved::tables::dynamic::{DynTable, DynTableOwned, Layout};
 use crate::proved::tables::hash::HashFn;
 use crate::proved::tables::load::Percent;
 use crate::proved::tables::raw_table::SizedIter;
-use crate::proved::tables::{FxHashFn, UnHashFn};
+use crate::proved::tables::{FxHashFn, UnHashFn, Xxh64HashFn};
 use std::io::Write;
 use std::os::fd::AsFd;
 
@@ -91,18 +91,36 @@ fn rebuilt_for<R: AllocGlobal + Clock, E: Write>(
     errors: &mut E,
 ) -> Result<Vec<u8>, Failure> {
     let layout = Layout { key_len: shape.key().size(), value_len: shape.value().size() };
-    match (shape.hash(), hash) {
-        (Hash::Fx, Hash::Fx) => {
-            rebuilt_as::<FxHashFn, FxHashFn, R, E>(rt, layout, bytes, percent, progress, errors)
+    match shape.hash() {
+        Hash::Fx => {
+            rebuilt_from::<FxHashFn, R, E>(rt, layout, hash, bytes, percent, progress, errors)
         }
-        (Hash::Fx, Hash::Unhash) => {
-            rebuilt_as::<FxHashFn, UnHashFn, R, E>(rt, layout, bytes, percent, progress, errors)
+        Hash::Unhash => {
+            rebuilt_from::<UnHashFn, R, E>(rt, layout, hash, bytes, percent, progress, errors)
         }
-        (Hash::Unhash, Hash::Fx) => {
-            rebuilt_as::<UnHashFn, FxHashFn, R, E>(rt, layout, bytes, percent, progress, errors)
+        Hash::Xxh64 => {
+            rebuilt_from::<Xxh64HashFn, R, E>(rt, layout, hash, bytes, percent, progress, errors)
         }
-        (Hash::Unhash, Hash::Unhash) => {
-            rebuilt_as::<UnHashFn, UnHashFn, R, E>(rt, layout, bytes, percent, progress, errors)
+    }
+}
+
+// The same of lengths and of the hash function of the old table.
+fn rebuilt_from<S: HashFn, R: AllocGlobal + Clock, E: Write>(
+    rt: &R,
+    layout: Layout,
+    hash: Hash,
+    bytes: &[u8],
+    percent: Percent,
+    progress: Progress,
+    errors: &mut E,
+) -> Result<Vec<u8>, Failure> {
+    match hash {
+        Hash::Fx => rebuilt_as::<S, FxHashFn, R, E>(rt, layout, bytes, percent, progress, errors),
+        Hash::Unhash => {
+            rebuilt_as::<S, UnHashFn, R, E>(rt, layout, bytes, percent, progress, errors)
+        }
+        Hash::Xxh64 => {
+            rebuilt_as::<S, Xxh64HashFn, R, E>(rt, layout, bytes, percent, progress, errors)
         }
     }
 }

@@ -13,6 +13,7 @@ use crate::erased::core::status::{of_output, Status};
 use crate::erased::core::targets::{Allowed, Target};
 use crate::erased::core::text::Text;
 use crate::erased::writes::inserts::{fill, report, report_all, told, with_line, Inserts, BATCH};
+use crate::erased::writes::warnings::warn_of_long;
 use crate::host::prelude::*;
 use crate::host::rt::{Clock, Files};
 use crate::shim::Global;
@@ -96,9 +97,14 @@ where
     }
     match place {
         Place::Nowhere => Ok(Status::Done),
-        Place::Output => of_output(output.write_all(table.all_bytes())),
+        Place::Output => {
+            let status = of_output(output.write_all(table.all_bytes()))?;
+            warn_of_long(rt.alloc(), "FILE", table.all_bytes(), errors);
+            Ok(status)
+        }
         Place::File(new) => {
             replace_file(rt, new, table.all_bytes())?;
+            warn_of_long(rt.alloc(), new.path(), table.all_bytes(), errors);
             Ok(Status::Done)
         }
     }

@@ -17,7 +17,7 @@ use crate::host::rt::{Clock, Files};
 use crate::proved::tables::dynamic::{DynError, DynTableOwned, Layout, ShortBytes};
 use crate::proved::tables::hash::HashFn;
 use crate::proved::tables::load::Percent;
-use crate::proved::tables::{FxHashFn, UnHashFn};
+use crate::proved::tables::{FxHashFn, UnHashFn, Xxh64HashFn};
 use crate::shim::Global;
 use std::io::{BufRead, Write};
 use std::os::fd::AsFd;
@@ -42,6 +42,9 @@ where
             rt, place, layout, forms, options, input, output, errors,
         ),
         Hash::Unhash => build_lengths::<UnHashFn, R, I, O, E>(
+            rt, place, layout, forms, options, input, output, errors,
+        ),
+        Hash::Xxh64 => build_lengths::<Xxh64HashFn, R, I, O, E>(
             rt, place, layout, forms, options, input, output, errors,
         ),
     }
@@ -115,6 +118,9 @@ where
             rt, new, layout, forms, bytes, bound, watch, input, errors,
         ),
         Hash::Unhash => put_lengths::<UnHashFn, R, I, E>(
+            rt, new, layout, forms, bytes, bound, watch, input, errors,
+        ),
+        Hash::Xxh64 => put_lengths::<Xxh64HashFn, R, I, E>(
             rt, new, layout, forms, bytes, bound, watch, input, errors,
         ),
     }

@@ -16,7 +16,7 @@ use crate::proved::tables::dynamic::{DynTableOwned, Layout};
 use crate::proved::tables::hash::HashFn;
 use crate::proved::tables::load::Percent;
 use crate::proved::tables::raw_table::SizedIter;
-use crate::proved::tables::{FxHashFn, UnHashFn};
+use crate::proved::tables::{FxHashFn, UnHashFn, Xxh64HashFn};
 use crate::shim::Global;
 use std::io::Write;
 
@@ -118,6 +118,7 @@ fn input_count(texts: Texts, input: &Input) -> usize {
     match input.shape.hash() {
         Hash::Fx => stated_len::<FxHashFn>(texts, bytes),
         Hash::Unhash => stated_len::<UnHashFn>(texts, bytes),
+        Hash::Xxh64 => stated_len::<Xxh64HashFn>(texts, bytes),
     }
 }
 
@@ -145,6 +146,10 @@ fn repeated_in<H: HashFn>(
         }
         (Duplicates::Error, Hash::Unhash) => {
             let old = open_valid::<UnHashFn>(texts, input.bytes.as_slice());
+            repeated_key(alloc, texts, table, old.iter())
+        }
+        (Duplicates::Error, Hash::Xxh64) => {
+            let old = open_valid::<Xxh64HashFn>(texts, input.bytes.as_slice());
             repeated_key(alloc, texts, table, old.iter())
         }
         _ => Ok(None),
@@ -195,6 +200,10 @@ fn insert_input<H: HashFn, R: Clock, E: Write>(
         }
         Hash::Unhash => {
             let old = open_valid::<UnHashFn>(texts, input.bytes.as_slice());
+            insert_kept(rt, table, old.iter(), duplicates, count, progress, errors)
+        }
+        Hash::Xxh64 => {
+            let old = open_valid::<Xxh64HashFn>(texts, input.bytes.as_slice());
             insert_kept(rt, table, old.iter(), duplicates, count, progress, errors)
         }
     }

@@ -1,0 +1,39 @@
+//! The line of a table that was made and has searches so long that `odht check` rejects it.
+use odht_raw::memory_layout::DEFAULT_GROUPS;
+use odht_tool_core::advice::Advice;
+use odht_tool_core::stored::StoredTable;
+use odht_tool_tables::trials::advice_of;
+use std::alloc::Global;
+use std::io::{self, Write};
+
+/// Writes a line where a search in the table of these bytes, which the file of this name has, may
+/// read more groups than `odht check` allows: with what makes searches short, if that was found.
+pub fn warn_of_long<E: Write>(alloc: Global, name: &str, bytes: &[u8], errors: &mut E) {
+    if is_too_long(bytes) {
+        // A line that cannot be written is no failure.
+        let _ = write_long(name, advice_of(alloc, bytes), errors);
+    }
+}
+
+// Whether a search for an absent key may read more groups than `odht check` allows.
+fn is_too_long(bytes: &[u8]) -> bool {
+    match StoredTable::open(bytes) {
+        Ok(table) => table.longest_miss(Some(DEFAULT_GROUPS)) > DEFAULT_GROUPS,
+        Err(_) => false,
+    }
+}
+
+// Writes the line.
+fn write_long<E: Write>(name: &str, advice: Option<Advice>, errors: &mut E) -> io::Result<()> {
+    write!(
+        errors,
+        "odht: {name}: searches may read more than {DEFAULT_GROUPS} groups, and `odht check` rejects it"
+    )?;
+    match advice {
+        Some(advice) => {
+            let options = advice.options(true);
+            writeln!(errors, ": try odht rebuild {name} {options}")
+        }
+        None => errors.write_all(b"\n"),
+    }
+}
