@@ -6,6 +6,7 @@ works, or prints now and then, is never ended, however busy the machine is. Nor 
 """
 import contextlib
 import os
+import resource
 import signal
 import subprocess
 import sys
@@ -141,6 +142,22 @@ def keep_niceness(process):
     if niceness > 0:
         with contextlib.suppress(OSError), open(f"/proc/{process.pid}/autogroup", "w", encoding="utf-8") as it:
             it.write(str(niceness))
+
+
+def limit_processor_time(process, seconds):
+    """Has a process that was just begun end after so many seconds of processor time. The limit is set from outside,
+    because Python has to fork to set it in the child, and that takes longer than most of these programs work."""
+    with contextlib.suppress(ProcessLookupError):
+        resource.prlimit(process.pid, resource.RLIMIT_CPU, (seconds, seconds + 1))
+
+
+def run_limited(words, seconds, given, **how):
+    """Runs a program that may use so many seconds of processor time. Returns how it ended, and what it wrote."""
+    pipes = {"stdin": subprocess.PIPE, "stdout": subprocess.PIPE, "stderr": subprocess.PIPE}
+    with subprocess.Popen(words, **pipes, **how) as process:
+        limit_processor_time(process, seconds)
+        output, errors = process.communicate(given)
+    return subprocess.CompletedProcess(words, process.returncode, output, errors)
 
 
 def run(words, limit=LIMIT, **how):
