@@ -96,24 +96,25 @@ def processor_time():
     return getattr(used, "seconds", 0.0)
 
 
-def has_ended(process):
-    """Waits for a moment. Returns whether a command has ended, and adds its processor time."""
-    pause, until = 0.001, time.monotonic() + SLICE
-    while time.monotonic() < until:
+def has_ended(process, began):
+    """Waits for a moment. Returns whether a command has ended, and adds its processor time. It asks less often the longer
+    the command works: many are watched at once, and each question takes processor time."""
+    until = time.monotonic() + SLICE
+    while (now := time.monotonic()) < until:
         ended, status, usage = os.wait4(process.pid, os.WNOHANG)
         if ended:
             used.seconds = processor_time() + usage.ru_utime + usage.ru_stime
             process.returncode = -os.WTERMSIG(status) if os.WIFSIGNALED(status) else os.WEXITSTATUS(status)
             return True
-        time.sleep(pause)
-        pause = min(2 * pause, SLICE)
+        time.sleep(min(max((now - began) / 4, 0.001), SLICE))
     return False
 
 
 def hangs(process, files, limit):
     """Waits until a command has ended or hangs. Returns whether it hangs; where the limit is None, it never does."""
-    seen, since, looked = None, time.monotonic(), time.monotonic()
-    while not has_ended(process):
+    seen = None
+    began = since = looked = time.monotonic()
+    while not has_ended(process, began):
         if leaving.is_set():
             raise Left
         now = time.monotonic()
