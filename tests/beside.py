@@ -9,16 +9,15 @@ compared byte for byte, but for the word of the version. The last line counts th
 """
 import os
 import random
-import resource
 import shutil
 import stat
-import subprocess
 import sys
 import tempfile
 
 TOP = os.path.dirname(os.path.dirname(os.path.realpath(__file__)))
-sys.path.insert(0, f"{TOP}/tools/commands")
+sys.path[:0] = [f"{TOP}/tools", f"{TOP}/tools/commands"]
 import command_list
+import watched
 
 TABLES = f"{TOP}/crates/odht_tool/data"
 COMMANDS = [it.name for it in command_list.read()[0]]
@@ -31,10 +30,6 @@ WORDS = """--hash fx unhash xxh64 --at 0 7 99999999999999999999 --whole --slots 
     \udcff""".split()
 # of processor time, for one run
 SECONDS = 20
-
-
-def limit():
-    resource.setrlimit(resource.RLIMIT_CPU, (SECONDS, SECONDS))
 
 
 def changed(content, dice):
@@ -106,7 +101,7 @@ def ended(program, given, folder):
     os.mkdir(f"{folder}/folder")
     for name, to in (("link", b"table"), ("dangling", b"made"), ("loop", b"loop"), ("odd", b"\xff")):
         os.symlink(to, os.fsencode(f"{folder}/{name}"))
-    ran = subprocess.run([program, *args], input=lines, capture_output=True, cwd=folder, preexec_fn=limit)
+    ran = watched.run_limited([program, *args], SECONDS, lines, cwd=folder)
     found = ran.returncode, ran.stdout.replace(b"(proved)", b"(erased)"), ran.stderr, left(folder)
     shutil.rmtree(folder)
     return found

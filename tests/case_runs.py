@@ -71,11 +71,13 @@ def open_output(case, stack, packets):
 
 
 def limits(case):
-    """What the child does before the program begins: it limits its processor time and files, and drops its rights."""
+    """What the child does before the program begins, where a case needs it: it limits its processor time and files, and
+    drops its rights. Else None."""
     user, group = case_trees.user_of(case)
+    if case.room is None and user == os.geteuid():
+        return None
 
     def set_limits():
-        os.umask(case_trees.UMASK if case.umask is None else case.umask)
         seconds = math.ceil(SECONDS)
         resource.setrlimit(resource.RLIMIT_CPU, (seconds, seconds + 1))
         if case.room is not None:
@@ -88,6 +90,19 @@ def limits(case):
             os.setgid(group)
             os.setuid(user)
     return set_limits
+
+
+def begun(words, case, **how):
+    """The program, which has begun."""
+    before = limits(case)
+    former = os.umask(case_trees.UMASK if case.umask is None else case.umask)
+    try:
+        process = subprocess.Popen(words, env={}, preexec_fn=before, **how)
+    finally:
+        os.umask(former)
+    if before is None:
+        watched.limit_processor_time(process, math.ceil(SECONDS))
+    return process
 
 
 def communicate(process, written):
@@ -116,8 +131,7 @@ def run(program, case, folder):
             stderr = subprocess.STDOUT
         elif case.choices["errors"]:
             stderr = stack.enter_context(open("/dev/full", "wb"))
-        process = subprocess.Popen([program] + case.args, cwd=folder, env={}, stdin=stdin,
-                                   stdout=stdout, stderr=stderr, preexec_fn=limits(case))
+        process = begun([program] + case.args, case, cwd=folder, stdin=stdin, stdout=stdout, stderr=stderr)
         if packets:
             packets.begin()
         texts = communicate(process, written)

@@ -14,7 +14,6 @@ import os
 import re
 import resource
 import shutil
-import subprocess
 import sys
 import tempfile
 
@@ -118,11 +117,6 @@ def put_in_place(room):
     return 3
 
 
-def limit():
-    resource.setrlimit(resource.RLIMIT_CPU, (SECONDS, SECONDS))
-    resource.setrlimit(resource.RLIMIT_CORE, (0, 0))
-
-
 def files_in(room):
     found = {}
     for name in os.listdir(room):
@@ -141,7 +135,7 @@ def run_failing(words, given, request, preloaded):
         given = before["table"] if given is None else given
         env = {**os.environ, "LD_PRELOAD": preloaded, "ODHT_FAIL_REQUEST": str(request)}
         env["ODHT_REQUESTS"] = f"{room}/requests"
-        ran = subprocess.run(words, input=given, env=env, capture_output=True, cwd=f"{room}/files", preexec_fn=limit)
+        ran = watched.run_limited(words, SECONDS, given, env=env, cwd=f"{room}/files")
         if not os.path.exists(f"{room}/requests"):
             raise Failed(f"{' '.join(words)}: request {request} fails: status {ran.returncode}\n{ran.stderr.decode()}")
         with open(f"{room}/requests", encoding="utf-8") as it:
@@ -160,6 +154,8 @@ def memory(program, room):
     preloaded = f"{room}/preloaded.so"
     run("cc", "-shared", "-fPIC", "-O1", "-o", preloaded, "tests/memory/preloaded.c", "-ldl")
     passed = 0
+    # what is ended leaves no file of its memory
+    resource.setrlimit(resource.RLIMIT_CORE, (0, 0))
     for command, given in COMMANDS:
         for request in range(1, MOST):
             (status, errors, is_kept), made = run_failing([program, *command], given, request, preloaded)

@@ -10,7 +10,6 @@ memory has one run, in which it asked for none. Of one more script, whose last a
 answers, this is printed: how many bytes each write has, and the last answer. A run has 60 seconds of processor time.
 """
 import os
-import resource
 import shutil
 import subprocess
 import sys
@@ -36,15 +35,11 @@ MOST = 20
 SECONDS = 60
 
 
-def limit():
-    resource.setrlimit(resource.RLIMIT_CPU, (SECONDS, SECONDS))
-
-
 def run_failing(words, given, request, room):
     """Runs a program with its request of this number failing. Returns what it printed, and how many it made."""
     count = f"{room}/requests"
     env = {**os.environ, "ODHT_FAIL_REQUEST": str(request), "ODHT_REQUESTS": count}
-    ran = subprocess.run(words, input=given, env=env, capture_output=True, cwd=room, preexec_fn=limit)
+    ran = watched.run_limited(words, SECONDS, given, env=env, cwd=room)
     with open(count, encoding="utf-8") as it:
         made = int(it.read())
     # a program that ends early says why on standard error
@@ -57,7 +52,8 @@ def run_into_packets(words, given, request, room):
     packets = Packets()
     env = {**os.environ, "ODHT_FAIL_REQUEST": str(request), "ODHT_REQUESTS": f"{room}/requests"}
     with subprocess.Popen(words, stdin=subprocess.PIPE, stdout=packets.output, stderr=subprocess.PIPE, env=env,
-                          cwd=room, preexec_fn=limit) as program:
+                          cwd=room) as program:
+        watched.limit_processor_time(program, SECONDS)
         packets.begin()
         errors = program.communicate(given)[1]
     written, sizes = packets.end(60)

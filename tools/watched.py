@@ -6,6 +6,7 @@ works, or prints now and then, is never ended, however busy the machine is. Nor 
 """
 import contextlib
 import os
+import resource
 import signal
 import subprocess
 import sys
@@ -95,24 +96,25 @@ def processor_time():
     return getattr(used, "seconds", 0.0)
 
 
-def has_ended(process):
-    """Waits for a moment. Returns whether a command has ended, and adds its processor time."""
-    pause, until = 0.001, time.monotonic() + SLICE
-    while time.monotonic() < until:
+def has_ended(process, began):
+    """Waits for a moment. Returns whether a command has ended, and adds its processor time. It asks less often the longer
+    the command works: many are watched at once, and each question takes processor time."""
+    until = time.monotonic() + SLICE
+    while (now := time.monotonic()) < until:
         ended, status, usage = os.wait4(process.pid, os.WNOHANG)
         if ended:
             used.seconds = processor_time() + usage.ru_utime + usage.ru_stime
             process.returncode = -os.WTERMSIG(status) if os.WIFSIGNALED(status) else os.WEXITSTATUS(status)
             return True
-        time.sleep(pause)
-        pause = min(2 * pause, SLICE)
+        time.sleep(min(max((now - began) / 4, 0.001), SLICE))
     return False
 
 
 def hangs(process, files, limit):
     """Waits until a command has ended or hangs. Returns whether it hangs; where the limit is None, it never does."""
-    seen, since, looked = None, time.monotonic(), time.monotonic()
-    while not has_ended(process):
+    seen = None
+    began = since = looked = time.monotonic()
+    while not has_ended(process, began):
         if leaving.is_set():
             raise Left
         now = time.monotonic()
@@ -141,6 +143,22 @@ def keep_niceness(process):
     if niceness > 0:
         with contextlib.suppress(OSError), open(f"/proc/{process.pid}/autogroup", "w", encoding="utf-8") as it:
             it.write(str(niceness))
+
+
+def limit_processor_time(process, seconds):
+    """Has a process that was just begun end after so many seconds of processor time. The limit is set from outside,
+    because Python has to fork to set it in the child, and that takes longer than most of these programs work."""
+    with contextlib.suppress(ProcessLookupError):
+        resource.prlimit(process.pid, resource.RLIMIT_CPU, (seconds, seconds + 1))
+
+
+def run_limited(words, seconds, given, **how):
+    """Runs a program that may use so many seconds of processor time. Returns how it ended, and what it wrote."""
+    pipes = {"stdin": subprocess.PIPE, "stdout": subprocess.PIPE, "stderr": subprocess.PIPE}
+    with subprocess.Popen(words, **pipes, **how) as process:
+        limit_processor_time(process, seconds)
+        output, errors = process.communicate(given)
+    return subprocess.CompletedProcess(words, process.returncode, output, errors)
 
 
 def run(words, limit=LIMIT, **how):
