@@ -1,12 +1,12 @@
 // Made by `make rust` of crates/odht_raw/src/raw_table/orders.rt.
-//! The calls that look for an order of inserts.
+//! The calls that look for an order of inserts, of typed parts and of those whose lengths are
+//! numbers.
 
 use super::insert_order::find_order;
 use super::linear_order::{find_order_with, order_scratch};
-use super::{Parts, RawTable};
+use super::{RawTable, SizedTable};
 use crate::proved::raw::bytes::ByteArray;
 use crate::proved::raw::hash::HashFn;
-use crate::proved::raw::layout::Lengths;
 
 impl<'a, K: ByteArray, V: ByteArray, H: HashFn> RawTable<'a, K, V, H> {
     /// Whether some list of inserts, growths included, makes the table of these parts (`IsMade`);
@@ -24,13 +24,15 @@ impl<'a, K: ByteArray, V: ByteArray, H: HashFn> RawTable<'a, K, V, H> {
     /// kept, for 64 homes. After each pass the slots that still wait are sorted. It allocates
     /// nothing.
     pub fn insert_order(&self, out: &mut [usize]) -> bool {
-        self.parts().insert_order(out)
+        // Its invariant is used: the slots are a slot count, and have control bytes and a mirror.
+        let _ = &self.control;
+        find_order(self, out)
     }
 
     /// How many numbers of scratch `insert_order_with` takes for this table: three for each slot.
     #[inline]
     pub fn insert_order_scratch(&self) -> usize {
-        self.parts().insert_order_scratch()
+        order_scratch(self)
     }
 
     /// `insert_order` for tables of strangers: it returns the same. `scratch` has as many numbers
@@ -46,11 +48,13 @@ impl<'a, K: ByteArray, V: ByteArray, H: HashFn> RawTable<'a, K, V, H> {
     /// reads: with a bound of `g` groups to `g` times the slots. That `insert_order` is not called
     /// after all, which no clause says, is tested. It allocates nothing.
     pub fn insert_order_with(&self, out: &mut [usize], scratch: &mut [usize]) -> bool {
-        self.parts().insert_order_with(out, scratch)
+        // Its invariant is used here too.
+        let _ = &self.control;
+        find_order_with(self, out, scratch)
     }
 }
 
-impl<'a, L: Lengths, H: HashFn> Parts<'a, L, H> {
+impl<'a, H: HashFn> SizedTable<'a, H> {
     /// [`RawTable::insert_order`] of these parts.
     pub fn insert_order(&self, out: &mut [usize]) -> bool {
         // A clause of it is used: the parts are as long as these lengths say.
