@@ -60,3 +60,5 @@ pub mod SizedMut
 pub mod Passes
 -- a search in the parts of a table that are read by position
 pub mod Reads
+-- the entries of a table, whose lengths are types or numbers
+pub mod Stored

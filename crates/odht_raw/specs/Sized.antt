@@ -1,7 +1,9 @@
--- The parts of a table whose lengths of keys and values are numbers.
+-- The parts of a table, with the lengths of keys and values.
 --     SizedParts           these lengths, and the parts
 --     sized_format S h     the format of these lengths and of the hash h
 --     sized_parts kl vl s es ctrl  the parts of these lengths: the entries es of s slots, and the control bytes ctrl
+--     parts_with E ctrl    the entries E with their lengths, and the control bytes ctrl
+--     stored_of S          the entries, with these lengths
 --     slot_pair S i        the key and the value that the entry of slot i has
 --     read_slot S x        the slot of the numbered item x, and this pair
 --     HasLengthsOf kl vl p key and value of the pair p have these lengths
@@ -14,6 +16,7 @@ use Rattle.odht_base.specs.Decoded.{slot_key, slot_value}
 use Rattle.odht_base.specs.Table.{Pair}
 use Rattle.odht_header.specs.Coding.{Coding}
 use Rattle.odht_raw.specs.Parts.{TableParts, IsTableParts, entry_format}
+use Rattle.odht_raw.specs.Stored.{StoredEntries}
 
 pub record SizedParts : Type 0 where
   pub key_len : ℕ
@@ -29,6 +32,12 @@ sized_parts kl vl s es ctrl = record {
   value_len = vl;
   parts = record { control = ctrl; entries = record { slots = s; bytes = es } };
 }
+
+abbrev pub parts_with : StoredEntries → List ℕ → SizedParts
+parts_with E ctrl = record { key_len = E.key_len; value_len = E.value_len; parts = record { control = ctrl; entries = E.entries } }
+
+abbrev pub stored_of : SizedParts → StoredEntries
+stored_of S = record { key_len = S.key_len; value_len = S.value_len; entries = S.parts.entries }
 
 abbrev pub IsSized : ℕ → SizedParts → Type 0
 IsSized ml S = IsTableParts ml S.key_len S.value_len S.parts

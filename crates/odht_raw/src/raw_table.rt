@@ -4,23 +4,20 @@
 //! "On the parts of a placed table" is `IsPartsOf` in a clause: control bytes, mirror and entries
 //! are those of such a table.
 ghost use Rattle.std.specs.Prelude.{◌≡◌, ◌+◌, ◌-◌, ◌/◌, ◌^◌, ◌<◌, ◌≤◌, length};
-ghost use Rattle.std.specs.Prelude.{List, ℕ, ⊤};
 ghost use Rattle.odht_base.specs.Format.{format_of};
 ghost use Rattle.odht_base.specs.Load.{IsSlotCount};
 ghost use Rattle.odht_raw.specs.Parts.{entry_format};
 ghost use Rattle.odht_raw.specs.Finds.{IsFind, IsCountedFind};
-ghost use Rattle.odht_raw.specs.SearchResults.{MatchSearchResult};
-ghost use Rattle.odht_raw.specs.Searches.{IsSearchEnd};
 ghost use Rattle.odht_raw.specs.Walks.{items_from};
 ghost use Rattle.odht_header.specs.Refusals.{checked, hashes_refusal};
 
-use self::slot_checks::check_hashes;
 use crate::bytes::ByteArray;
 use crate::error::Error;
 use crate::hash::HashFn;
+use crate::layout::Fixed;
 pub(crate) use crate::swisstable_group_query::is_empty_or_deleted;
 use crate::swisstable_group_query::{Group, GroupQuery, REFERENCE_GROUP_SIZE};
-use std::marker::{Model, PhantomData};
+use std::marker::Model;
 
 mod ahead;
 mod bound;
@@ -35,6 +32,8 @@ mod insert;
 mod insert_order;
 mod linear_order;
 mod orders;
+mod parts;
+mod parts_walk;
 mod plain;
 mod probe_seq;
 mod read_search;
@@ -42,12 +41,10 @@ mod runs;
 mod scan;
 mod search_result;
 mod short_bytes;
-mod sized;
 mod sized_insert;
 mod sized_mut;
-mod sized_walk;
 mod slot_checks;
-mod slot_keys;
+mod stored;
 mod table_mut;
 mod table_slots;
 mod waiting;
@@ -60,6 +57,8 @@ pub use first_look::FirstLook;
 pub use group_probe::GroupProbe;
 pub use group_search::{search, search_hashed};
 pub(crate) use insert::{fill_slot, insert_at, step_end};
+pub use parts::{Parts, SizedTable};
+pub use parts_walk::{PartPairs, PartSlots, SizedIter, SizedSlots};
 pub use plain::{plain_find, plain_insert};
 pub use probe_seq::{ProbeSeq, probe_order};
 pub use read_search::{ReadPlace, search_read};
@@ -67,11 +66,9 @@ pub(crate) use runs::insert_run;
 pub use scan::Scan;
 pub use search_result::Search;
 pub use short_bytes::ShortBytes;
-pub use sized::SizedTable;
 pub(crate) use sized_insert::{sized_insert_at, sized_step_end};
 pub use sized_mut::SizedTableMut;
-pub use sized_walk::{SizedIter, SizedSlots};
-pub(crate) use slot_keys::SlotKeys;
+pub use stored::Stored;
 pub use table_mut::RawTableMut;
 pub(crate) use table_slots::TableSlots;
 pub use walk::{RawIter, RawSlots};
@@ -106,21 +103,18 @@ fn slot_count_of(control: &[EntryMetadata]) -> usize
 /// of as many slots.
 #[derive(Drop)]
 pub struct RawTable<'a, K: ByteArray, V: ByteArray, H: HashFn> {
-    control: &'a [EntryMetadata],
-    entries: Entries<'a, K, V>,
-    hash: PhantomData<H>,
+    parts: Parts<'a, Fixed<K, V>, H>,
 }
 
 impl<'a, K: ByteArray, V: ByteArray, H: HashFn> Model for RawTable<'a, K, V, H> {
-    ghost use Rattle.odht_raw.specs.Parts.{TableParts, IsTableParts};
+    ghost use Rattle.odht_raw.specs.Parts.{TableParts};
+    ghost use Rattle.odht_raw.specs.Stored.{AreLengths};
 
     ghost Value = { TableParts };
 
-    ghost view = { λ t. record { control = t.control.now; entries = t.entries } };
+    ghost view = { λ t. t.parts.parts };
 
-    ghost invariant = { λ t.
-        IsTableParts H.MIN_LEN K.LEN V.LEN
-        (record { control = t.control.now; entries = t.entries }) };
+    ghost invariant = { λ t. AreLengths K.LEN V.LEN t.parts.key_len t.parts.value_len };
 }
 
 impl<'a, K: ByteArray, V: ByteArray, H: HashFn> RawTable<'a, K, V, H> {
@@ -133,10 +127,24 @@ impl<'a, K: ByteArray, V: ByteArray, H: HashFn> RawTable<'a, K, V, H> {
         ensures { result ≡ record { control = control.now; entries = entries.entry } }
     {
         RawTable {
-            control,
-            entries,
-            hash: PhantomData,
+            parts: Parts::of(control, entries.stored()),
         }
+    }
+
+    // The same parts, with keys and values as bytes.
+    #[inline(always)]
+    pub(crate) fn parts(&self) -> Parts<'a, Fixed<K, V>, H>
+        ensures { result ≡ record { key_len = K.LEN; value_len = V.LEN; parts = self.now } }
+    {
+        self.parts.copy()
+    }
+
+    // The entries.
+    #[inline(always)]
+    fn entries(&self) -> Entries<'a, K, V>
+        ensures { result ≡ self.now.entries }
+    {
+        Entries::of(self.parts().stored())
     }
 
     /// The value stored with the key, searched for group by group along the probe order
@@ -171,23 +179,9 @@ impl<'a, K: ByteArray, V: ByteArray, H: HashFn> RawTable<'a, K, V, H> {
         ensures { IsCountedFind (format_of K.LEN V.LEN H.hash) V.of_bytes self.now (K.bytes key.now)
             result }
     {
-        let mut scan = Scan::new(self.control, self.entries.len());
-        let end = search::<K, V, H, Q>(&mut scan, &self.entries, key);
-        (self.value_at(end), scan.groups())
-    }
-
-    // The value of the slot where a search ended, if that slot holds the key.
-    #[inline(always)]
-    fn value_at(&self, end: Search) -> Option<V>
-        requires { MatchSearchResult end (λ slot. slot < self.now.entries.slots) (λ _. ⊤) ⊤ }
-        ensures { (k : List ℕ)
-            → IsSearchEnd (format_of K.LEN V.LEN H.hash) self.now.entries self.now.control k end
-            → IsFind (format_of K.LEN V.LEN H.hash) V.of_bytes self.now k result }
-    {
-        match end {
-            Search::Found(slot) => Some(self.entries.get(slot).value),
-            Search::Free(_) => None,
-            Search::Neither => None,
+        match self.parts().find_of::<Q>(key.as_slice()) {
+            (Some(value), groups) => (Some(V::from_slice(value)), groups),
+            (None, groups) => (None, groups),
         }
     }
 
@@ -199,7 +193,7 @@ impl<'a, K: ByteArray, V: ByteArray, H: HashFn> RawTable<'a, K, V, H> {
             ≡ items_from K.of_bytes V.of_bytes (entry_format K.LEN V.LEN) self.now 0 }
         ensures few { length result ≤ self.now.entries.slots }
     {
-        RawIter::new(self.control, self.entries.copy())
+        RawIter::new(self.parts().controls(), self.entries())
     }
 
     /// Checks the first `slots_to_check` slots, or all where there are fewer, and returns the
@@ -212,6 +206,6 @@ impl<'a, K: ByteArray, V: ByteArray, H: HashFn> RawTable<'a, K, V, H> {
             in result ≡ checked
             (hashes_refusal F self.now.entries.bytes self.now.control slots_to_check) }
     {
-        check_hashes(self, slots_to_check)
+        self.parts().sanity_check_hashes(slots_to_check)
     }
 }

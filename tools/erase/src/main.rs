@@ -7,7 +7,7 @@ use std::process::ExitCode;
 const ARRAYS: &str = "odht_base/bytes/arrays";
 const ALLOCATION: &str = "odht_raw/memory_layout/allocation";
 const INSERTS: &str = "odht_raw/memory_layout/allocation/inserts";
-const ENTRIES: &str = "odht_raw/raw_table/entries";
+const STORED: &str = "odht_raw/raw_table/stored";
 const FIRST_LOOK: &str = "odht_raw/raw_table/first_look";
 const STORES: &str = "odht_base/bytes/stores";
 const LOOKUPS: &str = "odht/lookups";
@@ -42,16 +42,11 @@ const PLAN: Plan<'static> = Plan {
         unchecked("read_u64", ARRAYS, "at + 8 ≤ length bytes.now", ARRAYS),
         unchecked("is_same_bytes", ARRAYS, "length left.now ≡ length right.now", ARRAYS),
         unchecked("data_slices", ALLOCATION, ACCEPTED, ALLOCATION),
-        unchecked("get", ENTRIES, "slot < self.now.slots", ENTRIES),
-        unchecked("bytes_of", ENTRIES, "slot < self.now.slots", ENTRIES),
-        unchecked("key_bytes_of", ENTRIES, "slot < self.now.slots", ENTRIES),
-        unchecked("is_at", ENTRIES, "length result.now ≡ K.LEN + V.LEN", ENTRIES),
-        unchecked(
-            "first_look",
-            FIRST_LOOK,
-            "IsTableParts H.MIN_LEN K.LEN V.LEN",
-            "odht_raw/raw_table",
-        ),
+        unchecked("entry", STORED, "slot < self.now.entries.slots", STORED),
+        unchecked("key", STORED, "slot < self.now.entries.slots", STORED),
+        unchecked("value", STORED, "slot < self.now.entries.slots", STORED),
+        unchecked("has_key", STORED, "length key.now ≡ self.now.key_len", STORED),
+        unchecked("first_look", FIRST_LOOK, "IsSized H.MIN_LEN", "odht_raw/raw_table/parts"),
         unchecked("group", SCAN, "start < length self.old.control - 16", SCAN),
         unchecked("insert_by", INSERTS, ACCEPTED, ALLOCATION),
         unchecked("insert_items", INSERTS, ACCEPTED, ALLOCATION),

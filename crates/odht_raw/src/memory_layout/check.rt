@@ -72,7 +72,7 @@ impl<C: Config, M: ByteStore> Allocation<C, M> {
         ensures valid { IsOk result ↔ IsValidBytes ⟦<C as Coded>⟧.coding.format (M.bytes self.now) }
     {
         hold_bytes(self.raw_bytes());
-        check_late(&self.header(), &self.as_raw(), None)
+        check_late(&self.header(), &self.as_raw().parts(), None)
     }
 
     /// `check_rest` with a bound of searches, as in [`check_all_within`]. Ok exactly for valid
@@ -86,7 +86,7 @@ impl<C: Config, M: ByteStore> Allocation<C, M> {
             × (first_longer (controls_of F (M.bytes self.now)) groups ≡ None)) }
     {
         hold_bytes(self.raw_bytes());
-        check_late(&self.header(), &self.as_raw(), Some(groups))
+        check_late(&self.header(), &self.as_raw().parts(), Some(groups))
     }
 }
 

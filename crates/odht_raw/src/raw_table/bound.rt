@@ -10,11 +10,25 @@ ghost use Rattle.odht_header.specs.Refusals.{longer_refusal};
 ghost use Rattle.odht_base.specs.Bounds.{ends_within, first_longer, AreWithin};
 ghost use Rattle.odht_raw.specs.Sized.{sized_format};
 
-use super::{EntryMetadata, GroupProbe, RawTable, SizedTable, slot_count_of};
+use super::{EntryMetadata, GroupProbe, Parts, RawTable, slot_count_of};
 use crate::bytes::ByteArray;
 use crate::error::Error;
 use crate::hash::HashFn;
+use crate::layout::Lengths;
 use crate::swisstable_group_query::late_free;
+
+impl<'a, L: Lengths, H: HashFn> Parts<'a, L, H> {
+    /// [`RawTable::searches_within`] of these parts.
+    pub fn searches_within(&self, groups: usize) -> bool
+        ensures bytes { IsTrue result ↔ (first_longer self.now.parts.control groups ≡ None) }
+        ensures bound { let F = sized_format self.now H.hash
+            in (P : Table) (key : List ℕ)
+            → IsPartsOf F P self.now.parts.entries.bytes self.now.parts.control
+            → IsTrue result → groups_read F P.cells key ≤ groups }
+    {
+        first_longer(self.controls(), groups).is_none()
+    }
+}
 
 impl<'a, K: ByteArray, V: ByteArray, H: HashFn> RawTable<'a, K, V, H> {
     /// Whether each home has, among the first `groups` groups of its probe order, a control byte
@@ -26,20 +40,7 @@ impl<'a, K: ByteArray, V: ByteArray, H: HashFn> RawTable<'a, K, V, H> {
             in (P : Table) (key : List ℕ) → IsPartsOf F P self.now.entries.bytes self.now.control
             → IsTrue result → groups_read F P.cells key ≤ groups }
     {
-        first_longer(self.control, groups).is_none()
-    }
-}
-
-impl<'a, H: HashFn> SizedTable<'a, H> {
-    /// [`RawTable::searches_within`] of these parts.
-    pub fn searches_within(&self, groups: usize) -> bool
-        ensures bytes { IsTrue result ↔ (first_longer self.now.parts.control groups ≡ None) }
-        ensures bound { let F = sized_format self.now H.hash
-            in (P : Table) (key : List ℕ)
-            → IsPartsOf F P self.now.parts.entries.bytes self.now.parts.control
-            → IsTrue result → groups_read F P.cells key ≤ groups }
-    {
-        first_longer(self.controls(), groups).is_none()
+        self.parts().searches_within(groups)
     }
 }
 

@@ -15,7 +15,7 @@ impl<'a, K: ByteArray, V: ByteArray, H: HashFn> RawTable<'a, K, V, H> {
         ensures { WritesOnOk W.write_str_gives f.old result
             (head_text H.hash_name self.now.entries.slots) f.new }
     {
-        let slot_count = self.entries.len();
+        let slot_count = self.entries().len();
         let hash_name = H::hash_name();
         writeln!(
             f,
@@ -32,11 +32,11 @@ impl<'a, K: ByteArray, V: ByteArray, H: HashFn> RawTable<'a, K, V, H> {
             self.now slot)
             f.new }
     {
-        let control_byte = self.control[slot];
+        let control_byte = self.parts().control(slot);
         if is_empty_or_deleted(control_byte) {
             return writeln!(f, "slot {slot}: empty");
         }
-        let Entry { key, value } = self.entries.get(slot);
+        let Entry { key, value } = self.entries().get(slot);
         writeln!(
             f,
             "slot {slot}: key={key:?}, value={value:?}, control_byte={control_byte}"
@@ -56,7 +56,7 @@ impl<'a, K: ByteArray, V: ByteArray, H: HashFn> fmt::Debug for RawTable<'a, K, V
     // slot order.
     fn fmt<W: fmt::Write>(&self, f: &mut fmt::Formatter<W>) -> fmt::Result {
         self.write_head(f)?;
-        for slot in 0..self.entries.len() {
+        for slot in 0..self.entries().len() {
             self.write_slot_line(slot, f)?;
         }
         writeln!(f, "}}")

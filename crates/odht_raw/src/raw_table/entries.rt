@@ -1,14 +1,13 @@
-//! The entries of a table, read from their bytes.
+//! The entries of a table, with keys and values as types.
 ghost use Rattle.std.specs.Prelude.{◌≡◌, ◌↔◌, ◌+◌, ◌*◌, ◌<◌, ◌≤◌, length, IsTrue};
-ghost use Rattle.odht_base.specs.Decoded.{slot_entry, slot_key, slot_value};
+ghost use Rattle.odht_base.specs.Decoded.{slot_key, slot_value};
 ghost use Rattle.odht_raw.specs.Parts.{entry_format};
+ghost use Rattle.odht_raw.specs.Stored.{AreLengths, stored};
 
-use super::SlotKeys;
-use crate::bytes::{ByteArray, is_same_bytes};
-use std::marker::{Model, PhantomData};
-
-// How many bytes a key has at most that is loaded to be compared.
-const SHORT: usize = 64;
+use super::Stored;
+use crate::bytes::ByteArray;
+use crate::layout::Fixed;
+use std::marker::Model;
 
 /// An entry: an encoded key and its encoded value, as a slot holds them.
 #[derive(Clone, Copy, PartialEq, Eq, Debug)]
@@ -37,20 +36,18 @@ impl<K: ByteArray, V: ByteArray> Default for Entry<K, V> {
 /// The entries of a number of slots, read from their bytes at any alignment.
 #[derive(Drop)]
 pub struct Entries<'a, K: ByteArray, V: ByteArray> {
-    bytes: &'a [u8],
-    slots: usize,
-    types: PhantomData<(K, V)>,
+    stored: Stored<'a, Fixed<K, V>>,
 }
 
 impl<'a, K: ByteArray, V: ByteArray> Model for Entries<'a, K, V> {
-    ghost use Rattle.odht_raw.specs.Parts.{EntryBytes, IsEntries};
+    ghost use Rattle.odht_raw.specs.Parts.{EntryBytes};
+    ghost use Rattle.odht_raw.specs.Stored.{AreLengths};
 
     ghost Value = { EntryBytes };
 
-    ghost view = { λ e. record { slots = e.slots; bytes = e.bytes.now } };
+    ghost view = { λ e. e.stored.entries };
 
-    ghost invariant = { λ e. IsEntries K.LEN V.LEN
-        (record { slots = e.slots; bytes = e.bytes.now }) };
+    ghost invariant = { λ e. AreLengths K.LEN V.LEN e.stored.key_len e.stored.value_len };
 }
 
 impl<'a, K: ByteArray, V: ByteArray> Entries<'a, K, V> {
@@ -63,22 +60,25 @@ impl<'a, K: ByteArray, V: ByteArray> Entries<'a, K, V> {
         ensures { result ≡ record { slots = slots; bytes = bytes.now } }
     {
         Entries {
-            bytes,
-            slots,
-            types: PhantomData,
+            stored: Stored::new(bytes, slots, Fixed::new()),
         }
     }
 
-    // A second reader of the same entries.
-    #[inline]
-    pub(crate) fn copy(&self) -> Self
-        ensures { result ≡ self.now }
+    // These entries, with keys and values as types.
+    #[inline(always)]
+    pub(super) fn of(stored: Stored<'a, Fixed<K, V>>) -> Self
+        requires { AreLengths K.LEN V.LEN stored.key_len stored.value_len }
+        ensures { result ≡ stored.entry.entries }
     {
-        Entries {
-            bytes: self.bytes,
-            slots: self.slots,
-            types: PhantomData,
-        }
+        Entries { stored }
+    }
+
+    // The same entries, with keys and values as bytes.
+    #[inline(always)]
+    pub(super) fn stored(&self) -> Stored<'a, Fixed<K, V>>
+        ensures { result ≡ stored K.LEN V.LEN self.now.slots self.now.bytes }
+    {
+        self.stored.copy()
     }
 
     /// How many slots there are.
@@ -86,7 +86,7 @@ impl<'a, K: ByteArray, V: ByteArray> Entries<'a, K, V> {
     pub fn len(&self) -> usize
         ensures { result ≡ self.now.slots }
     {
-        self.slots
+        self.stored.slots()
     }
 
     /// The entry of a slot.
@@ -102,79 +102,20 @@ impl<'a, K: ByteArray, V: ByteArray> Entries<'a, K, V> {
         ensures value_bytes { V.bytes result.value
             ≡ slot_value (entry_format K.LEN V.LEN) self.now.bytes slot }
     {
-        let bytes = self.bytes;
-        let at = slot * (K::LEN + V::LEN);
-        let entry = &bytes[at..at + K::LEN + V::LEN];
+        let stored = self.stored();
         Entry {
-            key: K::from_slice(&entry[..K::LEN]),
-            value: V::from_slice(&entry[K::LEN..]),
+            key: K::from_slice(stored.key(slot)),
+            value: V::from_slice(stored.value(slot)),
         }
     }
 
-    // The bytes of the entry of a slot.
-    #[inline]
-    pub(crate) fn bytes_of(&self, slot: usize) -> &'a [u8]
-        requires { slot < self.now.slots }
-        ensures bytes { result.now ≡ slot_entry (entry_format K.LEN V.LEN) self.now.bytes slot }
-        ensures len { length result.now ≡ K.LEN + V.LEN }
-    {
-        let bytes = self.bytes;
-        let at = slot * (K::LEN + V::LEN);
-        &bytes[at..at + K::LEN + V::LEN]
-    }
-
-    // The bytes of the key of a slot.
-    #[inline]
-    pub(crate) fn key_bytes_of(&self, slot: usize) -> &'a [u8]
-        requires { slot < self.now.slots }
-        ensures bytes { result.now ≡ slot_key (entry_format K.LEN V.LEN) self.now.bytes slot }
-        ensures len { length result.now ≡ K.LEN }
-    {
-        let bytes = self.bytes;
-        let at = slot * (K::LEN + V::LEN);
-        &bytes[at..at + K::LEN]
-    }
-
-    // Whether the keys of two slots are equal. No value is read, and no long key is copied.
-    #[inline]
-    pub(crate) fn have_same_key(&self, slot: usize, other: usize) -> bool
-        requires slot { slot < self.now.slots }
-        requires other { other < self.now.slots }
-        ensures { let key = slot_key (entry_format K.LEN V.LEN) self.now.bytes
-            in IsTrue result ↔ (key slot ≡ key other) }
-    {
-        let key = self.key_bytes_of(other);
-        if K::LEN > SHORT {
-            return is_same_bytes(self.key_bytes_of(slot), key);
-        }
-        self.is_at(slot, &K::from_slice(key))
-    }
-}
-
-impl<'a, K: ByteArray, V: ByteArray> SlotKeys for Entries<'a, K, V> {
-    type Key = K;
-
-    ghost format = { λ e. entry_format K.LEN V.LEN };
-
-    ghost entries = { λ e. e };
-
-    ghost key_bytes = { λ k. K.bytes k };
-
+    // Whether the key of a slot is `key`.
     #[inline(always)]
-    fn slots(&self) -> usize {
-        self.slots
-    }
-
-    // A short key is loaded whole, and compared as its length allows; a longer one is compared
-    // where it is. The whole entry is cut out of the bytes, as `get` cuts it: where its value is
-    // read next, that is the same cut, and is made once.
-    #[inline(always)]
-    fn is_at(&self, slot: usize, key: &K) -> bool {
-        let entry = self.bytes_of(slot);
-        let front = &entry[..K::LEN];
-        if K::LEN > SHORT {
-            return is_same_bytes(front, key.as_slice());
-        }
-        K::from_slice(front).equals(key)
+    pub(super) fn is_at(&self, slot: usize, key: &K) -> bool
+        requires { slot < self.now.slots }
+        ensures { let stored_key = slot_key (entry_format K.LEN V.LEN) self.now.bytes slot
+            in IsTrue result ↔ (stored_key ≡ K.bytes key.now) }
+    {
+        self.stored().has_key(slot, key.as_slice())
     }
 }

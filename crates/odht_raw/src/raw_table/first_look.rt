@@ -1,14 +1,17 @@
 //! The first look of a search. To look up many keys, take the first looks of several keys before
 //! the first search ends: then their memory accesses overlap.
-ghost use Rattle.std.specs.Prelude.{◌≡◌};
+ghost use Rattle.std.specs.Prelude.{◌≡◌, length, IfSome};
+ghost use Rattle.std.specs.Option.{option_copied};
 ghost use Rattle.odht_base.specs.Format.{format_of};
 ghost use Rattle.odht_raw.specs.FirstLooks.{first_look_of};
 ghost use Rattle.odht_raw.specs.Finds.{IsFind};
+ghost use Rattle.odht_raw.specs.Sized.{sized_format};
 
 use super::group_search::late_search;
-use super::{RawTable, SlotKeys, tag_of};
+use super::{Parts, RawTable, tag_of};
 use crate::bytes::ByteArray;
 use crate::hash::HashFn;
+use crate::layout::Lengths;
 use crate::swisstable_group_query::{Group, REFERENCE_GROUP_SIZE, lanes};
 use std::marker::Model;
 
@@ -29,6 +32,54 @@ impl Model for FirstLook {
     ghost view = { λ l. record { hash = l.hash; matches = l.group.matches; free = l.group.free } };
 }
 
+impl<'a, L: Lengths, H: HashFn> Parts<'a, L, H> {
+    /// [`RawTable::first_look`] of a key that is given as bytes.
+    #[inline(always)]
+    pub fn first_look(&self, key: &[u8]) -> FirstLook
+        requires { length key.now ≡ self.now.key_len }
+        ensures { result ≡ first_look_of (sized_format self.now H.hash) self.now.parts key.now }
+    {
+        let mask = self.len() - 1;
+        let hash = H::hash(key);
+        let home = hash as usize & mask;
+        let control = self.controls();
+        let bytes = &control[home..home + REFERENCE_GROUP_SIZE];
+        FirstLook {
+            hash,
+            group: lanes::GroupQuery::of(bytes, tag_of(hash)),
+        }
+    }
+
+    /// [`RawTable::find_from`] of a key that is given as bytes.
+    // The first group is not looked at by the function for later ones: keys in a near cache took
+    // up to a tenth longer.
+    #[inline(always)]
+    pub fn find_from(&self, look: FirstLook, key: &[u8]) -> Option<&'a [u8]>
+        requires key { length key.now ≡ self.now.key_len }
+        requires look { look
+            ≡ first_look_of (sized_format self.now H.hash) self.now.parts key.now }
+        ensures found { IsFind (sized_format self.now H.hash) (λ b. b) self.now.parts key.now
+            (option_copied result) }
+        ensures len { IfSome result (λ v. length v.now ≡ self.now.value_len) }
+    {
+        let mask = self.len() - 1;
+        let home = look.hash as usize & mask;
+        let FirstLook { hash, mut group } = look;
+        'matches: while let Some(index) = group.first_match() {
+            let slot = (home + index) & mask;
+            if self.has_key(slot, key) {
+                return Some(self.value(slot));
+            }
+            group.drop_match();
+        }
+        if group.any_empty() {
+            return None;
+        }
+        let stored = self.stored();
+        self.value_at(late_search::<L, H>(self.controls(), &stored, key, hash))
+    }
+}
+
 impl<'a, K: ByteArray, V: ByteArray, H: HashFn> RawTable<'a, K, V, H> {
     /// The first look of the search for a key, from which [`RawTable::find_from`] goes on. It
     /// hashes the key and reads one group of control bytes, and no entry.
@@ -36,14 +87,7 @@ impl<'a, K: ByteArray, V: ByteArray, H: HashFn> RawTable<'a, K, V, H> {
     pub fn first_look(&self, key: &K) -> FirstLook
         ensures { result ≡ first_look_of (format_of K.LEN V.LEN H.hash) self.now (K.bytes key.now) }
     {
-        let mask = self.entries.len() - 1;
-        let hash = H::hash(key.as_slice());
-        let home = hash as usize & mask;
-        let bytes = &self.control[home..home + REFERENCE_GROUP_SIZE];
-        FirstLook {
-            hash,
-            group: lanes::GroupQuery::of(bytes, tag_of(hash)),
-        }
+        self.parts().first_look(key.as_slice())
     }
 
     /// The value of the key, from its first look in this very table: on the parts of a placed
@@ -51,27 +95,15 @@ impl<'a, K: ByteArray, V: ByteArray, H: HashFn> RawTable<'a, K, V, H> {
     ///
     /// The matches of the look are compared in turn. Where none holds the key and the group has no
     /// free byte, the search goes on with the second group.
-    // The first group is not looked at by the function for later ones: keys in a near cache took
-    // up to a tenth longer.
     #[inline(always)]
     pub fn find_from(&self, look: FirstLook, key: &K) -> Option<V>
         requires { look ≡ first_look_of (format_of K.LEN V.LEN H.hash) self.now (K.bytes key.now) }
         ensures { IsFind (format_of K.LEN V.LEN H.hash) V.of_bytes self.now
             (K.bytes key.now) result }
     {
-        let mask = self.entries.len() - 1;
-        let home = look.hash as usize & mask;
-        let FirstLook { hash, mut group } = look;
-        'matches: while let Some(index) = group.first_match() {
-            let slot = (home + index) & mask;
-            if self.entries.is_at(slot, key) {
-                return Some(self.entries.get(slot).value);
-            }
-            group.drop_match();
+        match self.parts().find_from(look, key.as_slice()) {
+            Some(value) => Some(V::from_slice(value)),
+            None => None,
         }
-        if group.any_empty() {
-            return None;
-        }
-        self.value_at(late_search::<K, V, H>(self.control, &self.entries, key, hash))
     }
 }

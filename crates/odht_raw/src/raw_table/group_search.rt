@@ -1,7 +1,7 @@
 //! The search by groups of control bytes along the probe order.
 ghost use Rattle.std.specs.Prelude.{◌≡◌, ℕ, ◌+◌, ◌<◌, ◌≤◌, length, IfSome, IsNone};
 ghost use Rattle.odht_base.specs.Load.{IsSlotCount};
-ghost use Rattle.odht_base.specs.Format.{IsFormat, format_of};
+ghost use Rattle.odht_base.specs.Format.{format_of};
 ghost use Rattle.odht_base.specs.Table.{Table};
 ghost use Rattle.odht_raw.specs.PartLengths.{AreSearchLengths};
 ghost use Rattle.odht_raw.specs.Parts.{hashed_by};
@@ -10,10 +10,12 @@ ghost use Rattle.odht_raw.specs.SearchEnds.{IsEndAmong, GoesOnAmong};
 ghost use Rattle.odht_raw.specs.SearchSteps.{IsGroupAt, IsLook, IsTag};
 ghost use Rattle.odht_raw.specs.Searches.{IsRest, IsSearch, IsSearchEnd};
 ghost use Rattle.odht_raw.specs.Searches.{IsUnderWay, IsPassed};
+ghost use Rattle.odht_raw.specs.Stored.{IsSought, stored_format};
 
-use super::{Entries, EntryMetadata, ProbeSeq, Scan, Search, SlotKeys, tag_of};
+use super::{Entries, EntryMetadata, ProbeSeq, Scan, Search, Stored, tag_of};
 use crate::bytes::ByteArray;
 use crate::hash::HashFn;
+use crate::layout::{Fixed, Lengths};
 use crate::swisstable_group_query::{Group, GroupQuery, REFERENCE_GROUP_SIZE};
 
 /// Searches for the key group by group along its probe order. All of this holds for every group
@@ -60,55 +62,55 @@ pub fn search_hashed<K: ByteArray, V: ByteArray, H: HashFn, Q: Group>(
     ensures { IsSearch (format_of K.LEN V.LEN H.hash) entries.now (K.bytes key.now)
         scan.old scan.new result }
 {
-    search_keys::<Entries<'_, K, V>, H, Q>(scan, entries, key, hash)
+    search_stored::<Fixed<K, V>, H, Q>(scan, &entries.stored(), key.as_slice(), hash)
 }
 
-/// The search for a key with this hash among the keys of whatever holds them. It reads control
-/// bytes only through the scan, which counts each group.
+/// The search for a key with this hash among the keys of the entries. It reads control bytes only
+/// through the scan, which counts each group.
 #[inline(always)]
-pub(super) fn search_keys<E: SlotKeys, H: HashFn, Q: Group>(
+pub(super) fn search_stored<L: Lengths, H: HashFn, Q: Group>(
     scan: &mut Scan<'_>,
-    keys: &E,
-    key: &E::Key,
+    stored: &Stored<'_, L>,
+    key: &[u8],
     hash: u32,
 ) -> Search
-    requires format { IsFormat (hashed_by H.hash (E.format keys.now)) }
-    requires mirrored { length scan.old.control ≡ (E.entries keys.now).slots + 16 }
-    requires hash { hash ≡ H.hash (E.key_bytes key.now) }
-    ensures { let F = hashed_by H.hash (E.format keys.now)
-        in IsSearch F (E.entries keys.now) (E.key_bytes key.now) scan.old scan.new result }
+    requires sought { IsSought H.hash stored.now key.now }
+    requires mirrored { length scan.old.control ≡ stored.now.entries.slots + 16 }
+    requires hash { hash ≡ H.hash key.now }
+    ensures { let F = hashed_by H.hash (stored_format stored.now)
+        in IsSearch F stored.now.entries key.now scan.old scan.new result }
 {
     let probe = ProbeSeq::new(hash as usize, scan.slots() - 1);
-    search_from::<E, H, Q>(scan, probe, keys, key, tag_of(hash))
+    search_from::<L, H, Q>(scan, probe, stored, key, tag_of(hash))
 }
 
 // The rest of a search that is under way, from the position of the probe on.
 #[inline(always)]
-fn search_from<E: SlotKeys, H: HashFn, Q: Group>(
+fn search_from<L: Lengths, H: HashFn, Q: Group>(
     scan: &mut Scan<'_>,
     probe: ProbeSeq<REFERENCE_GROUP_SIZE>,
-    keys: &E,
-    key: &E::Key,
+    stored: &Stored<'_, L>,
+    key: &[u8],
     tag: u8,
 ) -> Search
-    requires format { IsFormat (hashed_by H.hash (E.format keys.now)) }
-    requires slots { IsSlotCount (E.entries keys.now).slots }
-    requires mirrored { length scan.old.control ≡ (E.entries keys.now).slots + 16 }
-    requires mask { probe.mask + 1 ≡ (E.entries keys.now).slots }
-    requires within { probe.position + 16 ≤ (E.entries keys.now).slots }
-    requires tag { IsTag (hashed_by H.hash (E.format keys.now)) (E.key_bytes key.now) tag }
-    requires at { let F = hashed_by H.hash (E.format keys.now)
-        in IsUnderWay F (E.entries keys.now) (E.key_bytes key.now) (place_of scan.old probe) }
-    ensures { let F = hashed_by H.hash (E.format keys.now)
-        in IsRest F (E.entries keys.now) (E.key_bytes key.now) (place_of scan.old probe)
+    requires sought { IsSought H.hash stored.now key.now }
+    requires slots { IsSlotCount stored.now.entries.slots }
+    requires mirrored { length scan.old.control ≡ stored.now.entries.slots + 16 }
+    requires mask { probe.mask + 1 ≡ stored.now.entries.slots }
+    requires within { probe.position + 16 ≤ stored.now.entries.slots }
+    requires tag { IsTag (hashed_by H.hash (stored_format stored.now)) key.now tag }
+    requires at { let F = hashed_by H.hash (stored_format stored.now)
+        in IsUnderWay F stored.now.entries key.now (place_of scan.old probe) }
+    ensures { let F = hashed_by H.hash (stored_format stored.now)
+        in IsRest F stored.now.entries key.now (place_of scan.old probe)
         (place_of scan.new probe) result }
 {
     let mut probe = probe;
-    let mask = keys.slots() - 1;
+    let mask = stored.slots() - 1;
     'groups: loop {
         let start = probe.index();
         let bytes = scan.group(start);
-        if let Some(end) = look_at_group::<E, H, Q>(bytes, start, keys, key, tag) {
+        if let Some(end) = look_at_group::<L, H, Q>(bytes, start, stored, key, tag) {
             return end;
         }
         if probe.is_last() {
@@ -121,63 +123,64 @@ fn search_from<E: SlotKeys, H: HashFn, Q: Group>(
 /// The rest of a search whose first group neither holds the key nor has a free byte. It is not
 /// inlined: where a first look ends the search, this is not called.
 #[inline(never)]
-pub(super) fn late_search<K: ByteArray, V: ByteArray, H: HashFn>(
+pub(super) fn late_search<L: Lengths, H: HashFn>(
     control: &[EntryMetadata],
-    entries: &Entries<'_, K, V>,
-    key: &K,
+    stored: &Stored<'_, L>,
+    key: &[u8],
     hash: u32,
 ) -> Search
-    requires slots { IsSlotCount entries.now.slots }
-    requires lengths { AreSearchLengths H.MIN_LEN K.LEN V.LEN entries.now.slots
-        (length control.now) }
-    requires hash { hash ≡ H.hash (K.bytes key.now) }
-    requires first { IsPassed (format_of K.LEN V.LEN H.hash) entries.now control.now
-        (K.bytes key.now) 16 }
-    ensures { IsSearchEnd (format_of K.LEN V.LEN H.hash) entries.now control.now
-        (K.bytes key.now) result }
+    requires key { length key.now ≡ stored.now.key_len }
+    requires slots { IsSlotCount stored.now.entries.slots }
+    requires lengths { AreSearchLengths H.MIN_LEN stored.now.key_len stored.now.value_len
+        stored.now.entries.slots (length control.now) }
+    requires hash { hash ≡ H.hash key.now }
+    requires first { let F = hashed_by H.hash (stored_format stored.now)
+        in IsPassed F stored.now.entries control.now key.now 16 }
+    ensures { let F = hashed_by H.hash (stored_format stored.now)
+        in IsSearchEnd F stored.now.entries control.now key.now result }
 {
-    let mask = entries.len() - 1;
+    let mask = stored.slots() - 1;
     let mut probe = ProbeSeq::new(hash as usize, mask);
     if probe.is_last() {
         return Search::Neither;
     }
     probe.advance(mask);
-    let mut scan = Scan::new(control, entries.len());
+    let mut scan = Scan::new(control, stored.slots());
     let tag = tag_of(hash);
-    search_from::<Entries<'_, K, V>, H, GroupQuery>(&mut scan, probe, entries, key, tag)
+    search_from::<L, H, GroupQuery>(&mut scan, probe, stored, key, tag)
 }
 
 // Searches the sixteen slots from `start` on, whose control bytes are `bytes`, in pieces of the
 // group search's size.
 #[inline(always)]
-fn look_at_group<E: SlotKeys, H: HashFn, Q: Group>(
+fn look_at_group<L: Lengths, H: HashFn, Q: Group>(
     bytes: &[EntryMetadata],
     start: usize,
-    keys: &E,
-    key: &E::Key,
+    stored: &Stored<'_, L>,
+    key: &[u8],
     tag: u8,
 ) -> Option<Search>
     requires len { length bytes.now ≡ 16 }
-    requires slots { IsSlotCount (E.entries keys.now).slots }
-    requires start { start < (E.entries keys.now).slots }
-    requires tag { IsTag (hashed_by H.hash (E.format keys.now)) (E.key_bytes key.now) tag }
-    requires format { IsFormat (hashed_by H.hash (E.format keys.now)) }
-    ensures slot { IfSome result (IsEndAmong (hashed_by H.hash (E.format keys.now))
-        (E.entries keys.now) bytes.now start 16 (E.key_bytes key.now)) }
-    ensures none { IsNone result → GoesOnAmong (hashed_by H.hash (E.format keys.now))
-        (E.entries keys.now) bytes.now start (E.key_bytes key.now) 16 }
-    ensures on_placed { let F = hashed_by H.hash (E.format keys.now) in let k = E.key_bytes key.now
-        in (P : Table) (p : ℕ) → IsGroupAt F P (E.entries keys.now) k p start bytes.now
+    requires slots { IsSlotCount stored.now.entries.slots }
+    requires start { start < stored.now.entries.slots }
+    requires tag { IsTag (hashed_by H.hash (stored_format stored.now)) key.now tag }
+    requires sought { IsSought H.hash stored.now key.now }
+    ensures slot { IfSome result (IsEndAmong (hashed_by H.hash (stored_format stored.now))
+        stored.now.entries bytes.now start 16 key.now) }
+    ensures none { IsNone result → GoesOnAmong (hashed_by H.hash (stored_format stored.now))
+        stored.now.entries bytes.now start key.now 16 }
+    ensures on_placed { let F = hashed_by H.hash (stored_format stored.now) in let k = key.now
+        in (P : Table) (p : ℕ) → IsGroupAt F P stored.now.entries k p start bytes.now
         → IsLook F P k p 16 result }
 {
     // One piece is told apart here, not by a loop of one turn: so the compiler knows early that a
     // match ends the search.
     if Q::SIZE == REFERENCE_GROUP_SIZE {
-        return look_at_piece::<E, H, Q>(bytes, start, keys, key, tag);
+        return look_at_piece::<L, H, Q>(bytes, start, stored, key, tag);
     }
     for piece in 0..REFERENCE_GROUP_SIZE / Q::SIZE {
         let at = piece * Q::SIZE;
-        let end = look_at_piece::<E, H, Q>(&bytes[at..at + Q::SIZE], start + at, keys, key, tag);
+        let end = look_at_piece::<L, H, Q>(&bytes[at..at + Q::SIZE], start + at, stored, key, tag);
         if end.is_some() {
             return end;
         }
@@ -187,31 +190,31 @@ fn look_at_group<E: SlotKeys, H: HashFn, Q: Group>(
 
 // Searches the slots from `start` on, modulo the slot count, whose control bytes are `bytes`.
 #[inline(always)]
-fn look_at_piece<E: SlotKeys, H: HashFn, Q: Group>(
+fn look_at_piece<L: Lengths, H: HashFn, Q: Group>(
     bytes: &[EntryMetadata],
     start: usize,
-    keys: &E,
-    key: &E::Key,
+    stored: &Stored<'_, L>,
+    key: &[u8],
     tag: u8,
 ) -> Option<Search>
     requires len { length bytes.now ≡ Q.SIZE }
-    requires slots { IsSlotCount (E.entries keys.now).slots }
-    requires start { start + Q.SIZE ≤ (E.entries keys.now).slots + 16 }
-    requires tag { IsTag (hashed_by H.hash (E.format keys.now)) (E.key_bytes key.now) tag }
-    requires format { IsFormat (hashed_by H.hash (E.format keys.now)) }
-    ensures slot { IfSome result (IsEndAmong (hashed_by H.hash (E.format keys.now))
-        (E.entries keys.now) bytes.now start Q.SIZE (E.key_bytes key.now)) }
-    ensures none { IsNone result → GoesOnAmong (hashed_by H.hash (E.format keys.now))
-        (E.entries keys.now) bytes.now start (E.key_bytes key.now) Q.SIZE }
-    ensures on_placed { let F = hashed_by H.hash (E.format keys.now) in let k = E.key_bytes key.now
-        in (P : Table) (p : ℕ) → IsGroupAt F P (E.entries keys.now) k p start bytes.now
+    requires slots { IsSlotCount stored.now.entries.slots }
+    requires start { start + Q.SIZE ≤ stored.now.entries.slots + 16 }
+    requires tag { IsTag (hashed_by H.hash (stored_format stored.now)) key.now tag }
+    requires sought { IsSought H.hash stored.now key.now }
+    ensures slot { IfSome result (IsEndAmong (hashed_by H.hash (stored_format stored.now))
+        stored.now.entries bytes.now start Q.SIZE key.now) }
+    ensures none { IsNone result → GoesOnAmong (hashed_by H.hash (stored_format stored.now))
+        stored.now.entries bytes.now start key.now Q.SIZE }
+    ensures on_placed { let F = hashed_by H.hash (stored_format stored.now) in let k = key.now
+        in (P : Table) (p : ℕ) → IsGroupAt F P stored.now.entries k p start bytes.now
         → IsLook F P k p Q.SIZE result }
 {
-    let mask = keys.slots() - 1;
+    let mask = stored.slots() - 1;
     let mut group = Q::of(bytes, tag);
     'matches: while let Some(index) = group.first_match() {
         let slot = (start + index) & mask;
-        if keys.is_at(slot, key) {
+        if stored.has_key(slot, key) {
             return Some(Search::Found(slot));
         }
         group.drop_match();

@@ -1,5 +1,4 @@
-//! The calls that look for an order of inserts, of typed parts and of those whose lengths are
-//! numbers.
+//! The calls that look for an order of inserts.
 ghost use Rattle.std.specs.Prelude.{◌≡◌, ◌*◌, ◌-◌, ◌^◌, length, min};
 ghost use Rattle.odht_base.specs.Format.{format_of};
 ghost use Rattle.odht_raw.specs.Sized.{sized_format};
@@ -7,9 +6,10 @@ ghost use Rattle.odht_raw.specs.Waiting.{IsWhole, IsOrderAnswer};
 
 use super::insert_order::find_order;
 use super::linear_order::{find_order_with, order_scratch};
-use super::{RawTable, SizedTable};
+use super::{Parts, RawTable};
 use crate::bytes::ByteArray;
 use crate::hash::HashFn;
+use crate::layout::Lengths;
 
 impl<'a, K: ByteArray, V: ByteArray, H: HashFn> RawTable<'a, K, V, H> {
     /// Whether some list of inserts, growths included, makes the table of these parts (`IsMade`);
@@ -31,9 +31,7 @@ impl<'a, K: ByteArray, V: ByteArray, H: HashFn> RawTable<'a, K, V, H> {
         ensures { let F = format_of K.LEN V.LEN H.hash
             in IsOrderAnswer F self.now (length out.old) out.new result }
     {
-        // Its invariant is used: the slots are a slot count, and have control bytes and a mirror.
-        let _ = &self.control;
-        find_order(self, out)
+        self.parts().insert_order(out)
     }
 
     /// How many numbers of scratch `insert_order_with` takes for this table: three for each slot.
@@ -41,7 +39,7 @@ impl<'a, K: ByteArray, V: ByteArray, H: HashFn> RawTable<'a, K, V, H> {
     pub fn insert_order_scratch(&self) -> usize
         ensures { result ≡ min (3 * self.now.entries.slots) (2 ^ 64 - 1) }
     {
-        order_scratch(self)
+        self.parts().insert_order_scratch()
     }
 
     /// `insert_order` for tables of strangers: it returns the same. `scratch` has as many numbers
@@ -61,13 +59,11 @@ impl<'a, K: ByteArray, V: ByteArray, H: HashFn> RawTable<'a, K, V, H> {
         ensures { let F = format_of K.LEN V.LEN H.hash
             in IsOrderAnswer F self.now (length out.old) out.new result }
     {
-        // Its invariant is used here too.
-        let _ = &self.control;
-        find_order_with(self, out, scratch)
+        self.parts().insert_order_with(out, scratch)
     }
 }
 
-impl<'a, H: HashFn> SizedTable<'a, H> {
+impl<'a, L: Lengths, H: HashFn> Parts<'a, L, H> {
     /// [`RawTable::insert_order`] of these parts.
     pub fn insert_order(&self, out: &mut [usize]) -> bool
         requires whole { IsWhole (sized_format self.now H.hash) self.now.parts (length out.old) }

@@ -14,7 +14,7 @@ ghost use Rattle.odht_raw.specs.Finds.{IsFind};
 
 use super::insert::insert_at;
 use super::probe_seq::probed_slot;
-use super::{Entries, EntryMetadata, Search, SlotKeys, is_empty_or_deleted, slot_count_of, tag_of};
+use super::{Entries, EntryMetadata, Search, is_empty_or_deleted, slot_count_of, tag_of};
 use crate::bytes::ByteArray;
 use crate::error::Error;
 use crate::hash::HashFn;

@@ -1,19 +1,20 @@
 //! What the whole check and an order of inserts ask of the parts of a table.
 ghost use Rattle.std.specs.Prelude.{◌≡◌, ◌↔◌, ◌+◌, ◌-◌, ◌%◌, ◌^◌, ◌<◌, ◌≤◌, length, IsTrue};
 ghost use Rattle.odht_base.specs.Decoded.{slot_entry, slot_key};
-ghost use Rattle.odht_base.specs.Format.{Format, entry_len, format_of};
+ghost use Rattle.odht_base.specs.Format.{Format, entry_len};
 ghost use Rattle.odht_base.specs.Load.{IsSlotCount};
 ghost use Rattle.odht_raw.specs.Checks.{IsHashAt};
 ghost use Rattle.odht_raw.specs.Homes.{HasHomes};
 ghost use Rattle.odht_raw.specs.Parts.{TableParts, IsZeros};
 ghost use Rattle.odht_raw.specs.Sized.{sized_format};
 
-use super::{EntryMetadata, RawTable, SizedTable};
-use crate::bytes::{ByteArray, is_zeros};
+use super::{EntryMetadata, Parts};
+use crate::bytes::is_zeros;
 use crate::hash::HashFn;
+use crate::layout::Lengths;
 
-/// The parts of a table, read slot by slot: those whose lengths are types, and those whose lengths
-/// are numbers. The whole check, and an order of inserts, are written over it once.
+/// The parts of a table, read slot by slot. The whole check, and an order of inserts, are written
+/// over it.
 ///
 /// In a contract it is the format of its lengths and its hash function, and these parts.
 pub(crate) trait TableSlots {
@@ -55,38 +56,7 @@ pub(crate) trait TableSlots {
             in IsTrue result ↔ (key slot ≡ key other) };
 }
 
-impl<'a, K: ByteArray, V: ByteArray, H: HashFn> TableSlots for RawTable<'a, K, V, H> {
-    ghost format = { λ t. format_of K.LEN V.LEN H.hash };
-
-    ghost parts = { λ t. t };
-
-    #[inline(always)]
-    fn slots(&self) -> usize {
-        self.entries.len()
-    }
-
-    #[inline(always)]
-    fn control_bytes(&self) -> &[EntryMetadata] {
-        self.control
-    }
-
-    #[inline(always)]
-    fn hash_of(&self, slot: usize) -> u32 {
-        H::hash(self.entries.key_bytes_of(slot))
-    }
-
-    #[inline(always)]
-    fn has_zeros(&self, slot: usize) -> bool {
-        is_zeros(self.entries.bytes_of(slot))
-    }
-
-    #[inline(always)]
-    fn have_same_key(&self, slot: usize, other: usize) -> bool {
-        self.entries.have_same_key(slot, other)
-    }
-}
-
-impl<'a, H: HashFn> TableSlots for SizedTable<'a, H> {
+impl<'a, L: Lengths, H: HashFn> TableSlots for Parts<'a, L, H> {
     ghost format = { λ t. sized_format t H.hash };
 
     ghost parts = { λ t. t.parts };
@@ -117,8 +87,8 @@ impl<'a, H: HashFn> TableSlots for SizedTable<'a, H> {
     }
 }
 
-// The hash of a key whose length is a number. One of eight bytes, as most are, is told apart: the
-// compiler reads it with no loop. To tell more lengths apart takes longer than it saves.
+// The hash of a key. One of eight bytes, as most are, is told apart: the compiler reads it with no
+// loop, also where lengths are numbers. To tell more lengths apart takes longer than it saves.
 #[inline(always)]
 fn hash_by_len<H: HashFn>(key: &[u8]) -> u32
     requires { H.MIN_LEN ≤ length key.now }
@@ -137,5 +107,8 @@ pub(super) fn home_of<S: TableSlots>(table: &S, slot: usize) -> usize
     ensures { let T = S.parts table.now in let F = S.format table.now
         in result ≡ F.hash (slot_key F T.entries.bytes slot) % T.entries.slots }
 {
-    table.hash_of(slot) as usize & (table.slots() - 1)
+    // The slot may come from a list of the caller's. It is masked, so that it is a slot of the table
+    // even where another process changed the control bytes since the list was begun.
+    let mask = table.slots() - 1;
+    table.hash_of(slot & mask) as usize & mask
 }

@@ -1,10 +1,76 @@
 // Made by `make rust` of crates/odht_header/src/layout.rt.
-//! The lengths of encoded keys and values as a value, for tables whose lengths are known at run
-//! time alone.
+//! The lengths of encoded keys and values: as types, known at compile time, or as numbers, known
+//! only at run time.
 
-use crate::proved::header::bytes::ByteArray;
+use crate::proved::header::bytes::{is_same_bytes, is_same_word, ByteArray};
 use crate::proved::header::config::Config;
 use crate::proved::header::header::Header;
+use std::marker::PhantomData;
+
+// How many bytes a key has at most that is loaded to be compared.
+const SHORT: usize = 64;
+
+/// How many bytes an encoded key and an encoded value have. Code that reads or writes the entries
+/// of a table is written over it once, for lengths that are types and for lengths that are numbers.
+///
+/// A length may be any number here. What needs short keys and values requires them.
+pub trait Lengths: Copy {
+    /// The length of an encoded key, in bytes.
+    fn key_len(self) -> usize;
+
+    /// The length of an encoded value, in bytes.
+    fn value_len(self) -> usize;
+
+    // No default: `Fixed` would not meet its bounds, since a `ByteArray` is `'static`.
+    /// The length of an entry, in bytes.
+    fn entry_len(self) -> usize;
+
+    /// Whether two keys of this length are equal. The lengths say how keys are compared: each kind
+    /// has the comparison that takes the fewest instructions for it.
+    fn is_same_key(self, left: &[u8], right: &[u8]) -> bool;
+}
+
+/// The lengths of two types of byte arrays. It takes no memory.
+#[derive(Clone, Copy)]
+pub struct Fixed<K, V> {
+    key: PhantomData<K>,
+    value: PhantomData<V>,
+}
+
+impl<K: ByteArray, V: ByteArray> Fixed<K, V> {
+    /// The lengths.
+    #[inline(always)]
+    pub fn new() -> Self {
+        Fixed { key: PhantomData, value: PhantomData }
+    }
+}
+
+impl<K: ByteArray, V: ByteArray> Lengths for Fixed<K, V> {
+    #[inline(always)]
+    fn key_len(self) -> usize {
+        K::LEN
+    }
+
+    #[inline(always)]
+    fn value_len(self) -> usize {
+        V::LEN
+    }
+
+    #[inline(always)]
+    fn entry_len(self) -> usize {
+        K::LEN + V::LEN
+    }
+
+    // Short keys are loaded whole, and compared as their length allows; longer ones are compared
+    // where they are.
+    #[inline(always)]
+    fn is_same_key(self, left: &[u8], right: &[u8]) -> bool {
+        if K::LEN > SHORT {
+            return is_same_bytes(left, right);
+        }
+        K::from_slice(left).equals(&K::from_slice(right))
+    }
+}
 
 /// How many bytes an encoded key and an encoded value have.
 #[derive(Clone, Copy, PartialEq, Eq, Debug)]
@@ -27,6 +93,46 @@ impl Layout {
     pub fn entry_len(self) -> usize {
         self.key_len as usize + self.value_len as usize
     }
+}
+
+impl Lengths for Layout {
+    #[inline(always)]
+    fn key_len(self) -> usize {
+        self.key_len as usize
+    }
+
+    #[inline(always)]
+    fn value_len(self) -> usize {
+        self.value_len as usize
+    }
+
+    #[inline(always)]
+    fn entry_len(self) -> usize {
+        self.key_len as usize + self.value_len as usize
+    }
+
+    #[inline(always)]
+    fn is_same_key(self, left: &[u8], right: &[u8]) -> bool {
+        is_same_words(left, right)
+    }
+}
+
+// Whether two lists of the same length are equal. From 8 to 64 bytes are compared where they are,
+// by words with no call; the last word may overlap the one before it.
+#[inline(always)]
+fn is_same_words(left: &[u8], right: &[u8]) -> bool {
+    let len = right.len();
+    if len < 8 || len > 64 {
+        return left == right;
+    }
+    let mut at = 0;
+    while at + 8 < len {
+        if !is_same_word(left, right, at) {
+            return false;
+        }
+        at += 8;
+    }
+    is_same_word(left, right, len - 8)
 }
 
 impl<'a> Header<'a> {

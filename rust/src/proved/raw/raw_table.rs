@@ -5,13 +5,12 @@
 //! "On the parts of a placed table" is `IsPartsOf` in a clause: control bytes, mirror and entries
 //! are those of such a table.
 
-use self::slot_checks::check_hashes;
 use crate::proved::raw::bytes::ByteArray;
 use crate::proved::raw::error::Error;
 use crate::proved::raw::hash::HashFn;
+use crate::proved::raw::layout::Fixed;
 pub(crate) use crate::proved::raw::swisstable_group_query::is_empty_or_deleted;
 use crate::proved::raw::swisstable_group_query::{Group, GroupQuery, REFERENCE_GROUP_SIZE};
-use std::marker::PhantomData;
 
 mod ahead;
 mod bound;
@@ -26,6 +25,8 @@ mod insert;
 mod insert_order;
 mod linear_order;
 mod orders;
+mod parts;
+mod parts_walk;
 mod plain;
 mod probe_seq;
 mod read_search;
@@ -33,12 +34,10 @@ mod runs;
 mod scan;
 mod search_result;
 mod short_bytes;
-mod sized;
 mod sized_insert;
 mod sized_mut;
-mod sized_walk;
 mod slot_checks;
-mod slot_keys;
+mod stored;
 mod table_mut;
 mod table_slots;
 mod waiting;
@@ -51,6 +50,8 @@ pub use first_look::FirstLook;
 pub use group_probe::GroupProbe;
 pub use group_search::{search, search_hashed};
 pub(crate) use insert::{fill_slot, insert_at, step_end};
+pub use parts::{Parts, SizedTable};
+pub use parts_walk::{PartPairs, PartSlots, SizedIter, SizedSlots};
 pub use plain::{plain_find, plain_insert};
 pub use probe_seq::{probe_order, ProbeSeq};
 pub use read_search::{search_read, ReadPlace};
@@ -58,11 +59,9 @@ pub(crate) use runs::insert_run;
 pub use scan::Scan;
 pub use search_result::Search;
 pub use short_bytes::ShortBytes;
-pub use sized::SizedTable;
 pub(crate) use sized_insert::{sized_insert_at, sized_step_end};
 pub use sized_mut::SizedTableMut;
-pub use sized_walk::{SizedIter, SizedSlots};
-pub(crate) use slot_keys::SlotKeys;
+pub use stored::Stored;
 pub use table_mut::RawTableMut;
 pub(crate) use table_slots::TableSlots;
 pub use walk::{RawIter, RawSlots};
@@ -91,16 +90,26 @@ fn slot_count_of(control: &[EntryMetadata]) -> usize {
 /// The parts of a table, borrowed to be read: the control bytes with their mirror, and the entries
 /// of as many slots.
 pub struct RawTable<'a, K: ByteArray, V: ByteArray, H: HashFn> {
-    control: &'a [EntryMetadata],
-    entries: Entries<'a, K, V>,
-    hash: PhantomData<H>,
+    parts: Parts<'a, Fixed<K, V>, H>,
 }
 
 impl<'a, K: ByteArray, V: ByteArray, H: HashFn> RawTable<'a, K, V, H> {
     /// The table of these parts. No control byte and no entry is checked.
     #[inline]
     pub fn new(control: &'a [EntryMetadata], entries: Entries<'a, K, V>) -> Self {
-        RawTable { control, entries, hash: PhantomData }
+        RawTable { parts: Parts::of(control, entries.stored()) }
+    }
+
+    // The same parts, with keys and values as bytes.
+    #[inline(always)]
+    pub(crate) fn parts(&self) -> Parts<'a, Fixed<K, V>, H> {
+        self.parts.copy()
+    }
+
+    // The entries.
+    #[inline(always)]
+    fn entries(&self) -> Entries<'a, K, V> {
+        Entries::of(self.parts().stored())
     }
 
     /// The value stored with the key, searched for group by group along the probe order
@@ -126,18 +135,9 @@ impl<'a, K: ByteArray, V: ByteArray, H: HashFn> RawTable<'a, K, V, H> {
     /// searches give the same.
     #[inline(always)]
     pub fn find_counted_by<Q: Group>(&self, key: &K) -> (Option<V>, usize) {
-        let mut scan = Scan::new(self.control, self.entries.len());
-        let end = search::<K, V, H, Q>(&mut scan, &self.entries, key);
-        (self.value_at(end), scan.groups())
-    }
-
-    // The value of the slot where a search ended, if that slot holds the key.
-    #[inline(always)]
-    fn value_at(&self, end: Search) -> Option<V> {
-        match end {
-            Search::Found(slot) => Some(self.entries.get(slot).value),
-            Search::Free(_) => None,
-            Search::Neither => None,
+        match self.parts().find_of::<Q>(key.as_slice()) {
+            (Some(value), groups) => (Some(V::from_slice(value)), groups),
+            (None, groups) => (None, groups),
         }
     }
 
@@ -145,7 +145,7 @@ impl<'a, K: ByteArray, V: ByteArray, H: HashFn> RawTable<'a, K, V, H> {
     /// in slot order.
     #[inline]
     pub fn iter(&self) -> RawIter<'a, K, V> {
-        RawIter::new(self.control, self.entries.copy())
+        RawIter::new(self.parts().controls(), self.entries())
     }
 
     /// Checks the first `slots_to_check` slots, or all where there are fewer, and returns the
@@ -154,6 +154,6 @@ impl<'a, K: ByteArray, V: ByteArray, H: HashFn> RawTable<'a, K, V, H> {
     /// A mismatch can mean that the bytes were written with another hash function.
     #[inline(always)]
     pub fn sanity_check_hashes(&self, slots_to_check: usize) -> Result<(), Error> {
-        check_hashes(self, slots_to_check)
+        self.parts().sanity_check_hashes(slots_to_check)
     }
 }

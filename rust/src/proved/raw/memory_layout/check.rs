@@ -54,7 +54,7 @@ impl<C: Config, M: ByteStore> Allocation<C, M> {
     /// earlier positions that have its tag.
     pub fn check_rest(&self) -> Result<(), Error> {
         hold_bytes(self.raw_bytes());
-        check_late(&self.header(), &self.as_raw(), None)
+        check_late(&self.header(), &self.as_raw().parts(), None)
     }
 
     /// `check_rest` with a bound of searches, as in [`check_all_within`]. Ok exactly for valid
@@ -62,7 +62,7 @@ impl<C: Config, M: ByteStore> Allocation<C, M> {
     /// byte that counts as free.
     pub fn check_rest_within(&self, groups: usize) -> Result<(), Error> {
         hold_bytes(self.raw_bytes());
-        check_late(&self.header(), &self.as_raw(), Some(groups))
+        check_late(&self.header(), &self.as_raw().parts(), Some(groups))
     }
 }
 

@@ -1,25 +1,26 @@
 // Made by `make rust` of crates/odht_raw/src/raw_table/bound.rt.
 //! How many groups a search may read, told from control bytes alone.
 
-use super::{slot_count_of, EntryMetadata, GroupProbe, RawTable, SizedTable};
+use super::{slot_count_of, EntryMetadata, GroupProbe, Parts, RawTable};
 use crate::proved::raw::bytes::ByteArray;
 use crate::proved::raw::error::Error;
 use crate::proved::raw::hash::HashFn;
+use crate::proved::raw::layout::Lengths;
 use crate::proved::raw::swisstable_group_query::late_free;
+
+impl<'a, L: Lengths, H: HashFn> Parts<'a, L, H> {
+    /// [`RawTable::searches_within`] of these parts.
+    pub fn searches_within(&self, groups: usize) -> bool {
+        first_longer(self.controls(), groups).is_none()
+    }
+}
 
 impl<'a, K: ByteArray, V: ByteArray, H: HashFn> RawTable<'a, K, V, H> {
     /// Whether each home has, among the first `groups` groups of its probe order, a control byte
     /// that counts as free. Then no search in a placed table, of a present or an absent key, reads
     /// more. It reads control bytes alone.
     pub fn searches_within(&self, groups: usize) -> bool {
-        first_longer(self.control, groups).is_none()
-    }
-}
-
-impl<'a, H: HashFn> SizedTable<'a, H> {
-    /// [`RawTable::searches_within`] of these parts.
-    pub fn searches_within(&self, groups: usize) -> bool {
-        first_longer(self.controls(), groups).is_none()
+        self.parts().searches_within(groups)
     }
 }
 

@@ -9,18 +9,18 @@ use std::fmt;
 impl<'a, K: ByteArray, V: ByteArray, H: HashFn> RawTable<'a, K, V, H> {
     // Writes the line before those of the slots.
     fn write_head(&self, f: &mut fmt::Formatter<'_>) -> fmt::Result {
-        let slot_count = self.entries.len();
+        let slot_count = self.entries().len();
         let hash_name = H::hash_name();
         writeln!(f, "RawTable (slot_count={slot_count}, hash_fn={hash_name}) {{")
     }
 
     // Writes the line of a slot.
     fn write_slot_line(&self, slot: usize, f: &mut fmt::Formatter<'_>) -> fmt::Result {
-        let control_byte = self.control[slot];
+        let control_byte = self.parts().control(slot);
         if is_empty_or_deleted(control_byte) {
             return writeln!(f, "slot {slot}: empty");
         }
-        let Entry { key, value } = self.entries.get(slot);
+        let Entry { key, value } = self.entries().get(slot);
         writeln!(f, "slot {slot}: key={key:?}, value={value:?}, control_byte={control_byte}")
     }
 }
@@ -30,7 +30,7 @@ impl<'a, K: ByteArray, V: ByteArray, H: HashFn> fmt::Debug for RawTable<'a, K, V
     // slot order.
     fn fmt(&self, f: &mut fmt::Formatter<'_>) -> fmt::Result {
         self.write_head(f)?;
-        for slot in 0..self.entries.len() {
+        for slot in 0..self.entries().len() {
             self.write_slot_line(slot, f)?;
         }
         writeln!(f, "}}")

@@ -3,9 +3,10 @@
 //! the first search ends: then their memory accesses overlap.
 
 use super::group_search::late_search;
-use super::{tag_of, RawTable, SlotKeys};
+use super::{tag_of, Parts, RawTable};
 use crate::proved::raw::bytes::ByteArray;
 use crate::proved::raw::hash::HashFn;
+use crate::proved::raw::layout::Lengths;
 use crate::proved::raw::swisstable_group_query::{lanes, Group, REFERENCE_GROUP_SIZE};
 
 /// The hash of a key, and what the group of control bytes at its home slot has: the matches of the
@@ -16,19 +17,47 @@ pub struct FirstLook {
     group: lanes::GroupQuery,
 }
 
+impl<'a, L: Lengths, H: HashFn> Parts<'a, L, H> {
+    /// [`RawTable::first_look`] of a key that is given as bytes.
+    #[inline(always)]
+    pub fn first_look(&self, key: &[u8]) -> FirstLook {
+        let mask = self.len() - 1;
+        let hash = H::hash(key);
+        let home = hash as usize & mask;
+        let control = self.controls();
+        let bytes = &index!(control[home..home + REFERENCE_GROUP_SIZE], "IsSized H.MIN_LEN");
+        FirstLook { hash, group: lanes::GroupQuery::of(bytes, tag_of(hash)) }
+    }
+
+    /// [`RawTable::find_from`] of a key that is given as bytes.
+    // The first group is not looked at by the function for later ones: keys in a near cache took
+    // up to a tenth longer.
+    #[inline(always)]
+    pub fn find_from(&self, look: FirstLook, key: &[u8]) -> Option<&'a [u8]> {
+        let mask = self.len() - 1;
+        let home = look.hash as usize & mask;
+        let FirstLook { hash, mut group } = look;
+        while let Some(index) = group.first_match() {
+            let slot = (home + index) & mask;
+            if self.has_key(slot, key) {
+                return Some(self.value(slot));
+            }
+            group.drop_match();
+        }
+        if group.any_empty() {
+            return None;
+        }
+        let stored = self.stored();
+        self.value_at(late_search::<L, H>(self.controls(), &stored, key, hash))
+    }
+}
+
 impl<'a, K: ByteArray, V: ByteArray, H: HashFn> RawTable<'a, K, V, H> {
     /// The first look of the search for a key, from which [`RawTable::find_from`] goes on. It
     /// hashes the key and reads one group of control bytes, and no entry.
     #[inline(always)]
     pub fn first_look(&self, key: &K) -> FirstLook {
-        let mask = self.entries.len() - 1;
-        let hash = H::hash(key.as_slice());
-        let home = hash as usize & mask;
-        let bytes = &index!(
-            self.control[home..home + REFERENCE_GROUP_SIZE],
-            "IsTableParts H.MIN_LEN K.LEN V.LEN"
-        );
-        FirstLook { hash, group: lanes::GroupQuery::of(bytes, tag_of(hash)) }
+        self.parts().first_look(key.as_slice())
     }
 
     /// The value of the key, from its first look in this very table: on the parts of a placed
@@ -36,23 +65,11 @@ impl<'a, K: ByteArray, V: ByteArray, H: HashFn> RawTable<'a, K, V, H> {
     ///
     /// The matches of the look are compared in turn. Where none holds the key and the group has no
     /// free byte, the search goes on with the second group.
-    // The first group is not looked at by the function for later ones: keys in a near cache took
-    // up to a tenth longer.
     #[inline(always)]
     pub fn find_from(&self, look: FirstLook, key: &K) -> Option<V> {
-        let mask = self.entries.len() - 1;
-        let home = look.hash as usize & mask;
-        let FirstLook { hash, mut group } = look;
-        while let Some(index) = group.first_match() {
-            let slot = (home + index) & mask;
-            if self.entries.is_at(slot, key) {
-                return Some(self.entries.get(slot).value);
-            }
-            group.drop_match();
+        match self.parts().find_from(look, key.as_slice()) {
+            Some(value) => Some(V::from_slice(value)),
+            None => None,
         }
-        if group.any_empty() {
-            return None;
-        }
-        self.value_at(late_search::<K, V, H>(self.control, &self.entries, key, hash))
     }
 }

@@ -1,9 +1,10 @@
 // Made by `make rust` of crates/odht_raw/src/raw_table/group_search.rt.
 //! The search by groups of control bytes along the probe order.
 
-use super::{tag_of, Entries, EntryMetadata, ProbeSeq, Scan, Search, SlotKeys};
+use super::{tag_of, Entries, EntryMetadata, ProbeSeq, Scan, Search, Stored};
 use crate::proved::raw::bytes::ByteArray;
 use crate::proved::raw::hash::HashFn;
+use crate::proved::raw::layout::{Fixed, Lengths};
 use crate::proved::raw::swisstable_group_query::{Group, GroupQuery, REFERENCE_GROUP_SIZE};
 
 /// Searches for the key group by group along its probe order. All of this holds for every group
@@ -40,37 +41,37 @@ pub fn search_hashed<K: ByteArray, V: ByteArray, H: HashFn, Q: Group>(
     key: &K,
     hash: u32,
 ) -> Search {
-    search_keys::<Entries<'_, K, V>, H, Q>(scan, entries, key, hash)
+    search_stored::<Fixed<K, V>, H, Q>(scan, &entries.stored(), key.as_slice(), hash)
 }
 
-/// The search for a key with this hash among the keys of whatever holds them. It reads control
-/// bytes only through the scan, which counts each group.
+/// The search for a key with this hash among the keys of the entries. It reads control bytes only
+/// through the scan, which counts each group.
 #[inline(always)]
-pub(super) fn search_keys<E: SlotKeys, H: HashFn, Q: Group>(
+pub(super) fn search_stored<L: Lengths, H: HashFn, Q: Group>(
     scan: &mut Scan<'_>,
-    keys: &E,
-    key: &E::Key,
+    stored: &Stored<'_, L>,
+    key: &[u8],
     hash: u32,
 ) -> Search {
     let probe = ProbeSeq::new(hash as usize, scan.slots() - 1);
-    search_from::<E, H, Q>(scan, probe, keys, key, tag_of(hash))
+    search_from::<L, H, Q>(scan, probe, stored, key, tag_of(hash))
 }
 
 // The rest of a search that is under way, from the position of the probe on.
 #[inline(always)]
-fn search_from<E: SlotKeys, H: HashFn, Q: Group>(
+fn search_from<L: Lengths, H: HashFn, Q: Group>(
     scan: &mut Scan<'_>,
     probe: ProbeSeq<REFERENCE_GROUP_SIZE>,
-    keys: &E,
-    key: &E::Key,
+    stored: &Stored<'_, L>,
+    key: &[u8],
     tag: u8,
 ) -> Search {
     let mut probe = probe;
-    let mask = keys.slots() - 1;
+    let mask = stored.slots() - 1;
     loop {
         let start = probe.index();
         let bytes = scan.group(start);
-        if let Some(end) = look_at_group::<E, H, Q>(bytes, start, keys, key, tag) {
+        if let Some(end) = look_at_group::<L, H, Q>(bytes, start, stored, key, tag) {
             return end;
         }
         if probe.is_last() {
@@ -83,41 +84,41 @@ fn search_from<E: SlotKeys, H: HashFn, Q: Group>(
 /// The rest of a search whose first group neither holds the key nor has a free byte. It is not
 /// inlined: where a first look ends the search, this is not called.
 #[inline(never)]
-pub(super) fn late_search<K: ByteArray, V: ByteArray, H: HashFn>(
+pub(super) fn late_search<L: Lengths, H: HashFn>(
     control: &[EntryMetadata],
-    entries: &Entries<'_, K, V>,
-    key: &K,
+    stored: &Stored<'_, L>,
+    key: &[u8],
     hash: u32,
 ) -> Search {
-    let mask = entries.len() - 1;
+    let mask = stored.slots() - 1;
     let mut probe = ProbeSeq::new(hash as usize, mask);
     if probe.is_last() {
         return Search::Neither;
     }
     probe.advance(mask);
-    let mut scan = Scan::new(control, entries.len());
+    let mut scan = Scan::new(control, stored.slots());
     let tag = tag_of(hash);
-    search_from::<Entries<'_, K, V>, H, GroupQuery>(&mut scan, probe, entries, key, tag)
+    search_from::<L, H, GroupQuery>(&mut scan, probe, stored, key, tag)
 }
 
 // Searches the sixteen slots from `start` on, whose control bytes are `bytes`, in pieces of the
 // group search's size.
 #[inline(always)]
-fn look_at_group<E: SlotKeys, H: HashFn, Q: Group>(
+fn look_at_group<L: Lengths, H: HashFn, Q: Group>(
     bytes: &[EntryMetadata],
     start: usize,
-    keys: &E,
-    key: &E::Key,
+    stored: &Stored<'_, L>,
+    key: &[u8],
     tag: u8,
 ) -> Option<Search> {
     // One piece is told apart here, not by a loop of one turn: so the compiler knows early that a
     // match ends the search.
     if Q::SIZE == REFERENCE_GROUP_SIZE {
-        return look_at_piece::<E, H, Q>(bytes, start, keys, key, tag);
+        return look_at_piece::<L, H, Q>(bytes, start, stored, key, tag);
     }
     for piece in 0..REFERENCE_GROUP_SIZE / Q::SIZE {
         let at = piece * Q::SIZE;
-        let end = look_at_piece::<E, H, Q>(&bytes[at..at + Q::SIZE], start + at, keys, key, tag);
+        let end = look_at_piece::<L, H, Q>(&bytes[at..at + Q::SIZE], start + at, stored, key, tag);
         if end.is_some() {
             return end;
         }
@@ -127,18 +128,18 @@ fn look_at_group<E: SlotKeys, H: HashFn, Q: Group>(
 
 // Searches the slots from `start` on, modulo the slot count, whose control bytes are `bytes`.
 #[inline(always)]
-fn look_at_piece<E: SlotKeys, H: HashFn, Q: Group>(
+fn look_at_piece<L: Lengths, H: HashFn, Q: Group>(
     bytes: &[EntryMetadata],
     start: usize,
-    keys: &E,
-    key: &E::Key,
+    stored: &Stored<'_, L>,
+    key: &[u8],
     tag: u8,
 ) -> Option<Search> {
-    let mask = keys.slots() - 1;
+    let mask = stored.slots() - 1;
     let mut group = Q::of(bytes, tag);
     while let Some(index) = group.first_match() {
         let slot = (start + index) & mask;
-        if keys.is_at(slot, key) {
+        if stored.has_key(slot, key) {
             return Some(Search::Found(slot));
         }
         group.drop_match();

@@ -1,12 +1,12 @@
 // Made by `make rust` of crates/odht_raw/src/raw_table/orders.rt.
-//! The calls that look for an order of inserts, of typed parts and of those whose lengths are
-//! numbers.
+//! The calls that look for an order of inserts.
 
 use super::insert_order::find_order;
 use super::linear_order::{find_order_with, order_scratch};
-use super::{RawTable, SizedTable};
+use super::{Parts, RawTable};
 use crate::proved::raw::bytes::ByteArray;
 use crate::proved::raw::hash::HashFn;
+use crate::proved::raw::layout::Lengths;
 
 impl<'a, K: ByteArray, V: ByteArray, H: HashFn> RawTable<'a, K, V, H> {
     /// Whether some list of inserts, growths included, makes the table of these parts (`IsMade`);
@@ -24,15 +24,13 @@ impl<'a, K: ByteArray, V: ByteArray, H: HashFn> RawTable<'a, K, V, H> {
     /// kept, for 64 homes. After each pass the slots that still wait are sorted. It allocates
     /// nothing.
     pub fn insert_order(&self, out: &mut [usize]) -> bool {
-        // Its invariant is used: the slots are a slot count, and have control bytes and a mirror.
-        let _ = &self.control;
-        find_order(self, out)
+        self.parts().insert_order(out)
     }
 
     /// How many numbers of scratch `insert_order_with` takes for this table: three for each slot.
     #[inline]
     pub fn insert_order_scratch(&self) -> usize {
-        order_scratch(self)
+        self.parts().insert_order_scratch()
     }
 
     /// `insert_order` for tables of strangers: it returns the same. `scratch` has as many numbers
@@ -48,13 +46,11 @@ impl<'a, K: ByteArray, V: ByteArray, H: HashFn> RawTable<'a, K, V, H> {
     /// reads: with a bound of `g` groups to `g` times the slots. That `insert_order` is not called
     /// after all, which no clause says, is tested. It allocates nothing.
     pub fn insert_order_with(&self, out: &mut [usize], scratch: &mut [usize]) -> bool {
-        // Its invariant is used here too.
-        let _ = &self.control;
-        find_order_with(self, out, scratch)
+        self.parts().insert_order_with(out, scratch)
     }
 }
 
-impl<'a, H: HashFn> SizedTable<'a, H> {
+impl<'a, L: Lengths, H: HashFn> Parts<'a, L, H> {
     /// [`RawTable::insert_order`] of these parts.
     pub fn insert_order(&self, out: &mut [usize]) -> bool {
         // A clause of it is used: the parts are as long as these lengths say.

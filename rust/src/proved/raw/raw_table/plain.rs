@@ -5,7 +5,7 @@
 
 use super::insert::insert_at;
 use super::probe_seq::probed_slot;
-use super::{is_empty_or_deleted, slot_count_of, tag_of, Entries, EntryMetadata, Search, SlotKeys};
+use super::{is_empty_or_deleted, slot_count_of, tag_of, Entries, EntryMetadata, Search};
 use crate::proved::raw::bytes::ByteArray;
 use crate::proved::raw::error::Error;
 use crate::proved::raw::hash::HashFn;

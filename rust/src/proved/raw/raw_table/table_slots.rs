@@ -1,12 +1,13 @@
 // Made by `make rust` of crates/odht_raw/src/raw_table/table_slots.rt.
 //! What the whole check and an order of inserts ask of the parts of a table.
 
-use super::{EntryMetadata, RawTable, SizedTable};
-use crate::proved::raw::bytes::{is_zeros, ByteArray};
+use super::{EntryMetadata, Parts};
+use crate::proved::raw::bytes::is_zeros;
 use crate::proved::raw::hash::HashFn;
+use crate::proved::raw::layout::Lengths;
 
-/// The parts of a table, read slot by slot: those whose lengths are types, and those whose lengths
-/// are numbers. The whole check, and an order of inserts, are written over it once.
+/// The parts of a table, read slot by slot. The whole check, and an order of inserts, are written
+/// over it.
 ///
 /// In a contract it is the format of its lengths and its hash function, and these parts.
 pub(crate) trait TableSlots {
@@ -27,34 +28,7 @@ pub(crate) trait TableSlots {
     fn have_same_key(&self, slot: usize, other: usize) -> bool;
 }
 
-impl<'a, K: ByteArray, V: ByteArray, H: HashFn> TableSlots for RawTable<'a, K, V, H> {
-    #[inline(always)]
-    fn slots(&self) -> usize {
-        self.entries.len()
-    }
-
-    #[inline(always)]
-    fn control_bytes(&self) -> &[EntryMetadata] {
-        self.control
-    }
-
-    #[inline(always)]
-    fn hash_of(&self, slot: usize) -> u32 {
-        H::hash(self.entries.key_bytes_of(slot))
-    }
-
-    #[inline(always)]
-    fn has_zeros(&self, slot: usize) -> bool {
-        is_zeros(self.entries.bytes_of(slot))
-    }
-
-    #[inline(always)]
-    fn have_same_key(&self, slot: usize, other: usize) -> bool {
-        self.entries.have_same_key(slot, other)
-    }
-}
-
-impl<'a, H: HashFn> TableSlots for SizedTable<'a, H> {
+impl<'a, L: Lengths, H: HashFn> TableSlots for Parts<'a, L, H> {
     #[inline(always)]
     fn slots(&self) -> usize {
         self.len()
@@ -81,8 +55,8 @@ impl<'a, H: HashFn> TableSlots for SizedTable<'a, H> {
     }
 }
 
-// The hash of a key whose length is a number. One of eight bytes, as most are, is told apart: the
-// compiler reads it with no loop. To tell more lengths apart takes longer than it saves.
+// The hash of a key. One of eight bytes, as most are, is told apart: the compiler reads it with no
+// loop, also where lengths are numbers. To tell more lengths apart takes longer than it saves.
 #[inline(always)]
 fn hash_by_len<H: HashFn>(key: &[u8]) -> u32 {
     if key.len() == 8 {
@@ -94,5 +68,8 @@ fn hash_by_len<H: HashFn>(key: &[u8]) -> u32 {
 /// The home of the key in a slot.
 #[inline(always)]
 pub(super) fn home_of<S: TableSlots>(table: &S, slot: usize) -> usize {
-    table.hash_of(slot) as usize & (table.slots() - 1)
+    // The slot may come from a list of the caller's. It is masked, so that it is a slot of the table
+    // even where another process changed the control bytes since the list was begun.
+    let mask = table.slots() - 1;
+    table.hash_of(slot & mask) as usize & mask
 }

@@ -13,6 +13,7 @@ use Rattle.odht_raw.specs.SearchSteps.{Passed, IsGroupAt}
 use Rattle.odht_raw.specs.Searches.{IsPassed}
 use Rattle.odht_raw.proofs.lemmas.GroupSearches.{IsGroupAt-group, reads-to, reads-all, goes_on-more, group-end, group-after}
 use Rattle.odht_raw.proofs.lemmas.PassedSearches.{none-ends}
+use Rattle.odht_raw.specs.Stored.{stored_format}
 use Rattle.odht_raw.proofs.raw_table.group_search.search_from.Given.{Over}
 use Rattle.odht_raw.proofs.raw_table.group_search.search_from.Goals as goal
 use Rattle.odht_raw.proofs.raw_table.group_search.search_from.Goals.{After-look_at_group}
@@ -24,13 +25,13 @@ one_more read before first from position slots counted few begun within = omega 
 -- what is known of the group that is read
 module _ (g : Over) (c : After-look_at_group g) where
   abbrev F : Format
-  F = hashed_by g.H.HashFn.hash (g.E.SlotKeys.format c.args.keys.now)
+  F = hashed_by g.H.HashFn.hash (stored_format c.args.stored.now)
 
   abbrev E : EntryBytes
-  E = g.E.SlotKeys.entries c.args.keys.now
+  E = c.args.stored.now.entries
 
   abbrev k : List ℕ
-  k = g.E.SlotKeys.key_bytes c.args.key.now
+  k = c.args.key.now
 
   abbrev ctrl : List ℕ
   ctrl = c.args.scan.now.control
@@ -53,7 +54,7 @@ module _ (g : Over) (c : After-look_at_group g) where
   placed_group : (P : Table) → IsPartsOf F P E.bytes ctrl → IsGroupAt F P E k c.groups.probe.position c.index-start.result c.group-bytes.result.now
   placed_group P h =
       subst (IsGroupAt F P E k c.groups.probe.position c.index-start.result) (sym read)
-      (IsGroupAt-group F P E ctrl k c.requires.format h c.requires.mirrored c.groups.probe.position c.index-start.result c.groups.invariant.at.aligned within begins
+      (IsGroupAt-group F P E ctrl k c.requires.sought.format h c.requires.mirrored c.groups.probe.position c.index-start.result c.groups.invariant.at.aligned within begins
       (c.groups.invariant.at.passed.on_placed P (subst (IsPartsOf F P E.bytes) (sym c.groups.invariant.control) h)))
 
   before : IsPassed F E ctrl k c.groups.probe.position
@@ -86,7 +87,7 @@ returns-in-Some g c =
         slot = group-end F E ctrl k c.index-start.result p mirrored (count g at).least aligned (within g at) (begins g at) c.in-Some.end ends;
         earlier = group-after F E ctrl k c.index-start.result p mirrored (count g at).least aligned (within g at) (begins g at) (before g at).on c.in-Some.end ends;
       };
-      groups = λ P h. rw (reads-to F P E ctrl k c.requires.format h mirrored p aligned (placed P h).1)
+      groups = λ P h. rw (reads-to F P E ctrl k c.requires.sought.format h mirrored p aligned (placed P h).1)
           (omega (arith, counted, c.groups.invariant.read_so_far, c.groups.invariant.from, aligned, c.requires.at.aligned));
       few = one_more _ _ _ _ _ _ counted c.groups.invariant.few c.groups.invariant.from (within g at);
       control = ap (λ q. q.control) c.group-bytes.ensures.counted ∙ c.groups.invariant.control;
@@ -106,8 +107,8 @@ returns-then-is_last g c =
     let passed = subst (IsPassed F E ctrl k) all (passed_group g at (c.in_default.ensures.none refl) (λ P h. c.in_default.ensures.on_placed P p (placed_group g at P h))) in
     let counted = ap (λ q. q.groups) c.group-bytes.ensures.counted in
     record {
-      end = none-ends F E ctrl k c.requires.format mirrored (count g at) passed;
-      groups = λ P h. rw (reads-all F P E ctrl k c.requires.format h mirrored (passed.on_placed P h))
+      end = none-ends F E ctrl k c.requires.sought.format mirrored (count g at) passed;
+      groups = λ P h. rw (reads-all F P E ctrl k c.requires.sought.format h mirrored (passed.on_placed P h))
           (omega (arith, counted, c.groups.invariant.read_so_far, c.groups.invariant.from, all, c.groups.invariant.at.aligned, c.requires.at.aligned));
       few = one_more _ _ _ _ _ _ counted c.groups.invariant.few c.groups.invariant.from (within g at);
       control = control;
@@ -122,7 +123,7 @@ groups-preserved g c =
     let control = ap (λ q. q.control) c.group-bytes.ensures.counted ∙ c.groups.invariant.control in
     let passed = passed_group g at (c.in_default.ensures.none refl) (λ P h. c.in_default.ensures.on_placed P c.groups.probe.position (placed_group g at P h)) in
     let more : c.groups.probe.position + 16 < c.groups.probe.mask + 1 = search rules in
-    let sixteen = sixteens (g.E.SlotKeys.entries c.args.keys.now).slots c.requires.slots in
+    let sixteen = sixteens c.args.stored.now.entries.slots c.requires.slots in
     record {
       control = control;
       mask = ap (λ m. m + 1) masked ∙ c.groups.invariant.mask;

@@ -2,7 +2,7 @@ use Rattle.std.proofs.Common.{◌≡◌, ◌∙◌, ℕ, Option, Some, Ok, List,
 use Rattle.std.proofs.Output.{then_text_assoc, displays_on_ok_of_eq}
 use Rattle.std.specs.Fmt.{◌++?◌}
 use Rattle.odht_base.specs.Format.{Format}
-use Rattle.odht_raw.specs.Parts.{TableParts, entry_format}
+use Rattle.odht_raw.specs.Parts.{EntryBytes, entry_format}
 use Rattle.odht_raw.specs.Dumps.{DebugText, head_text, slot_text, slots_text}
 use Rattle.odht_raw.proofs.lemmas.Dumps.{slots_text-more, displayed-append}
 use Rattle.odht_raw.proofs.raw_table.dump.RawTableDebug.fmt.Goals as goal
@@ -30,7 +30,7 @@ returns g c =
     let last = Some (codes "}\n") in
     let head = Some (head_text g.H.HashFn.hash_name T.entries.slots) in
     let lines : ℕ → Option (List ℕ) = slots_text F key_text value_text T in
-    let all : c.loop-slot.slot ≡ T.entries.slots = omega (arith, c.loop-slot-test.false, c.loop-slot.auto.slot-end, c.len-slot-end.ensures, ap (λ (t : TableParts). t.entries.slots) c.self.view_is) in
+    let all : c.loop-slot.slot ≡ T.entries.slots = omega (arith, c.loop-slot-test.false, c.loop-slot.auto.slot-end, c.len-slot-end.ensures, ap (λ (e : EntryBytes). e.slots) c.entries.ensures) in
     let whole = then_text_assoc head (lines c.loop-slot.slot) last ∙ (λ i. head ++? lines (all i) ++? last) in
     record {
       writes =
