@@ -115,3 +115,5 @@ pub mod ProbedSlots
 pub mod PassOrders
 -- the parts of a table that are read by position
 pub mod Reads
+-- the former value that an insert answers, decoded
+pub mod Formers

@@ -62,3 +62,5 @@ pub mod Passes
 pub mod Reads
 -- the entries of a table, whose lengths are types or numbers
 pub mod Stored
+-- what an insert answers of the value that a key had
+pub mod Formers

@@ -1,9 +1,10 @@
--- The parts of a table whose lengths of keys and values are numbers, borrowed to be written by a `SizedTableMut`: two
--- slices.
+-- The parts of a table, borrowed to be written by a `PartsMut`: two slices, and the lengths of keys and values, which are
+-- types or numbers.
 --     sized_control t      the control bytes with their mirror
 --     sized_entries t      the bytes of the entries
 --     sized_layout t       the lengths of keys and values
 --     sized_loans t        the borrows of the control bytes and of the entries: what is written goes to their slices
+--     sized_table_format t the format of these lengths and of the table's hash
 --     layout_format l h    the format of the lengths l and of the hash h
 --     IsSizedInsert t k v r t'  an insert of the key k and the value v through t returns r and leaves t': what an insert
 --                          into parts does, and lengths and borrows stay
@@ -18,36 +19,40 @@ use Rattle.odht_base.specs.Table.{Table}
 use Rattle.odht_base.specs.Valid.{IsPartsOf}
 use Rattle.odht_header.specs.declared.error.Error.{Error}
 use Rattle.odht_header.specs.declared.layout.Layout.{Layout}
+use Rattle.odht_header.specs.declared.layout.Lengths.{Ghosts as LengthsOf}
 use Rattle.odht_raw.specs.PartsInserts.{IsPartsInsert, IsInsertChange}
 use Rattle.odht_raw.specs.PartsPlacings.{IsNewTo, IsNewPlacing, IsAddition}
-use Rattle.odht_raw.specs.declared.raw_table.sized_mut.SizedTableMut.{SizedTableMut}
+use Rattle.odht_raw.specs.declared.raw_table.parts_mut.PartsMut.{PartsMut}
 
 abbrev pub layout_format : Layout → (List ℕ → ℕ) → Format
 layout_format l h = format_of l.key_len l.value_len h
 
-module _ {H : Type 0} {hash : HashFnOf H} {hash_eq : PartialEqOf H} where
-  abbrev pub sized_control : SizedTableMut H hash hash_eq → List ℕ
+module _ {L H : Type 0} {lengths : LengthsOf L} {hash : HashFnOf H} {hash_eq : PartialEqOf H} where
+  abbrev pub sized_control : PartsMut L H lengths hash hash_eq → List ℕ
   sized_control t = t.control.now
 
-  abbrev pub sized_entries : SizedTableMut H hash hash_eq → List ℕ
+  abbrev pub sized_entries : PartsMut L H lengths hash hash_eq → List ℕ
   sized_entries t = t.entries.now
 
-  abbrev pub sized_layout : SizedTableMut H hash hash_eq → Layout
-  sized_layout t = t.layout
+  abbrev pub sized_layout : PartsMut L H lengths hash hash_eq → L
+  sized_layout t = t.lengths
 
-  abbrev pub sized_loans : SizedTableMut H hash hash_eq → GName × GName
+  abbrev pub sized_loans : PartsMut L H lengths hash hash_eq → GName × GName
   sized_loans t = (t.control.ghost_name, t.entries.ghost_name)
 
-  pub record IsSizedInsert (t : SizedTableMut H hash hash_eq) (k v : List ℕ) (r : Result (Option (List ℕ)) Error) (t' : SizedTableMut H hash hash_eq) : Type 0 where
-    pub parts : (P : Table) → IsPartsOf (layout_format t.layout hash.hash) P t.entries.now t.control.now
-        → IsPartsInsert (layout_format t.layout hash.hash) (λ b. b) P (record { key = k; value = v }) r t'.entries.now t'.control.now
-    pub change : IsInsertChange (layout_format t.layout hash.hash) (λ b. b) t.entries.now t.control.now (record { key = k; value = v }) r t'.entries.now t'.control.now
-    pub layout : t'.layout ≡ t.layout
+  abbrev pub sized_table_format : PartsMut L H lengths hash hash_eq → Format
+  sized_table_format t = format_of (lengths.key_len t.lengths) (lengths.value_len t.lengths) hash.hash
+
+  pub record IsSizedInsert (t : PartsMut L H lengths hash hash_eq) (k v : List ℕ) (r : Result (Option (List ℕ)) Error) (t' : PartsMut L H lengths hash hash_eq) : Type 0 where
+    pub parts : (P : Table) → IsPartsOf (sized_table_format t) P t.entries.now t.control.now
+        → IsPartsInsert (sized_table_format t) (λ b. b) P (record { key = k; value = v }) r t'.entries.now t'.control.now
+    pub change : IsInsertChange (sized_table_format t) (λ b. b) t.entries.now t.control.now (record { key = k; value = v }) r t'.entries.now t'.control.now
+    pub layout : t'.lengths ≡ t.lengths
     pub loans : sized_loans t' ≡ sized_loans t
 
-  pub record IsSizedPlacing (t : SizedTableMut H hash hash_eq) (k v : List ℕ) (r : Result (Unit {0}) Error) (t' : SizedTableMut H hash hash_eq) : Type 0 where
-    pub parts : (P : Table) → IsPartsOf (layout_format t.layout hash.hash) P t.entries.now t.control.now → IsNewTo P (record { key = k; value = v })
-        → IsNewPlacing (layout_format t.layout hash.hash) P (record { key = k; value = v }) r t'.entries.now t'.control.now
-    pub change : IsAddition (layout_format t.layout hash.hash) t.entries.now t.control.now (record { key = k; value = v }) r t'.entries.now t'.control.now
-    pub layout : t'.layout ≡ t.layout
+  pub record IsSizedPlacing (t : PartsMut L H lengths hash hash_eq) (k v : List ℕ) (r : Result (Unit {0}) Error) (t' : PartsMut L H lengths hash hash_eq) : Type 0 where
+    pub parts : (P : Table) → IsPartsOf (sized_table_format t) P t.entries.now t.control.now → IsNewTo P (record { key = k; value = v })
+        → IsNewPlacing (sized_table_format t) P (record { key = k; value = v }) r t'.entries.now t'.control.now
+    pub change : IsAddition (sized_table_format t) t.entries.now t.control.now (record { key = k; value = v }) r t'.entries.now t'.control.now
+    pub layout : t'.lengths ≡ t.lengths
     pub loans : sized_loans t' ≡ sized_loans t

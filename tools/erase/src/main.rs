@@ -7,6 +7,9 @@ use std::process::ExitCode;
 const ARRAYS: &str = "odht_base/bytes/arrays";
 const ALLOCATION: &str = "odht_raw/memory_layout/allocation";
 const INSERTS: &str = "odht_raw/memory_layout/allocation/inserts";
+const CUTS: &str = "odht_raw/memory_layout/cuts";
+const BYTE_INSERTS: &str = "odht_raw/memory_layout/inserts";
+const WRITES: &str = "odht_raw/raw_table/writes";
 const STORED: &str = "odht_raw/raw_table/stored";
 const FIRST_LOOK: &str = "odht_raw/raw_table/first_look";
 const STORES: &str = "odht_base/bytes/stores";
@@ -16,6 +19,8 @@ const WALK: &str = "odht_raw/raw_table/walk";
 const OCCUPIED: &str = "AreOccupied";
 const SCAN: &str = "odht_raw/raw_table/scan";
 const ACCEPTED: &str = "IsAccepted (format_of C.EncodedKey.LEN C.EncodedValue.LEN C.H.hash)";
+const BY_LENGTHS: &str = "crate::proved::header::layout::Layout { \
+    key_len: lengths.key_len() as u8, value_len: lengths.value_len() as u8 }";
 const TYPED: &str = "crate::proved::header::layout::Layout::of::<C>()";
 
 const PLAN: Plan<'static> = Plan {
@@ -48,14 +53,10 @@ const PLAN: Plan<'static> = Plan {
         unchecked("has_key", STORED, "length key.now ≡ self.now.key_len", STORED),
         unchecked("first_look", FIRST_LOOK, "IsSized H.MIN_LEN", "odht_raw/raw_table/parts"),
         unchecked("group", SCAN, "start < length self.old.control - 16", SCAN),
-        unchecked("insert_by", INSERTS, ACCEPTED, ALLOCATION),
+        unchecked("cut", CUTS, "length bytes.now ≡ image_len F slots", CUTS),
+        unchecked("insert_in", BYTE_INSERTS, "slots ≡ header_slots bytes.old", BYTE_INSERTS),
         unchecked("insert_items", INSERTS, ACCEPTED, ALLOCATION),
-        unchecked(
-            "fill_slot",
-            "odht_raw/raw_table/insert",
-            "slot < length control.old - 16",
-            "odht_raw/raw_table/insert",
-        ),
+        unchecked("write_slot", WRITES, "slot < slots", WRITES),
         unchecked("write_slice", STORES, "at + length piece.now ≤ length all.old", STORES),
         unchecked("put", LOOKUPS, "index < places self.old", LOOKUPS),
         unchecked("first_look_at", LOOKUPS, "index < length keys.now", LOOKUPS),
@@ -66,14 +67,9 @@ const PLAN: Plan<'static> = Plan {
         SlotCount { file: ALLOCATION, function: "data_slices", store: "M", layout: TYPED },
         SlotCount { file: INSERTS, function: "insert_by", store: "M", layout: TYPED },
         SlotCount { file: INSERTS, function: "insert_items", store: "M", layout: TYPED },
+        SlotCount { file: CUTS, function: "parts_in", store: "&[u8]", layout: BY_LENGTHS },
         SlotCount {
-            file: "odht_raw/memory_layout/sized",
-            function: "cut",
-            store: "&[u8]",
-            layout: "layout",
-        },
-        SlotCount {
-            file: "odht_raw/memory_layout/sized_inserts",
+            file: BYTE_INSERTS,
             function: "insert_sized",
             store: "&[u8]",
             layout: "layout",

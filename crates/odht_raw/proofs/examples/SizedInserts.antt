@@ -1,4 +1,4 @@
--- Worked examples: an insert and a placing through borrowed parts whose lengths are numbers, and what they may not do.
+-- Worked examples: an insert and a placing through borrowed parts whose lengths are types or numbers, and what they may not do.
 use Rattle.std.proofs.Common.{◌≡◌, ◌∙◌, ℕ, List, refl, Option, Some, Result, Err, sym, true, true≢false, ◌<◌}
 use Rattle.std.proofs.lemmas.Option.{none-some}
 use Rattle.std.specs.declared.cmp.PartialEq.{Ghosts as PartialEqOf}
@@ -9,19 +9,20 @@ use Rattle.odht_base.specs.Table.{Pair, Table, slot_count, is_free}
 use Rattle.odht_base.specs.Valid.{IsPartsOf}
 use Rattle.odht_header.specs.declared.error.Error.{Error}
 use Rattle.odht_header.specs.declared.error.Error.TheVariants.{Full, TooShort}
+use Rattle.odht_header.specs.declared.layout.Lengths.{Ghosts as LengthsOf}
 use Rattle.odht_raw.specs.PartsInserts.{IsPartsInsert, IsInsertChange}
 use Rattle.odht_raw.specs.PartsPlacings.{IsNewTo, IsNewPlacing, IsAddition}
-use Rattle.odht_raw.specs.SizedMut.{layout_format, sized_control, sized_entries, sized_layout, sized_loans, IsSizedInsert, IsSizedPlacing}
-use Rattle.odht_raw.specs.declared.raw_table.sized_mut.SizedTableMut.{SizedTableMut}
+use Rattle.odht_raw.specs.SizedMut.{layout_format, sized_control, sized_entries, sized_layout, sized_loans, sized_table_format, IsSizedInsert, IsSizedPlacing}
+use Rattle.odht_raw.specs.declared.raw_table.parts_mut.PartsMut.{PartsMut}
 
 -- keys of eight bytes and values of four
-pub lengths : (h : List ℕ → ℕ) → layout_format (record { key_len = 8; value_len = 4 }) h ≡ format_of 8 4 h
-lengths h = refl
+pub of_lengths : (h : List ℕ → ℕ) → layout_format (record { key_len = 8; value_len = 4 }) h ≡ format_of 8 4 h
+of_lengths h = refl
 
-module _ {H : Type 0} {hash : HashFnOf H} {hash_eq : PartialEqOf H} (t : SizedTableMut H hash hash_eq) (k v : List ℕ) (t' : SizedTableMut H hash hash_eq) where
+module _ {L H : Type 0} {lengths : LengthsOf L} {hash : HashFnOf H} {hash_eq : PartialEqOf H} (t : PartsMut L H lengths hash hash_eq) (k v : List ℕ) (t' : PartsMut L H lengths hash hash_eq) where
   -- the format of the table
   abbrev pub F : Format
-  F = layout_format (sized_layout t) hash.hash
+  F = sized_table_format t
 
   -- the pair that is inserted
   abbrev pub p : Pair

@@ -1,4 +1,5 @@
-//! The insert of one pair into the parts of a table: one search, and the write where it ends.
+//! The insert of one pair into the parts of a table, with keys and values as types: one search, and
+//! the write where it ends.
 //!
 //! These functions take the slot count where their caller has it, though the control bytes have a
 //! length: so the compiler need not keep both.
@@ -14,11 +15,15 @@ ghost use Rattle.odht_raw.specs.Parts.{stored_in};
 ghost use Rattle.odht_raw.specs.Searches.{IsSearchEnd};
 ghost use Rattle.odht_raw.specs.Steps.{IsStep, IsStepWhere, IsTaggedEnd};
 
-use super::{Entries, EntryMetadata, Scan, Search, search_hashed, slot_count_of, tag_of};
-use crate::bytes::{ByteArray, write_slice};
+use super::writes::{write_at_end, write_slot};
+use super::{
+    Entries, EntryMetadata, Parts, Scan, Search, Stored, search_hashed, slot_count_of, tag_of,
+};
+use crate::bytes::ByteArray;
 use crate::error::Error;
 use crate::hash::HashFn;
-use crate::swisstable_group_query::{Group, REFERENCE_GROUP_SIZE};
+use crate::layout::Fixed;
+use crate::swisstable_group_query::Group;
 
 /// Searches for the key once. Overwrites the value that is stored with it; or, where it is new and
 /// `room`, the number of entries that may be added, is not zero, writes the pair into the first
@@ -42,9 +47,9 @@ pub(crate) fn insert_step<K: ByteArray, V: ByteArray, H: HashFn, Q: Group>(
     insert_at::<K, V, H>(control, entries, slots, key, value, end, room)
 }
 
-/// Where the search for a key that is inserted ends, and the key's tag.
+// Where the search for a key that is inserted ends, and the key's tag.
 #[inline(always)]
-pub(crate) fn step_end<K: ByteArray, V: ByteArray, H: HashFn, Q: Group>(
+fn step_end<K: ByteArray, V: ByteArray, H: HashFn, Q: Group>(
     control: &[EntryMetadata],
     entries: &[u8],
     slots: usize,
@@ -88,22 +93,14 @@ pub(crate) fn insert_at<K: ByteArray, V: ByteArray, H: HashFn>(
         in IsStepWhere (λ P. end.0 ≡ answer F P.cells p.key) F V.of_bytes room
         (entries.old, control.old) p result (entries.new, control.new) }
 {
-    let (end, tag) = end;
-    match end {
-        Search::Found(slot) => {
-            let stored: Entries<'_, K, V> = Entries::new(entries, slots);
-            let old = stored.get(slot).value;
-            write_slice(entries, slot * (K::LEN + V::LEN) + K::LEN, value.as_slice());
-            Ok(Some(old))
-        }
-        Search::Free(slot) => {
-            if room == 0 {
-                return Err(Error::Full);
-            }
-            fill_slot::<K, V, H>(control, entries, slots, &key, &value, tag, slot);
-            Ok(None)
-        }
-        Search::Neither => Err(Error::Full),
+    let lengths: Fixed<K, V> = Fixed::new();
+    let stored = Stored::new(&*entries, slots, lengths);
+    let parts: Parts<'_, Fixed<K, V>, H> = Parts::of(&*control, stored);
+    let former = parts.typed_value_at(end.0);
+    let (key, value) = (key.as_slice(), value.as_slice());
+    match write_at_end::<Fixed<K, V>, H>(control, entries, slots, lengths, key, value, end, room) {
+        Ok(()) => Ok(former),
+        Err(refused) => Err(refused),
     }
 }
 
@@ -129,11 +126,7 @@ pub(crate) fn fill_slot<K: ByteArray, V: ByteArray, H: HashFn>(
     ensures key { IsBytes K.LEN (K.bytes key.now) }
     ensures value { IsBytes V.LEN (V.bytes value.now) }
 {
-    let at = slot * (K::LEN + V::LEN);
-    write_slice(entries, at, key.as_slice());
-    write_slice(entries, at + K::LEN, value.as_slice());
-    control[slot] = tag;
-    if slot < REFERENCE_GROUP_SIZE {
-        control[slots + slot] = tag;
-    }
+    let lengths: Fixed<K, V> = Fixed::new();
+    let (key, value) = (key.as_slice(), value.as_slice());
+    write_slot(control, entries, slots, lengths, key, value, tag, slot);
 }

@@ -10,6 +10,7 @@ ghost use Rattle.odht_base.specs.SlotWalks.{numbered};
 ghost use Rattle.odht_header.specs.Refusals.{checked, hashes_refusal};
 ghost use Rattle.odht_raw.specs.Checks.{cells_of};
 ghost use Rattle.odht_raw.specs.Finds.{IsFind, IsCountedFind};
+ghost use Rattle.odht_raw.specs.Formers.{former_of};
 ghost use Rattle.odht_raw.specs.Parts.{entry_format};
 ghost use Rattle.odht_raw.specs.SearchResults.{MatchSearchResult};
 ghost use Rattle.odht_raw.specs.Searches.{IsSearchEnd};
@@ -268,10 +269,11 @@ impl<'a, L: Lengths, H: HashFn> Parts<'a, L, H> {
         }
     }
 
-    // Where the search for a key that is inserted ends, and the key's tag. It is inlined where the
-    // compiler knows the length of the key, as `find_of` is.
+    /// Where the search for a key that is inserted ends, and the key's tag, by a group search of the
+    /// caller's choice. It is inlined where the compiler knows the length of the key, as `find_of`
+    /// is.
     #[inline(always)]
-    pub(super) fn search_end(&self, key: &[u8]) -> (Search, u8)
+    pub(crate) fn search_end<Q: Group>(&self, key: &[u8]) -> (Search, u8)
         requires { length key.now ≡ self.now.key_len }
         ensures end { IsSearchEnd (sized_format self.now H.hash) self.now.parts.entries
             self.now.parts.control key.now result.0 }
@@ -280,15 +282,17 @@ impl<'a, L: Lengths, H: HashFn> Parts<'a, L, H> {
         let mut scan = Scan::new(self.controls(), self.len());
         let stored = self.stored();
         let hash = H::hash(key);
-        let end = search_stored::<L, H, GroupQuery>(&mut scan, &stored, key, hash);
+        let end = search_stored::<L, H, Q>(&mut scan, &stored, key, hash);
         (end, tag_of(hash))
     }
 
     /// The value of the slot where the search for a key ended, if that slot holds the key.
     #[inline(always)]
-    pub(super) fn value_at(&self, end: Search) -> Option<&'a [u8]>
+    pub(crate) fn value_at(&self, end: Search) -> Option<&'a [u8]>
         requires { MatchSearchResult end (λ slot. slot < self.now.parts.entries.slots)
             (λ _. ⊤) ⊤ }
+        ensures value { let F = sized_format self.now H.hash
+            in option_copied result ≡ former_of F self.now.parts.entries.bytes end }
         ensures found { (k : List ℕ)
             → IsSearchEnd (sized_format self.now H.hash) self.now.parts.entries
             self.now.parts.control k end

@@ -5,11 +5,12 @@
 
 mod allocation;
 mod check;
+mod cuts;
+mod inserts;
 mod new_tables;
+mod opening;
 mod prefix;
-mod sized;
 mod sized_check;
-mod sized_inserts;
 mod sized_new;
 
 pub use crate::proved::header::header::{
@@ -20,9 +21,10 @@ pub use crate::proved::raw::raw_table::{Entries, EntryMetadata};
 pub(crate) use allocation::hold_bytes;
 pub use allocation::Allocation;
 pub use check::{check_all, check_all_within, DEFAULT_GROUPS};
+pub use cuts::{parts_in, sized_parts};
+pub use inserts::insert_sized;
 pub use new_tables::{allocate, clear_entries, init_in_place, write_empty};
+pub use opening::{check_by_header, check_opening, stated_layout};
 pub use prefix::{sized_table_len, table_len};
-pub use sized::{check_by_header, check_opening, sized_parts, stated_layout};
 pub use sized_check::{check_sized, check_sized_within};
-pub use sized_inserts::insert_sized;
 pub use sized_new::init_sized;

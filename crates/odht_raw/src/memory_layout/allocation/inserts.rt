@@ -11,9 +11,10 @@ use super::{Allocation, hold_bytes};
 use crate::bytes::{ByteStoreMut, write_slice};
 use crate::config::{Coded, Config};
 use crate::error::Error;
-use crate::items::{Items, encode_pair};
+use crate::items::Items;
+use crate::memory_layout::inserts::insert_typed;
 use crate::memory_layout::{HEADER_SIZE, Header, entry_at};
-use crate::raw_table::{insert_at, insert_run, step_end};
+use crate::raw_table::insert_run;
 use crate::swisstable_group_query::Group;
 use odht_header::header::ITEM_COUNT_AT;
 
@@ -42,29 +43,8 @@ impl<C: Config, M: ByteStoreMut> Allocation<C, M> {
     {
         let store = &mut self.store;
         let bytes = store.bytes_mut();
-        hold_bytes(bytes);
-        let (key, value) = encode_pair::<C>(key, value);
         let slots = Header::of(bytes).slot_count();
-        let (table, control) = bytes.split_at_mut(entry_at::<C>(slots));
-        let (front, entries) = table.split_at_mut(HEADER_SIZE);
-        let end = step_end::<C::EncodedKey, C::EncodedValue, C::H, Q>(
-            control, entries, slots, &key,
-        );
-        // Read after the search, which needs the registers. The room is that up to the maximum
-        // item count.
-        let header = Header::of(front);
-        let count = header.item_count();
-        let room = header.max_load_factor().apply(slots).saturating_sub(count);
-        match insert_at::<C::EncodedKey, C::EncodedValue, C::H>(
-            control, entries, slots, key, value, end, room,
-        ) {
-            Ok(Some(old)) => Ok(Some(C::decode_value(&old))),
-            Ok(None) => {
-                write_count(front, count + 1);
-                Ok(None)
-            }
-            Err(refused) => Err(refused),
-        }
+        insert_typed::<C, Q>(bytes, slots, key, value)
     }
 
     /// Inserts the items from index `from` on in their order, up to the first for which

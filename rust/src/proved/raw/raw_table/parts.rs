@@ -161,20 +161,21 @@ impl<'a, L: Lengths, H: HashFn> Parts<'a, L, H> {
         }
     }
 
-    // Where the search for a key that is inserted ends, and the key's tag. It is inlined where the
-    // compiler knows the length of the key, as `find_of` is.
+    /// Where the search for a key that is inserted ends, and the key's tag, by a group search of the
+    /// caller's choice. It is inlined where the compiler knows the length of the key, as `find_of`
+    /// is.
     #[inline(always)]
-    pub(super) fn search_end(&self, key: &[u8]) -> (Search, u8) {
+    pub(crate) fn search_end<Q: Group>(&self, key: &[u8]) -> (Search, u8) {
         let mut scan = Scan::new(self.controls(), self.len());
         let stored = self.stored();
         let hash = H::hash(key);
-        let end = search_stored::<L, H, GroupQuery>(&mut scan, &stored, key, hash);
+        let end = search_stored::<L, H, Q>(&mut scan, &stored, key, hash);
         (end, tag_of(hash))
     }
 
     /// The value of the slot where the search for a key ended, if that slot holds the key.
     #[inline(always)]
-    pub(super) fn value_at(&self, end: Search) -> Option<&'a [u8]> {
+    pub(crate) fn value_at(&self, end: Search) -> Option<&'a [u8]> {
         match end {
             Search::Found(slot) => Some(self.value(slot)),
             Search::Free(_) => None,

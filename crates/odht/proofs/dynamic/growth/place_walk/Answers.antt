@@ -26,7 +26,7 @@ loop-key-init g c = record {
 }
 
 -- the pair that comes next has the lengths of the table
-next_fits : (g : Over) (c : In-Some g) → HasLengthsOf c.loop-key.table.layout.key_len c.loop-key.table.layout.value_len (record { key = c.in-Some.key.now; value = c.in-Some.value.now })
+next_fits : (g : Over) (c : In-Some g) → HasLengthsOf c.loop-key.table.lengths.key_len c.loop-key.table.lengths.value_len (record { key = c.in-Some.key.now; value = c.in-Some.value.now })
 next_fits g c =
     let lengths : Pair → Type 0 = HasLengthsOf c.args.layout.key_len c.args.layout.value_len in
     let here : Pair = record { key = c.in-Some.key.now; value = c.in-Some.value.now } in

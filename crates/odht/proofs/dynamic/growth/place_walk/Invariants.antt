@@ -15,7 +15,7 @@ abbrev pub invariant-loop-key : goal.invariant-loop-key
 invariant-loop-key g l =
     let F = format_of l.fn.layout.key_len l.fn.layout.value_len g.H.HashFn.hash in
     record {
-      layout : l.table.layout ≡ l.fn.layout;
+      layout : l.table.lengths ≡ l.fn.layout;
       control_loan : l.table.control.ghost_name ≡ l.initial.table.control.ghost_name;
       entries_loan : l.table.entries.ghost_name ≡ l.initial.table.entries.ghost_name;
       lengths : All (HasLengthsOf l.fn.layout.key_len l.fn.layout.value_len) l.key-iterator;

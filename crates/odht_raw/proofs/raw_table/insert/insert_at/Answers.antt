@@ -1,150 +1,73 @@
-use Rattle.std.proofs.Common.{rules, arith, ℕ, List, ◌≡◌, ◌≤◌, ◌<◌, ◌+◌, ◌*◌, ◌-◌, length, subst, ◌∙◌, sym, ap, Option, Some, None, Result, Ok, Err, refl}
-use Rattle.std.specs.Prelude.{option_map}
-use Rattle.odht_base.specs.Bytes.{overwritten_at}
-use Rattle.odht_base.specs.Format.{Format, format_of, entry_len}
+use Rattle.std.proofs.Common.{◌≡◌, ◌∙◌, ◌<◌, ℕ, List, Result, Ok, Err, sym, ap, subst}
+use Rattle.std.specs.Prelude.{option_map, ⊤}
+use Rattle.odht_base.specs.Format.{Format, format_of}
 use Rattle.odht_base.specs.Table.{Pair}
-use Rattle.odht_base.specs.Valid.{IsPartsOf, IsPairOf}
-use Rattle.odht_base.proofs.lemmas.Places.{written}
-use Rattle.odht_base.proofs.lemmas.PartsOf.{slot_within}
-use Rattle.odht_base.specs.Decoded.{slot_value}
-use Rattle.odht_raw.specs.Frame.{PartsFrame}
-use Rattle.odht_raw.specs.Parts.{stored_in}
-use Rattle.odht_raw.specs.Steps.{StepFrame}
-use Rattle.odht_raw.specs.SearchEnds.{IsAfter, IsEnd}
 use Rattle.odht_header.specs.declared.error.Error.{Error}
-use Rattle.odht_header.specs.declared.error.Error.TheVariants.{Full}
-use Rattle.odht_raw.specs.declared.raw_table.search_result.Search.{Search}
-use Rattle.odht_raw.specs.declared.raw_table.search_result.Search.TheVariants.{Found, Free}
-use Rattle.odht_raw.proofs.lemmas.GroupSearches.{missing-free, missing-neither}
-use Rattle.odht_raw.proofs.lemmas.Lookups.{answer-Found, answer-Free}
-use Rattle.odht_raw.proofs.lemmas.Inserts.{found_value, found_key, found_parts, free_parts}
+use Rattle.odht_raw.specs.Formers.{answered, former_of, with_former}
+use Rattle.odht_raw.specs.SearchResults.{MatchSearchResult, answer}
+use Rattle.odht_raw.specs.Sized.{SizedParts, parts_with, sized_format, sized_parts}
+use Rattle.odht_raw.specs.Steps.{IsStepWhere, IsTaggedEnd}
+use Rattle.odht_raw.proofs.lemmas.Formers.{decoded_step, end_low}
+use Rattle.odht_raw.proofs.raw_table.insert.insert_at.Given.{Over}
+use Rattle.odht_raw.proofs.raw_table.insert.insert_at.Goals.{After-of-parts, After-write_at_end}
 use Rattle.odht_raw.proofs.raw_table.insert.insert_at.Goals as goal
 
--- a slot's entry lies within the bytes of the entries
-within : (F : Format) (es ctrl : List ℕ) (i : ℕ) → length es ≡ (length ctrl - 16) * entry_len F → i < length ctrl - 16
-    → i * entry_len F + entry_len F ≤ length es
-within F es ctrl i long low = omega (arith, long, slot_within i (length ctrl - 16) (entry_len F) low)
+abbrev format : Over → Format
+format g = format_of g.K.ByteArray.LEN g.V.ByteArray.LEN g.H.HashFn.hash
 
--- a found slot is one of the slots
-found_low : (F : Format) (es ctrl k : List ℕ) (r : Search) (i : ℕ) → r ≡ Found i
-    → IsEnd F (stored_in es ctrl) ctrl k r → i < length ctrl - 16
-found_low F es ctrl k r i is known = (subst (IsEnd F (stored_in es ctrl) ctrl k) is known).0
+-- the parts that are read
+parts_are : (g : Over) (c : After-of-parts g) → c.of-parts.result ≡ sized_parts g.K.ByteArray.LEN g.V.ByteArray.LEN c.args.slots c.args.entries.now c.args.control.now
+parts_are g c = c.of-parts.ensures ∙ ap (λ E. parts_with E c.args.control.now) c.new-stored.ensures
 
--- and so is a free one
-free_low : (F : Format) (es ctrl k : List ℕ) (r : Search) (i : ℕ) → r ≡ Free i
-    → IsEnd F (stored_in es ctrl) ctrl k r → i < length ctrl - 16
-free_low F es ctrl k r i is known = (subst (IsEnd F (stored_in es ctrl) ctrl k) is known).0
+pub typed_value_at-former-requires-clause-slot : goal.typed_value_at-former-requires-clause-slot
+typed_value_at-former-requires-clause-slot g c κs within =
+    let parts = parts_are g (goal.at.typed_value_at-former-requires-clause-slot g c).After-of-parts in
+    subst (λ (S : SizedParts). MatchSearchResult c.args.end.0 (λ i. i < S.parts.entries.slots) (λ _. ⊤) ⊤) (sym parts)
+    (end_low (format g) c.args.entries.now c.args.control.now (g.K.ByteArray.bytes c.args.key) c.args.slots c.args.end.0 c.requires.slots c.requires.end.end.slot)
 
-pub overflow_mul-slot : goal.overflow_mul-slot
-overflow_mul-slot g c =
-    let F : Format = format_of g.K.ByteArray.LEN g.V.ByteArray.LEN g.H.HashFn.hash in
+pub typed_value_at-former-requires-clause-len : goal.typed_value_at-former-requires-clause-len
+typed_value_at-former-requires-clause-len g c κs within =
+    ap (λ (S : SizedParts). S.value_len) (parts_are g (goal.at.typed_value_at-former-requires-clause-len g c).After-of-parts)
+
+pub write_at_end-requires-clause-end : goal.write_at_end-requires-clause-end
+write_at_end-requires-clause-end g c =
+    subst (λ k. IsTaggedEnd (format g) c.args.room c.args.entries.now c.args.control.now k c.args.end) (sym c.as_slice-key.ensures.value) c.requires.end
+
+-- what the write did, with the value that was there in the answer
+stepped : (g : Over) (c : After-write_at_end g) (parts : c.of-parts.result ≡ sized_parts g.K.ByteArray.LEN g.V.ByteArray.LEN c.args.slots c.args.entries.now c.args.control.now)
+    → IsStepWhere (λ P. c.args.end.0 ≡ answer (format g) P.cells (g.K.ByteArray.bytes c.args.key)) (format g) g.V.ByteArray.of_bytes c.args.room (c.args.entries.now, c.args.control.now)
+    (record { key = g.K.ByteArray.bytes c.args.key; value = g.V.ByteArray.bytes c.args.value })
+    (with_former c.typed_value_at-former.result c.write_at_end.result) (c.write_at_end.new.entries, c.write_at_end.new.control)
+stepped g c parts =
+    let F = format g in
     let es = c.args.entries.now in
     let ctrl = c.args.control.now in
-    let low = found_low F es ctrl (g.K.ByteArray.bytes c.args.key) c.args.end.0 c.in-Found.slot c.in-Found.is c.requires.end.end.slot in
-    rw (c.LEN.ensures, c.LEN-in-Found.ensures) (omega (arith, within F es ctrl c.in-Found.slot c.requires.lengths.entries low))
+    let t' : List ℕ × List ℕ = (c.write_at_end.new.entries, c.write_at_end.new.control) in
+    let key = g.K.ByteArray.bytes c.args.key in
+    let value = g.V.ByteArray.bytes c.args.value in
+    let p : Pair = record { key = key; value = value } in
+    let found = former_of F es c.args.end.0 in
+    let step : IsStepWhere (λ P. c.args.end.0 ≡ answer F P.cells key) F (λ b. b) c.args.room (es, ctrl) p (answered F es c.args.end.0 c.write_at_end.result) t' =
+    subst (λ (v : List ℕ). IsStepWhere (λ P. c.args.end.0 ≡ answer F P.cells key) F (λ b. b) c.args.room (es, ctrl) (record { key = key; value = v }) (answered F es c.args.end.0 c.write_at_end.result) t') c.as_slice-value.ensures.value
+    (subst (λ (k : List ℕ). IsStepWhere (λ P. c.args.end.0 ≡ answer F P.cells k) F (λ b. b) c.args.room (es, ctrl) (record { key = k; value = c.as_slice-value.result.now }) (answered F es c.args.end.0 c.write_at_end.result) t') c.as_slice-key.ensures.value
+    c.write_at_end.ensures) in
+    let former : c.typed_value_at-former.result ≡ option_map g.V.ByteArray.of_bytes found =
+    c.typed_value_at-former.ensures ∙ ap (λ (S : SizedParts). option_map g.V.ByteArray.of_bytes (former_of (sized_format S g.H.HashFn.hash) S.parts.entries.bytes c.args.end.0)) parts in
+    subst (λ o. IsStepWhere (λ P. c.args.end.0 ≡ answer F P.cells key) F g.V.ByteArray.of_bytes c.args.room (es, ctrl) p (with_former o c.write_at_end.result) t') (sym former)
+    (decoded_step g.V.ByteArray.of_bytes (λ P. c.args.end.0 ≡ answer F P.cells key) F c.args.room (es, ctrl) p found c.write_at_end.result t' step)
 
-pub overflow_add-slot : goal.overflow_add-slot
-overflow_add-slot g c =
-    let F : Format = format_of g.K.ByteArray.LEN g.V.ByteArray.LEN g.H.HashFn.hash in
-    let es = c.args.entries.now in
-    let ctrl = c.args.control.now in
-    let low = found_low F es ctrl (g.K.ByteArray.bytes c.args.key) c.args.end.0 c.in-Found.slot c.in-Found.is c.requires.end.end.slot in
-    rw (c.LEN.ensures, c.LEN-in-Found.ensures, c.LEN-in-Found-2.ensures) (omega (arith, within F es ctrl c.in-Found.slot c.requires.lengths.entries low))
+pub returns-in-Ok : goal.returns-in-Ok
+returns-in-Ok g c =
+    let F = format g in
+    let at = goal.at.returns-in-Ok g c in
+    let p : Pair = record { key = g.K.ByteArray.bytes c.args.key; value = g.V.ByteArray.bytes c.args.value } in
+    subst (λ (r : Result (Unit {0}) Error). IsStepWhere (λ P. c.args.end.0 ≡ answer F P.cells p.key) F g.V.ByteArray.of_bytes c.args.room (c.args.entries.now, c.args.control.now) p (with_former c.typed_value_at-former.result r) (c.write_at_end.new.entries, c.write_at_end.new.control)) c.in-Ok.is
+    (stepped g at.After-write_at_end (parts_are g at.After-of-parts))
 
-pub write_slice-requires : goal.write_slice-requires
-write_slice-requires g c =
-    let F : Format = format_of g.K.ByteArray.LEN g.V.ByteArray.LEN g.H.HashFn.hash in
-    let es = c.args.entries.now in
-    let ctrl = c.args.control.now in
-    let low = found_low F es ctrl (g.K.ByteArray.bytes c.args.key) c.args.end.0 c.in-Found.slot c.in-Found.is c.requires.end.end.slot in
-    rw (c.LEN.ensures, c.LEN-in-Found.ensures, c.LEN-in-Found-2.ensures)
-    (omega (arith, within F es ctrl c.in-Found.slot c.requires.lengths.entries low, ap length c.as_slice.ensures.value, c.as_slice.ensures.bytes.len))
-
-pub fill_slot-requires-clause-slot : goal.fill_slot-requires-clause-slot
-fill_slot-requires-clause-slot g c κs within =
-    let F : Format = format_of g.K.ByteArray.LEN g.V.ByteArray.LEN g.H.HashFn.hash in
-    free_low F c.args.entries.now c.args.control.now (g.K.ByteArray.bytes c.args.key) c.args.end.0 c.in-Free.slot c.in-Free.is c.requires.end.end.slot
-
-pub returns-in-Found : goal.returns-in-Found
-returns-in-Found g c = record {
-  placed = λ P h e. (
-      let F : Format = format_of g.K.ByteArray.LEN g.V.ByteArray.LEN g.H.HashFn.hash in
-      let p : Pair = record { key = g.K.ByteArray.bytes c.args.key; value = g.V.ByteArray.bytes c.args.value } in
-      let old = rw c.new-stored.ensures at c.get-old.ensures.value in
-      let at = answer-Found F P p.key h.placed c.in-Found.slot (sym c.in-Found.is ∙ e) in
-      let fits : IsPairOf F p = record { key = found_key F P _ _ h p.key _ at; value = c.as_slice.ensures.bytes } in
-      let bytes : c.write_slice.new.all ≡ overwritten_at c.args.entries.now (c.in-Found.slot * entry_len F + F.key_len) p.value =
-      c.write_slice.ensures ∙ (λ i. overwritten_at c.args.entries.now (c.in-Found.slot * (c.LEN.ensures i + c.LEN-in-Found.ensures i) + c.LEN-in-Found-2.ensures i) (c.as_slice.ensures.value i)) in
-      let parts : IsPartsOf F (written P c.in-Found.slot p) c.write_slice.new.all c.args.control.now =
-      subst (λ (es : List ℕ). IsPartsOf F (written P c.in-Found.slot p) es c.args.control.now) (sym bytes) (found_parts F P _ _ h p.key c.in-Found.slot p refl fits at) in
-      let former = ap Some (old ∙ ap g.V.ByteArray.of_bytes (found_value F P _ _ h p.key c.in-Found.slot at)) ∙ sym (ap (option_map g.V.ByteArray.of_bytes) at.value) in
-      (former, (written P c.in-Found.slot p, at.places p refl, subst (λ (es : List ℕ). IsPartsOf F (written P c.in-Found.slot p) es c.args.control.now) (search rules) parts)));
-  any =
-      let F : Format = format_of g.K.ByteArray.LEN g.V.ByteArray.LEN g.H.HashFn.hash in
-      let p : Pair = record { key = g.K.ByteArray.bytes c.args.key; value = g.V.ByteArray.bytes c.args.value } in
-      let es = c.args.entries.now in
-      let ctrl = c.args.control.now in
-      let slot = c.in-Found.slot in
-      let known = subst (IsEnd F (stored_in es ctrl) ctrl p.key) c.in-Found.is c.requires.end.end.slot in
-      let old = rw c.new-stored.ensures at c.get-old.ensures.value in
-      let bytes : c.write_slice.new.all ≡ overwritten_at es (slot * entry_len F + F.key_len) p.value =
-      c.write_slice.ensures ∙ (λ i. overwritten_at es (slot * (c.LEN.ensures i + c.LEN-in-Found.ensures i) + c.LEN-in-Found-2.ensures i) (c.as_slice.ensures.value i)) in
-      let answer : Result (Option (List ℕ)) Error = Ok (Some (slot_value F es slot)) in
-      let framed : StepFrame F c.args.room es ctrl p answer c.write_slice.new.all ctrl =
-      subst (λ (new : List ℕ). StepFrame F c.args.room es ctrl p answer new ctrl) (sym bytes)
-      (StepFrame.framed answer (overwritten_at es (slot * entry_len F + F.key_len) p.value) ctrl (λ d. cc) (PartsFrame.overwrote slot known.0 known.1)) in
-      record {
-        frame = (answer, ap (λ o. Ok (Some o)) old, subst (λ (new : List ℕ). StepFrame F c.args.room es ctrl p answer new ctrl) (search rules) framed);
-        errors = record { only_full = tt; refused_control = tt; refused_entries = tt };
-      };
-}
-
-pub returns-else-room-eq0 : goal.returns-else-room-eq0
-returns-else-room-eq0 g c = record {
-  placed = λ P h e. (
-      let F : Format = format_of g.K.ByteArray.LEN g.V.ByteArray.LEN g.H.HashFn.hash in
-      let p : Pair = record { key = g.K.ByteArray.bytes c.args.key; value = g.V.ByteArray.bytes c.args.value } in
-      let at = answer-Free F P p.key h.placed c.in-Free.slot (sym c.in-Free.is ∙ e) in
-      let fits : IsPairOf F p = record { key = c.fill_slot.ensures.key; value = c.fill_slot.ensures.value } in
-      let parts : IsPartsOf F (written P c.in-Free.slot p) c.fill_slot.new.entries c.fill_slot.new.control =
-      rw (c.fill_slot.ensures.control, c.fill_slot.ensures.entries, c.requires.end.tag) (free_parts F P _ _ h p.key c.in-Free.slot p refl fits at) in
-      (sym (ap (option_map g.V.ByteArray.of_bytes) at.value), (written P c.in-Free.slot p, at.places p refl, parts)));
-  any =
-      let F : Format = format_of g.K.ByteArray.LEN g.V.ByteArray.LEN g.H.HashFn.hash in
-      let p : Pair = record { key = g.K.ByteArray.bytes c.args.key; value = g.V.ByteArray.bytes c.args.value } in
-      let es = c.args.entries.now in
-      let ctrl = c.args.control.now in
-      let slot = c.in-Free.slot in
-      let known = subst (IsEnd F (stored_in es ctrl) ctrl p.key) c.in-Free.is c.requires.end.end.slot in
-      let some : 0 < c.args.room = omega (arith, c.if-room-eq0.false) in
-      let framed : StepFrame F c.args.room es ctrl p (Ok None) c.fill_slot.new.entries c.fill_slot.new.control =
-      StepFrame.framed (Ok None) c.fill_slot.new.entries c.fill_slot.new.control (λ e. some) (rw (c.fill_slot.ensures.control, c.fill_slot.ensures.entries, c.requires.end.tag) (PartsFrame.added slot known.0 known.1)) in
-      record { frame = (Ok None, refl, framed); errors = record { only_full = tt; refused_control = tt; refused_entries = tt } };
-}
-
--- without room the search says what comes before its end
-pub returns-then-room-eq0 : goal.returns-then-room-eq0
-returns-then-room-eq0 g c = record {
-  placed = λ P h e. tt;
-  any =
-      let F : Format = format_of g.K.ByteArray.LEN g.V.ByteArray.LEN g.H.HashFn.hash in
-      let k : List ℕ = g.K.ByteArray.bytes c.args.key in
-      let stored = stored_in c.args.entries.now c.args.control.now in
-      let ctrl = c.args.control.now in
-      let known = subst (IsEnd F stored ctrl k) c.in-Free.is c.requires.end.end.slot in
-      let earlier = subst (IsAfter F stored ctrl k) c.in-Free.is (c.requires.end.end.earlier c.if-room-eq0.true) in
-      record { frame = (Err Full, refl, StepFrame.no_room c.if-room-eq0.true (missing-free F stored ctrl k c.in-Free.slot known earlier)); errors = record { only_full = refl; refused_control = refl; refused_entries = refl } };
-}
-
-pub returns-in-Neither : goal.returns-in-Neither
-returns-in-Neither g c = record {
-  placed = λ P h e. tt;
-  any =
-      let F : Format = format_of g.K.ByteArray.LEN g.V.ByteArray.LEN g.H.HashFn.hash in
-      let k : List ℕ = g.K.ByteArray.bytes c.args.key in
-      let es = c.args.entries.now in
-      let ctrl = c.args.control.now in
-      let known = subst (IsEnd F (stored_in es ctrl) ctrl k) c.in-Neither.is c.requires.end.end.slot in
-      let frame = StepFrame.framed (Err Full) es ctrl (λ e. cc) (PartsFrame.no_slot known.0 (missing-neither F (stored_in es ctrl) ctrl k known.1)) in
-      record { frame = (Err Full, refl, frame); errors = record { only_full = refl; refused_control = refl; refused_entries = refl } };
-}
+pub returns-in-Err : goal.returns-in-Err
+returns-in-Err g c =
+    let F = format g in
+    let at = goal.at.returns-in-Err g c in
+    let p : Pair = record { key = g.K.ByteArray.bytes c.args.key; value = g.V.ByteArray.bytes c.args.value } in
+    subst (λ (r : Result (Unit {0}) Error). IsStepWhere (λ P. c.args.end.0 ≡ answer F P.cells p.key) F g.V.ByteArray.of_bytes c.args.room (c.args.entries.now, c.args.control.now) p (with_former c.typed_value_at-former.result r) (c.write_at_end.new.entries, c.write_at_end.new.control)) c.in-Err.is
+    (stepped g at.After-write_at_end (parts_are g at.After-of-parts))

@@ -7,9 +7,10 @@ use crate::proved::header::header::ITEM_COUNT_AT;
 use crate::proved::raw::bytes::{write_slice, ByteStoreMut};
 use crate::proved::raw::config::Config;
 use crate::proved::raw::error::Error;
-use crate::proved::raw::items::{encode_pair, Items};
+use crate::proved::raw::items::Items;
+use crate::proved::raw::memory_layout::inserts::insert_typed;
 use crate::proved::raw::memory_layout::{entry_at, Header, HEADER_SIZE};
-use crate::proved::raw::raw_table::{insert_at, insert_run, step_end};
+use crate::proved::raw::raw_table::insert_run;
 use crate::proved::raw::swisstable_group_query::Group;
 
 impl<C: Config, M: ByteStoreMut> Allocation<C, M> {
@@ -28,41 +29,13 @@ impl<C: Config, M: ByteStoreMut> Allocation<C, M> {
     ) -> Result<Option<C::Value>, Error> {
         let store = &mut self.store;
         let bytes = store.bytes_mut();
-        hold_bytes(bytes);
-        let (key, value) = encode_pair::<C>(key, value);
         let slots = Header::of(bytes).slot_count();
         crate::shim::slots::check::<M>(
             bytes.len(),
             slots,
             crate::proved::header::layout::Layout::of::<C>(),
         );
-        let (table, control) = split_at_mut!(
-            bytes,
-            entry_at::<C>(slots),
-            "IsAccepted (format_of C.EncodedKey.LEN C.EncodedValue.LEN C.H.hash)"
-        );
-        let (front, entries) = split_at_mut!(
-            table,
-            HEADER_SIZE,
-            "IsAccepted (format_of C.EncodedKey.LEN C.EncodedValue.LEN C.H.hash)"
-        );
-        let end =
-            step_end::<C::EncodedKey, C::EncodedValue, C::H, Q>(control, entries, slots, &key);
-        // Read after the search, which needs the registers. The room is that up to the maximum
-        // item count.
-        let header = Header::of(front);
-        let count = header.item_count();
-        let room = header.max_load_factor().apply(slots).saturating_sub(count);
-        match insert_at::<C::EncodedKey, C::EncodedValue, C::H>(
-            control, entries, slots, key, value, end, room,
-        ) {
-            Ok(Some(old)) => Ok(Some(C::decode_value(&old))),
-            Ok(None) => {
-                write_count(front, count + 1);
-                Ok(None)
-            }
-            Err(refused) => Err(refused),
-        }
+        insert_typed::<C, Q>(bytes, slots, key, value)
     }
 
     /// Inserts the items from index `from` on in their order, up to the first for which

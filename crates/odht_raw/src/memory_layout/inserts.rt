@@ -1,0 +1,175 @@
+//! Inserts into the bytes of a table: the parts are written, and last the item count. The lengths
+//! of keys and values are types or numbers.
+ghost use Rattle.std.specs.Prelude.{◌≡◌, ◌≤◌, ◌<◌, length, option_map, IfOk, ⊤};
+ghost use Rattle.odht_base.specs.Decoded.{header_slots, entries_of, controls_of};
+ghost use Rattle.odht_base.specs.Format.{format_of, tag as key_tag};
+ghost use Rattle.odht_base.specs.Table.{Table};
+ghost use Rattle.odht_base.specs.Valid.{IsImage};
+ghost use Rattle.odht_raw.specs.Formers.{answered, former_of};
+ghost use Rattle.odht_raw.specs.Frame.{IsAccepted, IsFramed};
+ghost use Rattle.odht_raw.specs.Parts.{stored_in};
+ghost use Rattle.odht_raw.specs.Runs.{IsOnePlaced};
+ghost use Rattle.odht_raw.specs.SearchResults.{MatchSearchResult};
+ghost use Rattle.odht_raw.specs.Searches.{IsSearchEnd};
+ghost use Rattle.odht_raw.specs.Sized.{bytes_coding, sized_format};
+
+use super::allocation::{hold_bytes, write_count};
+use super::cuts::cut;
+use super::{HEADER_SIZE, Header};
+use crate::bytes::ByteArray;
+use crate::config::{Coded, Config};
+use crate::error::Error;
+use crate::hash::HashFn;
+use crate::items::encode_pair;
+use crate::layout::{Fixed, Layout, Lengths};
+use crate::raw_table::{Parts, Search, ShortBytes, is_found, write_at_end};
+use crate::swisstable_group_query::Group;
+
+// Writes the pair where the search for its key ended, which comes with the key's tag, and counts
+// a new entry. `Full`, with nothing changed, where the key is new and the header's item count is
+// its maximum or more, or no slot is free. The slot count is that of the header, which is read
+// once for an insert.
+//
+// In the clauses the former value stands in an Ok. It is not returned.
+#[inline(always)]
+fn insert_in<L: Lengths, H: HashFn>(
+    bytes: &mut [u8],
+    slots: usize,
+    lengths: L,
+    key: &[u8],
+    value: &[u8],
+    end: (Search, u8),
+) -> Result<(), Error>
+    requires accepted { IsAccepted (format_of (L.key_len lengths) (L.value_len lengths) H.hash)
+        bytes.old }
+    requires slots { slots ≡ header_slots bytes.old }
+    requires hashes { H.MIN_LEN ≤ L.key_len lengths }
+    requires key_short { L.key_len lengths ≤ 255 }
+    requires value_short { L.value_len lengths ≤ 255 }
+    requires key { length key.now ≡ L.key_len lengths }
+    requires value { length value.now ≡ L.value_len lengths }
+    requires end { let F = format_of (L.key_len lengths) (L.value_len lengths) H.hash
+        in IsSearchEnd F (stored_in (entries_of F bytes.old) (controls_of F bytes.old))
+        (controls_of F bytes.old) key.now end.0 }
+    requires tag { let F = format_of (L.key_len lengths) (L.value_len lengths) H.hash
+        in end.1 ≡ key_tag F key.now }
+    ensures placed { let c = bytes_coding
+        (format_of (L.key_len lengths) (L.value_len lengths) H.hash)
+        in (P : Table)
+        → IsImage c.format P bytes.old
+        → IfOk (answered c.format (entries_of c.format bytes.old) end.0 result)
+        (λ old. IsOnePlaced c P key.now value.now old bytes.new) }
+    ensures framed { let c = bytes_coding
+        (format_of (L.key_len lengths) (L.value_len lengths) H.hash)
+        in IsFramed c bytes.old key.now value.now
+        (answered c.format (entries_of c.format bytes.old) end.0 result) bytes.new }
+    ensures accepted { IsAccepted (format_of (L.key_len lengths) (L.value_len lengths) H.hash)
+        bytes.new }
+    ensures len { length bytes.new ≡ length bytes.old }
+{
+    hold_bytes(bytes);
+    hold_bytes(key);
+    hold_bytes(value);
+    let at = HEADER_SIZE + slots * lengths.entry_len();
+    let (table, control) = bytes.split_at_mut(at);
+    let (front, entries) = table.split_at_mut(HEADER_SIZE);
+    // The room is that up to the maximum item count.
+    let header = Header::of(front);
+    let count = header.item_count();
+    let room = header.max_load_factor().apply(slots).saturating_sub(count);
+    match write_at_end::<L, H>(control, entries, slots, lengths, key, value, end, room) {
+        Ok(()) => {
+            if is_found(end.0) {
+                return Ok(());
+            }
+            write_count(front, count + 1);
+            Ok(())
+        }
+        Err(refused) => Err(refused),
+    }
+}
+
+/// Gives the key this value in the bytes of a table, and returns its former one. `Full`, with
+/// nothing changed, where the search does not find the key and the header's item count is its
+/// maximum or more, or where it finds neither the key nor a free slot. A new entry raises the item
+/// count by one. The key is hashed once.
+pub fn insert_sized<H: HashFn>(
+    bytes: &mut [u8],
+    layout: Layout,
+    key: &[u8],
+    value: &[u8],
+) -> Result<Option<ShortBytes>, Error>
+    requires accepted { IsAccepted (format_of layout.key_len layout.value_len H.hash) bytes.old }
+    requires hashes { H.MIN_LEN ≤ layout.key_len }
+    requires key { length key.now ≡ layout.key_len }
+    requires value { length value.now ≡ layout.value_len }
+    ensures placed { let c = bytes_coding (format_of layout.key_len layout.value_len H.hash)
+        in (P : Table)
+        → IsImage c.format P bytes.old
+        → IfOk result (λ old. IsOnePlaced c P key.now value.now old bytes.new) }
+    ensures framed { let c = bytes_coding (format_of layout.key_len layout.value_len H.hash)
+        in IsFramed c bytes.old key.now value.now result bytes.new }
+    ensures accepted { IsAccepted (format_of layout.key_len layout.value_len H.hash) bytes.new }
+    ensures len { length bytes.new ≡ length bytes.old }
+{
+    let slots = Header::of(bytes).slot_count();
+    let parts = cut::<Layout, H>(&*bytes, slots, layout);
+    let end = parts.insert_end(key);
+    let former = parts.short_value_at(end.0);
+    match insert_in::<Layout, H>(bytes, slots, layout, key, value, end) {
+        Ok(()) => Ok(former),
+        Err(refused) => Err(refused),
+    }
+}
+
+/// `insert_sized` of a key and a value of a configuration, by a group search of the caller's
+/// choice, in bytes of so many slots.
+#[inline(always)]
+pub(crate) fn insert_typed<C: Config, Q: Group>(
+    bytes: &mut [u8],
+    slots: usize,
+    key: &C::Key,
+    value: &C::Value,
+) -> Result<Option<C::Value>, Error>
+    requires accepted { IsAccepted ⟦<C as Coded>⟧.coding.format bytes.old }
+    requires slots { slots ≡ header_slots bytes.old }
+    ensures placed { let c = ⟦<C as Coded>⟧.coding
+        in (P : Table)
+        → IsImage c.format P bytes.old
+        → IfOk result (λ old. IsOnePlaced c P key.now value.now old bytes.new) }
+    ensures framed { let c = ⟦<C as Coded>⟧.coding
+        in IsFramed c bytes.old key.now value.now result bytes.new }
+    ensures accepted { IsAccepted ⟦<C as Coded>⟧.coding.format bytes.new }
+    ensures len { length bytes.new ≡ length bytes.old }
+{
+    let (key, value) = encode_pair::<C>(key, value);
+    let (key, value) = (key.as_slice(), value.as_slice());
+    let lengths: Fixed<C::EncodedKey, C::EncodedValue> = Fixed::new();
+    let parts = cut::<Fixed<C::EncodedKey, C::EncodedValue>, C::H>(&*bytes, slots, lengths);
+    let end = parts.search_end::<Q>(key);
+    let former = former_value::<C>(&parts, end.0);
+    match insert_in::<Fixed<C::EncodedKey, C::EncodedValue>, C::H>(
+        bytes, slots, lengths, key, value, end,
+    ) {
+        Ok(()) => Ok(former),
+        Err(refused) => Err(refused),
+    }
+}
+
+// The value where a search ended, if it found the key.
+#[inline(always)]
+fn former_value<C: Config>(
+    parts: &Parts<'_, Fixed<C::EncodedKey, C::EncodedValue>, C::H>,
+    end: Search,
+) -> Option<C::Value>
+    requires slot { MatchSearchResult end (λ i. i < parts.now.parts.entries.slots) (λ i. ⊤) ⊤ }
+    requires len { parts.now.value_len ≡ C.EncodedValue.LEN }
+    ensures { let c = ⟦<C as Coded>⟧.coding
+        in result ≡ option_map c.value_of
+        (former_of (sized_format parts.now C.H.hash) parts.now.parts.entries.bytes end) }
+{
+    match parts.value_at(end) {
+        Some(value) => Some(C::decode_value(&C::EncodedValue::from_slice(value))),
+        None => None,
+    }
+}

@@ -1,0 +1,119 @@
+//! The write of a pair into the parts of a table, whose lengths of keys and values are types or
+//! numbers: where the search for its key ended, or into a slot.
+//!
+//! It does not answer with the former value of the key: who wants that value reads it where the
+//! search ended, before the write.
+ghost use Rattle.std.specs.Prelude.{◌≡◌, ◌+◌, ◌-◌, ◌*◌, ◌<◌, ◌++◌, ℕ, List, length, IsTrue, IsFalse};
+ghost use Rattle.std.specs.Prelude.{Some, None};
+ghost use Rattle.odht_base.specs.Bytes.{overwritten_at};
+ghost use Rattle.odht_base.specs.Format.{Format, format_of};
+ghost use Rattle.odht_base.specs.Load.{IsSlotCount};
+ghost use Rattle.odht_base.specs.Numbers.{IsBytes};
+ghost use Rattle.odht_base.specs.Table.{Pair};
+ghost use Rattle.odht_base.specs.Writes.{tagged};
+ghost use Rattle.odht_raw.specs.Formers.{answered, former_of};
+ghost use Rattle.odht_raw.specs.PartLengths.{ArePairLengths, ArePartLengths};
+ghost use Rattle.odht_raw.specs.SearchResults.{answer};
+ghost use Rattle.odht_raw.specs.Steps.{IsStepWhere, IsTaggedEnd};
+
+use super::{EntryMetadata, Search};
+use crate::bytes::write_slice;
+use crate::error::Error;
+use crate::hash::HashFn;
+use crate::layout::Lengths;
+use crate::swisstable_group_query::REFERENCE_GROUP_SIZE;
+
+/// Writes a pair where the search for its key ended, which comes with the key's tag: the value
+/// alone into the slot that holds the key, or, where there is room, the entry with its tag into
+/// the free slot. `Full`, with nothing changed, where there is no room for a new entry, or the
+/// search met neither slot.
+///
+/// In the clause the former value stands in an Ok. It is not returned.
+#[inline(always)]
+pub(crate) fn write_at_end<L: Lengths, H: HashFn>(
+    control: &mut [EntryMetadata],
+    entries: &mut [u8],
+    slots: usize,
+    lengths: L,
+    key: &[u8],
+    value: &[u8],
+    end: (Search, u8),
+    room: usize,
+) -> Result<(), Error>
+    requires lengths { ArePartLengths H.MIN_LEN (L.key_len lengths) (L.value_len lengths)
+        (length entries.old) (length control.old) }
+    requires slots { slots ≡ length control.old - 16 }
+    requires key { IsBytes (L.key_len lengths) key.now }
+    requires value { IsBytes (L.value_len lengths) value.now }
+    requires end { let F = format_of (L.key_len lengths) (L.value_len lengths) H.hash
+        in IsTaggedEnd F room entries.old control.old key.now end }
+    ensures { let F = format_of (L.key_len lengths) (L.value_len lengths) H.hash
+        in let p : Pair = record { key = key.now; value = value.now }
+        in IsStepWhere (λ P. end.0 ≡ answer F P.cells p.key) F (λ b. b) room
+        (entries.old, control.old) p (answered F entries.old end.0 result)
+        (entries.new, control.new) }
+{
+    let (end, tag) = end;
+    match end {
+        Search::Found(slot) => {
+            let at = slot * lengths.entry_len() + lengths.key_len();
+            write_slice(entries, at, value);
+            Ok(())
+        }
+        Search::Free(slot) => {
+            if room == 0 {
+                return Err(Error::Full);
+            }
+            write_slot(control, entries, slots, lengths, key, value, tag, slot);
+            Ok(())
+        }
+        Search::Neither => Err(Error::Full),
+    }
+}
+
+/// Writes the pair into a slot, the tag into the slot's control byte, and for a slot below 16 the
+/// tag into the mirror.
+#[inline(always)]
+pub(super) fn write_slot<L: Lengths>(
+    control: &mut [EntryMetadata],
+    entries: &mut [u8],
+    slots: usize,
+    lengths: L,
+    key: &[u8],
+    value: &[u8],
+    tag: u8,
+    slot: usize,
+)
+    requires lengths { ArePairLengths 0 (L.key_len lengths) (L.value_len lengths) }
+    requires slots { IsSlotCount slots }
+    requires control { length control.old ≡ slots + 16 }
+    requires entries { length entries.old ≡ slots * (L.key_len lengths + L.value_len lengths) }
+    requires key { length key.now ≡ L.key_len lengths }
+    requires value { length value.now ≡ L.value_len lengths }
+    requires slot { slot < slots }
+    ensures entries { let at = slot * (L.key_len lengths + L.value_len lengths)
+        in entries.new ≡ overwritten_at entries.old at (key.now ++ value.now) }
+    ensures control { control.new ≡ tagged control.old slot tag }
+{
+    let at = slot * lengths.entry_len();
+    write_slice(entries, at, key);
+    write_slice(entries, at + lengths.key_len(), value);
+    control[slot] = tag;
+    if slot < REFERENCE_GROUP_SIZE {
+        control[slots + slot] = tag;
+    }
+}
+
+/// Whether a search found the key.
+#[inline(always)]
+pub(crate) fn is_found(end: Search) -> bool
+    ensures found { (F : Format) (es : List ℕ)
+        → IsTrue result → (v : List ℕ) × (former_of F es end ≡ Some v) }
+    ensures absent { (F : Format) (es : List ℕ) → IsFalse result → former_of F es end ≡ None }
+{
+    match end {
+        Search::Found(_) => true,
+        Search::Free(_) => false,
+        Search::Neither => false,
+    }
+}

@@ -1,0 +1,94 @@
+// Made by `make rust` of crates/odht_raw/src/raw_table/parts_mut.rt.
+//! The parts of a table, borrowed to be written. The lengths of keys and values are types or
+//! numbers.
+
+use super::free_search::first_free;
+use super::writes::{write_at_end, write_slot};
+use super::{slot_count_of, tag_of, EntryMetadata, Parts, ShortBytes, Stored};
+use crate::proved::raw::error::Error;
+use crate::proved::raw::hash::HashFn;
+use crate::proved::raw::layout::{Layout, Lengths};
+use crate::proved::raw::memory_layout::hold_bytes;
+use crate::proved::raw::swisstable_group_query::GroupQuery;
+use std::marker::PhantomData;
+
+/// The parts of a table, borrowed to be written: the control bytes with their mirror, and the
+/// bytes of as many entries. Keys and values are bytes of the right length.
+///
+/// After the borrow both slices hold what the inserts left in them.
+pub struct PartsMut<'c, 'e, L: Lengths, H: HashFn> {
+    control: &'c mut [EntryMetadata],
+    entries: &'e mut [u8],
+    lengths: L,
+    hash: PhantomData<H>,
+}
+
+/// The parts of a table whose lengths of keys and values are numbers, borrowed to be written.
+pub type SizedTableMut<'c, 'e, H> = PartsMut<'c, 'e, Layout, H>;
+
+impl<'c, 'e, L: Lengths, H: HashFn> PartsMut<'c, 'e, L, H> {
+    /// The table of these parts. No control byte and no entry is checked or written.
+    #[inline]
+    pub fn new(control: &'c mut [EntryMetadata], entries: &'e mut [u8], lengths: L) -> Self {
+        PartsMut { control, entries, lengths, hash: PhantomData }
+    }
+
+    /// Writes the pair into the first free slot of its key's probe order. No key is compared, so
+    /// it is for a key that the table does not have. Key and value have the lengths of the
+    /// table's.
+    ///
+    /// It does what [`RawTableMut::place`](super::RawTableMut::place) does to the parts of a table
+    /// whose keys and values have these lengths, to any parts too.
+    pub fn place(&mut self, key: &[u8], value: &[u8]) -> Result<(), Error> {
+        hold_bytes(key);
+        hold_bytes(value);
+        let hash = H::hash(key);
+        let (control, entries) = (&mut *self.control, &mut *self.entries);
+        let Some(slot) = first_free::<GroupQuery>(control, hash) else {
+            return Err(Error::Full);
+        };
+        write_slot(
+            control,
+            entries,
+            slot_count_of(control),
+            self.lengths,
+            key,
+            value,
+            tag_of(hash),
+            slot,
+        );
+        Ok(())
+    }
+
+    /// Overwrites the value stored with the key, or writes the pair into the first free slot of
+    /// the key's probe order. Returns the former value. Key and value have the lengths of the
+    /// table's.
+    ///
+    /// It does what [`RawTableMut::insert`](super::RawTableMut::insert) does to the parts of a
+    /// table whose keys and values have these lengths, to any parts too.
+    pub fn insert(&mut self, key: &[u8], value: &[u8]) -> Result<Option<ShortBytes>, Error> {
+        hold_bytes(key);
+        hold_bytes(value);
+        let lengths = self.lengths;
+        let (control, entries) = (&mut *self.control, &mut *self.entries);
+        let slots = slot_count_of(control);
+        let stored = Stored::new(&*entries, slots, lengths);
+        let parts: Parts<'_, L, H> = Parts::of(&*control, stored);
+        let end = parts.insert_end(key);
+        let former = parts.short_value_at(end.0);
+        match write_at_end::<L, H>(
+            control,
+            entries,
+            slots,
+            lengths,
+            key,
+            value,
+            end,
+            // As many entries may be added as there are free slots.
+            usize::MAX,
+        ) {
+            Ok(()) => Ok(former),
+            Err(refused) => Err(refused),
+        }
+    }
+}

@@ -1,0 +1,80 @@
+// Made by `make rust` of crates/odht_raw/src/raw_table/writes.rt.
+//! The write of a pair into the parts of a table, whose lengths of keys and values are types or
+//! numbers: where the search for its key ended, or into a slot.
+//!
+//! It does not answer with the former value of the key: who wants that value reads it where the
+//! search ended, before the write.
+
+use super::{EntryMetadata, Search};
+use crate::proved::raw::bytes::write_slice;
+use crate::proved::raw::error::Error;
+use crate::proved::raw::hash::HashFn;
+use crate::proved::raw::layout::Lengths;
+use crate::proved::raw::swisstable_group_query::REFERENCE_GROUP_SIZE;
+
+/// Writes a pair where the search for its key ended, which comes with the key's tag: the value
+/// alone into the slot that holds the key, or, where there is room, the entry with its tag into
+/// the free slot. `Full`, with nothing changed, where there is no room for a new entry, or the
+/// search met neither slot.
+///
+/// In the clause the former value stands in an Ok. It is not returned.
+#[inline(always)]
+pub(crate) fn write_at_end<L: Lengths, H: HashFn>(
+    control: &mut [EntryMetadata],
+    entries: &mut [u8],
+    slots: usize,
+    lengths: L,
+    key: &[u8],
+    value: &[u8],
+    end: (Search, u8),
+    room: usize,
+) -> Result<(), Error> {
+    let (end, tag) = end;
+    match end {
+        Search::Found(slot) => {
+            let at = slot * lengths.entry_len() + lengths.key_len();
+            write_slice(entries, at, value);
+            Ok(())
+        }
+        Search::Free(slot) => {
+            if room == 0 {
+                return Err(Error::Full);
+            }
+            write_slot(control, entries, slots, lengths, key, value, tag, slot);
+            Ok(())
+        }
+        Search::Neither => Err(Error::Full),
+    }
+}
+
+/// Writes the pair into a slot, the tag into the slot's control byte, and for a slot below 16 the
+/// tag into the mirror.
+#[inline(always)]
+pub(super) fn write_slot<L: Lengths>(
+    control: &mut [EntryMetadata],
+    entries: &mut [u8],
+    slots: usize,
+    lengths: L,
+    key: &[u8],
+    value: &[u8],
+    tag: u8,
+    slot: usize,
+) {
+    let at = slot * lengths.entry_len();
+    write_slice(entries, at, key);
+    write_slice(entries, at + lengths.key_len(), value);
+    index_mut!(control[slot], "slot < slots") = tag;
+    if slot < REFERENCE_GROUP_SIZE {
+        index_mut!(control[slots + slot], "slot < slots") = tag;
+    }
+}
+
+/// Whether a search found the key.
+#[inline(always)]
+pub(crate) fn is_found(end: Search) -> bool {
+    match end {
+        Search::Found(_) => true,
+        Search::Free(_) => false,
+        Search::Neither => false,
+    }
+}
