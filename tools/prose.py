@@ -25,14 +25,11 @@ DROPPED = [
 LONG_STILL = {"docs/TOOL.md"}
 # crates of which the comments are read for dropped words too
 LIBRARIES = ("odht_base", "odht_header", "odht_raw", "odht", "odht_index")
-# a part that tools/proofs makes begins here
-MADE = "\n## The calls\n"
 
 
 def documents():
     names = ["README.md", "CONTRIBUTING.md", "rust/README.md", *glob.glob("docs/*.md", root_dir=TOP)]
-    # tools/map.py makes docs/FILES.md of comments
-    return sorted({*names, *glob.glob("bench/*.md", root_dir=TOP)} - {"docs/FILES.md"})
+    return sorted({*names, *glob.glob("bench/*.md", root_dir=TOP)})
 
 
 def sources():
@@ -48,7 +45,6 @@ def comments_of(text):
 
 def prose_of(text):
     """Returns the text with what is no prose blanked; lines stay where they are."""
-    text = text.split(MADE)[0]
     text = re.sub(r"^```.*?^```$", lambda it: "\n" * it[0].count("\n"), text, flags=re.M | re.S)
     text = re.sub(r"^    .*$", "", text, flags=re.M)
     text = re.sub(r"`[^`\n]*(?:\n[^`\n]+)?`", lambda it: "code" + "\n" * it[0].count("\n"), text)
