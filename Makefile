@@ -38,7 +38,7 @@
 #                       is the same for each error
 #   make manual         generates from commands.txt what is the same for each command of `odht`: code, definitions,
 #                       help, cases, the table in docs/TOOL.md, the manual page and completions
-#   make documents      generates docs/PROOFS.md, docs/FILES.md, and the speeds in README.md and rust/README.md
+#   make documents      generates the speeds in README.md and rust/README.md from bench/RESULTS.md
 #
 # Measure
 #   make bench          [kit] the tables of speeds. QUICK=1 for a short run, ODHT_RUST=folder for the original too,
@@ -126,8 +126,6 @@ rust:
 	@python3 tools/documents.py
 
 documents:
-	@python3 tools/proofs
-	@python3 tools/map.py
 	@python3 tools/speeds.py
 
 .PHONY: manual

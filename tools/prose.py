@@ -1,11 +1,12 @@
 #!/usr/bin/env python3
-"""The longest sentences of the documents, and words that they and the library's comments do not use.
+"""Checks the language of the documents: the length of sentences, words of our own, and one name for each idea.
 
-  tools/prose.py [FILE..]     lists sentences of more than 40 words, the longest first, and words that were dropped
-  tools/prose.py --check      status 1 where a document has a dropped word, or a sentence of more than 50 words
+  tools/prose.py [FILE..]     lists sentences of more than 25 words, the longest first, and words that are not used
+  tools/prose.py --check      status 1 where a document has such a word, or a sentence of more than 35 words
 
 The parts of a sentence that semicolons part count by themselves; so do lines of a list and cells of a table. Blocks of
-code, code in a line and what scripts make are left out.
+code, code in a line and what scripts make are left out. In comments of the libraries only the first words are looked
+for.
 """
 import glob
 import os
@@ -13,26 +14,50 @@ import re
 import sys
 
 TOP = os.path.dirname(os.path.dirname(os.path.realpath(__file__)))
-LONG, TOO_LONG = 40, 50
-# the word, where it may stand, and what is written instead
+LONG, TOO_LONG = 25, 35
+# a word, documents that may use it, and what is written instead; these in comments too
 DROPPED = [
     (r"\brefus(?:e|es|ed|ing|al|als)\b", (), "reject, return"),
-    (r"\banswer(?:s|ed|ing)?\b", ("docs/SCRIPT.md", "docs/TOOL.md"), "return, write, result"),
+    (r"\banswer(?:s|ed|ing)?\b", ("docs/SCRIPT.md",), "return, write, result"),
     (r"\bunprobed\b|\bfingerprints?\b", (), "tag"),
     (r"\b(?:utilize|utilise|leverage|robust|seamless(?:ly)?|simply)\b", (), "a plain word"),
 ]
-# documents whose sentences are listed, and no fault yet
-LONG_STILL = {"docs/TOOL.md"}
+# the usual word
+USUAL = [
+    (r"\balone\b", (), "only"),
+    (r"\bstrangers?\b|\bforeign bytes\b|\bbytes from elsewhere\b", (), "untrusted bytes"),
+    (r"\bplanted\b|\bmust-fail edits?\b", (), "mutant, inserted"),
+    (r"\btells? (?:whether|that|which|what|how|each|of)\b", (), "report, print"),
+    (r"\b(?:is|are) made (?:of|anew)\b", (), "is generated from"),
+    (r"\bgo(?:es)? (?:by|the way of)\b", (), "use, work like"),
+    (r"\bwant of memory\b|\bmemory (?:where it )?is denied\b|\bgives none\b", (), "if allocation fails"),
+    (r"\b(?:asks?|requests?) for memory\b|\brequests? (?:of|to) the allocator\b", (), "allocate"),
+    (r"\bwhoever\b|\bone who\b|\bwho has (?:it|them)\b", (), "you, the caller"),
+    (r"\bso many\b|\bas many as\b", (), "n, the same number of"),
+    (r"\banew\b|\bonce more\b", (), "again, from scratch"),
+    (r"\bin place of\b", (), "instead of"),
+    (r"\bbeside\b", (), "compared with, and, next to"),
+    (r"\bbut for\b", (), "except"),
+    (r"\bbehind\b", (), "after"),
+    (r"\bcarried\b", (), "ported, executed"),
+    (r"\b(?:it is said|no clause says)\b", (), "the contract states, does not state"),
+]
+# one name for each idea
+NAMES = [
+    (r"\btables? of (?:any|other) (?:lengths|sizes)\b|\blengths (?:that|which) are numbers\b|\bsized tables?\b", (),
+     "dynamic table, run-time sizes"),
+    (r"\btables? (?:that|which) grows?\b", (), "owned table"),
+    (r"\berased (?:source|program|crate|build|text)\b", (), "plain Rust"),
+    (r"\bwrong bod(?:y|ies)\b", ("docs/TESTS.md", "docs/PROOFS.md", "docs/READING.md", "CONTRIBUTING.md"), "mutant"),
+]
 # crates of which the comments are read for dropped words too
 LIBRARIES = ("odht_base", "odht_header", "odht_raw", "odht", "odht_index")
-# a part that tools/proofs makes begins here
-MADE = "\n## The calls\n"
 
 
 def documents():
-    names = ["README.md", "CONTRIBUTING.md", "rust/README.md", *glob.glob("docs/*.md", root_dir=TOP)]
-    # tools/map.py makes docs/FILES.md of comments
-    return sorted({*names, *glob.glob("bench/*.md", root_dir=TOP)} - {"docs/FILES.md"})
+    names = ["README.md", "CONTRIBUTING.md", *glob.glob("docs/*.md", root_dir=TOP), *glob.glob("bench/*.md", root_dir=TOP)]
+    more = ("rust", "rust/c", "rust/cli", "rust/table", "bindings/rust", "tests", "examples")
+    return sorted({*names, *(f"{it}/README.md" for it in more)})
 
 
 def sources():
@@ -48,7 +73,7 @@ def comments_of(text):
 
 def prose_of(text):
     """Returns the text with what is no prose blanked; lines stay where they are."""
-    text = text.split(MADE)[0]
+    text = re.sub(r"^<!-- (?:begin|Generated).*?^<!-- [eE]nd.*?$", lambda it: "\n" * it[0].count("\n"), text, flags=re.M | re.S)
     text = re.sub(r"^```.*?^```$", lambda it: "\n" * it[0].count("\n"), text, flags=re.M | re.S)
     text = re.sub(r"^    .*$", "", text, flags=re.M)
     text = re.sub(r"`[^`\n]*(?:\n[^`\n]+)?`", lambda it: "code" + "\n" * it[0].count("\n"), text)
@@ -69,23 +94,23 @@ def sentences(text):
         at += block.count("\n")
 
 
-def dropped_of(name, text):
-    """Returns the dropped words of a text, each with its place."""
+def dropped_of(name, text, words):
+    """Returns the words of a text that are not used, each with its place."""
     return [f"{name}:{number}: {it}: {instead}"
             for number, line in enumerate(text.split("\n"), 1)
-            for pattern, allowed, instead in DROPPED if name not in allowed
+            for pattern, allowed, instead in words if name not in allowed
             for it in re.findall(pattern, line, re.I)]
 
 
 def found_in(name):
-    """Returns what is long, in a document alone, and what was dropped."""
+    """Returns what is long, in a document only, and which words are not used."""
     with open(f"{TOP}/{name}", encoding="utf-8") as it:
         text = it.read()
     if name.endswith(".rt"):
-        return [], dropped_of(name, comments_of(text))
+        return [], dropped_of(name, comments_of(text), DROPPED)
     text = prose_of(text)
     long = [(len(words), f"{name}:{line}", " ".join(words)) for line, words in sentences(text) if len(words) > LONG]
-    return long, dropped_of(name, text)
+    return long, dropped_of(name, text, [*DROPPED, *USUAL, *NAMES])
 
 
 def main(*words):
@@ -94,7 +119,7 @@ def main(*words):
     long = sorted((it for part, _ in found for it in part), reverse=True)
     dropped = [it for _, part in found for it in part]
     if is_check:
-        long = [it for it in long if it[0] > TOO_LONG and it[1].split(":")[0] not in LONG_STILL]
+        long = [it for it in long if it[0] > TOO_LONG]
     lines = [f"{place}: {count} words: {text[:100]}" for count, place, text in long] + dropped
     print("".join(f"{it}\n" for it in lines), end="")
     return 1 if is_check and (long or dropped) else 0

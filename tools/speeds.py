@@ -22,7 +22,7 @@ ROWS = [
     ("`odht_*_view_get` of a present key, from C", "# A run", "hits, view_get"),
     ("`odht_*_get` of a present key, from C; it checks the header at each call", "# A run", "hits, get from C"),
 ]
-# the rows of the crate for Rust that rust/README.md tells
+# the rows of the crate for Rust that rust/README.md has
 CRATE_TOLD = ["insert", "get, present", "walk"]
 
 
@@ -55,10 +55,10 @@ def of_crate(text, results):
     found = [ratios(results, "## The crate for Rust", name) for name in CRATE_TOLD]
     (insert, insert_checked), (get, get_checked), (walk, walk_checked) = found
     told = (
-        f"Beside the original, on tables of {SIZE} numbers, `insert` takes {insert} of the time, and "
+        f"Compared with the original, on tables of {SIZE} numbers, `insert` takes {insert} of the time, and "
         f"{insert_checked} with `checked`; `get` of a present key {get} and {get_checked}; a walk {walk} and {walk_checked}."
     )
-    paragraph = re.search(r"Beside the original, on tables of .*?\n\n", text, re.S)[0]
+    paragraph = re.search(r"Compared with the original, on tables of .*?\n\n", text, re.S)[0]
     behind = re.search(r"`bench/RESULTS.md` .*", " ".join(paragraph.split()))[0]
     return text.replace(paragraph, textwrap.fill(f"{told} {behind}", WIDTH) + "\n\n")
 

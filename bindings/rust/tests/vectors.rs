@@ -1,5 +1,5 @@
-//! The conformance vectors of the repository, vectors/*.txt, of those configurations and calls that this crate has.
-//! vectors/README.md describes the lines.
+//! The conformance vectors of the repository, crates/odht_vectors/data/*.txt, of those configurations and calls that
+//! this crate has. README.md there describes the lines.
 
 use std::collections::HashMap;
 use std::path::Path;
@@ -283,7 +283,7 @@ fn run_file(text: &str) -> usize {
 
 #[test]
 fn the_vectors_hold() {
-    let folder = Path::new(env!("CARGO_MANIFEST_DIR")).join("../../vectors");
+    let folder = Path::new(env!("CARGO_MANIFEST_DIR")).join("../../crates/odht_vectors/data");
     let Ok(files) = std::fs::read_dir(&folder) else {
         println!("There is no {}: this package is not in its repository.", folder.display());
         return;

@@ -162,7 +162,7 @@ fn run_file(text: &str, run: &dyn Fn(&Case<'_>) -> bool) -> usize {
 
 // The folder of the vectors, where this crate is in its repository.
 fn folder() -> Option<PathBuf> {
-    let folder = Path::new(env!("CARGO_MANIFEST_DIR")).join("../vectors");
+    let folder = Path::new(env!("CARGO_MANIFEST_DIR")).join("../crates/odht_vectors/data");
     folder.is_dir().then_some(folder)
 }
 

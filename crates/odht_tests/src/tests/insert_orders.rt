@@ -1,6 +1,6 @@
 //! Orders of inserts of tables of lists that look random: one is found, it lists the occupied
 //! slots, and its inserts make the table again. Single tables, and tables that no inserts make,
-//! are in vectors/insert_orders.txt.
+//! are in crates/odht_vectors/data/insert_orders.txt.
 use crate::tests::checks::{same, same_bytes};
 use crate::tests::dynamic_orders::check_order;
 use odht::bytes::ByteArray;
