@@ -25,9 +25,15 @@ fn insert_both<H: HashFn>(
     } else {
         Ok(writing.put(key, value).expect("a free slot"))
     };
+    let mut other = DynTable::<H, _>::open(table.layout(), table.raw_bytes().to_vec()).unwrap();
     let former = table.insert(key, value).map(|former| former.map(|it| it.to_vec()));
     assert_eq!(former, expected);
     assert_eq!(table.raw_bytes(), writing.bytes);
+    let mut left = vec![9; value.len()];
+    let told = other.insert_into(key, value, &mut left);
+    assert_eq!(told, expected.clone().map(|former| former.is_some()));
+    assert_eq!(left, expected.ok().flatten().unwrap_or(vec![9; value.len()]));
+    assert_eq!(other.raw_bytes(), writing.bytes);
 }
 
 // Replaces both by the tables that they grow into.
@@ -90,6 +96,10 @@ fn other_lengths_are_not_inserted() {
         for len in (0..300).filter(|len| *len != 4) {
             let wrong_value = DynError::WrongValueLength { expected: 4, found: len };
             assert_eq!(view.insert(&[0; 8], &vec![1; len]), Err(wrong_value));
+            let mut former = vec![9; len];
+            let answer = view.insert_into(&[0; 8], &[1; 4], &mut former);
+            let wrong_former = DynError::WrongValueLength { expected: 4, found: len };
+            assert_eq!((answer, former), (Err(wrong_former), vec![9; len]));
         }
         let both = DynError::WrongKeyLength { expected: 8, found: 7 };
         assert_eq!(view.insert(&[0; 7], &[1; 5]), Err(both));

@@ -41,3 +41,5 @@ pub mod OwnedInserts
 pub mod DynOwned
 -- tables that are read by position
 pub mod Files
+-- what is told of a former value that is written into bytes of the caller
+pub mod DynFormers

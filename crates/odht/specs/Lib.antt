@@ -39,3 +39,5 @@ pub mod DynLists
 pub mod DynOwned
 -- tables that are read by position
 pub mod Files
+-- an insert that writes the former value into bytes of the caller
+pub mod DynFormers

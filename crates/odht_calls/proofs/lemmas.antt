@@ -38,3 +38,5 @@ pub mod EqualPairs
 pub mod AnyLists
 -- tables of bytes that grow while they are built
 pub mod GrownBuilds
+-- an insert that writes the former value into bytes of the caller
+pub mod InsertedInto

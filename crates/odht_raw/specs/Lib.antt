@@ -64,3 +64,5 @@ pub mod Reads
 pub mod Stored
 -- what an insert answers of the value that a key had
 pub mod Formers
+-- a former value that an insert writes into bytes of the caller
+pub mod FormerWrites

@@ -17,7 +17,7 @@ pub use allocation::Allocation;
 pub(crate) use allocation::hold_bytes;
 pub use check::{DEFAULT_GROUPS, check_all, check_all_within};
 pub use cuts::{parts_in, sized_parts};
-pub use inserts::insert_sized;
+pub use inserts::{insert_sized, insert_sized_into};
 pub use new_tables::{allocate, clear_entries, init_in_place, write_empty};
 pub use odht_header::header::{HEADER_SIZE, Header, LEAST_FACTOR, is_accepted, write_header};
 pub use odht_header::sizes::{bytes_needed, entry_at, layout_for};

@@ -134,4 +134,38 @@ impl<H: HashFn, D: Borrow<[u8]> + BorrowMut<[u8]>> DynTable<H, D> {
         let former = self.view_mut().insert(key, value)?;
         Ok(former.map(ShortBytes))
     }
+
+    /// [`insert`](DynTable::insert), which writes the former value to `former` and returns whether there is one. It takes
+    /// fewer instructions, since no value is copied more than once.
+    ///
+    /// ```
+    /// use odht::dynamic::{DynError, DynTable, Layout};
+    /// use odht::FxHashFn;
+    ///
+    /// let layout = Layout { key_len: 3, value_len: 1 };
+    /// let mut bytes = [0; 128];
+    /// let mut table = DynTable::<FxHashFn, _>::init_in_place(layout, &mut bytes[..], 13, 87)?;
+    /// let mut former = [0];
+    /// assert!(!table.insert_into(b"one", &[1], &mut former)?);
+    /// assert!(table.insert_into(b"one", &[7], &mut former)?);
+    /// assert_eq!(former, [1]);
+    ///
+    /// let error = table.insert_into(b"one", &[8], &mut [0, 0]).unwrap_err();
+    /// assert_eq!(error, DynError::WrongValueLength { expected: 1, found: 2 });
+    /// # Ok::<(), DynError>(())
+    /// ```
+    ///
+    /// # Errors
+    ///
+    /// Those of `insert`, and `WrongValueLength` where `former` has another length than the values of the table. The
+    /// table and `former` have not changed then. Nor has `former` where the key had no value.
+    #[inline]
+    pub fn insert_into(
+        &mut self,
+        key: &[u8],
+        value: &[u8],
+        former: &mut [u8],
+    ) -> Result<bool, DynError> {
+        self.view_mut().insert_into(key, value, former)
+    }
 }

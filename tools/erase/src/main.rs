@@ -74,6 +74,12 @@ const PLAN: Plan<'static> = Plan {
             store: "&[u8]",
             layout: "layout",
         },
+        SlotCount {
+            file: BYTE_INSERTS,
+            function: "insert_sized_into",
+            store: "&[u8]",
+            layout: "layout",
+        },
     ],
     open_enums: &[("odht/dynamic", "DynError"), ("odht_header/error", "Error")],
     texts: &[("odht_tool_core/help", "MADE", "\"erased\"")],

@@ -4,6 +4,7 @@ ghost use Rattle.odht_base.specs.Format.{format_of};
 ghost use Rattle.odht_raw.specs.Sized.{bytes_coding};
 ghost use Rattle.odht_raw.specs.Frame.{IsAccepted};
 ghost use Rattle.odht_calls.specs.Layouts.{AnyAnswers, SizedAnswers, any_coding};
+ghost use Rattle.odht_calls.specs.Told.{told_status};
 ghost use Rattle.odht_calls.specs.Writes.{BytesNeededAnswers, InitAnswers, InsertAnswers};
 ghost use Rattle.odht_calls.specs.Grows.{GrowAnswers};
 
@@ -15,10 +16,11 @@ use crate::status::{
 };
 use odht::bytes::{Borrowed, BorrowedMut};
 use odht::dynamic::{DynError, DynTable};
+use odht::error::Error;
 use odht::hash::HashFn;
 use odht::layout::Layout;
 use odht::load::Percent;
-use odht::memory_layout::{Header, LEAST_FACTOR, insert_sized};
+use odht::memory_layout::{Header, LEAST_FACTOR, insert_sized_into};
 
 fn bytes_needed_by<H: HashFn>(
     layout: Layout,
@@ -127,12 +129,16 @@ fn insert_by<H: HashFn>(
     if let Err(refused) = view::<H>(layout, bytes) {
         return status_of(&refused);
     }
-    match insert_sized::<H>(bytes, layout, key, value) {
-        Ok(Some(old)) => {
-            former.copy_from_slice(old.as_slice());
-            REPLACED
-        }
-        Ok(None) => OK,
+    told_status(insert_sized_into::<H>(bytes, layout, key, value, former))
+}
+
+// The status of an insert that tells whether the key had a value.
+fn told_status(told: Result<bool, Error>) -> u32
+    ensures { result ≡ told_status told }
+{
+    match told {
+        Ok(true) => REPLACED,
+        Ok(false) => OK,
         Err(refused) => status_of(&refused),
     }
 }

@@ -1,10 +1,11 @@
 //! Inserts into the bytes of a table: the parts are written, and last the item count. The lengths
 //! of keys and values are types or numbers.
-ghost use Rattle.std.specs.Prelude.{◌≡◌, ◌≤◌, ◌<◌, length, option_map, IfOk, ⊤};
+ghost use Rattle.std.specs.Prelude.{◌≡◌, ◌≤◌, ◌<◌, length, option_map, IfOk, IsOk, ⊤};
 ghost use Rattle.odht_base.specs.Decoded.{header_slots, entries_of, controls_of};
 ghost use Rattle.odht_base.specs.Format.{format_of, tag as key_tag};
 ghost use Rattle.odht_base.specs.Table.{Table};
 ghost use Rattle.odht_base.specs.Valid.{IsImage};
+ghost use Rattle.odht_raw.specs.FormerWrites.{IsOneInto};
 ghost use Rattle.odht_raw.specs.Formers.{answered, former_of};
 ghost use Rattle.odht_raw.specs.Frame.{IsAccepted, IsFramed};
 ghost use Rattle.odht_raw.specs.Parts.{stored_in};
@@ -63,6 +64,7 @@ fn insert_in<L: Lengths, H: HashFn>(
         (format_of (L.key_len lengths) (L.value_len lengths) H.hash)
         in IsFramed c bytes.old key.now value.now
         (answered c.format (entries_of c.format bytes.old) end.0 result) bytes.new }
+    ensures found { MatchSearchResult end.0 (λ _. IsOk result) (λ _. ⊤) ⊤ }
     ensures accepted { IsAccepted (format_of (L.key_len lengths) (L.value_len lengths) H.hash)
         bytes.new }
     ensures len { length bytes.new ≡ length bytes.old }
@@ -118,6 +120,37 @@ pub fn insert_sized<H: HashFn>(
     let former = parts.short_value_at(end.0);
     match insert_in::<Layout, H>(bytes, slots, layout, key, value, end) {
         Ok(()) => Ok(former),
+        Err(refused) => Err(refused),
+    }
+}
+
+/// `insert_sized`, which writes a former value to `former`. Returns whether there is one. Where
+/// there is none, and on an error, `former` is unchanged.
+#[inline(always)]
+pub fn insert_sized_into<H: HashFn>(
+    bytes: &mut [u8],
+    layout: Layout,
+    key: &[u8],
+    value: &[u8],
+    former: &mut [u8],
+) -> Result<bool, Error>
+    requires accepted { IsAccepted (format_of layout.key_len layout.value_len H.hash) bytes.old }
+    requires hashes { H.MIN_LEN ≤ layout.key_len }
+    requires key { length key.now ≡ layout.key_len }
+    requires value { length value.now ≡ layout.value_len }
+    requires former { length former.old ≡ layout.value_len }
+    ensures inserted { let c = bytes_coding (format_of layout.key_len layout.value_len H.hash)
+        in IsOneInto c bytes.old key.now value.now former.old result bytes.new former.new }
+    ensures accepted { IsAccepted (format_of layout.key_len layout.value_len H.hash) bytes.new }
+    ensures len { length bytes.new ≡ length bytes.old }
+{
+    let slots = Header::of(bytes).slot_count();
+    let parts = cut::<Layout, H>(&*bytes, slots, layout);
+    let end = parts.insert_end(key);
+    let had = parts.copy_value_at(end.0, former);
+    let written = insert_in::<Layout, H>(bytes, slots, layout, key, value, end);
+    match written {
+        Ok(()) => Ok(had),
         Err(refused) => Err(refused),
     }
 }

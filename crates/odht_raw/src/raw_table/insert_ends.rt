@@ -1,6 +1,7 @@
 //! Where the search for a key that is inserted ends, and the value that the key has there.
-ghost use Rattle.std.specs.Prelude.{◌≡◌, ◌<◌, ⊤, length, option_map};
+ghost use Rattle.std.specs.Prelude.{◌≡◌, ◌<◌, ⊤, is_some, length, option_map};
 ghost use Rattle.odht_base.specs.Format.{tag as key_tag};
+ghost use Rattle.odht_raw.specs.FormerWrites.{value_or};
 ghost use Rattle.odht_raw.specs.Formers.{former_of};
 ghost use Rattle.odht_raw.specs.SearchResults.{MatchSearchResult};
 ghost use Rattle.odht_raw.specs.Searches.{IsSearchEnd};
@@ -29,6 +30,27 @@ impl<'a, L: Lengths, H: HashFn> Parts<'a, L, H> {
             20 => self.search_end::<GroupQuery>(&key[..20]),
             32 => self.search_end::<GroupQuery>(&key[..32]),
             _ => self.search_end::<GroupQuery>(key),
+        }
+    }
+
+    /// Copies the value of the key that an insert searched for to `to`, where the search found it.
+    /// Returns whether it did.
+    #[inline(always)]
+    pub(crate) fn copy_value_at(&self, end: Search, to: &mut [u8]) -> bool
+        requires slot { MatchSearchResult end (λ slot. slot < self.now.parts.entries.slots)
+            (λ _. ⊤) ⊤ }
+        requires len { length to.old ≡ self.now.value_len }
+        ensures told { let F = sized_format self.now H.hash
+            in result ≡ is_some (former_of F self.now.parts.entries.bytes end) }
+        ensures bytes { let F = sized_format self.now H.hash
+            in to.new ≡ value_or (former_of F self.now.parts.entries.bytes end) to.old }
+    {
+        match self.value_at(end) {
+            Some(value) => {
+                to.copy_from_slice(value);
+                true
+            }
+            None => false,
         }
     }
 

@@ -4,7 +4,7 @@
 //! It does not answer with the former value of the key: who wants that value reads it where the
 //! search ended, before the write.
 ghost use Rattle.std.specs.Prelude.{◌≡◌, ◌+◌, ◌-◌, ◌*◌, ◌<◌, ◌++◌, ℕ, List, length, IsTrue, IsFalse};
-ghost use Rattle.std.specs.Prelude.{Some, None};
+ghost use Rattle.std.specs.Prelude.{Some, None, IsOk, ⊤};
 ghost use Rattle.odht_base.specs.Bytes.{overwritten_at};
 ghost use Rattle.odht_base.specs.Format.{Format, format_of};
 ghost use Rattle.odht_base.specs.Load.{IsSlotCount};
@@ -13,7 +13,7 @@ ghost use Rattle.odht_base.specs.Table.{Pair};
 ghost use Rattle.odht_base.specs.Writes.{tagged};
 ghost use Rattle.odht_raw.specs.Formers.{answered, former_of};
 ghost use Rattle.odht_raw.specs.PartLengths.{ArePairLengths, ArePartLengths};
-ghost use Rattle.odht_raw.specs.SearchResults.{answer};
+ghost use Rattle.odht_raw.specs.SearchResults.{MatchSearchResult, answer};
 ghost use Rattle.odht_raw.specs.Steps.{IsStepWhere, IsTaggedEnd};
 
 use super::{EntryMetadata, Search};
@@ -47,11 +47,12 @@ pub(crate) fn write_at_end<L: Lengths, H: HashFn>(
     requires value { IsBytes (L.value_len lengths) value.now }
     requires end { let F = format_of (L.key_len lengths) (L.value_len lengths) H.hash
         in IsTaggedEnd F room entries.old control.old key.now end }
-    ensures { let F = format_of (L.key_len lengths) (L.value_len lengths) H.hash
+    ensures step { let F = format_of (L.key_len lengths) (L.value_len lengths) H.hash
         in let p : Pair = record { key = key.now; value = value.now }
         in IsStepWhere (λ P. end.0 ≡ answer F P.cells p.key) F (λ b. b) room
         (entries.old, control.old) p (answered F entries.old end.0 result)
         (entries.new, control.new) }
+    ensures found { MatchSearchResult end.0 (λ _. IsOk result) (λ _. ⊤) ⊤ }
 {
     let (end, tag) = end;
     match end {

@@ -22,7 +22,7 @@ pub(crate) use allocation::hold_bytes;
 pub use allocation::Allocation;
 pub use check::{check_all, check_all_within, DEFAULT_GROUPS};
 pub use cuts::{parts_in, sized_parts};
-pub use inserts::insert_sized;
+pub use inserts::{insert_sized, insert_sized_into};
 pub use new_tables::{allocate, clear_entries, init_in_place, write_empty};
 pub use opening::{check_by_header, check_opening, stated_layout};
 pub use prefix::{sized_table_len, table_len};

@@ -72,6 +72,28 @@ pub fn insert_sized<H: HashFn>(
     }
 }
 
+/// `insert_sized`, which writes a former value to `former`. Returns whether there is one. Where
+/// there is none, and on an error, `former` is unchanged.
+#[inline(always)]
+pub fn insert_sized_into<H: HashFn>(
+    bytes: &mut [u8],
+    layout: Layout,
+    key: &[u8],
+    value: &[u8],
+    former: &mut [u8],
+) -> Result<bool, Error> {
+    let slots = Header::of(bytes).slot_count();
+    crate::shim::slots::check::<&[u8]>(bytes.len(), slots, layout);
+    let parts = cut::<Layout, H>(&*bytes, slots, layout);
+    let end = parts.insert_end(key);
+    let had = parts.copy_value_at(end.0, former);
+    let written = insert_in::<Layout, H>(bytes, slots, layout, key, value, end);
+    match written {
+        Ok(()) => Ok(had),
+        Err(refused) => Err(refused),
+    }
+}
+
 /// `insert_sized` of a key and a value of a configuration, by a group search of the caller's
 /// choice, in bytes of so many slots.
 #[inline(always)]

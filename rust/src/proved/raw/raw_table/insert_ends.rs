@@ -22,6 +22,19 @@ impl<'a, L: Lengths, H: HashFn> Parts<'a, L, H> {
         }
     }
 
+    /// Copies the value of the key that an insert searched for to `to`, where the search found it.
+    /// Returns whether it did.
+    #[inline(always)]
+    pub(crate) fn copy_value_at(&self, end: Search, to: &mut [u8]) -> bool {
+        match self.value_at(end) {
+            Some(value) => {
+                to.copy_from_slice(value);
+                true
+            }
+            None => false,
+        }
+    }
+
     /// The value of the key that an insert searched for, by value, where the search found it.
     #[inline(always)]
     pub(crate) fn short_value_at(&self, end: Search) -> Option<ShortBytes> {

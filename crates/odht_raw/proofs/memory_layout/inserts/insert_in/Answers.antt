@@ -1,6 +1,9 @@
 use Rattle.std.proofs.Common.{rules, ◌≡◌, ◌<◌, ◌≤◌, ◌+◌, ◌-◌, ◌*◌, ◌^◌, ◌∙◌, ℕ, List, [], ◌∷◌, length, Some, None, Ok, sym, ap, subst, refl, arith, take, drop, ◌++◌}
 use Rattle.odht_base.specs.Format.{Format, format_of, entry_len}
-use Rattle.std.specs.Prelude.{Option, Result}
+use Rattle.std.specs.Prelude.{Option, Result, IsOk, ⊤}
+use Rattle.odht_raw.specs.SearchResults.{MatchSearchResult}
+use Rattle.odht_raw.specs.declared.raw_table.search_result.Search.{Search}
+use Rattle.odht_raw.specs.declared.raw_table.search_result.Search.TheVariants.{Found, Free, Neither}
 use Rattle.odht_header.specs.declared.error.Error.{Error}
 use Rattle.odht_base.proofs.lemmas.ByteRanges.{bytes_at-take}
 use Rattle.odht_base.specs.Load.{IsSlotCount, max_items}
@@ -156,12 +159,12 @@ module _ (g : Over) (c : After-write_at_end g)
   framed =
       subst (λ m. IsStepFramed (F g (g.L.Lengths.key_len c.args.lengths) (g.L.Lengths.value_len c.args.lengths)) value_of m c.split_at_mut-front.result.1.now c.split_at_mut-table.result.1.now (encoded (K g (g.L.Lengths.key_len c.args.lengths) (g.L.Lengths.value_len c.args.lengths)) c.args.key.now c.args.value.now)
       R c.write_at_end.new.entries c.write_at_end.new.control) room_is
-      c.write_at_end.ensures.any.frame
+      c.write_at_end.ensures.step.any.frame
 
   answers : (P : Table) → IsImage (F g (g.L.Lengths.key_len c.args.lengths) (g.L.Lengths.value_len c.args.lengths)) P c.args.bytes.now
       → AnswersFormer (F g (g.L.Lengths.key_len c.args.lengths) (g.L.Lengths.value_len c.args.lengths)) value_of P (encoded (K g (g.L.Lengths.key_len c.args.lengths) (g.L.Lengths.value_len c.args.lengths)) c.args.key.now c.args.value.now) R c.write_at_end.new.entries c.write_at_end.new.control
   answers P is =
-      let parts = (cut-image (F g (g.L.Lengths.key_len c.args.lengths) (g.L.Lengths.value_len c.args.lengths)) c.args.bytes.now _ _ _ cut P is).1 in c.write_at_end.ensures.placed P parts (end.on_placed P parts)
+      let parts = (cut-image (F g (g.L.Lengths.key_len c.args.lengths) (g.L.Lengths.value_len c.args.lengths)) c.args.bytes.now _ _ _ cut P is).1 in c.write_at_end.ensures.step.placed P parts (end.on_placed P parts)
 
   -- a header that is not written has its own count
   kept : c.split_at_mut-front.result.0.now ≡ with_count c.split_at_mut-front.result.0.now (header_count c.args.bytes.now + 0)
@@ -337,7 +340,7 @@ returns-in-Err-clause-accepted g c =
     let cut = cut g front in
     let end = ended g front in
     let same = entries_are g front in
-    list_accepted (K g (g.L.Lengths.key_len c.args.lengths) (g.L.Lengths.value_len c.args.lengths)) c.args.bytes.now _ _ _ cut [] 0 _ _ _ (kept g at cut end same) (unchanged g at c.in-Err.ensures.any.errors.refused_entries c.in-Err.ensures.any.errors.refused_control) (omega arith) (counted g at cut end same) (small g at cut end same)
+    list_accepted (K g (g.L.Lengths.key_len c.args.lengths) (g.L.Lengths.value_len c.args.lengths)) c.args.bytes.now _ _ _ cut [] 0 _ _ _ (kept g at cut end same) (unchanged g at c.in-Err.ensures.step.any.errors.refused_entries c.in-Err.ensures.step.any.errors.refused_control) (omega arith) (counted g at cut end same) (small g at cut end same)
 
 pub returns-in-Err-clause-len : goal.returns-in-Err-clause-len
 returns-in-Err-clause-len g c =
@@ -346,4 +349,22 @@ returns-in-Err-clause-len g c =
     let cut = cut g front in
     let end = ended g front in
     let same = entries_are g front in
-    list_length (K g (g.L.Lengths.key_len c.args.lengths) (g.L.Lengths.value_len c.args.lengths)) c.args.bytes.now _ _ _ cut [] 0 _ _ _ (kept g at cut end same) (unchanged g at c.in-Err.ensures.any.errors.refused_entries c.in-Err.ensures.any.errors.refused_control) (omega arith) (counted g at cut end same) (small g at cut end same)
+    list_length (K g (g.L.Lengths.key_len c.args.lengths) (g.L.Lengths.value_len c.args.lengths)) c.args.bytes.now _ _ _ cut [] 0 _ _ _ (kept g at cut end same) (unchanged g at c.in-Err.ensures.step.any.errors.refused_entries c.in-Err.ensures.step.any.errors.refused_control) (omega arith) (counted g at cut end same) (small g at cut end same)
+
+-- an Ok is one wherever the search ended
+abbrev done : Result (Unit {0}) Error
+done = Ok tt
+
+ok_anywhere : (end : Search) → MatchSearchResult end (λ _. IsOk done) (λ _. ⊤) ⊤
+ok_anywhere (Found i) = refl
+ok_anywhere (Free i) = tt
+ok_anywhere Neither = tt
+
+pub returns-then-is_found-clause-found : goal.returns-then-is_found-clause-found
+returns-then-is_found-clause-found g c = ok_anywhere c.args.end.0
+
+pub returns-else-is_found-clause-found : goal.returns-else-is_found-clause-found
+returns-else-is_found-clause-found g c = ok_anywhere c.args.end.0
+
+pub returns-in-Err-clause-found : goal.returns-in-Err-clause-found
+returns-in-Err-clause-found g c = c.in-Err.ensures.found

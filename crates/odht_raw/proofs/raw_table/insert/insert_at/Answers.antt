@@ -50,7 +50,7 @@ stepped g c parts =
     let step : IsStepWhere (λ P. c.args.end.0 ≡ answer F P.cells key) F (λ b. b) c.args.room (es, ctrl) p (answered F es c.args.end.0 c.write_at_end.result) t' =
     subst (λ (v : List ℕ). IsStepWhere (λ P. c.args.end.0 ≡ answer F P.cells key) F (λ b. b) c.args.room (es, ctrl) (record { key = key; value = v }) (answered F es c.args.end.0 c.write_at_end.result) t') c.as_slice-value.ensures.value
     (subst (λ (k : List ℕ). IsStepWhere (λ P. c.args.end.0 ≡ answer F P.cells k) F (λ b. b) c.args.room (es, ctrl) (record { key = k; value = c.as_slice-value.result.now }) (answered F es c.args.end.0 c.write_at_end.result) t') c.as_slice-key.ensures.value
-    c.write_at_end.ensures) in
+    c.write_at_end.ensures.step) in
     let former : c.typed_value_at-former.result ≡ option_map g.V.ByteArray.of_bytes found =
     c.typed_value_at-former.ensures ∙ ap (λ (S : SizedParts). option_map g.V.ByteArray.of_bytes (former_of (sized_format S g.H.HashFn.hash) S.parts.entries.bytes c.args.end.0)) parts in
     subst (λ o. IsStepWhere (λ P. c.args.end.0 ≡ answer F P.cells key) F g.V.ByteArray.of_bytes c.args.room (es, ctrl) p (with_former o c.write_at_end.result) t') (sym former)

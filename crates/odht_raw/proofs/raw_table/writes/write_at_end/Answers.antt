@@ -42,8 +42,8 @@ write_slot-requires-clause-slot g c =
     let F : Format = format_of (g.L.Lengths.key_len c.args.lengths) (g.L.Lengths.value_len c.args.lengths) g.H.HashFn.hash in
     rw c.requires.slots (free_low F c.args.entries.now c.args.control.now c.args.key.now c.args.end.0 c.in-Free.slot c.in-Free.is c.requires.end.end.slot)
 
-pub returns-in-Found : goal.returns-in-Found
-returns-in-Found g c =
+pub returns-in-Found-clause-step : goal.returns-in-Found-clause-step
+returns-in-Found-clause-step g c =
     let F : Format = format_of (g.L.Lengths.key_len c.args.lengths) (g.L.Lengths.value_len c.args.lengths) g.H.HashFn.hash in
     let p : Pair = record { key = c.args.key.now; value = c.args.value.now } in
     let es = c.args.entries.now in
@@ -72,8 +72,8 @@ returns-in-Found g c =
           };
     }
 
-pub returns-else-room-eq0 : goal.returns-else-room-eq0
-returns-else-room-eq0 g c =
+pub returns-else-room-eq0-clause-step : goal.returns-else-room-eq0-clause-step
+returns-else-room-eq0-clause-step g c =
     let F : Format = format_of (g.L.Lengths.key_len c.args.lengths) (g.L.Lengths.value_len c.args.lengths) g.H.HashFn.hash in
     let p : Pair = record { key = c.args.key.now; value = c.args.value.now } in
     let es = c.args.entries.now in
@@ -97,8 +97,8 @@ returns-else-room-eq0 g c =
     }
 
 -- without room the search says what comes before its end
-pub returns-then-room-eq0 : goal.returns-then-room-eq0
-returns-then-room-eq0 g c = record {
+pub returns-then-room-eq0-clause-step : goal.returns-then-room-eq0-clause-step
+returns-then-room-eq0-clause-step g c = record {
   placed = λ P h e. tt;
   any =
       let F : Format = format_of (g.L.Lengths.key_len c.args.lengths) (g.L.Lengths.value_len c.args.lengths) g.H.HashFn.hash in
@@ -110,8 +110,8 @@ returns-then-room-eq0 g c = record {
       record { frame = (Err Full, refl, StepFrame.no_room c.if-room-eq0.true (missing-free F stored ctrl k c.in-Free.slot known earlier)); errors = record { only_full = refl; refused_control = refl; refused_entries = refl } };
 }
 
-pub returns-in-Neither : goal.returns-in-Neither
-returns-in-Neither g c = record {
+pub returns-in-Neither-clause-step : goal.returns-in-Neither-clause-step
+returns-in-Neither-clause-step g c = record {
   placed = λ P h e. tt;
   any =
       let F : Format = format_of (g.L.Lengths.key_len c.args.lengths) (g.L.Lengths.value_len c.args.lengths) g.H.HashFn.hash in
@@ -122,3 +122,15 @@ returns-in-Neither g c = record {
       let frame = StepFrame.framed (Err Full) es ctrl (λ e. cc) (PartsFrame.no_slot known.0 (missing-neither F (stored_in es ctrl) ctrl k known.1)) in
       record { frame = (Err Full, refl, frame); errors = record { only_full = refl; refused_control = refl; refused_entries = refl } };
 }
+
+pub returns-in-Found-clause-found : goal.returns-in-Found-clause-found
+returns-in-Found-clause-found g c = rw c.in-Found.is refl
+
+pub returns-then-room-eq0-clause-found : goal.returns-then-room-eq0-clause-found
+returns-then-room-eq0-clause-found g c = rw c.in-Free.is tt
+
+pub returns-else-room-eq0-clause-found : goal.returns-else-room-eq0-clause-found
+returns-else-room-eq0-clause-found g c = rw c.in-Free.is tt
+
+pub returns-in-Neither-clause-found : goal.returns-in-Neither-clause-found
+returns-in-Neither-clause-found g c = rw c.in-Neither.is tt

@@ -9,10 +9,11 @@ use crate::erased::calls::status::{
 };
 use crate::proved::tables::bytes::{Borrowed, BorrowedMut};
 use crate::proved::tables::dynamic::{DynError, DynTable};
+use crate::proved::tables::error::Error;
 use crate::proved::tables::hash::HashFn;
 use crate::proved::tables::layout::Layout;
 use crate::proved::tables::load::Percent;
-use crate::proved::tables::memory_layout::{insert_sized, Header, LEAST_FACTOR};
+use crate::proved::tables::memory_layout::{insert_sized_into, Header, LEAST_FACTOR};
 
 fn bytes_needed_by<H: HashFn>(
     layout: Layout,
@@ -91,12 +92,14 @@ fn insert_by<H: HashFn>(
     if let Err(refused) = view::<H>(layout, bytes) {
         return status_of(&refused);
     }
-    match insert_sized::<H>(bytes, layout, key, value) {
-        Ok(Some(old)) => {
-            former.copy_from_slice(old.as_slice());
-            REPLACED
-        }
-        Ok(None) => OK,
+    told_status(insert_sized_into::<H>(bytes, layout, key, value, former))
+}
+
+// The status of an insert that tells whether the key had a value.
+fn told_status(told: Result<bool, Error>) -> u32 {
+    match told {
+        Ok(true) => REPLACED,
+        Ok(false) => OK,
         Err(refused) => status_of(&refused),
     }
 }

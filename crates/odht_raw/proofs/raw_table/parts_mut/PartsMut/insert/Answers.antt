@@ -76,7 +76,7 @@ module _ (g : Over) (c : After-write_at_end g)
       let former : c.short_value_at-former.result ≡ former_of F es c.insert_end-end.result.0 =
       c.short_value_at-former.ensures ∙ ap (λ (S : SizedParts). former_of (sized_format S g.H.HashFn.hash) S.parts.entries.bytes c.insert_end-end.result.0) parts in
       subst (λ (a : Result (Option (List ℕ)) Error). IsStepWhere (λ P. c.insert_end-end.result.0 ≡ answer F P.cells p.key) F value_of 18446744073709551615 (es, ctrl) p a (c.write_at_end.new.entries, c.write_at_end.new.control))
-      (ap (λ o. with_former o c.write_at_end.result) (sym former) ∙ is) c.write_at_end.ensures
+      (ap (λ o. with_former o c.write_at_end.result) (sym former) ∙ is) c.write_at_end.ensures.step
 
   changed : IsInsertChange F value_of es ctrl p r c.write_at_end.new.entries c.write_at_end.new.control
   changed = step-change F value_of 18446744073709551615 p r (omega arith) es ctrl c.write_at_end.new.entries c.write_at_end.new.control step.any

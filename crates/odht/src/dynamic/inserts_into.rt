@@ -1,0 +1,100 @@
+//! Inserts into a table whose lengths are known at run time alone, which write the former value into
+//! bytes of the caller.
+ghost use Rattle.std.specs.Prelude.{◌≡◌, ◌≢◌, length, Err, OnErr};
+ghost use Rattle.odht_base.specs.Format.{format_of};
+ghost use Rattle.odht_raw.specs.Frame.{IsAccepted};
+ghost use Rattle.odht_raw.specs.Sized.{bytes_coding};
+ghost use Rattle.odht.specs.Dynamic.{dyn_coding, dyn_format, dyn_store, IsOpened};
+ghost use Rattle.odht.specs.DynFormers.{IsDynInsertInto, IsStoreInsertInto};
+
+use super::{DynError, DynTable};
+use crate::bytes::ByteStoreMut;
+use crate::error::Error;
+use crate::hash::HashFn;
+use crate::layout::Layout;
+use crate::memory_layout::insert_sized_into;
+
+impl<H: HashFn, D: ByteStoreMut> DynTable<H, D> {
+    /// [`DynTable::insert`], which writes the former value to `former`, and returns whether there is one: no
+    /// value passes through memory of its own. `WrongValueLength` too where `former` has another
+    /// length than the table's values. Where the key has no value, and on an error, `former` is
+    /// unchanged.
+    #[inline(always)]
+    pub fn insert_into(
+        &mut self,
+        key: &[u8],
+        value: &[u8],
+        former: &mut [u8],
+    ) -> Result<bool, DynError>
+        // Of a key, a value and bytes of the table's lengths.
+        ensures inserted { length key.now ≡ self.old.key_len → length value.now ≡ self.old.value_len
+            → length former.old ≡ self.old.value_len
+            → IsDynInsertInto (dyn_coding self.old H.hash) (D.bytes self.old.store)
+            key.now value.now former.old result (D.bytes self.new.store) former.new }
+        // Of others.
+        ensures key { length key.now ≢ self.old.key_len
+            → result ≡ Err (DynError.WrongKeyLength self.old.key_len (length key.now)) }
+        ensures value { length key.now ≡ self.old.key_len → length value.now ≢ self.old.value_len
+            → result ≡ Err (DynError.WrongValueLength self.old.value_len (length value.now)) }
+        ensures former { length key.now ≡ self.old.key_len → length value.now ≡ self.old.value_len
+            → length former.old ≢ self.old.value_len
+            → result ≡ Err (DynError.WrongValueLength self.old.value_len (length former.old)) }
+        // Of any.
+        ensures refused { OnErr result (self.new ≡ self.old) }
+        ensures kept { OnErr result (former.new ≡ former.old) }
+        ensures same_store { self.new ≡ dyn_store self.old.key_len self.old.value_len
+            (D.holding self.old.store (D.bytes self.new.store)) }
+        ensures accepted { IsAccepted (dyn_format self.new H.hash) (D.bytes self.new.store) }
+    {
+        let layout = self.layout;
+        if key.len() != layout.key_len as usize {
+            return Err(DynError::WrongKeyLength {
+                expected: layout.key_len,
+                found: key.len(),
+            });
+        }
+        if value.len() != layout.value_len as usize {
+            return Err(DynError::WrongValueLength {
+                expected: layout.value_len,
+                found: value.len(),
+            });
+        }
+        if former.len() != layout.value_len as usize {
+            return Err(DynError::WrongValueLength {
+                expected: layout.value_len,
+                found: former.len(),
+            });
+        }
+        match insert_store_into::<H, D>(&mut self.store, layout, key, value, former) {
+            Ok(had) => Ok(had),
+            Err(refused) => Err(DynError::Rejected(refused)),
+        }
+    }
+}
+
+// `insert_into` on the store itself, of a key, a value and bytes of the table's lengths.
+#[inline(always)]
+fn insert_store_into<H: HashFn, D: ByteStoreMut>(
+    store: &mut D,
+    layout: Layout,
+    key: &[u8],
+    value: &[u8],
+    former: &mut [u8],
+) -> Result<bool, Error>
+    requires opened { IsOpened H.MIN_LEN H.hash D.bytes
+        (dyn_store layout.key_len layout.value_len store.old) }
+    requires key { length key.now ≡ layout.key_len }
+    requires value { length value.now ≡ layout.value_len }
+    requires former { length former.old ≡ layout.value_len }
+    ensures inserted { let c = bytes_coding (format_of layout.key_len layout.value_len H.hash)
+        in IsStoreInsertInto c (D.bytes store.old) key.now value.now former.old result
+        (D.bytes store.new) former.new }
+    ensures refused { OnErr result (store.new ≡ store.old) }
+    ensures kept { OnErr result (former.new ≡ former.old) }
+    ensures same_store { store.new ≡ D.holding store.old (D.bytes store.new) }
+    ensures accepted { IsAccepted (format_of layout.key_len layout.value_len H.hash)
+        (D.bytes store.new) }
+    ensures len { length (D.bytes store.new) ≡ length (D.bytes store.old) }
+{
+    insert_sized_into::<H>(store.bytes_mut(), layout, key, value, former)
+}
