@@ -164,6 +164,7 @@ def clauses_of(lines, at, indent):
 
 
 def faults_of_proofs(source):
+    """Gives a line for each name of docs/PROOFS.md that the source does not have."""
     text = re.sub(r"^(?:```.*?^```|    .*?)$", "", read("docs/PROOFS.md"), flags=re.M | re.S)
     last = ""
     for before, clauses, name in NAMED.findall(" ".join(text.split())):
@@ -174,18 +175,22 @@ def faults_of_proofs(source):
             yield f"docs/PROOFS.md: `{named}` is no name of the source"
         for path in re.findall(r"`([^`]+)`", clauses):
             is_clause = any(source.has_clause(it, path) for it in source.functions_named(last))
+            # right after a function only its clauses stand, and records
+            is_named = source.is_known(path) and (last != before or path[0].isupper())
             is_function = last != before and source.functions_named(path)
-            if not (is_clause or is_function or source.is_known(path)):
+            if not (is_clause or is_named or is_function):
                 yield f"docs/PROOFS.md: `{last}` has no clause `{path}`"
 
 
 def has_sentence(file):
+    """Whether a file begins with a comment that says what it has."""
     text = read(file)
     marks = {".rt": r"//! ", ".rs": r"//! ", ".py": r'(?:#!.*\n)?"""', ".sh": r"(?:#!.*\n)?(?:\n)*# "}
     return file.endswith(("lib.rt", "lib.rs")) or re.search(marks.get(os.path.splitext(file)[1], r"/\*"), text[:400])
 
 
 def folders_of(files):
+    """Returns the folders at the top, and those of crates, rust, tools and tests."""
     found = {it.split("/")[0] for it in files if "/" in it and not it.startswith(".")}
     for parent in ("crates", "rust", "tools", "tests"):
         found |= {it.split("/")[1] for it in files if it.startswith(f"{parent}/") and it.count("/") > 1}
