@@ -1,7 +1,7 @@
 //! The write of a pair into the parts of a table, whose lengths of keys and values are types or
 //! numbers: where the search for its key ended, or into a slot.
 //!
-//! It does not answer with the former value of the key: who wants that value reads it where the
+//! It does not return the former value of the key: who wants that value reads it where the
 //! search ended, before the write.
 ghost use Rattle.std.specs.Prelude.{◌≡◌, ◌+◌, ◌-◌, ◌*◌, ◌<◌, ◌++◌, ℕ, List, length, IsTrue, IsFalse};
 ghost use Rattle.std.specs.Prelude.{Some, None, IsOk, ⊤};
