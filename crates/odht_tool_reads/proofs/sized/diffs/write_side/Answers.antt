@@ -1,5 +1,6 @@
-use Rattle.std.proofs.Common.{◌≡◌, ◌∙◌, ◌++◌, ◌∷◌, [], ◌==◌, ◌&&◌, ℕ, All, Bor, List, map, length, sym, ap, subst, append_assoc}
+use Rattle.std.proofs.Common.{◌≡◌, ◌∙◌, ◌++◌, ◌∷◌, [], ◌==◌, ◌&&◌, ℕ, All, Bor, List, map, length, refl, sym, ap, subst, append_assoc}
 use Rattle.std.proofs.lemmas.List.{flat_map_more, map-append}
+use Rattle.std.proofs.KnownBytes.{Appends-nil}
 use Rattle.std.specs.Io.KnownBytes.{Appends}
 use Rattle.odht.specs.Dynamic.{dyn_format}
 use Rattle.odht_base.specs.Decoded.{decoded_pairs}
@@ -15,6 +16,17 @@ use Rattle.odht_tool_reads.proofs.sized.diffs.write_side.Goals as goal
 -- the pair of an item
 abbrev pair_of : Bor (List ℕ) × Bor (List ℕ) → Pair
 pair_of x = record { key = x.0.now; value = x.1.now }
+
+pub loop-key-init : goal.loop-key-init
+loop-key-init g c =
+    let fits = HasLengthsOf (typed_len c.args.texts.key) (typed_len c.args.texts.value) in
+    let same = sym c.into_iter-key-iterator.ensures.into_iter_gives in
+    record {
+      written = Appends-nil (g.O.Write.contents c.args.output.now);
+      none = refl;
+      lengths = subst (All fits) same c.requires.lengths;
+      pairs = same;
+    }
 
 pub write_beside-requires-clause-lengths : goal.write_beside-requires-clause-lengths
 write_beside-requires-clause-lengths g c =
