@@ -43,3 +43,11 @@ pub mod DynOwned
 pub mod Files
 -- what is told of a former value that is written into bytes of the caller
 pub mod DynFormers
+-- valid bytes are the image of the table that they decode to
+pub mod Plain
+-- a value of a table is stored in its bytes
+pub mod Stored
+-- what the clauses of an owned table say of its bytes
+pub mod PlainBytes
+-- room for more, of bytes and of their table
+pub mod PlainReserves

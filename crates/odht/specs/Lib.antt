@@ -41,3 +41,5 @@ pub mod DynOwned
 pub mod Files
 -- an insert that writes the former value into bytes of the caller
 pub mod DynFormers
+-- tables that own their bytes, as contracts see them
+pub mod Plain

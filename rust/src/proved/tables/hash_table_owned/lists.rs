@@ -24,6 +24,7 @@ impl<C: Config> HashTableOwned<C> {
         &mut self,
         items: &I,
     ) -> (usize, Result<(), Error>) {
+        let _ = &self.table;
         let mut accepted = 0;
         loop {
             accepted = self.table.allocation.insert_items(items, accepted);
