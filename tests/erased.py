@@ -1,7 +1,8 @@
 #!/usr/bin/env python3
 """Reads the Rust that is made of the proved crates a second time, beside tools/erase and without a line of it.
 
-  tests/erased.py CRATES ERASED      CRATES has the proved crates, ERASED what tools/erase made of them (before rustfmt)
+  tests/erased.py CRATES ERASED [FILE]     CRATES has the proved crates, ERASED what tools/erase made of them (before
+                                           rustfmt); FILE is one of ERASED, and then only that is read
 
 Of each source what contracts and proofs need is left out here, in another way: by patterns over its tokens. In the
 erased file each replacement that is listed here is undone. What is left of both must be the same, token for token. Prints
@@ -223,7 +224,7 @@ def differences(crate, path, source, erased, counts):
         yield f"{crate}/{path}: made was:       {' '.join(found[max(at - 8, 0) : at + 12])}"
 
 
-def main(crates, made):
+def main(crates, made, only=None):
     counts, files, wrong = {}, 0, 0
     expected = set()
     for crate, (_, place) in PLACES.items():
@@ -235,6 +236,8 @@ def main(crates, made):
                 inside = "" if path in ROOTS else f"/{path.removesuffix('.rt')}"
                 erased = f"{made}/{place}{inside}.rs"
                 expected.add(os.path.relpath(erased, made))
+                if only and os.path.relpath(erased, made) != only:
+                    continue
                 told = list(differences(crate, path, f"{folder}/{name}", erased, counts))
                 files, wrong = files + 1, wrong + (1 if told else 0)
                 print("\n".join(told), end="\n" if told else "")

@@ -136,14 +136,15 @@ def planted():
     with tempfile.TemporaryDirectory(prefix="erased-") as room:
         erase(room)
         text = files_below(room)
+        run([sys.executable, "tests/erased.py", "crates", room, FAULTS[0][0]])
         for name, old, new in FAULTS:
             if old not in text[name]:
                 raise Failed(f"planted: {name} does not have {old}")
             write(f"{room}/{name}", text[name].replace(old, new, 1))
-            is_told(room, f"{old} was {new} in {name}")
+            is_told(f"{old} was {new} in {name}", room, name)
             write(f"{room}/{name}", text[name])
         write(f"{room}/src/proved/other.rs", "")
-        is_told(room, "a file of no source")
+        is_told("a file of no source", room)
         os.remove(f"{room}/src/proved/other.rs")
         run([sys.executable, "tests/erased.py", "crates", room])
     return len(FAULTS) + 1
@@ -154,8 +155,9 @@ def write(file, text):
         it.write(text)
 
 
-def is_told(room, fault):
-    if has(sys.executable, f"{TOP}/tests/erased.py", f"{TOP}/crates", room):
+def is_told(fault, *words):
+    """Sees that tests/erased.py reports a fault: in one file, where the words name it."""
+    if has(sys.executable, f"{TOP}/tests/erased.py", f"{TOP}/crates", *words):
         raise Failed(f"planted, and not told: {fault}")
 
 

@@ -28,9 +28,8 @@ quietly env ODHT_LIB_DIR="$target/library" cargo test --quiet --offline
 echo 'named: well'
 
 # elsewhere, where the package does not see build/ of the repository
-mkdir "$room/package" "$room/package/tests"
-cp -r Cargo.toml build.rs README.md src "$room/package"
-cp tests/panics.rs "$room/package/tests"
+mkdir "$room/package"
+cp -r Cargo.toml build.rs README.md src tests "$room/package"
 cd "$room/package"
 unset ODHT_LIB_DIR
 if command -v pkg-config > /dev/null 2>&1; then

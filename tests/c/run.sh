@@ -1,6 +1,8 @@
 #!/bin/sh
 # run.sh LIBRARY [CC]: compiles the tests of the calls for C over this archive and runs them: with CC, or with cc and,
-# where there is one, with clang; and with each under the sanitizers, where they run here and SANITIZERS is not `no`.
+# where there is one, with clang. The last of these whose sanitizers run here also has them, unless SANITIZERS is `no`.
+# With one compiler there is a run without them too. The sanitizers watch the tests and the header: the archive is
+# compiled without them, so a second compiler's would watch the same.
 # Prints what the program prints. The status is 0 only where each run went well.
 set -eu
 if [ $# -lt 1 ] || [ ! -f "$1" ]; then
@@ -40,13 +42,19 @@ try() {
     fi
 }
 
-status=0
 if [ $# = 0 ]; then
     set -- cc
     if has clang; then set -- cc clang; fi
 fi
+sanitizing=
+if [ "${SANITIZERS-}" != no ]; then
+    for compiler in "$@"; do
+        if sanitizes "$compiler"; then sanitizing=$compiler; fi
+    done
+fi
+status=0
 for compiler in "$@"; do
-    try "$compiler" ''
-    if [ "${SANITIZERS-}" != no ] && sanitizes "$compiler"; then try "$compiler" "$sanitizers"; fi
+    if [ $# = 1 ] || [ "$compiler" != "$sanitizing" ]; then try "$compiler" ''; fi
+    if [ "$compiler" = "$sanitizing" ]; then try "$compiler" "$sanitizers"; fi
 done
 exit "$status"

@@ -1,8 +1,6 @@
 //! The whole check with a bound of searches, by each call that has one.
 
-mod common;
-
-use common::worked_example;
+use crate::common::worked_example;
 use odht_ffi::{empty_table, Error, ErrorAt, Table, TableMut, B16U32, DEFAULT_GROUPS, U64U32};
 
 /// 222 keys whose last four bytes are the same, so that they have one hash, in 256 slots: 13 full groups of its probe

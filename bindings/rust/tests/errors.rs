@@ -1,8 +1,6 @@
 //! Each error: how it is reached, its number and its text.
 
-mod common;
-
-use common::{changed, worked_example};
+use crate::common::{changed, worked_example};
 use odht_ffi::{bytes_needed, sys, Builder, Error, Table, TableMut, B16, B16U32, U64U32, U64U64};
 
 /// The numbers and texts of include/odht.h.

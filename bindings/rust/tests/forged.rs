@@ -1,9 +1,7 @@
 //! Tables whose header has an item count that is not true: nothing is allocated by it, and nothing overflows. And
 //! tables with bytes that were changed at random.
 
-mod common;
-
-use common::{worked_example, Chance, Random};
+use crate::common::{worked_example, Chance, Random};
 use odht_ffi::{Builder, Error, Shape, Sizes, Table, TableMut, B32, U64U32};
 
 fn stating(count: u64) -> Vec<u8> {

@@ -1,8 +1,6 @@
 //! The worked example of docs/FORMAT.md, to the byte.
 
-mod common;
-
-use common::worked_example;
+use crate::common::worked_example;
 use odht_ffi::{bytes_needed, empty_table, Builder, Error, Sizes, Table, TableMut, B16, B16U32, U64U32};
 
 const PAIRS: [(u64, u32); 3] = [(1, 2), (3, 4), (5, 6)];

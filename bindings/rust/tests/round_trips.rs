@@ -1,10 +1,8 @@
 //! Every shape is compared with the standard library's map.
 
-mod common;
-
 use std::collections::HashMap;
 
-use common::{Chance, Random};
+use crate::common::{Chance, Random};
 use odht_ffi::{Builder, Error, Shape, Table, TableMut};
 
 const SEEDS: [u64; 3] = [1, 2, 0xdead_beef];

@@ -1,10 +1,8 @@
 //! Sets: tables without values.
 
-mod common;
-
 use std::collections::HashSet;
 
-use common::{Chance, Random};
+use crate::common::{Chance, Random};
 use odht_ffi::{Builder, Error, Shape, Table, TableMut, B16, B32};
 
 fn set<S: Shape<Value = ()>>()

@@ -1,8 +1,6 @@
 //! Tables at any address, and in threads.
 
-mod common;
-
-use common::worked_example;
+use crate::common::worked_example;
 use odht_ffi::{Builder, Iter, Table, TableMut, B32, U64U32};
 
 fn may_be_sent_and_shared<T: Send + Sync>(_: &T) {}
