@@ -4,6 +4,7 @@
 
 pub mod checks;
 pub mod files;
+mod short_inserts;
 pub mod sized;
 pub mod trials;
 pub mod whole;

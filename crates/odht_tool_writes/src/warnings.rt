@@ -10,8 +10,10 @@ use std::io::{self, Write};
 /// read more groups than `odht check` allows: with what makes searches short, if that was found.
 pub fn warn_of_long<E: Write>(alloc: Global, name: &str, bytes: &[u8], errors: &mut E) {
     if is_too_long(bytes) {
+        // Where memory is short for a trial, nothing is advised.
+        let advice = advice_of(alloc, bytes).unwrap_or(None);
         // A line that cannot be written is no failure.
-        let _ = write_long(name, advice_of(alloc, bytes), errors);
+        let _ = write_long(name, advice, errors);
     }
 }
 

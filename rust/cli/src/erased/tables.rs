@@ -6,6 +6,7 @@ use crate::host::prelude::*;
 
 pub mod checks;
 pub mod files;
+mod short_inserts;
 pub mod sized;
 pub mod trials;
 pub mod whole;

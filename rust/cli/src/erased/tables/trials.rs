@@ -2,97 +2,160 @@
 //! What makes the searches of a table short: rebuilds of it that are tried in memory.
 
 use crate::erased::core::advice::Advice;
+use crate::erased::core::failure::Failure;
 use crate::erased::core::found::found_any;
 use crate::erased::core::shapes::Hash;
 use crate::erased::core::stored::StoredTable;
 use crate::erased::tables::checks::check_any;
+use crate::erased::tables::short_inserts::{has_long_search, insert_short};
 use crate::host::prelude::*;
-use crate::proved::tables::dynamic::DynTableOwned;
+use crate::proved::tables::bytes::Borrowed;
+use crate::proved::tables::dynamic::{DynTable, DynTableOwned, Layout};
 use crate::proved::tables::error::Error;
 use crate::proved::tables::hash::HashFn;
 use crate::proved::tables::load::Percent;
 use crate::proved::tables::memory_layout::DEFAULT_GROUPS;
+use crate::proved::tables::raw_table::SizedIter;
 use crate::proved::tables::{FxHashFn, UnHashFn, Xxh64HashFn};
 use crate::shim::Global;
 
-/// What makes the searches of the table of these bytes short: that with which a rebuild in memory
-/// has no long search. None where the table has none either, where `odht rebuild` rejects it, or
-/// where each rebuild that is tried has one or is not made, as where memory is short.
+/// The percentage of `Advice::LowerLoad`.
+const LOWER: u8 = 50;
+
+/// The percentage of tables that are made where none is named.
+const USUAL: u8 = 87;
+
+/// What makes the searches of the table of these bytes short: the first rebuild that has no long
+/// search, of one at a lower load, where the load is high, and of one by `xxh64`, where the table
+/// has another hash function. None where the table has no long search either, where `odht rebuild`
+/// rejects it, or where neither rebuild helps. `Memory` where memory is short for a rebuild.
 ///
 /// A rebuild ends at the first key whose search would be long, so that it takes time in proportion
 /// to the bytes.
-pub fn advice_of(alloc: Global, bytes: &[u8]) -> Option<Advice> {
-    let table = StoredTable::open(bytes).ok()?;
-    if !table.has_long_search() {
-        return None;
+pub fn advice_of(alloc: Global, bytes: &[u8]) -> Result<Option<Advice>, Failure> {
+    if !has_long(bytes) {
+        return Ok(None);
     }
-    let hash = hash_of(bytes)?;
-    if table.has_high_load() && is_short(alloc, &table, hash, Percent::new(50).unwrap()) {
-        return Some(Advice::LowerLoad);
+    match taken_hash(bytes) {
+        Some(hash) => first_help(alloc, bytes, hash),
+        None => Ok(None),
     }
-    if !hash.is(Hash::Xxh64) && is_short(alloc, &table, Hash::Xxh64, Percent::new(87).unwrap()) {
-        return Some(Advice::Mixing);
+}
+
+// Whether header and length fit, and a search for an absent key is long.
+fn has_long(bytes: &[u8]) -> bool {
+    match StoredTable::open(bytes) {
+        Ok(table) => table.has_long_search(),
+        Err(_) => false,
     }
-    None
 }
 
 // The hash function of a file that `odht rebuild` takes, with `--whole` where a search is too long.
-fn hash_of(bytes: &[u8]) -> Option<Hash> {
+fn taken_hash(bytes: &[u8]) -> Option<Hash> {
     let shape = found_any(bytes, None).ok()?;
-    match check_any(shape, bytes, Some(DEFAULT_GROUPS)) {
-        Ok(()) | Err(Error::SearchTooLong { .. }) => Some(shape.hash()),
-        Err(_) => None,
+    if is_taken(check_any(shape, bytes, Some(DEFAULT_GROUPS))) {
+        Some(shape.hash())
+    } else {
+        None
     }
 }
 
-// Whether a rebuild by this hash function, at this load factor, has no long search.
-fn is_short(alloc: Global, table: &StoredTable<'_>, hash: Hash, percent: Percent) -> bool {
+// Whether no rule is broken, or the bound of searches alone.
+fn is_taken(checked: Result<(), Error>) -> bool {
+    match checked {
+        Ok(()) | Err(Error::SearchTooLong { .. }) => true,
+        Err(_) => false,
+    }
+}
+
+// The first help of a table of this hash function.
+fn first_help(alloc: Global, bytes: &[u8], hash: Hash) -> Result<Option<Advice>, Failure> {
+    let lower_load = lower_load_helps(alloc, bytes, hash)?;
+    if lower_load {
+        return Ok(Some(Advice::LowerLoad));
+    }
+    let mixing = mixing_helps(alloc, bytes, hash)?;
+    if mixing {
+        return Ok(Some(Advice::Mixing));
+    }
+    Ok(None)
+}
+
+// Whether the load is high, and a rebuild at a lower one helps.
+fn lower_load_helps(alloc: Global, bytes: &[u8], hash: Hash) -> Result<bool, Failure> {
+    if has_high_load(bytes) {
+        helps(alloc, bytes, hash, Percent::new(LOWER).unwrap())
+    } else {
+        Ok(false)
+    }
+}
+
+// Whether the hash function is another than `xxh64`, and a rebuild by that one helps.
+fn mixing_helps(alloc: Global, bytes: &[u8], hash: Hash) -> Result<bool, Failure> {
+    if hash.is(Hash::Xxh64) {
+        Ok(false)
+    } else {
+        helps(alloc, bytes, Hash::Xxh64, Percent::new(USUAL).unwrap())
+    }
+}
+
+// Whether more than half of the slots are occupied, in percent rounded down.
+fn has_high_load(bytes: &[u8]) -> bool {
+    match StoredTable::open(bytes) {
+        Ok(table) => table.has_high_load(),
+        Err(_) => false,
+    }
+}
+
+// Whether a rebuild by this hash function, at this load factor, has no long search. Its keys have
+// to be long enough for the function.
+fn helps(alloc: Global, bytes: &[u8], hash: Hash, percent: Percent) -> Result<bool, Failure> {
     match hash {
-        Hash::Fx => is_short_by::<FxHashFn>(alloc, table, percent),
-        Hash::Unhash => is_short_by::<UnHashFn>(alloc, table, percent),
-        Hash::Xxh64 => is_short_by::<Xxh64HashFn>(alloc, table, percent),
+        Hash::Fx => is_short::<FxHashFn>(alloc, bytes, percent),
+        Hash::Unhash => is_short::<UnHashFn>(alloc, bytes, percent),
+        Hash::Xxh64 => is_short::<Xxh64HashFn>(alloc, bytes, percent),
     }
 }
 
-fn is_short_by<H: HashFn>(alloc: Global, table: &StoredTable<'_>, percent: Percent) -> bool {
-    let (layout, count) = (table.layout(), table.count());
-    let Ok(mut new) = DynTableOwned::<H>::with_capacity(alloc, layout, count, percent.value())
-    else {
-        return false;
+// The same by the hash function `H`.
+fn is_short<H: HashFn>(alloc: Global, bytes: &[u8], percent: Percent) -> Result<bool, Failure> {
+    let Ok(table) = StoredTable::open(bytes) else {
+        return Ok(false);
     };
-    for slot in 0..table.slot_count() {
-        if !is_inserted(table, slot, &mut new) {
-            return false;
-        }
+    let layout = table.layout();
+    if (layout.key_len as usize) < H::MIN_LEN {
+        return Ok(false);
     }
-    !has_long_search(new.raw_bytes())
+    is_rebuilt_short::<H>(alloc, layout, bytes, percent)
 }
 
-// Inserts the pair of a slot, if it is occupied. Returns false where the search for its key is
-// long, or memory is short.
-fn is_inserted<H: HashFn>(
-    table: &StoredTable<'_>,
-    slot: usize,
-    new: &mut DynTableOwned<H>,
-) -> bool {
-    let Some((key, value)) = table.pair(slot) else {
-        return true;
+// The same of the lengths of keys and values, of which the former are long enough.
+fn is_rebuilt_short<H: HashFn>(
+    alloc: Global,
+    layout: Layout,
+    bytes: &[u8],
+    percent: Percent,
+) -> Result<bool, Failure> {
+    // `FxHashFn` stands for any hash function, since a walk hashes nothing.
+    let old: DynTable<FxHashFn, Borrowed<'_>> =
+        DynTable::open_unchecked(layout, Borrowed::new(bytes));
+    let (count, percent) = (count_of(old.iter()), percent.value());
+    let Ok(mut new) = DynTableOwned::<H>::with_capacity(alloc, layout, count, percent) else {
+        return Err(Failure::Memory);
     };
-    !is_long_from(new.raw_bytes(), H::hash(key)) && new.insert(key, value).is_ok()
-}
-
-// Whether a search for an absent key of this hash is long in the table of these bytes.
-fn is_long_from(bytes: &[u8], hash: u32) -> bool {
-    match StoredTable::open(bytes) {
-        Ok(table) => table.is_long_from(hash),
-        Err(_) => true,
+    let whole = insert_short(&mut new, old.iter())?;
+    if whole {
+        Ok(!has_long_search(new.raw_bytes()))
+    } else {
+        Ok(false)
     }
 }
 
-// Whether a search for an absent key may be long in the table of these bytes.
-fn has_long_search(bytes: &[u8]) -> bool {
-    match StoredTable::open(bytes) {
-        Ok(table) => table.has_long_search(),
-        Err(_) => true,
+// How many pairs a walk gives.
+fn count_of<H: HashFn>(pairs: SizedIter<'_, H>) -> usize {
+    let mut count = 0_usize;
+    for _pair in pairs {
+        count += 1;
     }
+    count
 }

@@ -27,7 +27,7 @@ pub fn run_reading<I: BufRead, O: Write, E: Write>(
 ) -> Result<Status, Failure> {
     match reading {
         Reading::Info { bound, is_json } => {
-            let advice = advice_of(alloc, bytes);
+            let advice = advice_of(alloc, bytes)?;
             info_file(alloc, file, is_one, at, bytes, *bound, *is_json, advice, output)
         }
         Reading::Check { hash, bound, is_json } => {
