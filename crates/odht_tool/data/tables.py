@@ -113,6 +113,7 @@ class Case:
         self.name, self.words, self.table = name, words, Table(key_size, value_size, hash, percent, capacity)
         self.kinds, self.key_text = f" {kinds}" if kinds else "", key_text
         self.key_kind = self.kinds.split(" --value")[0]
+        self.all_kinds = self.kinds or f" --key hex{key_size} --value hex{value_size}"
         for key, value in pairs:
             self.table.put(key, value)
         self.hash_words = f" --hash {hash.__name__}"
@@ -172,7 +173,7 @@ class Case:
             text += self.run_text("dump --slots", f"dump --slots {file}{self.kinds}", "", self.slots)
             text += self.run_text("get all keys, in lines that end with \\r\\n", f"get {file} -{self.kinds}", self.keys, self.dump)
             if self.kinds or self.is_other:
-                text += self.run_text("put what is there", f"put {file}{self.kinds}", self.dump, "")
+                text += self.run_text("put what is there", f"put {file}{self.all_kinds}", self.dump, "")
             text += self.run_text("build", f"build {file} {self.words}", self.pairs, "", "after")
             text += self.ordered_text()
         write_test(f"tool/tables/{self.name}.cases", text)

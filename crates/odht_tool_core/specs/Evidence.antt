@@ -1,10 +1,14 @@
 -- What a table's parts T show of the types of its keys and values, where nothing is said of them.
---     keys_of T, values_of T   those of the occupied slots, in slot order
+--     part_at side T i     the key, or the value, of the slot i, by the side
+--     parts_to side T n    those of the occupied slots before the slot n, in slot order
+--     keys_of T, values_of T   those of all occupied slots
 --     is_number_len n      numbers have so many bytes
 --     is_padded_text bs    bs are a plain text, with zeros behind it
 --     is_letters bs        the bytes of bs up to the zeros at their end are letters, digits and signs of ASCII, or spaces
 --     is_short_text bs     at most one byte of bs is before the zeros at their end
 --     are_zeros bs         each byte is zero
+--     begins_with_zero bs  the first byte of bs is zero
+--     looks l bs           bs have this look l
 --     are_texts vs         all of vs are letters, and not all are short: so they are no numbers
 --     are_swapped vs       all of vs begin with a zero, and not all are zeros: so they are big-endian numbers
 --     key_by_hash n h      new tables of the hash function h have keys of n bytes that are of one type, where none is named:
@@ -21,17 +25,28 @@ use Rattle.odht_tool_core.specs.AnyShapes.{any_hash}
 use Rattle.odht_tool_core.specs.InfoNumbers.{SizedParts, info_refusal, occupied, sized_format, sized_parts}
 use Rattle.odht_tool_core.specs.PlainTexts.{is_plain, plain_text}
 use Rattle.odht_tool_core.specs.declared.any.AnyShape.{AnyShape}
+use Rattle.odht_tool_core.specs.declared.evidence.Look.{Look}
+use Rattle.odht_tool_core.specs.declared.evidence.Look.TheVariants.{PlainText, Letters, Short, Zeros, FirstZero}
+use Rattle.odht_tool_core.specs.declared.evidence.Side.{Side}
+use Rattle.odht_tool_core.specs.declared.evidence.Side.TheVariants.{Keys, Values}
 use Rattle.odht_tool_core.specs.declared.failure.Failure.{Failure}
 use Rattle.odht_tool_core.specs.declared.failure.Failure.TheVariants.{UnknownKey, UnknownValue}
 use Rattle.odht_tool_core.specs.declared.forms.Kinds.{Kinds}
 use Rattle.odht_tool_core.specs.declared.shapes.Hash.{Hash}
 use Rattle.odht_tool_core.specs.declared.shapes.Hash.TheVariants.{Fx, Unhash, Xxh64}
 
+abbrev pub part_at : Side → SizedParts → ℕ → List ℕ
+part_at Keys T i = slot_key (sized_format T Fx) T.entries i
+part_at Values T i = slot_value (sized_format T Fx) T.entries i
+
+abbrev pub parts_to : Side → SizedParts → ℕ → List (List ℕ)
+parts_to side T n = map (part_at side T) (occupied T n)
+
 abbrev pub keys_of : SizedParts → List (List ℕ)
-keys_of T = map (slot_key (sized_format T Fx) T.entries) (occupied T T.slots)
+keys_of T = parts_to Keys T T.slots
 
 abbrev pub values_of : SizedParts → List (List ℕ)
-values_of T = map (slot_value (sized_format T Fx) T.entries) (occupied T T.slots)
+values_of T = parts_to Values T T.slots
 
 abbrev pub is_number_len : ℕ → Bool
 is_number_len n = n == 4 || n == 8
@@ -54,6 +69,13 @@ are_zeros bs = nat_le (length (plain_text bs)) 0
 abbrev pub begins_with_zero : List ℕ → Bool
 begins_with_zero bs = slice_index bs 0 == 0
 
+abbrev pub looks : Look → List ℕ → Bool
+looks PlainText bs = is_padded_text bs
+looks Letters bs = is_letters bs
+looks Short bs = is_short_text bs
+looks Zeros bs = are_zeros bs
+looks FirstZero bs = begins_with_zero bs
+
 abbrev pub are_texts : List (List ℕ) → Bool
 are_texts vs = list_all is_letters vs && not (list_all is_short_text vs)
 
@@ -61,8 +83,8 @@ abbrev pub are_swapped : List (List ℕ) → Bool
 are_swapped vs = list_all begins_with_zero vs && not (list_all are_zeros vs)
 
 abbrev pub key_by_hash : ℕ → Hash → Bool
-key_by_hash n Fx = is_number_len n
-key_by_hash n Unhash = n == 4 || (nat_le 8 n && nat_le n 32)
+key_by_hash n Fx = n == 0 || is_number_len n
+key_by_hash n Unhash = n == 0 || (n == 4 || (nat_le 8 n && nat_le n 32))
 key_by_hash n Xxh64 = n == 0
 
 abbrev pub shows_key : SizedParts → Hash → Bool

@@ -1,9 +1,12 @@
 //! What a table shows of the types of its keys and values. A command that adds pairs asks for them
 //! where it shows too little.
-ghost use Rattle.std.specs.Prelude.{◌≡◌, ◌&&◌, ◌<◌, list_all, map};
-ghost use Rattle.odht_tool_core.specs.Evidence.{asked, asked_kinds, asked_value, is_number_len};
-ghost use Rattle.odht_tool_core.specs.Evidence.{key_by_hash, passes, parts_of, shows_key};
-ghost use Rattle.odht_tool_core.specs.Evidence.{shows_value};
+ghost use Rattle.std.specs.Prelude.{◌≡◌, ◌||◌, ◌<◌, slice_index};
+ghost use Rattle.std.specs.List.{list_all};
+ghost use Rattle.odht_base.specs.Decoded.{counts_as_free};
+ghost use Rattle.odht_tool_core.specs.Evidence.{are_swapped, are_texts, asked, asked_kinds};
+ghost use Rattle.odht_tool_core.specs.Evidence.{is_letter, is_number_len, key_by_hash, looks};
+ghost use Rattle.odht_tool_core.specs.Evidence.{part_at, parts_to, shows_key, shows_value};
+ghost use Rattle.odht_tool_core.specs.Evidence.{values_of};
 
 use crate::any::AnyShape;
 use crate::failure::Failure;
@@ -52,9 +55,10 @@ fn is_key_of_hash(len: u8, hash: Hash) -> bool
     ensures { result ≡ key_by_hash len hash }
 {
     match hash {
+        _ if len == 0 => true,
         Hash::Fx => is_number_len(len),
         Hash::Unhash => len == 4 || (8 <= len && len <= 32),
-        Hash::Xxh64 => len == 0,
+        Hash::Xxh64 => false,
     }
 }
 
@@ -96,14 +100,14 @@ fn are_swapped(table: &StoredTable<'_>) -> bool
 
 /// Keys, or values.
 #[derive(Clone, Copy)]
-enum Side {
+pub(crate) enum Side {
     Keys,
     Values,
 }
 
-/// What bytes may be.
+/// What bytes may look like.
 #[derive(Clone, Copy)]
-enum Look {
+pub(crate) enum Look {
     /// A plain text, with zeros behind it.
     PlainText,
     /// Letters, digits and signs of ASCII, or spaces, with zeros behind them.
@@ -117,8 +121,10 @@ enum Look {
 }
 
 impl Look {
-    // Whether these bytes are that.
-    fn is_of(self, bytes: &[u8]) -> bool {
+    // Whether these bytes look so.
+    fn is_of(self, bytes: &[u8]) -> bool
+        ensures { result ≡ looks self bytes.now }
+    {
         let text = plain_of(bytes);
         match self {
             Look::PlainText => text.iter().all(|byte| is_plain(*byte)),
@@ -137,19 +143,22 @@ fn is_letter(byte: u8) -> bool
     32 <= byte && byte <= 126
 }
 
-// Whether all keys, or all values, are that.
-fn are_all(table: &StoredTable<'_>, side: Side, look: Look) -> bool {
+// Whether all keys, or all values, look so.
+fn are_all(table: &StoredTable<'_>, side: Side, look: Look) -> bool
+    ensures { result ≡ list_all (looks look) (parts_to side table.now table.now.slots) }
+{
+    let mut are_all = true;
     for slot in 0..table.slot_count() {
-        if !is_free_or(table, side, look, slot) {
-            return false;
-        }
+        are_all = are_all && is_free_or(table, side, look, slot);
     }
-    true
+    are_all
 }
 
-// Whether a slot is free, or its key or value is that.
+// Whether a slot is free, or its key or value looks so.
 fn is_free_or(table: &StoredTable<'_>, side: Side, look: Look, slot: usize) -> bool
     requires { slot < table.now.slots }
+    ensures { result ≡ (counts_as_free (slice_index table.now.control slot)
+        || looks look (part_at side table.now slot)) }
 {
     match (table.pair(slot), side) {
         (Some((key, _)), Side::Keys) => look.is_of(key),

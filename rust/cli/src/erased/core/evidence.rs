@@ -42,9 +42,10 @@ fn shows_key(table: &StoredTable<'_>, hash: Hash) -> bool {
 // none is named.
 fn is_key_of_hash(len: u8, hash: Hash) -> bool {
     match hash {
+        _ if len == 0 => true,
         Hash::Fx => is_number_len(len),
         Hash::Unhash => len == 4 || (8 <= len && len <= 32),
-        Hash::Xxh64 => len == 0,
+        Hash::Xxh64 => false,
     }
 }
 
@@ -78,14 +79,14 @@ fn are_swapped(table: &StoredTable<'_>) -> bool {
 
 /// Keys, or values.
 #[derive(Clone, Copy)]
-enum Side {
+pub(crate) enum Side {
     Keys,
     Values,
 }
 
-/// What bytes may be.
+/// What bytes may look like.
 #[derive(Clone, Copy)]
-enum Look {
+pub(crate) enum Look {
     /// A plain text, with zeros behind it.
     PlainText,
     /// Letters, digits and signs of ASCII, or spaces, with zeros behind them.
@@ -99,7 +100,7 @@ enum Look {
 }
 
 impl Look {
-    // Whether these bytes are that.
+    // Whether these bytes look so.
     fn is_of(self, bytes: &[u8]) -> bool {
         let text = plain_of(bytes);
         match self {
@@ -117,17 +118,16 @@ fn is_letter(byte: u8) -> bool {
     32 <= byte && byte <= 126
 }
 
-// Whether all keys, or all values, are that.
+// Whether all keys, or all values, look so.
 fn are_all(table: &StoredTable<'_>, side: Side, look: Look) -> bool {
+    let mut are_all = true;
     for slot in 0..table.slot_count() {
-        if !is_free_or(table, side, look, slot) {
-            return false;
-        }
+        are_all = are_all && is_free_or(table, side, look, slot);
     }
-    true
+    are_all
 }
 
-// Whether a slot is free, or its key or value is that.
+// Whether a slot is free, or its key or value looks so.
 fn is_free_or(table: &StoredTable<'_>, side: Side, look: Look, slot: usize) -> bool {
     match (table.pair(slot), side) {
         (Some((key, _)), Side::Keys) => look.is_of(key),
