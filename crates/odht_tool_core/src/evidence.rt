@@ -1,7 +1,7 @@
 //! What a table shows of the types of its keys and values. A command that adds pairs asks for them
 //! where it shows too little.
-ghost use Rattle.std.specs.Prelude.{◌≡◌, ◌||◌, ◌<◌, slice_index};
-ghost use Rattle.std.specs.List.{list_all};
+ghost use Rattle.std.specs.Prelude.{◌≡◌, ◌↔◌, ◌||◌, ◌<◌, IsTrue, slice_index};
+ghost use Rattle.std.specs.List.{AllPass, list_all};
 ghost use Rattle.odht_base.specs.Decoded.{counts_as_free};
 ghost use Rattle.odht_tool_core.specs.Evidence.{are_swapped, are_texts, asked, asked_kinds};
 ghost use Rattle.odht_tool_core.specs.Evidence.{is_letter, is_number_len, key_by_hash, looks};
@@ -11,7 +11,7 @@ ghost use Rattle.odht_tool_core.specs.Evidence.{values_of};
 use crate::any::AnyShape;
 use crate::failure::Failure;
 use crate::forms::Kinds;
-use crate::plain::{is_plain, plain_of};
+use crate::plain::{are_plain, plain_of};
 use crate::shapes::Hash;
 use crate::stored::StoredTable;
 
@@ -127,13 +127,20 @@ impl Look {
     {
         let text = plain_of(bytes);
         match self {
-            Look::PlainText => text.iter().all(|byte| is_plain(*byte)),
-            Look::Letters => text.iter().all(|byte| is_letter(*byte)),
+            Look::PlainText => are_plain(text),
+            Look::Letters => are_letters(text),
             Look::Short => text.len() <= 1,
             Look::Zeros => text.is_empty(),
             Look::FirstZero => bytes.is_empty() || bytes[0] == 0,
         }
     }
+}
+
+// Whether each byte is a letter, a digit or a sign of ASCII, or a space.
+fn are_letters(bytes: &[u8]) -> bool
+    ensures { IsTrue result ↔ AllPass is_letter bytes.now }
+{
+    bytes.iter().all(|byte| is_letter(*byte))
 }
 
 // A letter, a digit or a sign of ASCII, or a space.
@@ -149,7 +156,10 @@ fn are_all(table: &StoredTable<'_>, side: Side, look: Look) -> bool
 {
     let mut are_all = true;
     for slot in 0..table.slot_count() {
-        are_all = are_all && is_free_or(table, side, look, slot);
+        let is_so = is_free_or(table, side, look, slot);
+        if !is_so {
+            are_all = false;
+        }
     }
     are_all
 }

@@ -2,7 +2,7 @@
 ghost use Rattle.std.specs.Prelude.{◌≡◌, ◌≤◌, ◌&&◌, length, slice_index, is_none, is_some, nat_le};
 ghost use Rattle.std.specs.Prelude.{IfOk, IfSome, OnSome, Some};
 ghost use Rattle.odht_base.specs.Format.{format_of};
-ghost use Rattle.odht_header.specs.Refusals.{check_refusal_by};
+ghost use Rattle.odht_header.specs.Refusals.{check_refusal_by, checked};
 ghost use Rattle.odht_tool_core.specs.InfoNumbers.{info_refusal, sized_parts};
 ghost use Rattle.odht_tool_core.specs.FoundShapes.{fits, first_hash, fitting_shape, has_items};
 ghost use Rattle.odht_tool_core.specs.FoundShapes.{agreed_hash, is_valid_by, settled_hash};
@@ -15,7 +15,9 @@ use crate::failure::Failure;
 use crate::shapes::{HASHES, Hash, Part, SHAPES, Shape};
 use crate::stored::StoredTable;
 use odht_base::hash::{FxHashFn, HashFn, UnHashFn, Xxh64HashFn};
+use odht_header::error::Error;
 use odht_header::header::Header;
+use odht_header::layout::Layout;
 use odht_raw::memory_layout::{DEFAULT_GROUPS, check_opening, check_sized_within};
 
 // The first shape of these sizes with whose hash function all control bytes agree.
@@ -130,10 +132,18 @@ fn is_valid<H: HashFn>(bytes: &[u8]) -> bool
     if (layout.key_len as usize) < H::MIN_LEN {
         return false;
     }
-    match check_opening::<H>(bytes, layout) {
-        Ok(()) => check_sized_within::<H>(bytes, layout, DEFAULT_GROUPS).is_ok(),
-        Err(_) => false,
-    }
+    check_within::<H>(bytes, layout).is_ok()
+}
+
+// The first rule that the bytes break, as a table of these lengths and of a hash function, the
+// bound of searches among them.
+fn check_within<H: HashFn>(bytes: &[u8], layout: Layout) -> Result<(), Error>
+    requires { H.MIN_LEN ≤ layout.key_len }
+    ensures { let F = format_of layout.key_len layout.value_len H.hash
+        in result ≡ checked (check_refusal_by F (Some 128) bytes.now) }
+{
+    check_opening::<H>(bytes, layout)?;
+    check_sized_within::<H>(bytes, layout, DEFAULT_GROUPS)
 }
 
 // The parts of a table whose header and length fit, and whose header counts items.
