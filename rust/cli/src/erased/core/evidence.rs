@@ -5,7 +5,7 @@
 use crate::erased::core::any::AnyShape;
 use crate::erased::core::failure::Failure;
 use crate::erased::core::forms::Kinds;
-use crate::erased::core::plain::{is_plain, plain_of};
+use crate::erased::core::plain::{are_plain, plain_of};
 use crate::erased::core::shapes::Hash;
 use crate::erased::core::stored::StoredTable;
 use crate::host::prelude::*;
@@ -104,13 +104,18 @@ impl Look {
     fn is_of(self, bytes: &[u8]) -> bool {
         let text = plain_of(bytes);
         match self {
-            Look::PlainText => text.iter().all(|byte| is_plain(*byte)),
-            Look::Letters => text.iter().all(|byte| is_letter(*byte)),
+            Look::PlainText => are_plain(text),
+            Look::Letters => are_letters(text),
             Look::Short => text.len() <= 1,
             Look::Zeros => text.is_empty(),
             Look::FirstZero => bytes.is_empty() || bytes[0] == 0,
         }
     }
+}
+
+// Whether each byte is a letter, a digit or a sign of ASCII, or a space.
+fn are_letters(bytes: &[u8]) -> bool {
+    bytes.iter().all(|byte| is_letter(*byte))
 }
 
 // A letter, a digit or a sign of ASCII, or a space.
@@ -122,7 +127,10 @@ fn is_letter(byte: u8) -> bool {
 fn are_all(table: &StoredTable<'_>, side: Side, look: Look) -> bool {
     let mut are_all = true;
     for slot in 0..table.slot_count() {
-        are_all = are_all && is_free_or(table, side, look, slot);
+        let is_so = is_free_or(table, side, look, slot);
+        if !is_so {
+            are_all = false;
+        }
     }
     are_all
 }

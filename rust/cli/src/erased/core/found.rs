@@ -7,7 +7,9 @@ use crate::erased::core::shapes::{Hash, Part, Shape, HASHES, SHAPES};
 use crate::erased::core::stored::StoredTable;
 use crate::host::prelude::*;
 use crate::proved::base::hash::{FxHashFn, HashFn, UnHashFn, Xxh64HashFn};
+use crate::proved::header::error::Error;
 use crate::proved::header::header::Header;
+use crate::proved::header::layout::Layout;
 use crate::proved::raw::memory_layout::{check_opening, check_sized_within, DEFAULT_GROUPS};
 
 // The first shape of these sizes with whose hash function all control bytes agree.
@@ -87,10 +89,14 @@ fn is_valid<H: HashFn>(bytes: &[u8]) -> bool {
     if (layout.key_len as usize) < H::MIN_LEN {
         return false;
     }
-    match check_opening::<H>(bytes, layout) {
-        Ok(()) => check_sized_within::<H>(bytes, layout, DEFAULT_GROUPS).is_ok(),
-        Err(_) => false,
-    }
+    check_within::<H>(bytes, layout).is_ok()
+}
+
+// The first rule that the bytes break, as a table of these lengths and of a hash function, the
+// bound of searches among them.
+fn check_within<H: HashFn>(bytes: &[u8], layout: Layout) -> Result<(), Error> {
+    check_opening::<H>(bytes, layout)?;
+    check_sized_within::<H>(bytes, layout, DEFAULT_GROUPS)
 }
 
 // The parts of a table whose header and length fit, and whose header counts items.
