@@ -2,6 +2,7 @@
 use Rattle.std.proofs.Common.{◌≡◌, ◌∙◌, ◌≤◌, ◌+◌, ◌*◌, ℕ, Bool, true, false, cond, List, [], ◌∷◌, Option, Some, None, Result, Ok, Err, length, drop, sym, ap, ap₂, refl, subst, slice_index}
 use Rattle.std.specs.Prelude.{is_err, option_and_then, nat_lt, map, if◌then◌else◌}
 use Rattle.std.specs.List.{range_with_len}
+use Rattle.std.specs.Option.{option_map_or}
 use Rattle.std.specs.Result.{result_map_both}
 use Rattle.odht_base.specs.Decoded.{controls_of, decoded_cells, decoded_pairs, header_slots}
 use Rattle.odht_base.specs.Format.{Format, format_of}
@@ -21,7 +22,7 @@ use Rattle.odht.proofs.lemmas.Moves.{slots_of_image}
 use Rattle.odht_tool_core.specs.GroupNumbers.{capped, groups_to_free}
 use Rattle.odht_tool_core.specs.InfoNumbers.{format_by, has_long_search, info_refusal, largest, sized_parts}
 use Rattle.odht_tool_core.specs.declared.shapes.Hash.TheVariants.{Fx}
-use Rattle.odht_tool_tables.specs.Trials.{is_long_from, is_short, plain_parts, rebuilt, run_short}
+use Rattle.odht_tool_tables.specs.Trials.{has_short_searches, is_long_from, is_short, plain_parts, rebuilt, run_short}
 
 -- ---- the parts of an image are those of its table
 module _ (F : Format) (P : Table) (B : List ℕ) (is : IsImage F P B) where
@@ -99,5 +100,13 @@ unfolding decoded_cells
 same_pairs k v g h B = refl
 
 module _ (F : Format) (percent : ℕ) (ps : List Pair) (start : Table) (new : fresh (length ps) percent ≡ Some start) where
-  pub rebuilt_from : rebuilt F percent ps ≡ run_short F start ps
+  rebuilt_from : rebuilt F percent ps ≡ run_short F start ps
   rebuilt_from = ap (option_and_then (λ P. run_short F P ps)) new
+
+  -- all pairs were inserted
+  pub short_is : (Q : Table) → run_short F start ps ≡ Some Q → is_short F percent ps ≡ has_short_searches F Q
+  short_is Q ran = ap (λ o. option_map_or (has_short_searches F) o false) (rebuilt_from ∙ ran)
+
+  -- or they were not
+  pub long_is : run_short F start ps ≡ None → is_short F percent ps ≡ false
+  long_is ran = ap (λ o. option_map_or (has_short_searches F) o false) (rebuilt_from ∙ ran)

@@ -1,5 +1,5 @@
 //! What makes the searches of a table short: rebuilds of it that are tried in memory.
-ghost use Rattle.std.specs.Prelude.{◌≡◌, ◌≤◌, ◌&&◌, Err, IfOk, None, OnErr, nat_le, slice_index};
+ghost use Rattle.std.specs.Prelude.{◌≡◌, ◌≤◌, ◌&&◌, Err, IfOk, None, OnErr, length, nat_le, slice_index};
 ghost use Rattle.std.specs.Result.{result_err};
 ghost use Rattle.odht_base.specs.Decoded.{decoded_pairs};
 ghost use Rattle.odht_base.specs.Format.{format_of};
@@ -19,6 +19,7 @@ use odht::error::Error;
 use odht::hash::HashFn;
 use odht::load::Percent;
 use odht::memory_layout::DEFAULT_GROUPS;
+use odht::raw_table::SizedIter;
 use odht::{FxHashFn, UnHashFn, Xxh64HashFn};
 use odht_tool_core::advice::Advice;
 use odht_tool_core::failure::Failure;
@@ -105,7 +106,7 @@ fn first_help(alloc: Global, bytes: &[u8], hash: Hash) -> Result<Option<Advice>,
 // Whether the load is high, and a rebuild at a lower one helps.
 fn lower_load_helps(alloc: Global, bytes: &[u8], hash: Hash) -> Result<bool, Failure>
     requires { info_refusal bytes.now ≡ None }
-    ensures helps { IfOk result (λ helps. helps ≡ lower_load_helps bytes.now hash) }
+    ensures helps { IfOk result (λ is_so. is_so ≡ lower_load_helps bytes.now hash) }
     ensures memory { OnErr result (result ≡ Err Memory) }
 {
     if has_high_load(bytes) {
@@ -118,7 +119,7 @@ fn lower_load_helps(alloc: Global, bytes: &[u8], hash: Hash) -> Result<bool, Fai
 // Whether the hash function is another than `xxh64`, and a rebuild by that one helps.
 fn mixing_helps(alloc: Global, bytes: &[u8], hash: Hash) -> Result<bool, Failure>
     requires { info_refusal bytes.now ≡ None }
-    ensures helps { IfOk result (λ helps. helps ≡ mixing_helps bytes.now hash) }
+    ensures helps { IfOk result (λ is_so. is_so ≡ mixing_helps bytes.now hash) }
     ensures memory { OnErr result (result ≡ Err Memory) }
 {
     if hash.is(Hash::Xxh64) {
@@ -143,7 +144,7 @@ fn has_high_load(bytes: &[u8]) -> bool
 // to be long enough for the function.
 fn helps(alloc: Global, bytes: &[u8], hash: Hash, percent: Percent) -> Result<bool, Failure>
     requires { info_refusal bytes.now ≡ None }
-    ensures helps { IfOk result (λ helps. helps ≡ helps bytes.now hash percent) }
+    ensures helps { IfOk result (λ is_so. is_so ≡ helps bytes.now hash percent) }
     ensures memory { OnErr result (result ≡ Err Memory) }
 {
     match hash {
@@ -189,7 +190,7 @@ fn is_rebuilt_short<H: HashFn>(
         layout,
         Borrowed::new(bytes),
     );
-    let (count, percent) = (old.iter().count(), percent.value());
+    let (count, percent) = (count_of(old.iter()), percent.value());
     let Ok(mut new) = DynTableOwned::<H>::with_capacity(alloc, layout, count, percent) else {
         return Err(Failure::Memory);
     };
@@ -199,4 +200,16 @@ fn is_rebuilt_short<H: HashFn>(
     } else {
         Ok(false)
     }
+}
+
+// How many pairs a walk gives.
+fn count_of<H: HashFn>(pairs: SizedIter<'_, H>) -> usize
+    requires { length pairs ≤ usize.MAX }
+    ensures { result ≡ length pairs.entry }
+{
+    let mut count = 0_usize;
+    for _pair in pairs {
+        count += 1;
+    }
+    count
 }

@@ -15,7 +15,14 @@ use Rattle.odht_tool_tables.proofs.ShortRuns.{ok_of, one_insert, run_goes_on, ru
 use Rattle.odht_tool_tables.proofs.short_inserts.insert_short.Goals as goal
 
 pub loop-key-init : goal.loop-key-init
-loop-key-init g c = record { lengths = refl; left = c.requires.lengths; same = λ P is. (P, is, refl) }
+loop-key-init g c =
+    let t = c.args.table.now in
+    let begun : c.into_iter-key-iterator.result ≡ c.args.pairs = search rules in
+    record {
+      lengths = refl;
+      left = subst (All (HasLengthsOf t.key_len t.value_len)) (sym begun) c.requires.lengths;
+      same = λ P is. (P, is, ap (run_short (dyn_format t g.H.HashFn.hash) P) (sym begun));
+    }
 
 pub hash-requires : goal.hash-requires
 hash-requires g c =
@@ -70,4 +77,5 @@ loop-key-preserved g c =
 pub returns-clause-short : goal.returns-clause-short
 returns-clause-short g c P is =
     let at = c.loop-key.invariant.same P is in
-    (at.0, at.2, at.1)
+    let end : c.loop-key.key-iterator ≡ [] = search rules in
+    (at.0, at.2 ∙ ap (run_short (dyn_format c.args.table.now g.H.HashFn.hash) at.0) end, at.1)

@@ -15,6 +15,7 @@ use crate::proved::tables::error::Error;
 use crate::proved::tables::hash::HashFn;
 use crate::proved::tables::load::Percent;
 use crate::proved::tables::memory_layout::DEFAULT_GROUPS;
+use crate::proved::tables::raw_table::SizedIter;
 use crate::proved::tables::{FxHashFn, UnHashFn, Xxh64HashFn};
 use crate::shim::Global;
 
@@ -138,7 +139,7 @@ fn is_rebuilt_short<H: HashFn>(
     // `FxHashFn` stands for any hash function, since a walk hashes nothing.
     let old: DynTable<FxHashFn, Borrowed<'_>> =
         DynTable::open_unchecked(layout, Borrowed::new(bytes));
-    let (count, percent) = (old.iter().count(), percent.value());
+    let (count, percent) = (count_of(old.iter()), percent.value());
     let Ok(mut new) = DynTableOwned::<H>::with_capacity(alloc, layout, count, percent) else {
         return Err(Failure::Memory);
     };
@@ -148,4 +149,13 @@ fn is_rebuilt_short<H: HashFn>(
     } else {
         Ok(false)
     }
+}
+
+// How many pairs a walk gives.
+fn count_of<H: HashFn>(pairs: SizedIter<'_, H>) -> usize {
+    let mut count = 0_usize;
+    for _pair in pairs {
+        count += 1;
+    }
+    count
 }
