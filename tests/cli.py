@@ -188,7 +188,7 @@ def main(*words):
         runs += [["tests/sizes.py", program], ["tests/objects.py", program]]
         runs += [["tests/lines.py", program], ["tests/progress.py", program]]
         runs += [["tests/together.py", program], ["tests/pairs.py", program], ["tests/stored.py", program]]
-        runs += [["tests/mixing.py", program]]
+        runs += [["tests/mixing.py", program], ["tests/evidence.py", program]]
         if os.environ.get("ODHT_TOOL"):
             runs.append(["tests/beside.py", os.environ["ODHT_TOOL"], program])
         failed = 0

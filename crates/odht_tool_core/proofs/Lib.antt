@@ -1,3 +1,5 @@
+-- what all keys or values look like
+pub mod Looks
 -- laws over bytes' texts
 pub mod Words
 -- plain texts and the bytes that they are stored as

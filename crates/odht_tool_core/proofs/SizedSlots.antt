@@ -42,7 +42,7 @@ module _ (T : SizedParts) (h : Hash) where
   abbrev groups_of : Option ℕ → ℕ → ℕ
   groups_of o i = capped o (groups_to (hash_of h (slot_key (sized_format T h) T.entries i)) T.slots i)
 
-  occupied_more : (n : ℕ) (t : Bool) → is_occupied n ≡ t → occupied T (n + 1) ≡ occupied T n ++ cond t (n ∷ []) []
+  pub occupied_more : (n : ℕ) (t : Bool) → is_occupied n ≡ t → occupied T (n + 1) ≡ occupied T n ++ cond t (n ∷ []) []
   occupied_more n t e =
       ap (filter is_occupied) (slots_more n) ∙ filter-append is_occupied (range_with_len 0 n) (n ∷ [])
       ∙ ap (λ b. occupied T n ++ cond b (n ∷ []) []) e

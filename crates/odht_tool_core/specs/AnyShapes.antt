@@ -12,28 +12,28 @@
 --     any_of_sizes p q h   the first ready shape of the lengths of these types and of the hash function h, where one is named;
 --                          else another of these types, of the default of such keys where none is named
 --     named_any B h        that of the lengths in the header of the bytes B; with an early error, since any will do, a ready one
---     fitting_any k v T    the first ready shape that fits the parts T; else the shape of the first hash function that all
+--     fitting_any B        that of the lengths in the header of B, and of the hash function that decides of those that all
 --                          control bytes agree with; or the failure that there is none
 --     found_any B h        the shape that is named; but where there are items, and no hash function is named, one that fits
 --     any_of_kinds k v h   the shape of keys and values of which k and v are said, and of the hash function h, where one is
---                          named: the first ready one of their types, else another one, where no ready one has these
---                          lengths, and keys are long enough
+--                          named: the first ready one of their types, else another one, where keys are long enough
 --     kind_of_size k p     what stored bytes of the type p are read as, of which k, or nothing, is said; none where k is of
 --                          another length
---     with_ready_types o   the types o, but those of the first ready shape of their lengths, where there is one
---     read_any B h ks      the shape that is found, with its forms, where ks is said of keys and values: a ready shape keeps
---                          its types, and another one has those of the same lengths that are said, or with_ready_types
+--     with_own_types o     the types o, but those that keys and values of their lengths have by themselves
+--     read_any B h ks      the shape that is found, with its forms, where ks is said of keys and values: it has the types of
+--                          its lengths that are said; where nothing is said those that it has by itself
 --     checked_any B h      the shape that is found; but where no hash function fits, the one that is named
 use Rattle.std.specs.Prelude.{ℕ, ⊤, ◌≤◌, List, ◌&&◌, ◌==◌, nat_lt, is_none, is_some, slice_index, Option, None, Some, Result, Ok, Err, if◌then◌else◌}
 use Rattle.std.specs.Bool.{then_some}
-use Rattle.std.specs.Option.{option_map_or, unwrap_or}
+use Rattle.std.specs.Option.{unwrap_or}
+use Rattle.std.specs.Result.{result_ok}
 use Rattle.odht_base.specs.Format.{Format, format_of}
 use Rattle.odht_header.specs.Coding.{Coding}
 use Rattle.odht_raw.specs.Sized.{bytes_coding}
-use Rattle.odht_tool_core.specs.FoundShapes.{has_items, fitting_shape, said_hash}
-use Rattle.odht_tool_core.specs.InfoNumbers.{SizedParts, sized_parts, least_key_len, found_hash}
+use Rattle.odht_tool_core.specs.FoundShapes.{has_items, first_hash, said_hash, settled_hash}
+use Rattle.odht_tool_core.specs.InfoNumbers.{sized_parts, least_key_len}
 use Rattle.odht_tool_core.specs.ReadAs.{form_for}
-use Rattle.odht_tool_core.specs.ReadyShapes.{default_hash, hash_of, shape_format, shape_of_parts, shape_of_sizes, typed_len, early_refusal}
+use Rattle.odht_tool_core.specs.ReadyShapes.{default_hash, hash_of, own_key, own_value, shape_format, shape_of_parts, shape_of_sizes, typed_len, early_refusal}
 use Rattle.odht_tool_core.specs.ShapeList.{key_part, value_part, shape_hash}
 use Rattle.odht_tool_core.specs.declared.any.AnyShape.{AnyShape}
 use Rattle.odht_tool_core.specs.declared.any.AnyShape.TheVariants.{Ready, Other}
@@ -99,16 +99,16 @@ named_any B h =
     else any_of_sizes (Bytes (slice_index B 5)) (Bytes (slice_index B 6)) h
 
 -- ---- by the control bytes
-abbrev pub other_by : ℕ → ℕ → Option Hash → Result AnyShape Failure
-other_by k v None = Err (NoHash k v)
-other_by k v (Some h) = Ok (Other (record { key = Bytes k; value = Bytes v; hash = h }))
+abbrev pub of_hash : List ℕ → Option Hash → Result AnyShape Failure
+of_hash B None = Err (NoHash (slice_index B 5) (slice_index B 6))
+of_hash B (Some h) = any_of_sizes (Bytes (slice_index B 5)) (Bytes (slice_index B 6)) (Some (settled_hash B h))
 
-abbrev pub fitting_any : ℕ → ℕ → SizedParts → Result AnyShape Failure
-fitting_any k v T = ready_or (other_by k v (found_hash T)) (fitting_shape k v T)
+abbrev pub fitting_any : List ℕ → Result AnyShape Failure
+fitting_any B = of_hash B (first_hash (slice_index B 5) (slice_index B 6) (sized_parts B))
 
 abbrev pub found_any : List ℕ → Option Hash → Result AnyShape Failure
 found_any B h =
-    if is_none h && has_items B then fitting_any (slice_index B 5) (slice_index B 6) (sized_parts B)
+    if is_none h && has_items B then fitting_any B
     else named_any B h
 
 abbrev pub found_or : Result AnyShape Failure → Result AnyShape Failure → Result AnyShape Failure
@@ -119,24 +119,15 @@ abbrev pub checked_any : List ℕ → Option Hash → Result AnyShape Failure
 checked_any B h = found_or (found_any B h) (named_any B h)
 
 -- ---- that is named
-abbrev pub other_alone : Result AnyShape Failure → Option AnyShape
-other_alone (Ok (Ready s)) = None
-other_alone (Ok (Other o)) = Some (Other o)
-other_alone (Err failure) = None
-
 abbrev pub of_kinds_or : Option AnyShape → Option Shape → Option AnyShape
 of_kinds_or o None = o
 of_kinds_or o (Some s) = Some (Ready s)
 
 abbrev pub any_of_kinds : Kind → Kind → Option Hash → Option AnyShape
-any_of_kinds k v h = of_kinds_or (other_alone (any_of_sizes k.part v.part h)) (shape_of_parts k.part v.part h)
+any_of_kinds k v h =
+    of_kinds_or (result_ok (other_of k.part v.part (unwrap_or h (default_hash k.part)))) (shape_of_parts k.part v.part h)
 
 -- ---- with what is said of keys and values
-abbrev pub with_ready_forms : Shape → Option Form → Option Form → Result (AnyShape × GivenForms) Failure
-with_ready_forms s None g = Err (OtherKey (key_part s))
-with_ready_forms s (Some f) None = Err (OtherValue (value_part s))
-with_ready_forms s (Some f) (Some g) = Ok (Ready s, record { key = f; value = g })
-
 abbrev pub kind_of_size : Option Kind → Part → Option Kind
 kind_of_size None p = Some (record { part = p; form = Own })
 kind_of_size (Some k) p = then_some (typed_len k.part == typed_len p) k
@@ -146,19 +137,20 @@ with_kinds o None v = Err (OtherKey o.key)
 with_kinds o (Some k) None = Err (OtherValue o.value)
 with_kinds o (Some k) (Some v) = Ok (Other (record { key = k.part; value = v.part; hash = o.hash }), record { key = k.form; value = v.form })
 
-abbrev pub with_ready_types : OtherShape → OtherShape
-with_ready_types o =
-    option_map_or
-    (λ (s : Shape). record { key = key_part s; value = value_part s; hash = o.hash })
-    (shape_of_sizes (typed_len o.key) (typed_len o.value) None)
-    o
+abbrev pub with_own_types : OtherShape → OtherShape
+with_own_types o = record { key = own_key (typed_len o.key) o.hash; value = own_value (typed_len o.value); hash = o.hash }
 
 abbrev pub other_formed : Kinds → OtherShape → Result (AnyShape × GivenForms) Failure
 other_formed ks o = with_kinds o (kind_of_size ks.key o.key) (kind_of_size ks.value o.value)
 
+abbrev pub with_ready_forms : Shape → Kinds → Option Form → Option Form → Result (AnyShape × GivenForms) Failure
+with_ready_forms s ks None g = other_formed ks (types_of (Ready s))
+with_ready_forms s ks (Some f) None = other_formed ks (types_of (Ready s))
+with_ready_forms s ks (Some f) (Some g) = Ok (Ready s, record { key = f; value = g })
+
 abbrev pub any_formed : Kinds → Result AnyShape Failure → Result (AnyShape × GivenForms) Failure
-any_formed ks (Ok (Ready s)) = with_ready_forms s (form_for ks.key (key_part s)) (form_for ks.value (value_part s))
-any_formed ks (Ok (Other o)) = other_formed ks (with_ready_types o)
+any_formed ks (Ok (Ready s)) = with_ready_forms s ks (form_for ks.key (key_part s)) (form_for ks.value (value_part s))
+any_formed ks (Ok (Other o)) = other_formed ks (with_own_types o)
 any_formed ks (Err failure) = Err failure
 
 abbrev pub read_any : List ℕ → Option Hash → Kinds → Result (AnyShape × GivenForms) Failure

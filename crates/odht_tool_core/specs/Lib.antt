@@ -79,3 +79,5 @@ pub mod DuplicateWords
 pub mod PairLines
 -- words that ask for a text of the program
 pub mod Asking
+-- what a table shows of its types
+pub mod Evidence

@@ -10,6 +10,9 @@
 --     hashes               all hash functions; of several that a file fits the first is taken
 --     default_hash p       that of new tables of keys of the type p, where none is named: fx for numbers, unhash for 8 to 32
 --                          bytes, which are hashes, and else xxh64
+--     own_key n h          what keys of n bytes are by themselves, in a table of the hash function h: numbers of 4 and 8
+--                          bytes, but under unhash hashes; else bytes
+--     own_value n          what values of n bytes are by themselves: nothing, numbers of 4 and 8 bytes, or else bytes
 --     shape_format s       the format of its tables
 --     shape_coding s       how they encode and decode keys and values
 --     is_hashed_by h s     s has the hash function h, where one is named
@@ -96,6 +99,17 @@ default_hash Nothing = Xxh64
 default_hash U32 = Fx
 default_hash U64 = Fx
 default_hash (Bytes n) = if nat_le 8 n && nat_le n 32 then Unhash else Xxh64
+
+abbrev pub number_or_bytes : ℕ → Part
+number_or_bytes n = if n == 4 then U32 else if n == 8 then U64 else Bytes n
+
+abbrev pub own_key : ℕ → Hash → Part
+own_key n Fx = number_or_bytes n
+own_key n Unhash = Bytes n
+own_key n Xxh64 = number_or_bytes n
+
+abbrev pub own_value : ℕ → Part
+own_value n = if n == 0 then Nothing else number_or_bytes n
 
 abbrev pub shape_format : Shape → Format
 shape_format s = format_of (typed_len (key_part s)) (typed_len (value_part s)) (hash_of (shape_hash s))

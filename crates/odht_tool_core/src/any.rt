@@ -3,7 +3,7 @@
 ghost use Rattle.std.specs.Prelude.{◌≡◌, ◌≤◌, IfOk, IfSome, IsFalse, is_some, length};
 ghost use Rattle.odht_tool_core.specs.AnyShapes.{HasLongKeys, any_of_kinds, any_of_sizes, other_of};
 ghost use Rattle.odht_tool_core.specs.AnyShapes.{any_hash, any_key, any_value, kind_of_size};
-ghost use Rattle.odht_tool_core.specs.AnyShapes.{types_of, with_ready_types};
+ghost use Rattle.odht_tool_core.specs.AnyShapes.{types_of, with_own_types};
 ghost use Rattle.odht_tool_core.specs.AnyShapes.{named_any, read_any, with_kinds, with_ready_forms};
 ghost use Rattle.odht_tool_core.specs.InfoNumbers.{least_key_len};
 ghost use Rattle.odht_tool_core.specs.ReadAs.{form_for};
@@ -30,19 +30,16 @@ pub struct OtherShape {
 }
 
 impl OtherShape {
-    /// The same with the types of the first ready shape of its lengths, where there is one.
-    fn with_ready_types(self) -> OtherShape
-        ensures types { result ≡ with_ready_types self }
+    /// The same with the types that keys and values of its lengths have by themselves.
+    fn with_own_types(self) -> OtherShape
+        ensures types { result ≡ with_own_types self }
         ensures key { typed_len result.key ≡ typed_len self.key }
         ensures hash { result.hash ≡ self.hash }
     {
-        match Shape::of_sizes(self.key.size(), self.value.size(), None) {
-            Some(shape) => OtherShape {
-                key: shape.key(),
-                value: shape.value(),
-                hash: self.hash,
-            },
-            None => self,
+        OtherShape {
+            key: Part::own_key(self.key.size(), self.hash),
+            value: Part::own_value(self.value.size()),
+            hash: self.hash,
         }
     }
 }
@@ -100,24 +97,25 @@ impl AnyShape {
 
     /// The shape of keys and values that are said to be these, and of the hash function, where one
     /// is given: the first ready one of their types; else another one, of the default of these
-    /// keys where none is given. None where a ready shape of other types has as many bytes, since
-    /// a file is read as that, or the hash function needs longer keys.
+    /// keys where none is given. None where the hash function needs longer keys.
     pub(crate) fn of_kinds(key: Kind, value: Kind, hash: Option<Hash>) -> Option<AnyShape>
         ensures shape { result ≡ any_of_kinds key value hash }
         ensures long { IfSome result HasLongKeys }
     {
-        if let Some(shape) = Shape::of_parts(key.part, value.part, hash) {
-            return Some(AnyShape::Ready(shape));
-        }
-        match AnyShape::of_sizes(key.part, value.part, hash) {
-            Ok(AnyShape::Other(other)) => Some(AnyShape::Other(other)),
-            _ => None,
+        match Shape::of_parts(key.part, value.part, hash) {
+            Some(shape) => Some(AnyShape::Ready(shape)),
+            None => AnyShape::of_types(
+                key.part,
+                value.part,
+                hash.unwrap_or(key.part.default_hash()),
+            )
+            .ok(),
         }
     }
 
-    // The first ready shape of the lengths of these types and of the hash function, where one is
-    // given; else another.
-    fn of_sizes(key: Part, value: Part, hash: Option<Hash>) -> Result<AnyShape, Failure>
+    /// The first ready shape of the lengths of these types and of the hash function, where one is
+    /// given; else another.
+    pub(crate) fn of_sizes(key: Part, value: Part, hash: Option<Hash>) -> Result<AnyShape, Failure>
         ensures shape { result ≡ any_of_sizes key value hash }
         ensures long { IfOk result HasLongKeys }
     {
@@ -173,10 +171,9 @@ fn has_early_refusal(bytes: &[u8]) -> bool
 }
 
 /// The shape that the bytes of a file are read as, as `found_any` finds it by the hash function of
-/// `said_hash`, and the forms of its keys and values: those that are said, or its own. Where it is
-/// no ready shape, its types are those that are said, if they have its lengths, or else those of
-/// `with_ready_types`. `OtherKey` or `OtherValue` where what is said is of another type, or of
-/// another length.
+/// `said_hash`, and the forms of its keys and values: those that are said, or its own. Keys and
+/// values are of the types that are said, where these have their lengths; of what nothing is said
+/// those that it has by itself. `OtherKey` or `OtherValue` where what is said is of another length.
 pub fn read_any(
     bytes: &[u8],
     hash: Option<Hash>,
@@ -187,23 +184,23 @@ pub fn read_any(
 {
     match found_any(bytes, said_hash(bytes, hash, kinds.hash))? {
         AnyShape::Ready(shape) => read_ready(shape, kinds),
-        AnyShape::Other(shape) => read_other(shape.with_ready_types(), kinds),
+        AnyShape::Other(shape) => read_other(shape.with_own_types(), kinds),
     }
 }
 
-// A ready shape and its forms, of which this is said.
+// A ready shape and its forms, of which this is said; another shape of its lengths, where that is
+// of other types.
 fn read_ready(shape: Shape, kinds: Kinds) -> Result<(AnyShape, GivenForms), Failure>
-    ensures forms { result ≡ with_ready_forms shape
+    ensures forms { result ≡ with_ready_forms shape kinds
         (form_for kinds.key (key_part shape)) (form_for kinds.value (value_part shape)) }
     ensures long { IfOk result (λ x. HasLongKeys x.0) }
 {
-    let Some(key) = form_for(kinds.key, shape.key()) else {
-        return Err(Failure::OtherKey(shape.key()));
-    };
-    let Some(value) = form_for(kinds.value, shape.value()) else {
-        return Err(Failure::OtherValue(shape.value()));
-    };
-    Ok((AnyShape::Ready(shape), GivenForms { key, value }))
+    let key = form_for(kinds.key, shape.key());
+    let value = form_for(kinds.value, shape.value());
+    match (key, value) {
+        (Some(key), Some(value)) => Ok((AnyShape::Ready(shape), GivenForms { key, value })),
+        _ => read_other(AnyShape::Ready(shape).types(), kinds),
+    }
 }
 
 // Another shape, with the types that are said, and its forms.

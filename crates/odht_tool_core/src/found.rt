@@ -1,15 +1,24 @@
 //! The shape of a file, where its hash function is found by its control bytes.
-ghost use Rattle.std.specs.Prelude.{◌≡◌, ◌≤◌, length, slice_index, is_some, IfOk, IfSome, OnSome};
-ghost use Rattle.odht_tool_core.specs.InfoNumbers.{sized_parts};
-ghost use Rattle.odht_tool_core.specs.FoundShapes.{fits, fitting_shape, has_items};
-ghost use Rattle.odht_tool_core.specs.FoundShapes.{agrees_with, hinted_hash, is_other, other_hash, said_hash};
+ghost use Rattle.std.specs.Prelude.{◌≡◌, ◌≤◌, ◌&&◌, length, slice_index, is_none, is_some, nat_le};
+ghost use Rattle.std.specs.Prelude.{IfOk, IfSome, OnSome, Some};
+ghost use Rattle.odht_base.specs.Format.{format_of};
+ghost use Rattle.odht_header.specs.Refusals.{check_refusal_by, checked};
+ghost use Rattle.odht_tool_core.specs.InfoNumbers.{info_refusal, sized_parts};
+ghost use Rattle.odht_tool_core.specs.FoundShapes.{fits, first_hash, fitting_shape, has_items};
+ghost use Rattle.odht_tool_core.specs.FoundShapes.{agreed_hash, is_valid_by, settled_hash};
+ghost use Rattle.odht_tool_core.specs.FoundShapes.{hinted_hash, is_other, other_hash, said_hash};
+ghost use Rattle.odht_tool_core.specs.FoundShapes.{valid_hash};
 ghost use Rattle.odht_tool_core.specs.AnyShapes.{HasLongKeys, checked_any, fitting_any, found_any};
 
-use crate::any::{AnyShape, OtherShape, named_any};
+use crate::any::{AnyShape, named_any};
 use crate::failure::Failure;
 use crate::shapes::{HASHES, Hash, Part, SHAPES, Shape};
 use crate::stored::StoredTable;
+use odht_base::hash::{FxHashFn, HashFn, UnHashFn, Xxh64HashFn};
+use odht_header::error::Error;
 use odht_header::header::Header;
+use odht_header::layout::Layout;
+use odht_raw::memory_layout::{DEFAULT_GROUPS, check_opening, check_sized_within};
 
 // The first shape of these sizes with whose hash function all control bytes agree.
 fn fitting_shape(key_size: u8, value_size: u8, table: &StoredTable<'_>) -> Option<Shape>
@@ -29,9 +38,10 @@ fn is_fitting(shape: Shape, key_size: u8, value_size: u8, table: &StoredTable<'_
 }
 
 /// The shape of these bytes: as `named_any` has it; but where header and length fit, the header
-/// counts items and no hash function is given, the first ready shape of the header's sizes with
-/// whose hash function all control bytes agree, else another shape with the first hash function
-/// that they agree with. `NoHash` where they agree with none.
+/// counts items and no hash function is given, that of a hash function that all control bytes
+/// agree with: of the first ready shape of the header's sizes whose function is such a one, else of
+/// the first such one; but where there are several, the first of them by which the bytes are
+/// valid, if there is one. `NoHash` where control bytes agree with none.
 pub fn found_any(bytes: &[u8], hash: Option<Hash>) -> Result<AnyShape, Failure>
     ensures shape { result ≡ found_any bytes.now hash }
     ensures long { IfOk result HasLongKeys }
@@ -46,26 +56,94 @@ pub fn found_any(bytes: &[u8], hash: Option<Hash>) -> Result<AnyShape, Failure>
 fn fitting_any(bytes: &[u8], table: &StoredTable<'_>) -> Result<AnyShape, Failure>
     requires long { 32 ≤ length bytes.now }
     requires parts { table.now ≡ sized_parts bytes.now }
-    ensures shape { result
-        ≡ fitting_any (slice_index bytes.now 5) (slice_index bytes.now 6) table.now }
+    ensures shape { result ≡ fitting_any bytes.now }
     ensures long { IfOk result HasLongKeys }
 {
     let header = Header::of(bytes);
-    let (key_len, value_len) = (header.key_size(), header.value_size());
-    if let Some(shape) = fitting_shape(key_len, value_len, table) {
-        return Ok(AnyShape::Ready(shape));
-    }
-    match table.hash() {
-        Some(hash) => Ok(AnyShape::Other(OtherShape {
-            key: Part::Bytes(key_len),
-            value: Part::Bytes(value_len),
-            hash,
-        })),
+    let (key_size, value_size) = (header.key_size(), header.value_size());
+    match first_hash(key_size, value_size, table) {
+        Some(first) => {
+            let hash = settled_hash(bytes, table, first);
+            AnyShape::of_sizes(Part::Bytes(key_size), Part::Bytes(value_size), Some(hash))
+        }
         None => Err(Failure::NoHash {
-            key_size: key_len,
-            value_size: value_len,
+            key_size,
+            value_size,
         }),
     }
+}
+
+// Of the hash functions that all control bytes agree with, that of the first ready shape of these
+// sizes, or else the first one.
+fn first_hash(key_size: u8, value_size: u8, table: &StoredTable<'_>) -> Option<Hash>
+    ensures { result ≡ first_hash key_size value_size table.now }
+{
+    match fitting_shape(key_size, value_size, table) {
+        Some(shape) => Some(shape.hash()),
+        None => table.hash(),
+    }
+}
+
+// Of the hash functions that all control bytes agree with, of which `first` is one, the one that
+// decides: `first` where there is no other, or where the bytes are valid by it, so that every key
+// is reached; else the first one by which they are valid; and `first` again where there is none.
+fn settled_hash(bytes: &[u8], table: &StoredTable<'_>, first: Hash) -> Hash
+    requires parts { table.now ≡ sized_parts bytes.now }
+    ensures { result ≡ settled_hash bytes.now first }
+{
+    if other_hash(table, first).is_none() || is_valid_by(bytes, first) {
+        return first;
+    }
+    valid_hash(bytes).unwrap_or(first)
+}
+
+// The first hash function by which the bytes are valid.
+fn valid_hash(bytes: &[u8]) -> Option<Hash>
+    ensures { result ≡ valid_hash bytes.now }
+{
+    HASHES
+        .iter()
+        .copied()
+        .find(|hash| is_valid_by(bytes, *hash))
+}
+
+// Whether the bytes are valid by a hash function, with no search above the bound.
+fn is_valid_by(bytes: &[u8], hash: Hash) -> bool
+    ensures { result ≡ is_valid_by bytes.now hash }
+{
+    match hash {
+        Hash::Fx => is_valid::<FxHashFn>(bytes),
+        Hash::Unhash => is_valid::<UnHashFn>(bytes),
+        Hash::Xxh64 => is_valid::<Xxh64HashFn>(bytes),
+    }
+}
+
+// The same by the hash function `H`.
+fn is_valid<H: HashFn>(bytes: &[u8]) -> bool
+    ensures { let k = slice_index bytes.now 5
+        in let F = format_of k (slice_index bytes.now 6) H.hash
+        in result ≡ (is_none (info_refusal bytes.now) && nat_le H.MIN_LEN k
+        && is_none (check_refusal_by F (Some 128) bytes.now)) }
+{
+    let Ok(table) = StoredTable::open(bytes) else {
+        return false;
+    };
+    let layout = table.layout();
+    if (layout.key_len as usize) < H::MIN_LEN {
+        return false;
+    }
+    check_within::<H>(bytes, layout).is_ok()
+}
+
+// The first rule that the bytes break, as a table of these lengths and of a hash function, the
+// bound of searches among them.
+fn check_within<H: HashFn>(bytes: &[u8], layout: Layout) -> Result<(), Error>
+    requires { H.MIN_LEN ≤ layout.key_len }
+    ensures { let F = format_of layout.key_len layout.value_len H.hash
+        in result ≡ checked (check_refusal_by F (Some 128) bytes.now) }
+{
+    check_opening::<H>(bytes, layout)?;
+    check_sized_within::<H>(bytes, layout, DEFAULT_GROUPS)
 }
 
 // The parts of a table whose header and length fit, and whose header counts items.
@@ -82,25 +160,30 @@ fn open_with_items(bytes: &[u8]) -> Option<StoredTable<'_>>
     }
 }
 
-/// The hash function by which a file is read: the one that is named, or else the default of what
-/// its keys are said to be, where header and length fit and all control bytes agree with it. So
-/// that default counts where a file does not show its hash function, as an empty one.
+/// The hash function by which a file is read: the one that is named, or else, where header and
+/// length fit and all control bytes agree with the default of what its keys are said to be, that
+/// default; but where they agree with others too, one by which every key is reached, as
+/// `found_any` has it. So the default counts where a file does not show its hash function, as an
+/// empty one.
 pub fn said_hash(bytes: &[u8], named: Option<Hash>, default: Option<Hash>) -> Option<Hash>
     ensures { result ≡ said_hash bytes.now named default }
 {
     match (named, default) {
-        (None, Some(default)) if agrees_with(bytes, default) => Some(default),
+        (None, Some(default)) => agreed_hash(bytes, default),
         _ => named,
     }
 }
 
-// Whether header and length fit, and all control bytes agree with a hash function.
-fn agrees_with(bytes: &[u8], hash: Hash) -> bool
-    ensures { result ≡ agrees_with bytes.now hash }
+// The hash function that decides where header and length fit and all control bytes agree with this
+// one.
+fn agreed_hash(bytes: &[u8], default: Hash) -> Option<Hash>
+    ensures { result ≡ agreed_hash bytes.now default }
 {
-    match StoredTable::open(bytes) {
-        Ok(table) => table.agrees(hash),
-        Err(_) => false,
+    let table = StoredTable::open(bytes).ok()?;
+    if table.agrees(default) {
+        Some(settled_hash(bytes, &table, default))
+    } else {
+        None
     }
 }
 

@@ -1,5 +1,7 @@
 //! The new file that replaces an older one. It is made before that one is read, so that no two runs
 //! are at work on one file.
+ghost use Rattle.std.specs.Prelude.{◌≡◌};
+
 use crate::failure::Failure;
 use crate::status::Status;
 use crate::targets::{Kept, Target, beside, if_there, is_same, make_private};
@@ -81,7 +83,9 @@ pub fn ended<R: Files>(
     rt: &R,
     new: NewFile<R::File>,
     done: Result<Status, Failure>,
-) -> Result<Status, Failure> {
+) -> Result<Status, Failure>
+    ensures { result ≡ done }
+{
     // A new file that cannot be removed remains, and the next run reports it.
     if let Ok(true) = is_own(rt, &new) {
         let _ = fs::remove_file(rt, new.name.as_str());

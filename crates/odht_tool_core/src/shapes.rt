@@ -4,7 +4,7 @@ ghost use Rattle.std.specs.Prelude.{◌≡◌};
 ghost use Rattle.odht_tool_core.specs.ReadyShapes.{typed_len, same_part, same_hash, is_hashed_by};
 ghost use Rattle.odht_tool_core.specs.ReadyShapes.{has_parts, shape_of_parts, is_shape_of};
 ghost use Rattle.odht_tool_core.specs.ReadyShapes.{shape_of_sizes};
-ghost use Rattle.odht_tool_core.specs.ReadyShapes.{default_hash};
+ghost use Rattle.odht_tool_core.specs.ReadyShapes.{default_hash, own_key, own_value};
 
 use std::fmt;
 
@@ -112,6 +112,32 @@ impl Part {
             Part::U32 | Part::U64 => Hash::Fx,
             Part::Bytes(size) if 8 <= size && size <= 32 => Hash::Unhash,
             _ => Hash::Xxh64,
+        }
+    }
+
+    /// What keys of so many bytes are by themselves, in a table of this hash function: numbers,
+    /// where they have 4 or 8 bytes, but under `unhash` hashes; else bytes.
+    pub(crate) fn own_key(size: u8, hash: Hash) -> Part
+        ensures { result ≡ own_key size hash }
+    {
+        match (size, hash) {
+            (_, Hash::Unhash) => Part::Bytes(size),
+            (4, _) => Part::U32,
+            (8, _) => Part::U64,
+            _ => Part::Bytes(size),
+        }
+    }
+
+    /// What values of so many bytes are by themselves: nothing, where they have none; numbers,
+    /// where they have 4 or 8 bytes; else bytes.
+    pub(crate) fn own_value(size: u8) -> Part
+        ensures { result ≡ own_value size }
+    {
+        match size {
+            0 => Part::Nothing,
+            4 => Part::U32,
+            8 => Part::U64,
+            _ => Part::Bytes(size),
         }
     }
 

@@ -2,7 +2,7 @@
 ghost use Rattle.std.specs.Prelude.{◌≡◌, ◌≤◌, ◌<◌, ◌+◌, ◌*◌, ◌/◌, ◌%◌, length, not, is_some};
 ghost use Rattle.std.specs.Prelude.{IfOk, IfSome, OnOk, Some, nat_lt, slice_index};
 ghost use Rattle.std.specs.Result.{result_err};
-ghost use Rattle.odht_base.specs.Decoded.{counts_as_free, slot_key};
+ghost use Rattle.odht_base.specs.Decoded.{counts_as_free, slot_key, slot_value};
 ghost use Rattle.odht_header.specs.Refusals.{control_mismatch};
 ghost use Rattle.odht_tool_core.specs.InfoNumbers.{sized_format, sized_parts};
 ghost use Rattle.odht_tool_core.specs.InfoNumbers.{info_refusal, least_key_len};
@@ -12,6 +12,7 @@ ghost use Rattle.odht_tool_core.specs.InfoNumbers.{has_long_search, longest_miss
 ghost use Rattle.odht_tool_core.specs.GroupNumbers.{capped, groups_to_free};
 ghost use Rattle.odht_tool_core.specs.Finds.{has_mirror};
 ghost use Rattle.odht_tool_core.specs.ReadyShapes.{hash_of};
+ghost use Rattle.odht_tool_core.specs.declared.shapes.Hash.TheVariants.{Fx};
 
 use crate::groups::{groups_to, groups_to_free};
 use crate::histogram::Histogram;
@@ -141,8 +142,12 @@ impl<'a> StoredTable<'a> {
     pub fn pair(&self, slot: usize) -> Option<(&'a [u8], &'a [u8])>
         requires { slot < self.now.slots }
         ensures some { is_some result ≡ not (counts_as_free (slice_index self.now.control slot)) }
-        ensures key { IfSome result (λ p. length p.0.now ≡ self.now.key_len) }
-        ensures value { IfSome result (λ p. length p.1.now ≡ self.now.value_len) }
+        ensures key { let T = self.now
+            in IfSome result (λ p. p.0.now ≡ slot_key (sized_format T Fx) T.entries slot) }
+        ensures value { let T = self.now
+            in IfSome result (λ p. p.1.now ≡ slot_value (sized_format T Fx) T.entries slot) }
+        ensures key_len { IfSome result (λ p. length p.0.now ≡ self.now.key_len) }
+        ensures value_len { IfSome result (λ p. length p.1.now ≡ self.now.value_len) }
     {
         if self.is_occupied(slot) {
             Some((self.table.key(slot), self.table.value(slot)))

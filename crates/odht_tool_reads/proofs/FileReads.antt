@@ -1,8 +1,9 @@
 -- Lookups in a table that is read by position, and the hash function that its first slots leave.
 use Rattle.std.proofs.Common.{arith, refl, ◌≡◌, ◌∙◌, ℕ, ◌+◌, ◌*◌, ◌<◌, ◌≤◌, ◌&&◌, ◌==◌, Bool, true, false, not, List, [], ◌∷◌, length, drop, take, find, is_none, is_some, Option, Some, None, Ok, sym, ap, ap₂, subst, cond, slice_index, le-ltb, mul-le-mul_right, add-mul, zero-add, length-drop}
-use Rattle.std.specs.Prelude.{if◌then◌else◌}
+use Rattle.std.specs.Prelude.{if◌then◌else◌, option_map}
 use Rattle.std.specs.Bool.{then_some}
-use Rattle.std.specs.Option.{option_or}
+use Rattle.std.specs.Option.{option_or, unwrap_or}
+use Rattle.std.proofs.lemmas.Option.{none-some}
 use Rattle.std.proofs.lemmas.Bool.{and_parts, eqb-true, leb-true, false_from_ne_true, true≢false}
 use Rattle.std.proofs.lemmas.List.{get_or-drop}
 use Rattle.odht_base.specs.Bytes.{bytes_at}
@@ -12,6 +13,7 @@ use Rattle.odht_base.specs.Numbers.{num}
 use Rattle.std.proofs.Math.Bool.{and-false}
 use Rattle.odht_base.specs.Valid.{IsValidBytes}
 use Rattle.odht_base.proofs.lemmas.ByteRanges.{bytes_at-bytes_at, index-bytes_at, length-bytes_at}
+use Rattle.odht_base.proofs.lemmas.Options.{some_same}
 use Rattle.odht_base.proofs.lemmas.PartsOf.{slot_within}
 use Rattle.odht_header.specs.Refusals.{opening_refusal, ◌gives◌, checked, differs, first_of, header_refusal, lists_differ, tag_refusal, version_refusal, wrong_size, first_slot, control_mismatch}
 use Rattle.odht_header.specs.declared.error.Error.{Error}
@@ -20,10 +22,10 @@ use Rattle.odht_header.specs.declared.error.Part.TheVariants.{EntryMetadata}
 use Rattle.odht_header.proofs.lemmas.HeaderFits.{IsHeader-header_refusal}
 use Rattle.odht_header.proofs.lemmas.FirstErrors.{Ok-checked, gives_both-None, None-gives_both, differs-false, false-differs, not-true, first_slot-None}
 use Rattle.odht_tool_core.specs.InfoNumbers.{SizedParts, agrees, found_hash, info_refusal, sized_format, sized_parts, least_key_len}
-use Rattle.odht_tool_core.specs.AnyShapes.{any_of_sizes, fitting_any, found_any, named_any, other_by, other_of, ready_or}
+use Rattle.odht_tool_core.specs.AnyShapes.{any_of_sizes, fitting_any, found_any, named_any, of_hash}
 use Rattle.odht_tool_core.specs.ReadyShapes.{early_refusal, hash_of, is_shape_of, same_hash, typed_len}
 use Rattle.odht_tool_core.specs.ShapeList.{key_part, value_part, shape_hash, ready_shapes}
-use Rattle.odht_tool_core.specs.FoundShapes.{agrees_with, fits, said_hash}
+use Rattle.odht_tool_core.specs.FoundShapes.{first_hash, fits, fitting_shape, is_other, is_valid_by, other_hash, said_hash, settled_hash, valid_hash}
 use Rattle.odht_tool_core.specs.declared.shapes.Hash.TheVariants.{Fx, Unhash, Xxh64}
 use Rattle.odht_tool_core.specs.declared.failure.Failure.TheVariants.{ShortKeys}
 use Rattle.odht_tool_core.proofs.Refusals.{early_passes}
@@ -231,7 +233,7 @@ module _ (T H : List ℕ) (long : 32 ≤ length T) (is : H ≡ bytes_at T 0 32) 
   named_same g = λ i. if is_some (early_same i) then Ok (Ready U64ToU32) else any_of_sizes (Bytes (field 5 (omega arith) i)) (Bytes (field 6 (omega arith) i)) g
 
   no_items : (B : List ℕ) → header_count B ≡ 0 → found_any B None ≡ named_any B None
-  no_items B e = ap (λ b. if b then fitting_any (slice_index B 5) (slice_index B 6) (sized_parts B) else named_any B None) (ap (λ n. is_none (info_refusal B) && not (n == 0)) e ∙ and-false _)
+  no_items B e = ap (λ b. if b then fitting_any B else named_any B None) (ap (λ n. is_none (info_refusal B) && not (n == 0)) e ∙ and-false _)
 
   -- and the shape of all bytes, where a hash function is named that is to be
   pub found_same : (h d g : Option Hash) → IsNamed T h d g → found_any H (said_hash H g d) ≡ found_any T (said_hash T g d)
@@ -279,47 +281,60 @@ named_words B start is long h name ks j ws old new x named found r said = go r s
     go (Err f) w = answered (Err f) w
 
 -- ---- valid bytes
--- a shape that fits is one of the hash function that is left
-find_same : {X : Type 0} (p q : X → Bool) → ((x : X) → p x ≡ q x) → (xs : List X) → find p xs ≡ find q xs
-find_same p q same xs = λ i. find (λ x. same x i) xs
-
+-- no other hash function agrees
 abbrev Excludes : SizedParts → Hash → Type 0
 Excludes P h = (g : Hash) → same_hash g h ≡ false → agrees P g ≡ false
 
-same_by : (P : SizedParts) (h g : Hash) → agrees P h ≡ true → Excludes P h → agrees P g ≡ same_hash g h
-same_by P Fx Fx fit unfit = fit
-same_by P Fx Unhash fit unfit = unfit Unhash refl
-same_by P Fx Xxh64 fit unfit = unfit Xxh64 refl
-same_by P Unhash Fx fit unfit = unfit Fx refl
-same_by P Unhash Unhash fit unfit = fit
-same_by P Unhash Xxh64 fit unfit = unfit Xxh64 refl
-same_by P Xxh64 Fx fit unfit = unfit Fx refl
-same_by P Xxh64 Unhash fit unfit = unfit Unhash refl
-same_by P Xxh64 Xxh64 fit unfit = fit
+-- a hash function that agrees is the one that is left
+left_same : (P : SizedParts) (h g : Hash) → agrees P g ≡ true → Excludes P h → g ≡ h
+left_same P Fx Fx fit unfit = refl
+left_same P Fx Unhash fit unfit = absurd (true≢false (sym fit ∙ unfit Unhash refl))
+left_same P Fx Xxh64 fit unfit = absurd (true≢false (sym fit ∙ unfit Xxh64 refl))
+left_same P Unhash Fx fit unfit = absurd (true≢false (sym fit ∙ unfit Fx refl))
+left_same P Unhash Unhash fit unfit = refl
+left_same P Unhash Xxh64 fit unfit = absurd (true≢false (sym fit ∙ unfit Xxh64 refl))
+left_same P Xxh64 Fx fit unfit = absurd (true≢false (sym fit ∙ unfit Fx refl))
+left_same P Xxh64 Unhash fit unfit = absurd (true≢false (sym fit ∙ unfit Unhash refl))
+left_same P Xxh64 Xxh64 fit unfit = refl
 
-three : (a b x y : Bool) → x ≡ y → ((a && b && true) && x) ≡ (a && b && y)
-three true true x y e = e
-three true false x y e = refl
-three false b x y e = refl
+-- the shape that fits first is one of it
+module _ (P : SizedParts) (k v : ℕ) (h : Hash) (fit : agrees P h ≡ true) (unfit : Excludes P h) where
+  found_left : (h : Hash) → agrees P h ≡ true → Excludes P h → found_hash P ≡ Some h
+  found_left Fx fit unfit = ap (λ b. cond b (Some Fx) (find (agrees P) (Unhash ∷ Xxh64 ∷ []))) fit
+  found_left Unhash fit unfit =
+      ap (λ b. cond b (Some Fx) (find (agrees P) (Unhash ∷ Xxh64 ∷ []))) (unfit Fx refl) ∙ ap (λ b. cond b (Some Unhash) (find (agrees P) (Xxh64 ∷ []))) fit
+  found_left Xxh64 fit unfit =
+      ap (λ b. cond b (Some Fx) (find (agrees P) (Unhash ∷ Xxh64 ∷ []))) (unfit Fx refl)
+      ∙ ap (λ b. cond b (Some Unhash) (find (agrees P) (Xxh64 ∷ []))) (unfit Unhash refl) ∙ ap (λ b. cond b (Some Xxh64) None) fit
 
-left_shape : (P : SizedParts) (k v : ℕ) (h : Hash) → P.key_len ≡ k → agrees P h ≡ true → Excludes P h → fitting_any k v P ≡ any_of_sizes (Bytes k) (Bytes v) (Some h)
-left_shape P k v h is fit unfit =
-    ap₂ ready_or (other P k v h is fit unfit)
-    (find_same (fits k v P) (is_shape_of k v (Some h)) (λ (s : Shape). three (typed_len (key_part s) == k) (typed_len (value_part s) == v) _ _ (same_by P h (shape_hash s) fit unfit)) ready_shapes)
-  where
-    other : (P : SizedParts) (k v : ℕ) (h : Hash) → P.key_len ≡ k → agrees P h ≡ true → Excludes P h → other_by k v (found_hash P) ≡ other_of (Bytes k) (Bytes v) h
-    other P k v Fx is fit unfit =
-        ap (λ b. other_by k v (cond b (Some Fx) (find (agrees P) (Unhash ∷ Xxh64 ∷ [])))) fit
-        ∙ sym (ap (λ b. if b then Err (ShortKeys k) else Ok (Other (record { key = Bytes k; value = Bytes v; hash = Fx }))) (le-ltb k 0 (omega arith)))
-    other P k v Unhash is fit unfit =
-        ap (λ b. other_by k v (cond b (Some Fx) (find (agrees P) (Unhash ∷ Xxh64 ∷ [])))) (unfit Fx refl)
-        ∙ ap (λ b. other_by k v (cond b (Some Unhash) (find (agrees P) (Xxh64 ∷ [])))) fit
-        ∙ sym (ap (λ b. if b then Err (ShortKeys k) else Ok (Other (record { key = Bytes k; value = Bytes v; hash = Unhash }))) (le-ltb k 4 (omega (arith, is, long_enough P Unhash fit))))
-    other P k v Xxh64 is fit unfit =
-        ap (λ b. other_by k v (cond b (Some Fx) (find (agrees P) (Unhash ∷ Xxh64 ∷ [])))) (unfit Fx refl)
-        ∙ ap (λ b. other_by k v (cond b (Some Unhash) (find (agrees P) (Xxh64 ∷ [])))) (unfit Unhash refl)
-        ∙ ap (λ b. other_by k v (cond b (Some Xxh64) None)) fit
-        ∙ sym (ap (λ b. if b then Err (ShortKeys k) else Ok (Other (record { key = Bytes k; value = Bytes v; hash = Xxh64 }))) (le-ltb k 0 (omega arith)))
+  first_left : first_hash k v P ≡ Some h
+  first_left = go (fitting_shape k v P) refl
+    where
+      go : (o : Option Shape) → fitting_shape k v P ≡ o → option_or (option_map shape_hash o) (found_hash P) ≡ Some h
+      go None e = found_left h fit unfit
+      go (Some s) e = ap Some (left_same P h (shape_hash s) (and_parts (is_shape_of k v None s) _ (found_fits ready_shapes s e)).1 unfit)
+        where
+          found_fits : (ss : List Shape) (s : Shape) → find (fits k v P) ss ≡ Some s → fits k v P s ≡ true
+          found_fits [] s e = absurd (none-some s e)
+          found_fits (x ∷ ss) s e = at (fits k v P x) refl e
+            where
+              at : (b : Bool) → fits k v P x ≡ b → cond b (Some x) (find (fits k v P) ss) ≡ Some s → fits k v P s ≡ true
+              at true is e = subst (λ (y : Shape). fits k v P y ≡ true) (some_same x s e) is
+              at false is e = found_fits ss s e
+
+-- and it decides
+no_other : (P : SizedParts) (h : Hash) → Excludes P h → other_hash P h ≡ None
+no_other P Fx unfit = ap (λ b. cond b (Some Unhash) (find (is_other Fx P) (Xxh64 ∷ []))) (unfit Unhash refl) ∙ ap (λ b. cond b (Some Xxh64) None) (unfit Xxh64 refl)
+no_other P Unhash unfit = ap (λ b. cond b (Some Fx) (find (is_other Unhash P) (Unhash ∷ Xxh64 ∷ []))) (unfit Fx refl) ∙ ap (λ b. cond b (Some Xxh64) None) (unfit Xxh64 refl)
+no_other P Xxh64 unfit = ap (λ b. cond b (Some Fx) (find (is_other Xxh64 P) (Unhash ∷ Xxh64 ∷ []))) (unfit Fx refl) ∙ ap (λ b. cond b (Some Unhash) (find (is_other Xxh64 P) (Xxh64 ∷ []))) (unfit Unhash refl)
+
+settled : (T : List ℕ) (h : Hash) → Excludes (sized_parts T) h → settled_hash T h ≡ h
+settled T h unfit = ap (λ o. if is_none o || is_valid_by T h then h else unwrap_or (valid_hash T) h) (no_other (sized_parts T) h unfit)
+
+left_shape : (T : List ℕ) (h : Hash) → agrees (sized_parts T) h ≡ true → Excludes (sized_parts T) h → fitting_any T ≡ any_of_sizes (Bytes (slice_index T 5)) (Bytes (slice_index T 6)) (Some h)
+left_shape T h fit unfit =
+    ap (of_hash T) (first_left (sized_parts T) (slice_index T 5) (slice_index T 6) h fit unfit)
+    ∙ ap (λ g. any_of_sizes (Bytes (slice_index T 5)) (Bytes (slice_index T 6)) (Some g)) (settled T h unfit)
 
 -- all slots of valid bytes have the tags of their keys
 pub valid_agrees : (T : List ℕ) (k v : ℕ) (h : Hash) → IsFormat (format_of k v (hash_of h)) → least_key_len h ≤ k → IsValidBytes (format_of k v (hash_of h)) T → agrees (sized_parts T) h ≡ true
@@ -334,18 +349,6 @@ valid_agrees T k v h f long valid =
     subst (λ a. agrees (record { key_len = a; value_len = slice_index T 6; slots = header_slots T; entries = bytes_at T 32 (header_slots T * (a + slice_index T 6)); control = drop (32 + header_slots T * (a + slice_index T 6)) T }) h ≡ true) (sym key)
     (subst (λ b. agrees (record { key_len = k; value_len = b; slots = header_slots T; entries = bytes_at T 32 (header_slots T * (k + b)); control = drop (32 + header_slots T * (k + b)) T }) h ≡ true) (sym value)
     (all_fit (record { key_len = k; value_len = v; slots = header_slots T; entries = entries_of F T; control = controls_of F T }) h long (λ i low. (sound.slots_fit i (omega (arith, size, low))).occupied_tag)))
-
--- a hash function that agrees is the one that is left
-left_same : (P : SizedParts) (h g : Hash) → agrees P g ≡ true → Excludes P h → g ≡ h
-left_same P Fx Fx fit unfit = refl
-left_same P Fx Unhash fit unfit = absurd (true≢false (sym fit ∙ unfit Unhash refl))
-left_same P Fx Xxh64 fit unfit = absurd (true≢false (sym fit ∙ unfit Xxh64 refl))
-left_same P Unhash Fx fit unfit = absurd (true≢false (sym fit ∙ unfit Fx refl))
-left_same P Unhash Unhash fit unfit = refl
-left_same P Unhash Xxh64 fit unfit = absurd (true≢false (sym fit ∙ unfit Xxh64 refl))
-left_same P Xxh64 Fx fit unfit = absurd (true≢false (sym fit ∙ unfit Fx refl))
-left_same P Xxh64 Unhash fit unfit = absurd (true≢false (sym fit ∙ unfit Unhash refl))
-left_same P Xxh64 Xxh64 fit unfit = refl
 
 -- so for valid bytes the shape is the same as by all slots
 module _ (T : List ℕ) (k v : ℕ) (g : Hash) (f : IsFormat (format_of k v (hash_of g))) (long : least_key_len g ≤ k) (valid : IsValidBytes (format_of k v (hash_of g)) T) where
@@ -378,20 +381,22 @@ module _ (T : List ℕ) (k v : ℕ) (g : Hash) (f : IsFormat (format_of k v (has
       named : named_any T (Some h) ≡ any_of_sizes (Bytes (slice_index T 5)) (Bytes (slice_index T 6)) (Some h)
       named = ap (λ o. if is_some o then Ok (Ready U64ToU32) else any_of_sizes (Bytes (slice_index T 5)) (Bytes (slice_index T 6)) (Some h)) early
 
-      chosen : (d : Hash) (b : Bool) → agrees_with T d ≡ b → found_any T None ≡ found_any T (Some h) → found_any T None ≡ found_any T (then_some b d)
+      chosen : (d : Hash) (b : Bool) → (is_none (info_refusal T) && agrees (sized_parts T) d) ≡ b → found_any T None ≡ found_any T (Some h) → found_any T None ≡ found_any T (then_some b (settled_hash T d))
       chosen d false e same_shape = refl
-      chosen d true e same_shape = same_shape ∙ ap (λ x. found_any T (Some x)) (sym (left_same (sized_parts T) h d (and_parts _ _ e).1 unfit))
+      chosen d true e same_shape =
+          let is = left_same (sized_parts T) h d (and_parts _ _ e).1 unfit in
+          same_shape ∙ ap (λ x. found_any T (Some x)) (sym (ap (settled_hash T) is ∙ settled T h unfit))
 
       go : (b : Bool) → (header_count T == 0) ≡ b → found_any T (Some h) ≡ found_any T None
       go true e = absurd (left.0 (eqb-true _ _ e))
       go false e =
-          named ∙ sym (left_shape (sized_parts T) (slice_index T 5) (slice_index T 6) h refl fit unfit)
-          ∙ sym (ap (λ b. if is_none (info_refusal T) && not b then fitting_any (slice_index T 5) (slice_index T 6) (sized_parts T) else named_any T None) e
-          ∙ ap (λ o. if is_none o && true then fitting_any (slice_index T 5) (slice_index T 6) (sized_parts T) else named_any T None) opens)
+          named ∙ sym (left_shape T h fit unfit)
+          ∙ sym (ap (λ b. if is_none (info_refusal T) && not b then fitting_any T else named_any T None) e
+          ∙ ap (λ o. if is_none o && true then fitting_any T else named_any T None) opens)
 
       by_default : (d : Option Hash) → found_any T None ≡ found_any T (said_hash T None d)
       by_default None = refl
-      by_default (Some d) = chosen d (agrees_with T d) refl (sym (go (header_count T == 0) refl))
+      by_default (Some d) = chosen d (is_none (info_refusal T) && agrees (sized_parts T) d) refl (sym (go (header_count T == 0) refl))
 
 -- ready shapes have keys that are long enough
 pub ready_long : (s : Shape) → least_key_len (shape_hash s) ≤ typed_len (key_part s)

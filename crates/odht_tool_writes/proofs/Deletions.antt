@@ -29,7 +29,7 @@ use Rattle.odht_tool_core.specs.SizedTexts.{IsSizedOf}
 use Rattle.odht_tool_core.specs.ReadyShapes.{hash_of, typed_len}
 use Rattle.odht_tool_core.specs.declared.any.AnyShape.{AnyShape}
 use Rattle.odht_tool_core.specs.declared.failure.Failure.{Failure}
-use Rattle.odht_tool_core.specs.declared.failure.Failure.TheVariants.{Read, Write, Obstacle, NoTable, Folder, Beside, Refused, ShortKeys, NoHash, OtherKey, OtherValue, PastEnd, Forged, Input, Line, Output, Memory, Misread}
+use Rattle.odht_tool_core.specs.declared.failure.Failure.TheVariants.{Read, Write, Obstacle, NoTable, Folder, Beside, Refused, ShortKeys, NoHash, OtherKey, OtherValue, UnknownKey, UnknownValue, PastEnd, Forged, Input, Line, Output, Memory, Misread}
 use Rattle.odht_tool_core.specs.declared.forms.Form.{Form}
 use Rattle.odht_tool_core.specs.declared.forms.GivenForms.{GivenForms}
 use Rattle.odht_tool_core.specs.declared.forms.Kinds.{Kinds}
@@ -179,6 +179,8 @@ memory_alone {X = X} (Err failure) ml F long key value h = go failure h
     go (NoHash k v) h = absurd h
     go (OtherKey p) h = absurd h
     go (OtherValue p) h = absurd h
+    go (UnknownKey n) h = absurd h
+    go (UnknownValue n) h = absurd h
     go (PastEnd o n) h = absurd h
     go Forged h = absurd h
     go (Input e) h = absurd h

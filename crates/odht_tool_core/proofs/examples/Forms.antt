@@ -12,7 +12,7 @@ use Rattle.odht_tool_core.specs.Forms.{count_of, number_text}
 use Rattle.odht_tool_core.specs.ReadAs.{form_for}
 use Rattle.odht_tool_core.specs.Signed.{signed_text, signed_value}
 use Rattle.odht_tool_core.specs.declared.failure.Failure.TheVariants.{OtherKey, OtherValue}
-use Rattle.odht_tool_core.specs.declared.any.AnyShape.TheVariants.{Ready}
+use Rattle.odht_tool_core.specs.declared.any.AnyShape.TheVariants.{Ready, Other}
 use Rattle.odht_tool_core.specs.declared.forms.Form.{Form}
 use Rattle.odht_tool_core.specs.declared.forms.Form.TheVariants.{Own, Signed, BigEndian}
 use Rattle.odht_tool_core.specs.declared.forms.Kind.{Kind}
@@ -85,11 +85,12 @@ pub forms : (form_for None U64 ≡ Some Own)
     × (form_for (Some (kind Nothing Own)) Nothing ≡ Some Own)
 forms = (refl, refl, refl, refl, refl)
 
--- of a table from numbers to numbers of four bytes
+-- of a table from numbers to numbers of four bytes: types of these lengths are taken
 pub read : (read_any one_bytes (Some Unhash) unsaid ≡ Ok (Ready DirectU32ToU32, record { key = Own; value = Own }))
     × (read_any one_bytes (Some Unhash) (said (kind U32 Signed) (kind U32 BigEndian)) ≡ Ok (Ready DirectU32ToU32, record { key = Signed; value = BigEndian }))
     × (read_any one_bytes (Some Unhash) (said (kind U64 Signed) (kind U32 Own)) ≡ Err (OtherKey U32))
-    × (read_any one_bytes (Some Unhash) (said (kind U32 Own) (kind (Bytes 4) Own)) ≡ Err (OtherValue U32))
+    × (read_any one_bytes (Some Unhash) (said (kind U32 Own) (kind (Bytes 4) Own)) ≡ Ok (Other (record { key = U32; value = Bytes 4; hash = Unhash }), record { key = Own; value = Own }))
+    × (read_any one_bytes (Some Unhash) (said (kind U32 Own) (kind U64 Own)) ≡ Err (OtherValue U32))
     × (read_any one_bytes (Some Unhash) (said (kind U64 Own) (kind U64 Own)) ≡ Err (OtherKey U32))
 unfolding opened
-read = (refl, refl, refl, refl, refl)
+read = (refl, refl, refl, refl, refl, refl)

@@ -83,7 +83,7 @@ unfolding opened
 short_keys = (refl, refl)
 
 -- of what is said a ready shape is taken where there is one, else another of these types under the hash function that is
--- named, or the default: unhash for 8 to 32 bytes, and xxh64 for fewer and for more; none where a ready shape has these lengths, and no short keys
+-- named, or the default: unhash for 8 to 32 bytes, and xxh64 for fewer and for more; none of keys that are too short
 pub said_shapes : (any_of_kinds (kind U32 Own) (kind U32 Signed) None ≡ Some (Ready U32ToU32))
     × (any_of_kinds (kind (Bytes 12) Own) (kind (Bytes 5) Own) None ≡ Some (Other (other 12 5 Unhash)))
     × (any_of_kinds (kind (Bytes 8) Own) (kind (Bytes 5) Own) None ≡ Some (Other (other 8 5 Unhash)))
@@ -93,8 +93,8 @@ pub said_shapes : (any_of_kinds (kind U32 Own) (kind U32 Signed) None ≡ Some (
     × (any_of_kinds (kind U64 Own) (kind (Bytes 5) Own) None ≡ Some (Other (record { key = U64; value = Bytes 5; hash = Fx })))
     × (any_of_kinds (kind U64 Own) (kind U32 Own) (Some Xxh64) ≡ Some (Other (record { key = U64; value = U32; hash = Xxh64 })))
     × (any_of_kinds (kind (Bytes 12) Own) (kind Nothing Own) (Some Unhash) ≡ Some (Other (record { key = Bytes 12; value = Nothing; hash = Unhash })))
-    × (any_of_kinds (kind (Bytes 4) Own) (kind (Bytes 4) Own) None ≡ None)
+    × (any_of_kinds (kind (Bytes 4) Own) (kind (Bytes 4) Own) None ≡ Some (Other (other 4 4 Xxh64)))
     × (any_of_kinds (kind (Bytes 10) Plain) (kind U32 Signed) None ≡ Some (Other (record { key = Bytes 10; value = U32; hash = Unhash })))
-    × (any_of_kinds (kind (Bytes 4) Plain) (kind U32 Own) None ≡ None)
+    × (any_of_kinds (kind (Bytes 4) Plain) (kind U32 Own) None ≡ Some (Other (record { key = Bytes 4; value = U32; hash = Xxh64 })))
     × (any_of_kinds (kind (Bytes 3) Own) (kind (Bytes 5) Own) (Some Unhash) ≡ None)
 said_shapes = (refl, refl, refl, refl, refl, refl, refl, refl, refl, refl, refl, refl, refl)

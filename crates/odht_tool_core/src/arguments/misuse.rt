@@ -71,7 +71,7 @@ impl CommandMisuse {
             CommandMisuse::Replaced => write!(f, "FILE is replaced, and so cannot be -"),
             CommandMisuse::NoShape => write!(
                 f,
-                "no shape has such keys and values under this hash"
+                "these keys are too short for this hash function"
             ),
             CommandMisuse::Memory => write!(f, "out of memory"),
         }

@@ -15,6 +15,7 @@ use odht::dynamic::Layout;
 use odht::load::Percent;
 use odht_tool_core::any::{AnyShape, read_any};
 use odht_tool_core::arguments::BuildOptions;
+use odht_tool_core::evidence::ask_kinds;
 use odht_tool_core::failure::Failure;
 use odht_tool_core::files::read_file;
 use odht_tool_core::forms::{Forms, GivenForms, Kinds, LineForms, OwnForms};
@@ -142,6 +143,7 @@ where
 {
     let bytes = read_file(rt, new.path())?;
     let (shape, forms) = read_any(bytes.as_slice(), hash, kinds)?;
+    ask_kinds(bytes.as_slice(), shape, kinds)?;
     match shape {
         AnyShape::Ready(shape) => put_ready(
             rt, new, shape, forms, bytes, bound, watch, input, errors,

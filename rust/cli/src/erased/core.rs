@@ -10,6 +10,7 @@ pub mod answers;
 pub mod any;
 pub mod arguments;
 mod digits;
+pub mod evidence;
 pub mod failure;
 pub mod files;
 pub mod find;

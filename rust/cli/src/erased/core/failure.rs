@@ -34,6 +34,12 @@ pub enum Failure {
     OtherKey(Part),
     /// Values are said to be of another type than this, which they are of.
     OtherValue(Part),
+    /// Nothing is said of keys, of so many bytes, and the table does not show which type they are
+    /// of.
+    UnknownKey(u8),
+    /// Nothing is said of values, of so many bytes, and the table does not show which type they
+    /// are of.
+    UnknownValue(u8),
     /// The file ends before this byte.
     PastEnd { offset: usize, len: usize },
     /// There are headers of tables that overlap, more than a file has that is not forged.
@@ -101,6 +107,14 @@ impl fmt::Display for Failure {
             Failure::OtherValue(part) => {
                 write!(f, "--value does not fit its values, which are {part}")
             }
+            Failure::UnknownKey(size) => {
+                write!(f, "does not show what its keys are: --key says whether ")?;
+                write_fitting(*size, f)
+            }
+            Failure::UnknownValue(size) => {
+                write!(f, "does not show what its values are: --value says whether ")?;
+                write_fitting(*size, f)
+            }
             Failure::PastEnd { offset, len } => {
                 write!(f, "has {len} bytes, and so none at the offset {offset}")
             }
@@ -115,6 +129,15 @@ impl fmt::Display for Failure {
             Failure::Memory => write!(f, "out of memory"),
             Failure::Misread(message) => write!(f, "{message}"),
         }
+    }
+}
+
+// Writes the types that keys or values of so many bytes may be of.
+fn write_fitting(size: u8, f: &mut fmt::Formatter<'_>) -> fmt::Result {
+    match size {
+        4 => write!(f, "u32, i32, u32be, text:4 or bytes:4"),
+        8 => write!(f, "u64, i64, u64be, text:8 or bytes:8"),
+        _ => write!(f, "text:{size} or bytes:{size}"),
     }
 }
 

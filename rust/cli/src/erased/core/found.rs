@@ -1,12 +1,16 @@
 // Made by `make rust` of crates/odht_tool_core/src/found.rt.
 //! The shape of a file, where its hash function is found by its control bytes.
 
-use crate::erased::core::any::{named_any, AnyShape, OtherShape};
+use crate::erased::core::any::{named_any, AnyShape};
 use crate::erased::core::failure::Failure;
 use crate::erased::core::shapes::{Hash, Part, Shape, HASHES, SHAPES};
 use crate::erased::core::stored::StoredTable;
 use crate::host::prelude::*;
+use crate::proved::base::hash::{FxHashFn, HashFn, UnHashFn, Xxh64HashFn};
+use crate::proved::header::error::Error;
 use crate::proved::header::header::Header;
+use crate::proved::header::layout::Layout;
+use crate::proved::raw::memory_layout::{check_opening, check_sized_within, DEFAULT_GROUPS};
 
 // The first shape of these sizes with whose hash function all control bytes agree.
 fn fitting_shape(key_size: u8, value_size: u8, table: &StoredTable<'_>) -> Option<Shape> {
@@ -19,9 +23,10 @@ fn is_fitting(shape: Shape, key_size: u8, value_size: u8, table: &StoredTable<'_
 }
 
 /// The shape of these bytes: as `named_any` has it; but where header and length fit, the header
-/// counts items and no hash function is given, the first ready shape of the header's sizes with
-/// whose hash function all control bytes agree, else another shape with the first hash function
-/// that they agree with. `NoHash` where they agree with none.
+/// counts items and no hash function is given, that of a hash function that all control bytes
+/// agree with: of the first ready shape of the header's sizes whose function is such a one, else of
+/// the first such one; but where there are several, the first of them by which the bytes are
+/// valid, if there is one. `NoHash` where control bytes agree with none.
 pub fn found_any(bytes: &[u8], hash: Option<Hash>) -> Result<AnyShape, Failure> {
     match (hash, open_with_items(bytes)) {
         (None, Some(table)) => fitting_any(bytes, &table),
@@ -32,18 +37,66 @@ pub fn found_any(bytes: &[u8], hash: Option<Hash>) -> Result<AnyShape, Failure> 
 // A shape of the header's sizes that fits the parts of the table.
 fn fitting_any(bytes: &[u8], table: &StoredTable<'_>) -> Result<AnyShape, Failure> {
     let header = Header::of(bytes);
-    let (key_len, value_len) = (header.key_size(), header.value_size());
-    if let Some(shape) = fitting_shape(key_len, value_len, table) {
-        return Ok(AnyShape::Ready(shape));
+    let (key_size, value_size) = (header.key_size(), header.value_size());
+    match first_hash(key_size, value_size, table) {
+        Some(first) => {
+            let hash = settled_hash(bytes, table, first);
+            AnyShape::of_sizes(Part::Bytes(key_size), Part::Bytes(value_size), Some(hash))
+        }
+        None => Err(Failure::NoHash { key_size, value_size }),
     }
-    match table.hash() {
-        Some(hash) => Ok(AnyShape::Other(OtherShape {
-            key: Part::Bytes(key_len),
-            value: Part::Bytes(value_len),
-            hash,
-        })),
-        None => Err(Failure::NoHash { key_size: key_len, value_size: value_len }),
+}
+
+// Of the hash functions that all control bytes agree with, that of the first ready shape of these
+// sizes, or else the first one.
+fn first_hash(key_size: u8, value_size: u8, table: &StoredTable<'_>) -> Option<Hash> {
+    match fitting_shape(key_size, value_size, table) {
+        Some(shape) => Some(shape.hash()),
+        None => table.hash(),
     }
+}
+
+// Of the hash functions that all control bytes agree with, of which `first` is one, the one that
+// decides: `first` where there is no other, or where the bytes are valid by it, so that every key
+// is reached; else the first one by which they are valid; and `first` again where there is none.
+fn settled_hash(bytes: &[u8], table: &StoredTable<'_>, first: Hash) -> Hash {
+    if other_hash(table, first).is_none() || is_valid_by(bytes, first) {
+        return first;
+    }
+    valid_hash(bytes).unwrap_or(first)
+}
+
+// The first hash function by which the bytes are valid.
+fn valid_hash(bytes: &[u8]) -> Option<Hash> {
+    HASHES.iter().copied().find(|hash| is_valid_by(bytes, *hash))
+}
+
+// Whether the bytes are valid by a hash function, with no search above the bound.
+fn is_valid_by(bytes: &[u8], hash: Hash) -> bool {
+    match hash {
+        Hash::Fx => is_valid::<FxHashFn>(bytes),
+        Hash::Unhash => is_valid::<UnHashFn>(bytes),
+        Hash::Xxh64 => is_valid::<Xxh64HashFn>(bytes),
+    }
+}
+
+// The same by the hash function `H`.
+fn is_valid<H: HashFn>(bytes: &[u8]) -> bool {
+    let Ok(table) = StoredTable::open(bytes) else {
+        return false;
+    };
+    let layout = table.layout();
+    if (layout.key_len as usize) < H::MIN_LEN {
+        return false;
+    }
+    check_within::<H>(bytes, layout).is_ok()
+}
+
+// The first rule that the bytes break, as a table of these lengths and of a hash function, the
+// bound of searches among them.
+fn check_within<H: HashFn>(bytes: &[u8], layout: Layout) -> Result<(), Error> {
+    check_opening::<H>(bytes, layout)?;
+    check_sized_within::<H>(bytes, layout, DEFAULT_GROUPS)
 }
 
 // The parts of a table whose header and length fit, and whose header counts items.
@@ -56,21 +109,26 @@ fn open_with_items(bytes: &[u8]) -> Option<StoredTable<'_>> {
     }
 }
 
-/// The hash function by which a file is read: the one that is named, or else the default of what
-/// its keys are said to be, where header and length fit and all control bytes agree with it. So
-/// that default counts where a file does not show its hash function, as an empty one.
+/// The hash function by which a file is read: the one that is named, or else, where header and
+/// length fit and all control bytes agree with the default of what its keys are said to be, that
+/// default; but where they agree with others too, one by which every key is reached, as
+/// `found_any` has it. So the default counts where a file does not show its hash function, as an
+/// empty one.
 pub fn said_hash(bytes: &[u8], named: Option<Hash>, default: Option<Hash>) -> Option<Hash> {
     match (named, default) {
-        (None, Some(default)) if agrees_with(bytes, default) => Some(default),
+        (None, Some(default)) => agreed_hash(bytes, default),
         _ => named,
     }
 }
 
-// Whether header and length fit, and all control bytes agree with a hash function.
-fn agrees_with(bytes: &[u8], hash: Hash) -> bool {
-    match StoredTable::open(bytes) {
-        Ok(table) => table.agrees(hash),
-        Err(_) => false,
+// The hash function that decides where header and length fit and all control bytes agree with this
+// one.
+fn agreed_hash(bytes: &[u8], default: Hash) -> Option<Hash> {
+    let table = StoredTable::open(bytes).ok()?;
+    if table.agrees(default) {
+        Some(settled_hash(bytes, &table, default))
+    } else {
+        None
     }
 }
 

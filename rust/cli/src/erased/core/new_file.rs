@@ -1,6 +1,7 @@
 // Made by `make rust` of crates/odht_tool_core/src/new_file.rt.
 //! The new file that replaces an older one. It is made before that one is read, so that no two runs
 //! are at work on one file.
+
 use crate::erased::core::failure::Failure;
 use crate::erased::core::status::Status;
 use crate::erased::core::targets::{beside, if_there, is_same, make_private, Kept, Target};

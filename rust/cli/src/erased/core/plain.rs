@@ -25,8 +25,8 @@ pub(crate) fn read_plain(word: &[u8], bytes: &mut [u8]) -> bool {
     true
 }
 
-// Whether each byte may be in a plain text.
-fn are_plain(word: &[u8]) -> bool {
+/// Whether each byte may be in a plain text.
+pub(crate) fn are_plain(word: &[u8]) -> bool {
     word.iter().all(|byte| is_plain(*byte))
 }
 

@@ -107,6 +107,28 @@ impl Part {
         }
     }
 
+    /// What keys of so many bytes are by themselves, in a table of this hash function: numbers,
+    /// where they have 4 or 8 bytes, but under `unhash` hashes; else bytes.
+    pub(crate) fn own_key(size: u8, hash: Hash) -> Part {
+        match (size, hash) {
+            (_, Hash::Unhash) => Part::Bytes(size),
+            (4, _) => Part::U32,
+            (8, _) => Part::U64,
+            _ => Part::Bytes(size),
+        }
+    }
+
+    /// What values of so many bytes are by themselves: nothing, where they have none; numbers,
+    /// where they have 4 or 8 bytes; else bytes.
+    pub(crate) fn own_value(size: u8) -> Part {
+        match size {
+            0 => Part::Nothing,
+            4 => Part::U32,
+            8 => Part::U64,
+            _ => Part::Bytes(size),
+        }
+    }
+
     /// Whether both are the same type. No bytes are nothing.
     pub(crate) fn is(self, other: Part) -> bool {
         match (self, other) {

@@ -3,6 +3,7 @@
 
 use crate::erased::core::any::{read_any, AnyShape};
 use crate::erased::core::arguments::BuildOptions;
+use crate::erased::core::evidence::ask_kinds;
 use crate::erased::core::failure::Failure;
 use crate::erased::core::files::read_file;
 use crate::erased::core::forms::{Forms, GivenForms, Kinds, LineForms, OwnForms};
@@ -146,6 +147,7 @@ where
 {
     let bytes = read_file(rt, new.path())?;
     let (shape, forms) = read_any(bytes.as_slice(), hash, kinds)?;
+    ask_kinds(bytes.as_slice(), shape, kinds)?;
     match shape {
         AnyShape::Ready(shape) => {
             put_ready(rt, new, shape, forms, bytes, bound, watch, input, errors)

@@ -1,0 +1,24 @@
+use Rattle.std.proofs.Common.{rules, ◌≡◌, ◌∙◌, sym, ap, Err, Some}
+use Rattle.odht_base.specs.Format.{Format, format_of}
+use Rattle.odht_header.specs.Refusals.{checked, check_refusal_by}
+use Rattle.odht_header.proofs.lemmas.FirstErrors.{Ok-checked, Err-checked}
+use Rattle.odht_raw.proofs.lemmas.Openings.{check_refusal-view, check_refusal-late, view_refusal-accepted}
+use Rattle.odht_tool_core.proofs.found.check_within.Goals as goal
+
+pub returns-in_err-check_opening : goal.returns-in_err-check_opening
+returns-in_err-check_opening g c =
+    let F : Format = format_of c.args.layout.key_len c.args.layout.value_len g.H.HashFn.hash in
+    let x = c.in_err-check_opening.field-0.0 in
+    let refusal : c.from_residual.result ≡ Err x = search rules in
+    refusal ∙ sym (ap checked (check_refusal-view F c.args.bytes.now (Some 128) x (Err-checked _ x (sym c.in_err-check_opening.was ∙ c.check_opening.ensures))))
+
+pub check_sized_within-requires-clause-accepted : goal.check_sized_within-requires-clause-accepted
+check_sized_within-requires-clause-accepted g c =
+    let F : Format = format_of c.args.layout.key_len c.args.layout.value_len g.H.HashFn.hash in
+    view_refusal-accepted F c.args.bytes.now (Ok-checked _ (sym c.in_ok-check_opening.was ∙ c.check_opening.ensures))
+
+pub returns : goal.returns
+returns g c =
+    let F : Format = format_of c.args.layout.key_len c.args.layout.value_len g.H.HashFn.hash in
+    let passed = Ok-checked _ (sym c.in_ok-check_opening.was ∙ c.check_opening.ensures) in
+    c.check_sized_within.ensures.first ∙ sym (ap checked (check_refusal-late F c.args.bytes.now (Some 128) passed))

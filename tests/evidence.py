@@ -1,0 +1,129 @@
+#!/usr/bin/env python3
+"""Runs a program `odht` on files that do not say their hash function or their texts.
+
+  tests/evidence.py PROGRAM
+
+Every pair of types that `build` names can be built, and is read as it was given. The one key of a table is found by each
+hash function, though another one may have its tag too. `put` asks for a type where a file does not show it. The last
+line counts the tests.
+"""
+import os
+import random
+import subprocess
+import sys
+import tempfile
+
+# a type, and a text of it that is no text of another type of its length
+TYPES = {
+    "u32": "4294967290", "i32": "-7", "u32be": "258", "u64": "18446744073709551610", "i64": "-7", "u64be": "258",
+    "hex4": "0a0b0c0d", "hex8": "0a0b0c0d0e0f1011", "hex16": "0a" * 16, "hex20": "0b" * 20, "hex32": "0c" * 32,
+    "bytes:3": "0d0e0f", "bytes:12": "0d" * 12, "text:3": "ab", "text:4": "abc", "text:8": "word", "text:16": "a word",
+    "text:24": "two words",
+}
+HASHES = "fx", "unhash", "xxh64"
+TABLES = 300
+
+
+def check(is_so, what):
+    if not is_so:
+        raise AssertionError(what)
+
+
+def run(*words, given="", status=0):
+    """What it writes on standard output and on standard error."""
+    done = subprocess.run(words, input=given.encode(), capture_output=True, check=False)
+    check(done.returncode == status, f"{words}: status {done.returncode}\n{done.stderr.decode()}")
+    return done.stdout.decode(), done.stderr.decode()
+
+
+def pairs(program, file):
+    """Each pair of types, by the default hash function of its keys and by each other one that takes them."""
+    for key, key_text in TYPES.items():
+        for value, value_text in list(TYPES.items()) + [("none", "")]:
+            line = f"{key_text}\t{value_text}\n"
+            named = [f"--key={key}", f"--value={value}"]
+            for hash_name in ("",) + HASHES:
+                words = named + ([f"--hash={hash_name}"] if hash_name else [])
+                if hash_name == "unhash" and key in ("bytes:3", "text:3"):
+                    run(program, "build", file, *words, given=line, status=2)
+                    continue
+                run(program, "build", file, "--force", *words, given=line)
+                check(run(program, "dump", file, *named)[0] == line, f"dump {words}")
+                check(run(program, "get", file, *named, key_text)[0] == line, f"get {words}")
+                check("valid" in run(program, "check", file)[0], f"check {words}")
+                run(program, "dump", file)
+            yield f"{key} {value}"
+
+
+def one_key(program, file):
+    """Tables of one item, whose tag another hash function may have too."""
+    chosen = random.Random(92)
+    for number in range(TABLES):
+        word = "iefidee" if number == 0 else "".join(chosen.choices("abcdefghij", k=chosen.randint(4, 16)))
+        hash_name = HASHES[number % 3]
+        kind = chosen.choice(["text:16", "bytes:16"])
+        key = word if kind == "text:16" else word.encode().ljust(16, b"\0").hex()
+        run(program, "build", file, "--force", "--key", kind, "--value", "u32", "--hash", hash_name, "--capacity", "3000",
+            given=f"{key}\t7\n")
+        line = f"{key}\t7\n"
+        check(run(program, "get", file, "--key", kind, "--value", "u32", key)[0] == line, f"get {word} by {hash_name}")
+        check(run(program, "get", file, "--key", kind, "-", given=f"{key}\n")[0] == line, f"get - {word} by {hash_name}")
+        check("valid" in run(program, "check", file)[0], f"check {word} by {hash_name}")
+        check(run(program, "count", file)[0] == "1\n", f"count {word} by {hash_name}")
+        yield f"{word} by {hash_name}"
+
+
+# what is built, what is said to `put`, and what `put` says, "" where it adds the pair
+ASKED = [
+    ("u64", "u32", "7", "", ""), ("u32", "none", "", "", ""), ("hex16", "u64", "7", "", ""),
+    ("u64be", "u32", "7", "", "--key"), ("text:8", "u32", "7", "", "--key"), ("text:16", "u32", "7", "", "--key"),
+    ("text:16", "u32", "7", "--key=text:16", ""), ("bytes:16", "u32", "7", "--key=bytes:16", ""),
+    ("u64", "text:24", "two words", "", "--value"), ("u64", "text:24", "two words", "--value=text:24", ""),
+    ("u64", "text:4", "abc", "", "--value"), ("u64", "u32be", "7", "", "--value"),
+    ("u64", "u32be", "7", "--value=u32be", ""), ("u64", "bytes:3", "000a00", "", ""),
+]
+
+
+def asked(program, file):
+    """`put` where a type is not said. What it asks for it names, and it changes nothing then."""
+    for key, value, value_text, said, option in ASKED:
+        key_text = TYPES[key] if key in TYPES else "0d" * 16
+        line = f"{key_text}\t{value_text}\n"
+        run(program, "build", file, "--force", "--key", key, "--value", value, given=line)
+        with open(file, "rb") as it:
+            before = it.read()
+        words = [said] if said else []
+        told = run(program, "put", file, *words, given=line, status=1 if option else 0)[1]
+        check((f"{option} says whether" in told) if option else not told, f"put {key} {value} {said}: {told}")
+        with open(file, "rb") as it:
+            check(it.read() == before, f"put {key} {value} {said}: other bytes")
+        yield f"put {key} {value} {said}"
+
+
+def sides(program, file):
+    """What is said of one side leaves the other as it would be by itself."""
+    run(program, "build", file, "--force", "--key", "u64", "--value", "text:24", given="1\ttwo words\n")
+    check(run(program, "dump", file, "--value", "text:24")[0] == "1\ttwo words\n", "keys by themselves")
+    yield "keys by themselves"
+    run(program, "build", file, "--force", "--key", "text:24", "--value", "u32", given="two words\t1\n")
+    check(run(program, "dump", file, "--key", "text:24")[0] == "two words\t1\n", "values by themselves")
+    yield "values by themselves"
+
+
+def main(program):
+    passed = 0
+    program = os.path.abspath(program)
+    with tempfile.TemporaryDirectory(prefix="odht-evidence-") as room:
+        try:
+            for tests in pairs, one_key, asked, sides:
+                for _ in tests(program, f"{room}/table"):
+                    passed += 1
+        except AssertionError as what:
+            print(f"FAILED {what}\n{passed} passed, 1 failed")
+            return 1
+    print(f"{passed} passed, 0 failed")
+    return 0
+
+
+if __name__ == "__main__":
+    sys.exit(main(sys.argv[1]))
