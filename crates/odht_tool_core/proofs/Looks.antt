@@ -1,5 +1,5 @@
 -- What all keys or values of a table look like, slot by slot.
-use Rattle.std.proofs.Common.{◌≡◌, ◌↔◌, ◌∙◌, ℕ, IsTrue, List, ◌+◌, ◌&&◌, ◌||◌, Bool, true, false, not, cond, [], ◌∷◌, ◌++◌, map, ap, sym, refl, append-nil, slice_index}
+use Rattle.std.proofs.Common.{◌≡◌, ◌↔◌, ◌∙◌, ℕ, IsTrue, List, ◌+◌, ◌&&◌, ◌||◌, Bool, true, false, not, [], ◌∷◌, map, ap, sym, refl, append-nil, slice_index}
 use Rattle.std.specs.List.{AllPass, list_all}
 use Rattle.std.proofs.lemmas.List.Sums.{AllPass-from_list_all, list_all-from_AllPass}
 use Rattle.std.proofs.lemmas.List.{map-append}

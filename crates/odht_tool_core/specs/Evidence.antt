@@ -18,7 +18,7 @@
 --                          another one, and not all are plain texts
 --     asked_kinds B s ks   the failure that B do not show the type of keys, or of values, of which ks says none, where s is
 --                          their shape
-use Rattle.std.specs.Prelude.{ℕ, Bool, not, ◌&&◌, ◌||◌, ◌==◌, nat_le, is_none, List, length, map, slice_index, Option, Some, None, Result, Ok, Err, if◌then◌else◌}
+use Rattle.std.specs.Prelude.{ℕ, Bool, not, ◌&&◌, ◌||◌, ◌==◌, nat_le, is_none, List, length, map, slice_index, Result, Ok, Err, if◌then◌else◌}
 use Rattle.std.specs.List.{list_all}
 use Rattle.odht_base.specs.Decoded.{slot_key, slot_value}
 use Rattle.odht_tool_core.specs.AnyShapes.{any_hash}

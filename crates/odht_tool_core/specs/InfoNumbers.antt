@@ -22,7 +22,7 @@
 --     IsHistogram xs h     h has the tallies of xs, and the largest
 --     AreNumbers B o a n   n are the numbers of B, those of groups by the bound o, with the advice a
 --     IsInfoFailure B f    f is the error of opening, or out of memory where there is none
-use Rattle.std.specs.Prelude.{◌≡◌, ℕ, ◌+◌, ◌*◌, ◌/◌, min, max, Bool, not, ◌&&◌, nat_le, nat_lt, ◌==◌, List, [], ◌∷◌, length, map, filter, find, fold, count_by, slice_index, is_none, Option, Some, None}
+use Rattle.std.specs.Prelude.{◌≡◌, ℕ, ◌+◌, ◌*◌, ◌/◌, min, max, Bool, not, ◌&&◌, nat_le, nat_lt, ◌==◌, List, [], length, map, filter, find, fold, count_by, slice_index, is_none, Option, Some, None}
 use Rattle.std.specs.List.{range_with_len}
 use Rattle.std.specs.Option.{option_map_or}
 use Rattle.odht_base.specs.Decoded.{header_count, header_slots, header_factor, entries_of, controls_of, slot_key, counts_as_free}

@@ -115,7 +115,10 @@ impl fmt::Display for Failure {
                 write_fitting(*size, f)
             }
             Failure::UnknownValue(size) => {
-                write!(f, "does not show what its values are: --value says whether ")?;
+                write!(
+                    f,
+                    "does not show what its values are: --value says whether "
+                )?;
                 write_fitting(*size, f)
             }
             Failure::PastEnd { offset, len } => {

@@ -27,7 +27,6 @@ use Rattle.odht_tool_core.specs.ReadyShapes.{early_refusal, hash_of, is_shape_of
 use Rattle.odht_tool_core.specs.ShapeList.{key_part, value_part, shape_hash, ready_shapes}
 use Rattle.odht_tool_core.specs.FoundShapes.{first_hash, fits, fitting_shape, is_other, is_valid_by, other_hash, said_hash, settled_hash, valid_hash}
 use Rattle.odht_tool_core.specs.declared.shapes.Hash.TheVariants.{Fx, Unhash, Xxh64}
-use Rattle.odht_tool_core.specs.declared.failure.Failure.TheVariants.{ShortKeys}
 use Rattle.odht_tool_core.proofs.Refusals.{early_passes}
 use Rattle.odht_raw.proofs.lemmas.Accepted.{IsAccepted-IsValidBytes, accepted_opening, accepted_len}
 use Rattle.odht_raw.proofs.lemmas.SoundBytes.{IsSound-late_refusal}

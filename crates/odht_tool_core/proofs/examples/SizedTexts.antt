@@ -79,13 +79,13 @@ high_first = (refl, refl)
 pub low_first : StandsForSized (bytes_form BigEndian U32) (codes "258") (2 ∷ 1 ∷ 0 ∷ 0 ∷ []) → ⊥
 low_first h = omega (arith, h.1)
 
--- of a table that is no ready shape types of the same lengths are taken, and each for its own; or those of a ready shape of
--- these lengths
+-- of a table that is no ready shape types of the same lengths are taken, and each for its own; and where nothing is said
+-- those that keys and values of these lengths have by themselves
 pub read_other : (read_any other_bytes (Some Unhash) unsaid ≡ Ok (Other (other 6 2 Unhash), record { key = Own; value = Own }))
     × (read_any other_bytes (Some Unhash) (said (kind (Bytes 6) Plain) (kind (Bytes 2) Own)) ≡ Ok (Other (other 6 2 Unhash), record { key = Plain; value = Own }))
     × (read_any wide_bytes (Some Unhash) (said (kind (Bytes 6) Plain) (kind U64 Signed)) ≡ Ok (Other (record { key = Bytes 6; value = U64; hash = Unhash }), record { key = Plain; value = Signed }))
     × (read_any wide_bytes (Some Unhash) (said (kind (Bytes 5) Plain) (kind U64 Own)) ≡ Err (OtherKey (Bytes 6)))
-    × (read_any wide_bytes (Some Unhash) (said (kind (Bytes 6) Plain) (kind U32 Own)) ≡ Err (OtherValue (Bytes 8)))
+    × (read_any wide_bytes (Some Unhash) (said (kind (Bytes 6) Plain) (kind U32 Own)) ≡ Err (OtherValue U64))
     × (read_any (overwritten_at one_bytes 5 (4 ∷ 4 ∷ [])) (Some Xxh64) unsaid ≡ Ok (Other (record { key = U32; value = U32; hash = Xxh64 }), record { key = Own; value = Own }))
 unfolding opened
 read_other = (refl, refl, refl, refl, refl, refl)

@@ -69,10 +69,7 @@ impl CommandMisuse {
             }
             CommandMisuse::TwiceInput => write!(f, "only one FILE can be standard input"),
             CommandMisuse::Replaced => write!(f, "FILE is replaced, and so cannot be -"),
-            CommandMisuse::NoShape => write!(
-                f,
-                "these keys are too short for this hash function"
-            ),
+            CommandMisuse::NoShape => write!(f, "these keys are too short for this hash function"),
             CommandMisuse::Memory => write!(f, "out of memory"),
         }
     }

@@ -1,6 +1,6 @@
 use Rattle.std.proofs.Common.{rules, ◌≡◌, ◌∙◌, sym, ap, Err, Some}
 use Rattle.odht_base.specs.Format.{Format, format_of}
-use Rattle.odht_header.specs.Refusals.{checked, check_refusal_by}
+use Rattle.odht_header.specs.Refusals.{checked}
 use Rattle.odht_header.proofs.lemmas.FirstErrors.{Ok-checked, Err-checked}
 use Rattle.odht_raw.proofs.lemmas.Openings.{check_refusal-view, check_refusal-late, view_refusal-accepted}
 use Rattle.odht_tool_core.proofs.found.check_within.Goals as goal

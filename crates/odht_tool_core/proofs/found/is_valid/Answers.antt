@@ -1,7 +1,7 @@
-use Rattle.std.proofs.Common.{rules, arith, ◌≡◌, ◌∙◌, ◌≤◌, ◌&&◌, Bool, true, is_none, nat_le, slice_index, Option, Some, None, sym, ap, refl}
+use Rattle.std.proofs.Common.{rules, arith, ◌≡◌, ◌∙◌, ◌&&◌, true, is_none, nat_le, slice_index, Option, Some, None, sym, ap, refl}
 use Rattle.std.specs.Prelude.{is_ok}
 use Rattle.std.proofs.lemmas.Bool.{le-leb}
-use Rattle.odht_base.specs.Format.{Format, format_of}
+use Rattle.odht_base.specs.Format.{format_of}
 use Rattle.odht_header.specs.Refusals.{checked, check_refusal_by}
 use Rattle.odht_header.specs.declared.error.Error.{Error}
 use Rattle.odht_tool_core.specs.InfoNumbers.{info_refusal}
