@@ -1,6 +1,6 @@
 -- Lookups in a table that is read by position, and the hash function that its first slots leave.
 use Rattle.std.proofs.Common.{arith, refl, ◌≡◌, ◌∙◌, ℕ, ◌+◌, ◌*◌, ◌<◌, ◌≤◌, ◌&&◌, ◌==◌, Bool, true, false, not, List, [], ◌∷◌, length, drop, take, find, is_none, is_some, Option, Some, None, Ok, sym, ap, ap₂, subst, cond, slice_index, le-ltb, mul-le-mul_right, add-mul, zero-add, length-drop}
-use Rattle.std.specs.Prelude.{if◌then◌else◌, option_map}
+use Rattle.std.specs.Prelude.{◌||◌, if◌then◌else◌, option_map}
 use Rattle.std.specs.Bool.{then_some}
 use Rattle.std.specs.Option.{option_or, unwrap_or}
 use Rattle.std.proofs.lemmas.Option.{none-some}
@@ -306,20 +306,20 @@ module _ (P : SizedParts) (k v : ℕ) (h : Hash) (fit : agrees P h ≡ true) (un
       ap (λ b. cond b (Some Fx) (find (agrees P) (Unhash ∷ Xxh64 ∷ []))) (unfit Fx refl)
       ∙ ap (λ b. cond b (Some Unhash) (find (agrees P) (Xxh64 ∷ []))) (unfit Unhash refl) ∙ ap (λ b. cond b (Some Xxh64) None) fit
 
+  found_fits : (ss : List Shape) (s : Shape) → find (fits k v P) ss ≡ Some s → fits k v P s ≡ true
+  found_fits [] s e = absurd (none-some s e)
+  found_fits (x ∷ ss) s e = at (fits k v P x) refl e (found_fits ss s)
+    where
+      at : (b : Bool) → fits k v P x ≡ b → cond b (Some x) (find (fits k v P) ss) ≡ Some s → (find (fits k v P) ss ≡ Some s → fits k v P s ≡ true) → fits k v P s ≡ true
+      at true is e later = subst (λ (y : Shape). fits k v P y ≡ true) (some_same x s e) is
+      at false is e later = later e
+
   first_left : first_hash k v P ≡ Some h
   first_left = go (fitting_shape k v P) refl
     where
       go : (o : Option Shape) → fitting_shape k v P ≡ o → option_or (option_map shape_hash o) (found_hash P) ≡ Some h
       go None e = found_left h fit unfit
       go (Some s) e = ap Some (left_same P h (shape_hash s) (and_parts (is_shape_of k v None s) _ (found_fits ready_shapes s e)).1 unfit)
-        where
-          found_fits : (ss : List Shape) (s : Shape) → find (fits k v P) ss ≡ Some s → fits k v P s ≡ true
-          found_fits [] s e = absurd (none-some s e)
-          found_fits (x ∷ ss) s e = at (fits k v P x) refl e
-            where
-              at : (b : Bool) → fits k v P x ≡ b → cond b (Some x) (find (fits k v P) ss) ≡ Some s → fits k v P s ≡ true
-              at true is e = subst (λ (y : Shape). fits k v P y ≡ true) (some_same x s e) is
-              at false is e = found_fits ss s e
 
 -- and it decides
 no_other : (P : SizedParts) (h : Hash) → Excludes P h → other_hash P h ≡ None
