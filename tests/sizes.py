@@ -30,6 +30,13 @@ TYPES = [("u32", 4, tables.number), ("i32", 4, tables.signed), ("u32be", 4, tabl
          ("text:10", 10, tables.plain), ("text:255", 255, tables.plain)]
 
 
+def own(size, hash=None):
+    """The name and the text of what keys under this hash function, or values, of a length are where nothing is said."""
+    if size in (4, 8) and hash != "unhash":
+        return f"u{size * 8}", tables.number
+    return f"hex{size}", bytes.hex
+
+
 def stored(name, size, at):
     """Bytes of a type, others for each number: of texts some are as long as they may be, and some values are empty."""
     if name.startswith("text"):
@@ -54,15 +61,16 @@ def typed():
 def typed_runs(case, kinds, name):
     """The same as `runs` of a case, of which this is said."""
     hash, lines = f"--hash={name}", case.pairs.splitlines(True)
-    yield ["dump", "x", hash], "", tables.dump_text(case.table, bytes.hex, bytes.hex), ""
+    own_key, own_value = own(case.table.key_size, name), own(case.table.value_size)
+    yield ["dump", "x", hash], "", tables.dump_text(case.table, own_key[1], own_value[1]), ""
     yield ["dump", "x", *kinds], "", case.dump, ""
     yield ["dump", "x", hash, "--slots", *kinds], "", case.slots, ""
     yield ["order", "x", *kinds], "", case.order, ""
     yield ["keys", "x", kinds[0]], "", case.key_lines, ""
     yield ["get", "x", hash, *kinds, "--", *case.key_lines.split("\n")[:-1]], "", case.dump, ""
     yield ["get", "x", *kinds, "-"], case.key_lines, case.dump, ""
-    for option, part, size in (kinds[0], "key", case.table.key_size), (kinds[1], "value", case.table.value_size):
-        wanted = f"odht: x: --{part} does not fit its {part}s, which are {f'hex{size}' if size else 'none'}\n"
+    for own_name, part, size in (own_key[0], "key", case.table.key_size), (own_value[0], "value", case.table.value_size):
+        wanted = f"odht: x: --{part} does not fit its {part}s, which are {own_name if size else 'none'}\n"
         yield ["dump", "x", f"--{part}=text:{size % 255 + 1}"], "", "", wanted
     yield ["build", "y", *kinds, hash], "".join(lines[:5]), "", ""
     yield ["put", "y", hash, *kinds], "".join(lines[5:]), "", ""
@@ -85,8 +93,9 @@ def sizes():
             yield size, size % 7, tables.unhash, 9, 9
 
 
-def runs(case, name, capacity):
-    """The words of each run, its lines, and what it has to write. The last two make the file `y`."""
+def runs(case, digits, name, capacity):
+    """The words of each run of a case, and of the same with both texts as digits, its lines, and what it has to write. The
+    last two make the file `y`."""
     hash, key, value = f"--hash={name}", f"--key=bytes:{case.table.key_size}", f"--value=hex{case.table.value_size}"
     yield ["check", "x", hash], "", f"x: {tables.VALID}"
     yield ["count", "x", hash], "", f"{case.table.count()}\n"
@@ -95,12 +104,12 @@ def runs(case, name, capacity):
     yield ["dump", "x", hash, "--slots"], "", case.slots
     yield ["order", "x", hash], "", case.order
     yield ["keys", "x", hash], "", case.key_lines
-    yield ["keys", "x", key], "", case.key_lines
+    yield ["keys", "x", key], "", digits.key_lines
     yield ["get", "x", hash, *case.key_lines.split("\n")[:-1]], "", case.dump
-    yield ["get", "x", "-", hash, key, value], case.key_lines.upper(), case.dump
-    lines = case.pairs.splitlines(True)
+    yield ["get", "x", "-", hash, key, value], digits.key_lines.upper(), digits.dump
+    lines = digits.pairs.splitlines(True)
     yield ["build", "y", key, value, hash, f"--capacity={capacity}"], "".join(lines[:len(lines) // 2]), ""
-    yield ["put", "y", hash], "".join(lines[len(lines) // 2:]), ""
+    yield ["put", "y", hash, key, value], "".join(lines[len(lines) // 2:]), ""
 
 
 def cases():
@@ -109,8 +118,11 @@ def cases():
         if (key_size, value_size) not in READY:
             pairs = [(tables.spread(at + 1, key_size), tables.spread(at + 99, value_size))
                      for at in range(min(count, 256 ** key_size))]
-            case = tables.Case("x", "", key_size, value_size, hash, 87, capacity, pairs, bytes.hex, bytes.hex)
-            yield case.table, [(*run, "") for run in runs(case, hash.__name__, capacity)], f"{key_size} and {value_size} bytes"
+            made = "x", "", key_size, value_size, hash, 87, capacity, pairs
+            case = tables.Case(*made, own(key_size, hash.__name__)[1], own(value_size)[1])
+            digits = tables.Case(*made, bytes.hex, bytes.hex)
+            wanted = [(*run, "") for run in runs(case, digits, hash.__name__, capacity)]
+            yield case.table, wanted, f"{key_size} and {value_size} bytes"
     for case, kinds, name in typed():
         yield case.table, typed_runs(case, kinds, name), " ".join(kinds)
 
