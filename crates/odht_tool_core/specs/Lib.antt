@@ -79,3 +79,7 @@ pub mod DuplicateWords
 pub mod PairLines
 -- words that ask for a text of the program
 pub mod Asking
+-- the status of a command that failed
+pub mod Statuses
+-- the load factor of a table that is made of another
+pub mod Percents

@@ -11,6 +11,7 @@ use odht::memory_layout::DEFAULT_GROUPS;
 use odht::{FxHashFn, UnHashFn, Xxh64HashFn};
 use odht_tool_core::advice::Advice;
 use odht_tool_core::found::found_any;
+use odht_tool_core::percents::kept_percent;
 use odht_tool_core::shapes::Hash;
 use odht_tool_core::stored::StoredTable;
 use std::alloc::Global;
@@ -32,7 +33,7 @@ pub fn advice_of(alloc: Global, bytes: &[u8]) -> Option<Advice>
     if table.has_high_load() && is_short(alloc, &table, hash, Percent::new(50).unwrap()) {
         return Some(Advice::LowerLoad);
     }
-    if !hash.is(Hash::Xxh64) && is_short(alloc, &table, Hash::Xxh64, Percent::new(87).unwrap()) {
+    if !hash.is(Hash::Xxh64) && is_short(alloc, &table, Hash::Xxh64, kept_percent(bytes)) {
         return Some(Advice::Mixing);
     }
     None

@@ -3,6 +3,7 @@
 
 use crate::erased::core::advice::Advice;
 use crate::erased::core::found::found_any;
+use crate::erased::core::percents::kept_percent;
 use crate::erased::core::shapes::Hash;
 use crate::erased::core::stored::StoredTable;
 use crate::erased::tables::checks::check_any;
@@ -30,7 +31,7 @@ pub fn advice_of(alloc: Global, bytes: &[u8]) -> Option<Advice> {
     if table.has_high_load() && is_short(alloc, &table, hash, Percent::new(50).unwrap()) {
         return Some(Advice::LowerLoad);
     }
-    if !hash.is(Hash::Xxh64) && is_short(alloc, &table, Hash::Xxh64, Percent::new(87).unwrap()) {
+    if !hash.is(Hash::Xxh64) && is_short(alloc, &table, Hash::Xxh64, kept_percent(bytes)) {
         return Some(Advice::Mixing);
     }
     None
