@@ -3,8 +3,7 @@ ghost use Rattle.std.specs.Prelude.{◌≡◌, ◌≢◌, length, IfSome, Err, O
 ghost use Rattle.odht_base.specs.Insert.{IsFullFor};
 ghost use Rattle.odht.specs.Dynamic.{dyn_format, dyn_store};
 ghost use Rattle.odht.specs.DynOwned.{IsDynWith, IsDynInsertOwned};
-ghost use Rattle.odht.specs.Growths.{IsGrownFrom};
-ghost use Rattle.odht.specs.Tables.{OfTable};
+ghost use Rattle.odht.specs.Growths.{IsGrownImage};
 
 use super::DynTableOwned;
 use crate::bytes::OwnedBytes;
@@ -53,8 +52,7 @@ impl<H: HashFn> DynTableOwned<H> {
     fn insert_grown(&mut self, key: &[u8], value: &[u8]) -> Result<Option<ShortBytes>, DynError>
         requires key { length key.now ≡ self.old.key_len }
         requires value { length value.now ≡ self.old.value_len }
-        requires full { OfTable (dyn_format self.old H.hash) self.old.store
-            (λ P. IsFullFor P key.now) }
+        requires full { IsFullFor self.old.store key.now }
         ensures inserted { IsDynInsertOwned self.old H.hash key.now value.now result
             self.new.store }
         ensures refused { OnErr result (self.new ≡ self.old) }
@@ -74,7 +72,7 @@ impl<H: HashFn> DynTableOwned<H> {
     #[inline(never)]
     fn grown_table(&self) -> Option<DynTable<H, OwnedBytes>>
         ensures { IfSome result (IsDynWith self.now.key_len self.now.value_len
-            (IsGrownFrom (dyn_format self.now H.hash) self.now.store)) }
+            (IsGrownImage (dyn_format self.now H.hash) self.now.store)) }
     {
         let len = self.table.grown_len()?;
         let Ok(mut bytes) = vec![in self.alloc; 0; len] else {

@@ -1,11 +1,12 @@
 //! Room for items that are still to come, of the owned table whose lengths are known at run time
 //! alone.
-ghost use Rattle.std.specs.Prelude.{◌≡◌, IfSome, OnErr};
+ghost use Rattle.std.specs.Prelude.{◌≡◌, ◌≤◌, IfSome, OnErr};
 ghost use Rattle.odht_base.specs.Image.{image_len};
-ghost use Rattle.odht_base.specs.Load.{IsSlotCount};
-ghost use Rattle.odht.specs.Dynamic.{dyn_coding, dyn_format, dyn_store};
+ghost use Rattle.odht_base.specs.Load.{IsSlotCount, max_items};
+ghost use Rattle.odht_base.specs.Table.{count};
+ghost use Rattle.odht.specs.Dynamic.{dyn_format, dyn_store};
 ghost use Rattle.odht.specs.DynOwned.{IsDynWith, IsDynReserve};
-ghost use Rattle.odht.specs.Reserves.{IsMove};
+ghost use Rattle.odht.specs.Reserves.{IsMovedImage};
 
 use super::DynTableOwned;
 use crate::bytes::OwnedBytes;
@@ -52,8 +53,9 @@ impl<H: HashFn> DynTableOwned<H> {
     fn moved(&self, slot_count: usize, len: usize) -> Option<DynTable<H, OwnedBytes>>
         requires slots { IsSlotCount slot_count }
         requires len { len ≡ image_len (dyn_format self.now H.hash) slot_count }
-        ensures { IfSome result (IsDynWith self.now.key_len self.now.value_len
-            (IsMove (dyn_coding self.now H.hash) self.now.store slot_count)) }
+        ensures { count self.now.store ≤ max_items slot_count self.now.store.factor
+            → IfSome result (IsDynWith self.now.key_len self.now.value_len
+            (IsMovedImage (dyn_format self.now H.hash) self.now.store slot_count)) }
     {
         let Ok(mut bytes) = vec![in self.alloc; 0; len] else {
             return None;
