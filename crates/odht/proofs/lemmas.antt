@@ -41,3 +41,13 @@ pub mod OwnedInserts
 pub mod DynOwned
 -- tables that are read by position
 pub mod Files
+-- valid bytes are the image of the table that they decode to
+pub mod Plain
+-- a value of a table is stored in its bytes
+pub mod Stored
+-- lists of inserts into an owned table
+pub mod PlainLists
+-- what the clauses of an owned table say of its bytes
+pub mod PlainBytes
+-- room for more, of bytes and of their table
+pub mod PlainReserves

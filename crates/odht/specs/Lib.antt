@@ -39,3 +39,5 @@ pub mod DynLists
 pub mod DynOwned
 -- tables that are read by position
 pub mod Files
+-- tables that own their bytes, as contracts see them
+pub mod Plain

@@ -49,8 +49,7 @@ impl<C: Config> HashTableOwned<C> {
     /// their slot counts, their load factors and the order of their inserts. It costs what
     /// [`HashTable::is_same_map`] does.
     pub fn is_same_map(&self, other: &HashTableOwned<C>) -> bool
-        ensures { InTable ⟦<C as Coded>⟧.coding self.now
-            (λ c P. OfTable c.format other.now (λ Q. IsTrue result ↔ IsSameMap P Q)) }
+        ensures { IsTrue result ↔ IsSameMap self.now other.now }
     {
         self.table.is_same_map(&other.table)
     }

@@ -1,8 +1,9 @@
 -- What a `new` is answered with, and which table is there afterwards.
-use Rattle.std.proofs.Common.{◌≡◌, ◌<◌, ◌≤◌, ◌↔◌, ◌⊎◌, ◌++◌, ◌∙◌, List, ℕ, refl, sym, append_assoc, arith, Option, Result, Ok, Err, inl, inr}
+use Rattle.std.proofs.Common.{◌≡◌, ◌<◌, ◌≤◌, ◌↔◌, ◌⊎◌, ◌++◌, ◌∙◌, ℕ, List, refl, sym, append_assoc, arith, Option, Result, Ok, Err, inl, inr}
 use Rattle.std.specs.Result.{OnOk, IsErrOf}
 use Rattle.odht_base.specs.Format.{Format}
 use Rattle.odht_base.specs.Load.{factor_of}
+use Rattle.odht_base.specs.Table.{Table}
 use Rattle.odht_header.specs.Refusals.{IsTooLarge}
 use Rattle.odht_table.specs.declared.script.Refusal.{Refusal}
 use Rattle.odht_table.specs.declared.script.Refusal.TheVariants.{BadPercent, Capacity, Memory}
@@ -29,7 +30,7 @@ OnOk-always (Ok x) h = h
 OnOk-always (Err e) h = tt
 
 -- an error is answered with its text, and keeps the table
-pub refused_new : {T : Type 0} (F : Format) (items percent : ℕ) (refusal : Refusal) (old : Option (List ℕ))
+pub refused_new : {T : Type 0} (F : Format) (items percent : ℕ) (refusal : Refusal) (old : Option Table)
     → IsErrOf {T = T} (Err refusal) BadPercent ↔ ((percent < 1) ⊎ (100 < percent))
     → (1 ≤ percent → percent ≤ 100 → IsErrOf {T = T} (Err refusal) Capacity ↔ IsTooLarge F items (factor_of percent))
     → IsRenewed F items percent (refusal_text refusal) old old

@@ -5,11 +5,9 @@ use Rattle.std.proofs.lemmas.List.Splits.{slice_split_none, slice_split_at, leng
 use Rattle.std.specs.Io.KnownBytes.{Appends, Keeps}
 use Rattle.std.proofs.KnownBytes.{Appends-nil, Appends-trans, Appends-kept}
 use Rattle.odht_tool_core.specs.Cuts.{IsCutAt}
-use Rattle.odht_table.specs.Answers.{IsRenewed}
-use Rattle.odht_table.specs.Answers.IsRenewed.{bad_percent, capacity, memory, made}
+use Rattle.odht_base.specs.Table.{Table}
 use Rattle.odht_header.specs.Coding.{Coding}
-use Rattle.odht_table.specs.Scripts.{ends_line, without_empty_last, script_lines, IsHeld, IsLineAnswered, AreAnswered, IsAnsweredBy}
-use Rattle.odht_table.specs.Scripts.IsLineAnswered.{other, renewed, no_table, answered}
+use Rattle.odht_table.specs.Scripts.{ends_line, without_empty_last, script_lines, IsLineAnswered, AreAnswered, IsAnsweredBy}
 use Rattle.odht_table.specs.Scripts.AreAnswered.{no_lines, one_more}
 
 -- a first part stays, whatever the others are
@@ -32,37 +30,22 @@ pub last_line : (script : List ℕ) → All (λ x. x ≢ 10) script → 0 < leng
 last_line script none l =
     ap without_empty_last (slice_split_none ends_line script (no_ends script none)) ∙ ap (λ b. if b then [] else script ∷ []) (ne_eqb (length script) 0 (omega (arith, l)))
 
--- a line leaves a valid table where there was one, or none
-held_after : (c : Coding ℕ ℕ) (line : List ℕ) (old new : Option (List ℕ)) (text : List ℕ) → IsHeld c.format old → IsLineAnswered c line old text new → IsHeld c.format new
-held_after c line _ _ _ held (other old text no_command is) = held
-held_after c line _ _ _ held (renewed items percent old new text is table) = renewed_held old new text held table
-  where
-    renewed_held : (old new : Option (List ℕ)) (text : List ℕ) → IsHeld c.format old → IsRenewed c.format items percent text old new → IsHeld c.format new
-    renewed_held _ _ _ held (bad_percent old bad) = held
-    renewed_held _ _ _ held (capacity old good large) = held
-    renewed_held _ _ _ held (memory old good small) = held
-    renewed_held _ _ _ held (made old slots P bytes good least new image) = (P, image)
-held_after c line _ _ _ held (no_table request is) = held
-held_after c line _ _ _ held (answered request P Q old new text is image answer after) = (Q, after)
-
 -- a script is answered up to its rest: by a text to which the answers to the rest are appended
-pub record IsAnsweredUpTo (c : Coding ℕ ℕ) (script rest : List ℕ) (table before now : Option (List ℕ)) : Type 0 where
-  pub held : IsHeld c.format table
+pub record IsAnsweredUpTo (c : Coding ℕ ℕ) (script rest : List ℕ) (table : Option Table) (before now : Option (List ℕ)) : Type 0 where
   pub text : List ℕ
   pub written : Appends before now text
-  pub goes_on : (texts : List ℕ) (last : Option (List ℕ)) → AreAnswered c (script_lines rest) table texts last
+  pub goes_on : (texts : List ℕ) (last : Option Table) → AreAnswered c (script_lines rest) table texts last
       → AreAnswered c (script_lines script) None (text ++ texts) last
 
 -- at first nothing is answered
 pub up_to_start : (c : Coding ℕ ℕ) (script : List ℕ) (before : Option (List ℕ)) → IsAnsweredUpTo c script script None before before
-up_to_start c script before = record { held = tt; text = []; written = Appends-nil before; goes_on = λ texts last h. h }
+up_to_start c script before = record { text = []; written = Appends-nil before; goes_on = λ texts last h. h }
 
 -- then a line more
-pub up_to_next : (c : Coding ℕ ℕ) (script rest line next : List ℕ) (table new before now after : Option (List ℕ)) (text : List ℕ)
+pub up_to_next : (c : Coding ℕ ℕ) (script rest line next : List ℕ) (table new : Option Table) (before now after : Option (List ℕ)) (text : List ℕ)
     → IsAnsweredUpTo c script rest table before now → script_lines rest ≡ line ∷ script_lines next
     → IsLineAnswered c line table text new → Appends now after text → IsAnsweredUpTo c script next new before after
 up_to_next c script rest line next table new before now after text h cut is written = record {
-  held = held_after c line table new text h.held is;
   text = h.text ++ text;
   written = Appends-trans before now after h.text text h.written written;
   goes_on = λ texts last more.
@@ -71,7 +54,7 @@ up_to_next c script rest line next table new before now after text h cut is writ
 }
 
 -- and in the end the whole
-pub up_to_end : (c : Coding ℕ ℕ) (script rest : List ℕ) (table before now after : Option (List ℕ))
+pub up_to_end : (c : Coding ℕ ℕ) (script rest : List ℕ) (table : Option Table) (before now after : Option (List ℕ))
     → IsAnsweredUpTo c script rest table before now → length rest ≡ 0 → Keeps now after
     → (text : List ℕ) × IsAnsweredBy c script text × Appends before after text
 up_to_end c script [] table before now after h end kept =

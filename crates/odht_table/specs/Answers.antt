@@ -11,8 +11,8 @@
 --                           inserted, or P, where it is full for k and memory for its growth was exhausted
 --     IsAnswered c P r t Q  t answers the request r of the table P, and Q is the table after it
 --     IsGoodPercent p       from 1 to 100
---     IsRenewed F n p t o o'   t answers `new` for n items at p percent, after which the bytes o' replace o: those of a
---                           fresh table, or o itself where none was made
+--     IsRenewed F n p t o o'   t answers `new` for n items at p percent, after which the table o' replaces o: a fresh
+--                           one, or o itself where none was made
 --     MayChange r           the request r is a `put`
 --     check_text F B        of `check`: `valid`, or the text of the first error of the bytes B
 --     IsChecked F B t       t answers `check` of the bytes B: check_text, or `memory` when memory is exhausted
@@ -24,7 +24,6 @@ use Rattle.odht_base.specs.Load.{factor_of, max_items, slots_for}
 use Rattle.odht_base.specs.Table.{Table as Plain, count, walk, fresh}
 use Rattle.odht_base.specs.Image.{image}
 use Rattle.odht_base.specs.Insert.{insert_owned, IsFullFor}
-use Rattle.odht_base.specs.Valid.{IsImage}
 use Rattle.odht_header.specs.Coding.{Coding, encoded, value_for}
 use Rattle.odht_raw.specs.Dumps.{owned_dump_text}
 use Rattle.odht_header.specs.ErrorTexts.{error_text}
@@ -79,13 +78,13 @@ IsAnswered c P Dump text Q = (Some text ≡ dump_of c.format (image c.format P))
 abbrev pub IsGoodPercent : ℕ → Type 0
 IsGoodPercent percent = (1 ≤ percent) × (percent ≤ 100)
 
-pub data IsRenewed (F : Format) (items percent : ℕ) : List ℕ → Option (List ℕ) → Option (List ℕ) → Type 0 where
-  bad_percent : (old : Option (List ℕ)) → ¬ (IsGoodPercent percent) → IsRenewed F items percent (codes "bad percent") old old
-  capacity : (old : Option (List ℕ)) → IsGoodPercent percent → IsTooLarge F items (factor_of percent) → IsRenewed F items percent (codes "capacity") old old
-  memory : (old : Option (List ℕ)) → IsGoodPercent percent → ¬ (IsTooLarge F items (factor_of percent)) → IsRenewed F items percent (codes "memory") old old
-  made : (old : Option (List ℕ)) (slots : ℕ) (P : Plain) (bytes : List ℕ) → IsGoodPercent percent
-      → slots_for items (factor_of percent) ≡ Some slots → fresh items percent ≡ Some P → IsImage F P bytes
-      → IsRenewed F items percent (new_text slots (max_items slots (factor_of percent))) old (Some bytes)
+pub data IsRenewed (F : Format) (items percent : ℕ) : List ℕ → Option Plain → Option Plain → Type 0 where
+  bad_percent : (old : Option Plain) → ¬ (IsGoodPercent percent) → IsRenewed F items percent (codes "bad percent") old old
+  capacity : (old : Option Plain) → IsGoodPercent percent → IsTooLarge F items (factor_of percent) → IsRenewed F items percent (codes "capacity") old old
+  memory : (old : Option Plain) → IsGoodPercent percent → ¬ (IsTooLarge F items (factor_of percent)) → IsRenewed F items percent (codes "memory") old old
+  made : (old : Option Plain) (slots : ℕ) (P : Plain) → IsGoodPercent percent
+      → slots_for items (factor_of percent) ≡ Some slots → fresh items percent ≡ Some P
+      → IsRenewed F items percent (new_text slots (max_items slots (factor_of percent))) old (Some P)
 
 abbrev pub MayChange : Request → Type 0
 MayChange (Put key value) = ⊤

@@ -1,17 +1,15 @@
 -- How a script is answered: its lines in their order, each answer after the one before.
 --     ends_line b           the byte b is 10, the end of a line
 --     script_lines script   the lines: what is before each end, and what follows the last end, unless it is empty
---     IsHeld F o            where there is a table, its bytes o are those of a valid one
 --     IsOtherAnswered F l t     t answers the line l, which is no command: as `check` of its bytes, or with `malformed`
---     IsLineAnswered c l o t o'   t answers the line l, its end included; o are the bytes of the table before it, None
---                           where there is no table, and o' those after it
+--     IsLineAnswered c l o t o'   t answers the line l, its end included; o is the table before it, None where there is
+--                           none, and o' the table after it
 --     AreAnswered c ls o t o'   t answers the lines ls one after the other
 --     IsAnsweredBy c script t   t answers the script, which begins without a table
-use Rattle.std.specs.Prelude.{ℕ, ◌==◌, Bool, if◌then◌else◌, List, [], ◌∷◌, ◌++◌, length, Option, Some, None, IfSome, codes}
+use Rattle.std.specs.Prelude.{ℕ, ◌==◌, Bool, if◌then◌else◌, List, [], ◌∷◌, ◌++◌, length, Option, Some, None, codes}
 use Rattle.std.specs.List.{slice_split}
 use Rattle.odht_base.specs.Format.{Format}
 use Rattle.odht_base.specs.Table.{Table as Plain}
-use Rattle.odht_base.specs.Valid.{IsImage, IsValidBytes}
 use Rattle.odht_header.specs.Coding.{Coding}
 use Rattle.odht_table.specs.Answers.{line_of, IsAnswered, IsChecked, IsRenewed}
 use Rattle.odht_table.specs.Commands.{IsCheckText, IsCommandText}
@@ -31,28 +29,24 @@ without_empty_last (part ∷ next ∷ more) = part ∷ without_empty_last (next 
 abbrev pub script_lines : List ℕ → List (List ℕ)
 script_lines script = without_empty_last (slice_split ends_line script)
 
-abbrev pub IsHeld : Format → Option (List ℕ) → Type 0
-IsHeld F table = IfSome table (λ bytes. IsValidBytes F bytes)
-
 pub data IsOtherAnswered (F : Format) (line : List ℕ) : List ℕ → Type 0 where
   malformed : ((bytes : List ℕ) → ¬ (IsCheckText line bytes)) → IsOtherAnswered F line (codes "malformed")
   checked : (bytes text : List ℕ) → IsCheckText line bytes → IsChecked F bytes text → IsOtherAnswered F line text
 
-pub data IsLineAnswered (c : Coding ℕ ℕ) (line : List ℕ) : Option (List ℕ) → List ℕ → Option (List ℕ) → Type 0 where
-  other : (old : Option (List ℕ)) (text : List ℕ) → ((command : Command) → ¬ (IsCommandText line command))
+pub data IsLineAnswered (c : Coding ℕ ℕ) (line : List ℕ) : Option Plain → List ℕ → Option Plain → Type 0 where
+  other : (old : Option Plain) (text : List ℕ) → ((command : Command) → ¬ (IsCommandText line command))
       → IsOtherAnswered c.format line text → IsLineAnswered c line old (line_of text) old
-  renewed : (items percent : ℕ) (old new : Option (List ℕ)) (text : List ℕ) → IsCommandText line (New items percent)
+  renewed : (items percent : ℕ) (old new : Option Plain) (text : List ℕ) → IsCommandText line (New items percent)
       → IsRenewed c.format items percent text old new → IsLineAnswered c line old (line_of text) new
   no_table : (request : Request) → IsCommandText line (OnTable request) → IsLineAnswered c line None (line_of (codes "no table")) None
-  answered : (request : Request) (P Q : Plain) (old new text : List ℕ) → IsCommandText line (OnTable request)
-      → IsImage c.format P old → IsAnswered c P request text Q → IsImage c.format Q new
-      → IsLineAnswered c line (Some old) text (Some new)
+  answered : (request : Request) (P Q : Plain) (text : List ℕ) → IsCommandText line (OnTable request)
+      → IsAnswered c P request text Q → IsLineAnswered c line (Some P) text (Some Q)
 
-pub data AreAnswered (c : Coding ℕ ℕ) : List (List ℕ) → Option (List ℕ) → List ℕ → Option (List ℕ) → Type 0 where
-  no_lines : (table : Option (List ℕ)) → AreAnswered c [] table [] table
-  one_more : (line : List ℕ) (lines : List (List ℕ)) (old between new : Option (List ℕ)) (text texts : List ℕ)
+pub data AreAnswered (c : Coding ℕ ℕ) : List (List ℕ) → Option Plain → List ℕ → Option Plain → Type 0 where
+  no_lines : (table : Option Plain) → AreAnswered c [] table [] table
+  one_more : (line : List ℕ) (lines : List (List ℕ)) (old between new : Option Plain) (text texts : List ℕ)
       → IsLineAnswered c line old text between → AreAnswered c lines between texts new
       → AreAnswered c (line ∷ lines) old (text ++ texts) new
 
 abbrev pub IsAnsweredBy : Coding ℕ ℕ → List ℕ → List ℕ → Type 0
-IsAnsweredBy c script text = (last : Option (List ℕ)) × AreAnswered c (script_lines script) None text last
+IsAnsweredBy c script text = (last : Option Plain) × AreAnswered c (script_lines script) None text last

@@ -5,13 +5,11 @@ ghost use Rattle.std.specs.Prelude.{IsErrOf, Some, ℕ, List, ◌∷◌, ◌++�
 ghost use Rattle.std.specs.Io.KnownBytes.{IsAtEnd, Appends};
 ghost use Rattle.std.specs.Fmt.{decimal};
 ghost use Rattle.odht_base.specs.Load.{factor_of, max_items, slots_for};
-ghost use Rattle.odht_base.specs.Table.{Table as Plain, fresh};
-ghost use Rattle.odht_base.specs.Valid.{IsImage};
+ghost use Rattle.odht_base.specs.Table.{fresh};
 ghost use Rattle.odht_header.specs.Refusals.{IsTooLarge};
 ghost use Rattle.odht_table.specs.Answers.{line_of, hex_text, pair_line, value_text, walk_text};
 ghost use Rattle.odht_table.specs.Answers.{IsPutAnswered, IsAnswered, IsRenewed, MayChange};
-ghost use Rattle.odht_table.specs.Scripts.{script_lines, IsHeld, IsLineAnswered};
-ghost use Rattle.odht_table.specs.Scripts.{IsAnsweredBy};
+ghost use Rattle.odht_table.specs.Scripts.{script_lines, IsLineAnswered, IsAnsweredBy};
 
 mod check;
 mod command;
@@ -138,8 +136,7 @@ fn answer<W: Write>(
     table: &mut Option<Table>,
     output: &mut W,
 ) -> io::Result<()>
-    ensures { IsHeld ⟦<U64ToU32 as Coded>⟧.coding.format table.old
-        → (text : List ℕ)
+    ensures { (text : List ℕ)
         × IsLineAnswered ⟦<U64ToU32 as Coded>⟧.coding line.now table.old text table.new
         × OnOk result (Appends (W.contents output.old) (W.contents output.new) text) }
 {
@@ -159,10 +156,8 @@ fn answer<W: Write>(
 }
 
 fn serve<W: Write>(table: &mut Table, request: Request, output: &mut W) -> io::Result<()>
-    ensures answered { (P : Plain)
-        → IsImage ⟦<U64ToU32 as Coded>⟧.coding.format P table.old
-        → (Q : Plain) × (text : List ℕ) × IsAnswered ⟦<U64ToU32 as Coded>⟧.coding P request text Q
-        × IsImage ⟦<U64ToU32 as Coded>⟧.coding.format Q table.new
+    ensures answered { (text : List ℕ)
+        × IsAnswered ⟦<U64ToU32 as Coded>⟧.coding table.old request text table.new
         × OnOk result (Appends (W.contents output.old) (W.contents output.new) text) }
     ensures kept { ¬ (MayChange request) → table.new ≡ table.old }
 {
@@ -238,8 +233,7 @@ fn make_fresh(alloc: Global, max_item_count: usize, percent: u64) -> Result<Fres
     ensures capacity { 1 ≤ percent → percent ≤ 100
         → (IsErrOf result Refusal.Capacity ↔ IsTooLarge ⟦<U64ToU32 as Coded>⟧.coding.format
         max_item_count (factor_of percent)) }
-    ensures table { IfOk result (λ made. (P : Plain) × (fresh max_item_count percent ≡ Some P)
-        × IsImage ⟦<U64ToU32 as Coded>⟧.coding.format P made.table) }
+    ensures table { IfOk result (λ made. fresh max_item_count percent ≡ Some made.table) }
     ensures slots { IfOk result (λ made. slots_for max_item_count (factor_of percent)
         ≡ Some made.slot_count) }
     ensures most { IfOk result (λ made. made.max_item_count
@@ -266,10 +260,8 @@ fn make_fresh(alloc: Global, max_item_count: usize, percent: u64) -> Result<Fres
 // Answers with the key's former value. When memory for a growth is exhausted the table stays as it
 // was.
 fn put<W: Write>(table: &mut Table, key: u64, value: u32, output: &mut W) -> io::Result<()>
-    ensures { (P : Plain)
-        → IsImage ⟦<U64ToU32 as Coded>⟧.coding.format P table.old
-        → (Q : Plain) × (text : List ℕ) × IsPutAnswered ⟦<U64ToU32 as Coded>⟧.coding P key value
-        text Q × IsImage ⟦<U64ToU32 as Coded>⟧.coding.format Q table.new
+    ensures { (text : List ℕ)
+        × IsPutAnswered ⟦<U64ToU32 as Coded>⟧.coding table.old key value text table.new
         × OnOk result (Appends (W.contents output.old) (W.contents output.new) text) }
 {
     match table.insert(&key, &value) {

@@ -3,7 +3,8 @@ use Rattle.std.proofs.Common.{◌≡◌, ◌∙◌, List, [], ◌∷◌, ◌++�
 use Rattle.std.specs.Result.{result_map_both}
 use Rattle.std.proofs.lemmas.List.{map-append}
 use Rattle.odht_base.specs.Insert.{insert_owned}
-use Rattle.odht_base.specs.Table.{Pair}
+use Rattle.odht_base.specs.Table.{Pair, Table}
+use Rattle.odht_base.specs.Valid.{IsImage}
 use Rattle.odht_base.proofs.lemmas.FreshRuns.{insert_owned-PlacesBelow}
 use Rattle.odht_base.proofs.lemmas.TableInserts.{insert_owned-IsInsert}
 use Rattle.odht_header.specs.Coding.{encoded}
@@ -31,7 +32,7 @@ module _ (h : List ℕ → ℕ) where
   -- the table `after` is `before` with these pairs
   pub record AreRun (before after : DynStore (List ℕ)) (items : List (List ℕ × List ℕ)) : Type 0 where
     pub lengths : after ≡ dyn_store before.key_len before.value_len after.store
-    pub inserted : AreInserted (dyn_coding before h) before.store items after.store
+    pub inserted : OfTable (dyn_format before h) before.store (λ P. IsAfterInserts (dyn_format before h) (insert_owned (dyn_format before h)) P (encoded_all (dyn_coding before h) items) after.store)
 
   -- none at first
   pub none_run : (t : DynStore (List ℕ)) → AreRun t t []
@@ -54,3 +55,11 @@ module _ (h : List ℕ → ℕ) where
             subst (λ (ps : List Pair). IsAfterInserts F (insert_owned F) P ps t'.store) (sym pairs)
             (inserted_more F (insert_owned F) (insert_owned-IsInsert F) (insert_owned-PlacesBelow F) P (encoded_all c items) (encoded c k v) t.store t'.store was into.table into.inserted into.image));
       }
+
+  -- so they are inserted
+  pub run_inserted : (before after : DynStore (List ℕ)) (items : List (List ℕ × List ℕ)) → AreRun before after items
+      → AreInserted (dyn_coding before h) (λ P. IsImage (dyn_format before h) P before.store) items (λ P. IsImage (dyn_format after h) P after.store)
+  run_inserted before after items done P is =
+      let now = done.inserted P is in
+      let format = ap (λ (t : DynStore (List ℕ)). dyn_format t h) (sym done.lengths) in
+      record { table = now.table; runs = now.runs; holds = subst (λ F. IsImage F now.table after.store) format now.image; maps = now.maps; stays = now.stays }

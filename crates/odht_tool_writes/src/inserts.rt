@@ -26,9 +26,8 @@ const BATCH: usize = 1024;
 
 /// A table that grows, into which pairs are inserted that have texts.
 pub trait Inserts: Drop {
-    ghost use Rattle.std.specs.Prelude.{ℕ, List};
-    ghost use Rattle.odht.specs.Tables.{OfTable};
-    ghost use Rattle.odht_base.specs.Table.{count};
+    ghost use Rattle.odht_base.specs.Table.{Table, count};
+    ghost use Rattle.odht_base.specs.Valid.{IsImage};
     ghost use Rattle.odht_header.specs.Coding.{Coding};
 
     /// A key.
@@ -39,28 +38,30 @@ pub trait Inserts: Drop {
 
     ghost coding: { Self → Coding Self.Key Self.Value };
 
-    ghost bytes: { Self → List ℕ };
+    ghost stands_for: { Self → Table → Type 0 };
 
     /// Inserts the pairs in turn. `Memory` where there is none for a larger table.
     fn insert_pairs(&mut self, pairs: &[(Self::Key, Self::Value)]) -> Result<(), Failure>
-        ensures inserted { OnOk result (AreInserted (coding self.old) (bytes self.old) pairs.now
-            (bytes self.new)) }
+        ensures inserted { OnOk result (AreInserted (coding self.old) (stands_for self.old)
+            pairs.now (stands_for self.new)) }
         ensures memory { OnErr result (result ≡ Err Memory) };
 
     /// Inserts the pair where its key has no value, and returns whether that is so. `Memory` where
     /// there is none for a larger table.
     fn insert_new(&mut self, key: &Self::Key, value: &Self::Value) -> Result<bool, Failure>
-        ensures new { IfOk result (λ new. IsNewInsert (coding self.old) (bytes self.old)
-            key.now value.now new (bytes self.new)) }
+        ensures new { IfOk result (λ new. IsNewInsert (coding self.old) (stands_for self.old)
+            key.now value.now new (stands_for self.new)) }
         ensures memory { OnErr result (result ≡ Err Memory) };
 
     /// How many pairs the table has.
     fn pair_count(&self) -> usize
-        ensures { OfTable (coding self.now).format (bytes self.now) (λ P. result ≡ count P) };
+        ensures { (P : Table) → stands_for self.now P → result ≡ count P };
 
     /// All bytes.
     fn all_bytes(&self) -> &[u8]
-        ensures { result.now ≡ bytes self.now };
+        ensures { (P : Table)
+            → stands_for self.now P
+            → IsImage (coding self.now).format P result.now };
 }
 
 /// Adds the lines to the table, and stores it by the new file.
@@ -195,8 +196,8 @@ fn insert_and_clear<T: Inserts>(
     table: &mut T,
     pairs: &mut Vec<(T::Key, T::Value)>,
 ) -> Result<(), Failure>
-    ensures inserted { OnOk result (AreInserted (T.coding table.old) (T.bytes table.old)
-        pairs.old.items (T.bytes table.new)) }
+    ensures inserted { OnOk result (AreInserted (T.coding table.old) (T.stands_for table.old)
+        pairs.old.items (T.stands_for table.new)) }
     ensures memory { OnErr result (result ≡ Err Memory) }
     ensures empty { length pairs.new.items ≡ 0 }
 {

@@ -1,7 +1,6 @@
 //! A table that is emptied and keeps its memory.
-ghost use Rattle.odht.specs.Tables.{InTable};
+ghost use Rattle.std.specs.Prelude.{◌≡◌};
 ghost use Rattle.odht_base.specs.Table.{empty, slot_count};
-ghost use Rattle.odht_base.specs.Valid.{IsImage};
 
 use super::HashTableOwned;
 use crate::config::{Coded, Config};
@@ -12,8 +11,7 @@ impl<C: Config> HashTableOwned<C> {
     ///
     /// It takes no memory and gives none back. Each byte is written once.
     pub fn clear(&mut self)
-        ensures { InTable ⟦<C as Coded>⟧.coding self.old
-            (λ c P. IsImage c.format (empty (slot_count P) P.factor) self.new) }
+        ensures { self.new ≡ empty (slot_count self.old) self.old.factor }
     {
         self.table.allocation.clear();
     }

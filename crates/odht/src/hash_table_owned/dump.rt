@@ -1,16 +1,18 @@
 //! What `Debug` writes of an owned table: the numbers of its header, and each slot on a line.
+ghost use Rattle.odht_base.specs.Image.{image};
 ghost use Rattle.std.specs.Fmt.{WritesOnOk};
 ghost use Rattle.odht_raw.specs.Dumps.{counts_text};
 
 use super::HashTableOwned;
-use crate::config::Config;
+use crate::config::{Coded, Config};
 use crate::load::max_item_count_for;
 use std::fmt;
 
 impl<C: Config> HashTableOwned<C> {
     // Writes the numbers of the header on a line.
     fn write_counts<W: fmt::Write>(&self, f: &mut fmt::Formatter<W>) -> fmt::Result
-        ensures { WritesOnOk W.write_str_gives f.old result (counts_text self.now) f.new }
+        ensures { WritesOnOk W.write_str_gives f.old result
+            (counts_text (image ⟦<C as Coded>⟧.coding.format self.now)) f.new }
     {
         let header = self.table.allocation.header();
         let item_count = header.item_count();
@@ -27,10 +29,13 @@ impl<C: Config> HashTableOwned<C> {
 impl<C: Config> fmt::Debug for HashTableOwned<C> {
     ghost use Rattle.odht_base.specs.Format.{format_of};
     ghost use Rattle.odht_raw.specs.Dumps.{owned_dump_text};
+    ghost use Rattle.odht_base.specs.Image.{image};
 
-    ghost debug_output = { owned_dump_text (format_of C.EncodedKey.LEN C.EncodedValue.LEN C.H.hash)
+    ghost debug_output = { λ t. let F = format_of C.EncodedKey.LEN C.EncodedValue.LEN C.H.hash
+        in owned_dump_text F
         (λ b. C.EncodedKey.debug_output (C.EncodedKey.of_bytes b))
-        (λ b. C.EncodedValue.debug_output (C.EncodedValue.of_bytes b)) C.H.hash_name };
+        (λ b. C.EncodedValue.debug_output (C.EncodedValue.of_bytes b)) C.H.hash_name
+        (image F t) };
 
     // The numbers of the header on a line, the dump of the parts, and an empty line.
     fn fmt<W: fmt::Write>(&self, f: &mut fmt::Formatter<W>) -> fmt::Result {

@@ -1,7 +1,7 @@
 //! Inserts of what an iterator gives.
 ghost use Rattle.std.specs.Prelude.{◌≡◌, ◌⊎◌, OnErr, OnOk};
 ghost use Rattle.std.specs.Iterator.{IsFinite};
-ghost use Rattle.odht.specs.ListResults.{IsOwnedList};
+ghost use Rattle.odht.specs.Plain.{IsPlainList};
 ghost use Rattle.odht.specs.Lists.{EndsAfter};
 
 use super::HashTableOwned;
@@ -20,10 +20,10 @@ impl<C: Config> HashTableOwned<C> {
         requires ends { IsFinite (I.remaining items) }
         ensures ok { let c = ⟦<C as Coded>⟧.coding
             in OnOk result.1
-            (EndsAfter I.next_gives items (λ xs. IsOwnedList c self.old self.new xs result)) }
+            (EndsAfter I.next_gives items (λ xs. IsPlainList c self.old self.new xs result)) }
         ensures err { let c = ⟦<C as Coded>⟧.coding
             in OnErr result.1 (((self.new ≡ self.old) × (result.0 ≡ 0))
-            ⊎ EndsAfter I.next_gives items (λ xs. IsOwnedList c self.old self.new xs result)) }
+            ⊎ EndsAfter I.next_gives items (λ xs. IsPlainList c self.old self.new xs result)) }
         ensures memory { OnErr result.1 (result.1 ≡ Err Error.Memory) }
     {
         let collected: Result<Vec<(C::Key, C::Value)>, _> = items.collect(self.alloc);

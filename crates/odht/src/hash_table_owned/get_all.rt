@@ -1,6 +1,6 @@
 //! Lookups of many keys in a table that grows.
-ghost use Rattle.std.specs.Prelude.{◌≡◌, length};
-ghost use Rattle.odht.specs.Gets.{AreGot};
+ghost use Rattle.std.specs.Prelude.{◌≡◌, length, map};
+ghost use Rattle.odht_header.specs.Coding.{value_for};
 
 use super::HashTableOwned;
 use crate::config::{Coded, Config};
@@ -12,7 +12,7 @@ impl<C: Config> HashTableOwned<C> {
     #[inline]
     pub fn get_all(&self, keys: &[C::Key], values: &mut [Option<C::Value>])
         requires { length values.old ≡ length keys.now }
-        ensures { AreGot ⟦<C as Coded>⟧.coding self.now keys.now values.new }
+        ensures { values.new ≡ map (value_for ⟦<C as Coded>⟧.coding self.now) keys.now }
     {
         self.table.get_all(keys, values);
     }

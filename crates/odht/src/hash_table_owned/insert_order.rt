@@ -1,9 +1,7 @@
 //! An order of inserts that makes a table.
-ghost use Rattle.odht.specs.Tables.{InTable};
 ghost use Rattle.std.specs.Prelude.{◌≡◌, ◌↔◌, ◌*◌, ◌-◌, ◌^◌, length, min, IsTrue};
-ghost use Rattle.odht_base.specs.Decoded.{header_slots};
 ghost use Rattle.odht_base.specs.Made.{IsMade, IsInsertOrder};
-ghost use Rattle.odht_base.specs.Table.{count};
+ghost use Rattle.odht_base.specs.Table.{count, slot_count};
 
 use super::HashTableOwned;
 use crate::config::{Coded, Config};
@@ -23,11 +21,10 @@ impl<C: Config> HashTableOwned<C> {
     /// before from the same home, as far as that is kept, for 64 homes. Then the slots that still
     /// wait are sorted. docs/PERF.md has what an item costs.
     pub fn insert_order(&self, out: &mut [usize]) -> bool
-        requires { InTable ⟦<C as Coded>⟧.coding self.now (λ _ P. length out.old ≡ count P) }
-        ensures order { InTable ⟦<C as Coded>⟧.coding self.now
-            (λ c P. IsTrue result → IsInsertOrder c.format P out.new) }
-        ensures made { InTable ⟦<C as Coded>⟧.coding self.now
-            (λ c P. IsTrue result ↔ IsMade c.format P) }
+        requires { length out.old ≡ count self.now }
+        ensures order { IsTrue result
+            → IsInsertOrder ⟦<C as Coded>⟧.coding.format self.now out.new }
+        ensures made { IsTrue result ↔ IsMade ⟦<C as Coded>⟧.coding.format self.now }
     {
         self.table.as_raw().insert_order(out)
     }
@@ -43,18 +40,17 @@ impl<C: Config> HashTableOwned<C> {
     /// slots. That `insert_order` is not called after all, which no clause says, is tested. Where
     /// most keys are near their homes `insert_order` is faster.
     pub fn insert_order_with(&self, out: &mut [usize], scratch: &mut [usize]) -> bool
-        requires { InTable ⟦<C as Coded>⟧.coding self.now (λ _ P. length out.old ≡ count P) }
-        ensures order { InTable ⟦<C as Coded>⟧.coding self.now
-            (λ c P. IsTrue result → IsInsertOrder c.format P out.new) }
-        ensures made { InTable ⟦<C as Coded>⟧.coding self.now
-            (λ c P. IsTrue result ↔ IsMade c.format P) }
+        requires { length out.old ≡ count self.now }
+        ensures order { IsTrue result
+            → IsInsertOrder ⟦<C as Coded>⟧.coding.format self.now out.new }
+        ensures made { IsTrue result ↔ IsMade ⟦<C as Coded>⟧.coding.format self.now }
     {
         self.table.as_raw().insert_order_with(out, scratch)
     }
 
     /// How many numbers of scratch `insert_order_with` takes for this table: three for each slot.
     pub fn insert_order_scratch(&self) -> usize
-        ensures { result ≡ min (3 * header_slots self.now) (2 ^ 64 - 1) }
+        ensures { result ≡ min (3 * slot_count self.now) (2 ^ 64 - 1) }
     {
         self.table.as_raw().insert_order_scratch()
     }

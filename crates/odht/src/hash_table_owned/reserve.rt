@@ -1,10 +1,10 @@
 //! Room for items that are still to come.
-ghost use Rattle.odht.specs.Tables.{InTable};
-ghost use Rattle.std.specs.Prelude.{◌≡◌, IfOk, OnErr};
+ghost use Rattle.std.specs.Prelude.{◌≡◌, ◌≤◌, IfOk, OnErr};
 ghost use Rattle.odht_base.specs.Image.{image_len};
-ghost use Rattle.odht_base.specs.Load.{IsSlotCount};
-ghost use Rattle.odht.specs.Reserves.{IsMove, IsReserve};
-ghost use Rattle.odht.specs.NewTables.{IsCapacityOrMemory};
+ghost use Rattle.odht_base.specs.Load.{IsSlotCount, max_items};
+ghost use Rattle.odht_base.specs.Table.{count};
+ghost use Rattle.odht.specs.Plain.{IsPlainReserve};
+ghost use Rattle.odht.specs.Reserves.{IsMovedImage};
 
 use super::HashTableOwned;
 use crate::bytes::OwnedBytes;
@@ -27,10 +27,9 @@ impl<C: Config> HashTableOwned<C> {
     ///
     /// Where it moves, one pass over the slots; each item is hashed once. No key is compared.
     pub fn reserve(&mut self, additional: usize) -> Result<(), Error>
-        ensures in_table { InTable ⟦<C as Coded>⟧.coding self.old
-            (λ c P. IsReserve c P additional result self.new) }
+        ensures reserved { let c = ⟦<C as Coded>⟧.coding
+            in IsPlainReserve c self.old additional result self.new }
         // On failure.
-        ensures capacity_or_memory { OnErr result (IsCapacityOrMemory result) }
         ensures refused { OnErr result (self.new ≡ self.old) }
     {
         let header = self.table.allocation.header();
@@ -51,7 +50,8 @@ impl<C: Config> HashTableOwned<C> {
     fn moved(&self, slot_count: usize, len: usize) -> Result<HashTable<C, OwnedBytes>, Error>
         requires slots { IsSlotCount slot_count }
         requires len { len ≡ image_len ⟦<C as Coded>⟧.coding.format slot_count }
-        ensures ok { IfOk result (IsMove ⟦<C as Coded>⟧.coding self.now slot_count) }
+        ensures ok { let P = self.now in count P ≤ max_items slot_count P.factor
+            → IfOk result (IsMovedImage ⟦<C as Coded>⟧.coding.format P slot_count) }
         ensures memory { OnErr result (result ≡ Err Error.Memory) }
     {
         let Ok(mut bytes) = vec![in self.alloc; 0; len] else {

@@ -1,18 +1,19 @@
 -- What is handed out of a table that was built.
-use Rattle.std.proofs.Common.{◌≡◌, ◌<◌, ◌≤◌, ◌∙◌, ◌++◌, ◌↔◌, ◌⊎◌, inl, inr, ℕ, List, Result, Err, IsOk, OnErr, sym, ap, subst, refl, arith, length, take, drop, take_at, drop_at}
+use Rattle.std.proofs.Common.{◌≡◌, ◌<◌, ◌≤◌, ◌∙◌, ◌++◌, ◌⊎◌, inl, inr, ℕ, List, Result, Err, Some, IsOk, OnErr, sym, ap, subst, refl, arith, length, take, drop, take_at, drop_at}
 use Rattle.std.specs.List.{zip}
-use Rattle.std.proofs.lemmas.List.{take_all}
 use Rattle.odht_base.specs.Insert.{insert_owned}
 use Rattle.odht_base.specs.Load.{factor_of, IsPercent}
-use Rattle.odht_base.specs.Table.{Table}
+use Rattle.odht_base.specs.Table.{Table, fresh}
 use Rattle.odht_base.specs.Valid.{IsImage}
 use Rattle.odht_base.proofs.lemmas.Options.{some_same}
 use Rattle.odht_header.specs.Coding.{Coding}
 use Rattle.odht_header.specs.Refusals.{IsTooLarge}
 use Rattle.odht_header.specs.declared.error.Error.{Error}
 use Rattle.odht_header.specs.declared.error.Error.TheVariants.{Memory, Capacity}
-use Rattle.odht.specs.Inserts.{IsFresh}
 use Rattle.odht.specs.Lists.{encoded_all, IsAfterInserts, IsFreshAfterInserts}
+use Rattle.odht.specs.Plain.{IsPlainList}
+use Rattle.odht.proofs.lemmas.ListInserts.{inserted_all}
+use Rattle.odht.proofs.lemmas.PlainLists.{list_after}
 use Rattle.odht_calls.specs.Builds.{IsHandedOut, IsGrownAfterInserts, BuildAnswers, BuildGrowingAnswers}
 use Rattle.odht_calls.specs.Statuses.{status_of, done, bad_percent, too_small}
 
@@ -43,13 +44,11 @@ refused_growing {R = R} c keys values equal out len s r e is memory by_error =
 -- a table that is handed out once it has grown
 module _ {K V : Type 0} (c : Coding K V) (keys : List K) (values : List V) (equal : length values ≡ length keys) (T : List ℕ) where
   -- all pairs were inserted into the table that started with sixteen slots
-  pub grown_inserted : (S : List ℕ) (n : ℕ) (answer : Result (Unit {0}) Error) → IsFresh c.format 12 87 S → IsOk answer → IsOk answer ↔ (n ≡ length (zip keys values))
-      → ((P : Table) → IsImage c.format P S → IsAfterInserts c.format (insert_owned c.format) P (encoded_all c (take n (zip keys values))) T) → IsGrownAfterInserts c (zip keys values) T
-  grown_inserted S n answer start ok all inserted P new =
-      let every = all.0 ok in
-      let same : start.table ≡ P = some_same start.table P (sym start.new ∙ new) in
-      subst (λ (xs : List (K × V)). IsAfterInserts c.format (insert_owned c.format) P (encoded_all c xs) T) (take_all n (zip keys values) (omega (arith, every)))
-      (inserted P (subst (λ Q. IsImage c.format Q S) same start.image))
+  pub grown_inserted : (start Q : Table) (r : ℕ × Result Unit Error) → fresh 12 87 ≡ Some start → IsOk r.1 → IsPlainList c start Q (zip keys values) r → IsImage c.format Q T → IsGrownAfterInserts c (zip keys values) T
+  grown_inserted start Q r new ok list is P same =
+      let every = list.accepted.0 ok in
+      let whole = inserted_all c (insert_owned c.format) start (zip keys values) r.0 T (omega (arith, every)) (list_after c start Q (zip keys values) r list T is) in
+      subst (λ (R : Table). IsAfterInserts c.format (insert_owned c.format) R (encoded_all c (zip keys values)) T) (some_same start P (sym new ∙ same)) whole
 
   -- so the call answers with it
   pub handed_growing : (out : List ℕ) (len s : ℕ) (out' : List ℕ) (len' : ℕ) → IsGrownAfterInserts c (zip keys values) T

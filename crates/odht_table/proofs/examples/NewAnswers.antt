@@ -1,14 +1,11 @@
 -- Worked examples: what a `new` is answered with, and which table is there afterwards.
-use Rattle.std.proofs.Common.{◌≤◌, ◌+◌, ◌*◌, ◌^◌, ℕ, refl, subst, arith, List, Some, lit≤}
+use Rattle.std.proofs.Common.{◌≤◌, ◌+◌, ◌*◌, ◌^◌, ℕ, refl, subst, arith, Some, lit≤}
 use Rattle.std.specs.Prelude.{codes}
 use Rattle.std.specs.Fmt.{digits}
 use Rattle.std.proofs.lemmas.Option.{none-some}
-use Rattle.odht_base.specs.Image.{image}
 use Rattle.odht_base.specs.Load.{factor_of}
-use Rattle.odht_base.specs.Table.{empty}
-use Rattle.odht_base.specs.Valid.{IsImage}
+use Rattle.odht_base.specs.Table.{Table, empty}
 use Rattle.odht_base.proofs.lemmas.Options.{some_same}
-use Rattle.odht_base.proofs.lemmas.FreeSlots.{fresh-IsValid}
 use Rattle.odht_base.proofs.examples.Configs.{my_config}
 use Rattle.odht_base.proofs.examples.Opened.{opened}
 use Rattle.odht_header.specs.Refusals.{IsTooLarge}
@@ -40,30 +37,23 @@ unfolding opened
 not_too_large h = omega (arith, h 16 refl)
 
 -- ---- answers
--- the bytes of the fresh table, and some former bytes
-abbrev pub new_bytes : List ℕ
-new_bytes = image my_config no_pairs
-
-abbrev pub old_bytes : List ℕ
-old_bytes = image my_config (empty 32 (factor_of 87))
-
-fresh_image : IsImage my_config no_pairs new_bytes
-unfolding opened
-fresh_image = record { valid = fresh-IsValid 0 87 no_pairs refl my_config good.0 good.1; bytes = refl }
+-- the former table; the fresh one is `no_pairs`
+abbrev pub old_table : Table
+old_table = empty 32 (factor_of 87)
 
 -- a percentage past 100
-pub a_bad_percent : IsRenewed my_config 0 101 (codes "bad percent") (Some old_bytes) (Some old_bytes)
-a_bad_percent = IsRenewed.bad_percent (Some old_bytes) bad_percents.1
+pub a_bad_percent : IsRenewed my_config 0 101 (codes "bad percent") (Some old_table) (Some old_table)
+a_bad_percent = IsRenewed.bad_percent (Some old_table) bad_percents.1
 
 -- no slot count is enough
-pub a_capacity : IsRenewed my_config (2 ^ 63) 100 (codes "capacity") (Some old_bytes) (Some old_bytes)
-a_capacity = IsRenewed.capacity (Some old_bytes) good_percents.1 too_large.0
+pub a_capacity : IsRenewed my_config (2 ^ 63) 100 (codes "capacity") (Some old_table) (Some old_table)
+a_capacity = IsRenewed.capacity (Some old_table) good_percents.1 too_large.0
 
 -- memory may be exhausted at any good percentage where the table is not too large
-pub a_memory : IsRenewed my_config 0 87 (codes "memory") (Some old_bytes) (Some old_bytes)
-a_memory = IsRenewed.memory (Some old_bytes) good not_too_large
+pub a_memory : IsRenewed my_config 0 87 (codes "memory") (Some old_table) (Some old_table)
+a_memory = IsRenewed.memory (Some old_table) good not_too_large
 
 -- sixteen slots, of which thirteen may be occupied
-pub a_new_table : IsRenewed my_config 0 87 (codes "slots 16 max 13") (Some old_bytes) (Some new_bytes)
+pub a_new_table : IsRenewed my_config 0 87 (codes "slots 16 max 13") (Some old_table) (Some no_pairs)
 unfolding opened digits
-a_new_table = IsRenewed.made (Some old_bytes) 16 no_pairs new_bytes good refl refl fresh_image
+a_new_table = IsRenewed.made (Some old_table) 16 no_pairs good refl refl

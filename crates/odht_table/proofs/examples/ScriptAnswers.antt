@@ -4,6 +4,7 @@ use Rattle.std.proofs.lemmas.Option.{none-some}
 use lib.ListN.{length-append}
 use Rattle.std.specs.Prelude.{codes}
 use Rattle.odht_header.proofs.examples.Apart.{unequal_lists}
+use Rattle.odht_base.specs.Table.{Table}
 use Rattle.odht_base.proofs.examples.Configs.{my_config}
 use Rattle.odht_table.specs.Commands.{IsCheckText}
 use Rattle.odht_table.specs.Scripts.{script_lines, IsOtherAnswered, IsLineAnswered, AreAnswered, IsAnsweredBy}
@@ -44,14 +45,14 @@ pub len_line : IsLineAnswered my_coding (codes "len") None (codes "no table\n") 
 len_line = no_table Len refl
 
 -- its answer is this
-the_text : (line text : List ℕ) (old new : Option (List ℕ)) → IsLineAnswered my_coding line old text new → line ≡ codes "len" → old ≡ None → text ≡ codes "no table\n"
+the_text : (line text : List ℕ) (old new : Option Table) → IsLineAnswered my_coding line old text new → line ≡ codes "len" → old ≡ None → text ≡ codes "no table\n"
 the_text line _ _ _ (other old text no_command is) e before = absurd (no_command (OnTable Len) e)
 the_text line _ _ _ (renewed items percent old new text is table) e before = let letter = ap (λ l. slice_index l 0) (sym is.1 ∙ e) in absurd (omega (arith, letter))
 the_text line _ _ _ (no_table request is) e before = refl
-the_text line _ _ _ (answered request P Q old new text is image told after) e before = absurd (none-some old (sym before))
+the_text line _ _ _ (answered request P Q text is told) e before = absurd (none-some P (sym before))
 
 -- no other text, though it would be right for an empty table
-pub other_text_refused : (new : Option (List ℕ)) → IsLineAnswered my_coding (codes "len") None (codes "0\n") new → ⊥
+pub other_text_refused : (new : Option Table) → IsLineAnswered my_coding (codes "len") None (codes "0\n") new → ⊥
 other_text_refused new h = unequal_lists (codes "0\n") (codes "no table\n") refl (the_text _ _ _ _ h refl refl)
 
 -- ---- a script
@@ -60,10 +61,10 @@ pub two_lines : IsAnsweredBy my_coding (codes "len\nget 042") (codes "no table\n
 two_lines = (None, one_more _ _ _ _ _ _ _ len_line (one_more _ _ _ _ _ _ _ (no_table (Get 42) get_line) (no_lines None)))
 
 -- no line is left out
-pub silence_refused : (last : Option (List ℕ)) → AreAnswered my_coding (codes "len" ∷ []) None [] last → ⊥
+pub silence_refused : (last : Option Table) → AreAnswered my_coding (codes "len" ∷ []) None [] last → ⊥
 silence_refused last h = go _ _ _ h refl refl refl
   where
-    go : (ls : List (List ℕ)) (old : Option (List ℕ)) (text : List ℕ) → AreAnswered my_coding ls old text last → ls ≡ codes "len" ∷ [] → old ≡ None → text ≡ [] → ⊥
+    go : (ls : List (List ℕ)) (old : Option Table) (text : List ℕ) → AreAnswered my_coding ls old text last → ls ≡ codes "len" ∷ [] → old ≡ None → text ≡ [] → ⊥
     go _ _ _ (no_lines table) e before none = omega (arith, ap length e)
     go _ _ _ (one_more line ls old between new text texts is more) e before none =
         let same : line ≡ codes "len" = cc in

@@ -1,7 +1,6 @@
 //! Walks as a caller counts and collects them.
 ghost use Rattle.std.specs.Prelude.{◌≡◌, IfOk};
-ghost use Rattle.odht_base.specs.Table.{Table, walk, count};
-ghost use Rattle.odht_base.specs.Valid.{IsImage};
+ghost use Rattle.odht_base.specs.Table.{walk, count};
 ghost use Rattle.odht_raw.specs.Walks.{decoded_all};
 
 use crate::tests::checks::{same_answer, same_len, same_pairs};
@@ -12,7 +11,7 @@ use std::alloc::{AllocError, Global};
 
 // How many pairs a walk of the table gives.
 fn counted<C: Config>(table: &HashTableOwned<C>) -> usize
-    ensures { (P : Table) → IsImage ⟦<C as Coded>⟧.coding.format P table.now → result ≡ count P }
+    ensures { result ≡ count table.now }
 {
     table.iter().count()
 }
@@ -23,9 +22,7 @@ fn collected<C: Config>(
     table: &HashTableOwned<C>,
 ) -> Result<Vec<(C::Key, C::Value)>, AllocError>
     ensures { let c = ⟦<C as Coded>⟧.coding
-        in (P : Table)
-        → IsImage c.format P table.now
-        → IfOk result (λ pairs. pairs.items ≡ decoded_all c (walk P)) }
+        in IfOk result (λ pairs. pairs.items ≡ decoded_all c (walk table.now)) }
 {
     table.iter().collect(alloc)
 }

@@ -1,7 +1,8 @@
 //! `odht build` and `odht put`: tables from the lines of standard input.
-ghost use Rattle.std.specs.Prelude.{◌≡◌, None, IfErr, IfOk};
+ghost use Rattle.std.specs.Prelude.{◌≡◌, None, Some, IfErr, IfOk};
+ghost use Rattle.odht_base.specs.Table.{fresh};
+ghost use Rattle.odht_base.specs.Valid.{IsImage};
 ghost use Rattle.odht_header.specs.Refusals.{check_refusal_by};
-ghost use Rattle.odht.specs.Inserts.{IsFresh};
 ghost use Rattle.odht_tool_writes.specs.Inserted.{copy_failure};
 
 use crate::inserts::insert_into_file;
@@ -119,7 +120,7 @@ fn make_table<C: Config>(
     capacity: usize,
     percent: Percent,
 ) -> Result<HashTableOwned<C>, Failure>
-    ensures { IfOk result (IsFresh ⟦<C as Coded>⟧.coding.format capacity percent) }
+    ensures { IfOk result (λ table. fresh capacity percent ≡ Some table) }
 {
     HashTableOwned::with_capacity(alloc, capacity, percent.value()).map_err(Failure::of_table)
 }
@@ -219,7 +220,7 @@ fn copy_table<C: Config>(
     bytes: Vec<u8>,
     bound: Option<usize>,
 ) -> Result<HashTableOwned<C>, Failure>
-    ensures ok { IfOk result (λ table. table ≡ bytes.items) }
+    ensures ok { IfOk result (λ table. IsImage ⟦<C as Coded>⟧.coding.format table bytes.items) }
     ensures valid { IfOk result (λ _. let F = ⟦<C as Coded>⟧.coding.format
         in check_refusal_by F bound bytes.items ≡ None) }
     ensures err { IfErr result (λ failure. let F = ⟦<C as Coded>⟧.coding.format

@@ -202,10 +202,10 @@ fn insert_line<T: Inserts, F: Forms>(
     line: &[u8],
     forms: F,
 ) -> Result<(), Failure>
-    ensures taken { OnOk result (IsLineTaken (T.coding table.old) (T.bytes table.old)
-        key.now value.now is_once (T.bytes table.new)) }
-    ensures refused { IfErr result (IsLineRefused (T.coding table.old) (T.bytes table.old)
-        key.now value.now is_once (F.delimiter forms) line.now number (T.bytes table.new)) }
+    ensures taken { OnOk result (IsLineTaken (T.coding table.old) (T.stands_for table.old)
+        key.now value.now is_once (T.stands_for table.new)) }
+    ensures refused { IfErr result (IsLineRefused (T.coding table.old) (T.stands_for table.old)
+        key.now value.now is_once (F.delimiter forms) line.now number (T.stands_for table.new)) }
 {
     if table.insert_new(key, value)? || !is_once {
         Ok(())

@@ -1,6 +1,7 @@
 //! Inserts into the tables of configurations, and of lengths that are known at run time alone.
 ghost use Rattle.std.specs.Prelude.{◌≡◌, Err, IfOk, OnErr, OnOk};
-ghost use Rattle.odht.specs.Dynamic.{dyn_coding};
+ghost use Rattle.odht_base.specs.Valid.{IsImage};
+ghost use Rattle.odht.specs.Dynamic.{dyn_coding, dyn_format};
 ghost use Rattle.odht_tool_core.specs.declared.failure.Failure.TheVariants.{Memory};
 ghost use Rattle.odht_tool_writes.specs.Inserted.{AreInserted, IsNewInsert};
 
@@ -21,9 +22,11 @@ where
 
     type Value = C::Value;
 
+    ghost use Rattle.std.specs.Prelude.{◌≡◌};
+
     ghost coding = { λ table. ⟦<C as Coded>⟧.coding };
 
-    ghost bytes = { λ table. table };
+    ghost stands_for = { λ table P. table ≡ P };
 
     fn insert_pairs(&mut self, pairs: &[(C::Key, C::Value)]) -> Result<(), Failure> {
         insert_all(self, pairs)
@@ -47,7 +50,7 @@ fn insert_all<C: Config>(
     pairs: &[(C::Key, C::Value)],
 ) -> Result<(), Failure>
     ensures inserted { OnOk result
-        (AreInserted ⟦<C as Coded>⟧.coding table.old pairs.now table.new) }
+        (AreInserted ⟦<C as Coded>⟧.coding (λ P. table.old ≡ P) pairs.now (λ P. table.new ≡ P)) }
     ensures memory { OnErr result (result ≡ Err Memory) }
 {
     let (_, inserted) = table.insert_all(pairs);
@@ -63,8 +66,8 @@ fn insert_absent<C: Config>(
     key: &C::Key,
     value: &C::Value,
 ) -> Result<bool, Failure>
-    ensures new { IfOk result (λ new. IsNewInsert ⟦<C as Coded>⟧.coding table.old
-        key.now value.now new table.new) }
+    ensures new { IfOk result (λ new. IsNewInsert ⟦<C as Coded>⟧.coding (λ P. table.old ≡ P)
+        key.now value.now new (λ P. table.new ≡ P)) }
     ensures memory { OnErr result (result ≡ Err Memory) }
 {
     if table.contains_key(key) {
@@ -81,11 +84,12 @@ impl<H: HashFn> Inserts for DynTableOwned<H> {
 
     type Value = ShortBytes;
 
-    ghost use Rattle.odht.specs.Dynamic.{dyn_coding};
+    ghost use Rattle.odht_base.specs.Valid.{IsImage};
+    ghost use Rattle.odht.specs.Dynamic.{dyn_coding, dyn_format};
 
     ghost coding = { λ table. dyn_coding table H.hash };
 
-    ghost bytes = { λ table. table.store };
+    ghost stands_for = { λ table P. IsImage (dyn_format table H.hash) P table.store };
 
     fn insert_pairs(&mut self, pairs: &[(ShortBytes, ShortBytes)]) -> Result<(), Failure> {
         insert_each(self, pairs)
@@ -108,8 +112,9 @@ fn insert_each<H: HashFn>(
     table: &mut DynTableOwned<H>,
     pairs: &[(ShortBytes, ShortBytes)],
 ) -> Result<(), Failure>
-    ensures inserted { OnOk result (AreInserted (dyn_coding table.old H.hash) table.old.store
-        pairs.now table.new.store) }
+    ensures inserted { OnOk result (AreInserted (dyn_coding table.old H.hash)
+        (λ P. IsImage (dyn_format table.old H.hash) P table.old.store) pairs.now
+        (λ P. IsImage (dyn_format table.new H.hash) P table.new.store)) }
     ensures memory { OnErr result (result ≡ Err Memory) }
 {
     for index in 0..pairs.len() {
@@ -129,8 +134,9 @@ fn insert_absent_bytes<H: HashFn>(
     key: &[u8],
     value: &[u8],
 ) -> Result<bool, Failure>
-    ensures new { IfOk result (λ new. IsNewInsert (dyn_coding table.old H.hash) table.old.store
-        key.now value.now new table.new.store) }
+    ensures new { IfOk result (λ new. IsNewInsert (dyn_coding table.old H.hash)
+        (λ P. IsImage (dyn_format table.old H.hash) P table.old.store) key.now value.now new
+        (λ P. IsImage (dyn_format table.new H.hash) P table.new.store)) }
     ensures memory { OnErr result (result ≡ Err Memory) }
 {
     let is_known = table.contains_key(key);

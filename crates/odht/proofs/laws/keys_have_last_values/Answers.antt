@@ -18,11 +18,11 @@ loop-k-preserved g c =
     All-more (IsKept K) c.args.items.now c.loop-k.k-index item (omega (arith, c.loop-k-test.true)) c.loop-k.invariant (subst (IsKept K) c.loop-k-item.is is)
 
 pub returns : goal.returns
-returns g c B h =
+returns g c Q h =
     let K = coding_of g.C.EncodedKey.ByteArray.LEN g.C.EncodedKey.ByteArray.bytes g.C.EncodedKey.ByteArray.of_bytes g.C.EncodedValue.ByteArray.LEN g.C.EncodedValue.ByteArray.bytes g.C.EncodedValue.ByteArray.of_bytes g.C.H.HashFn.hash g.C.Config.encode_key g.C.Config.encode_value g.C.Config.decode_key g.C.Config.decode_value in
     let items = c.args.items.now in
     let key = c.args.key.now in
     let kept = ap g.C.Config.decode_key (g.met.C.EncodedKey.ByteArray.determined (g.C.Config.encode_key key)) ∙ c.key_kept-2.ensures in
     let all = subst (All (IsKept K)) (take_all c.loop-k.k-index items (omega (arith, c.loop-k-test.false))) c.loop-k.invariant in
-    let answer = ap (option_map K.value_of) (h.maps (K.key_bytes key)) in
+    let answer = ap (option_map K.value_of) (h (K.key_bytes key)) in
     subst (IsLastValue items key) (sym answer) (last-kept K key kept items all)

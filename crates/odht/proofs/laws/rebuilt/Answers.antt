@@ -1,35 +1,28 @@
-use Rattle.std.proofs.Common.{◌≡◌, sym, subst, refl, take, List, IsOk, arith}
+use Rattle.std.proofs.Common.{◌≡◌, sym, subst, refl, take, List, Some, IsOk, arith}
 use Rattle.std.proofs.lemmas.List.{take_all}
 use Rattle.std.proofs.lemmas.Result.{IfErr-at_err, err_from_is_err_and}
-use Rattle.odht_base.specs.Insert.{insert_owned}
+use Rattle.odht_base.specs.Insert.{insert_owned, run}
 use Rattle.odht_header.specs.Coding.{coding_of}
-use Rattle.odht.specs.Lists.{encoded_all, IsAfterInserts}
+use Rattle.odht.specs.Lists.{encoded_all}
 use Rattle.odht.proofs.lemmas.NewRefusals.{passed_on, fails-later}
-use Rattle.odht.proofs.lemmas.Rebuilding.{rebuilt-IsImage}
+use Rattle.odht.proofs.lemmas.Rebuilding.{rebuilt-is}
 use Rattle.odht.proofs.laws.rebuilt.Goals as goal
 
 pub returns-clause-inserted : goal.returns-clause-inserted
 returns-clause-inserted g c =
     let K = coding_of g.C.EncodedKey.ByteArray.LEN g.C.EncodedKey.ByteArray.bytes g.C.EncodedKey.ByteArray.of_bytes g.C.EncodedValue.ByteArray.LEN g.C.EncodedValue.ByteArray.bytes g.C.EncodedValue.ByteArray.of_bytes g.C.H.HashFn.hash g.C.Config.encode_key g.C.Config.encode_value g.C.Config.decode_key g.C.Config.decode_value in
     let items = c.args.items.now in
-    let made = c.in_ok-rebuilt.ensures.ok in
-    let all = c.insert_all.ensures.all.0 (subst IsOk (sym c.in_ok-insert_all.was) refl) in
+    let all = c.insert_all.ensures.accepted.0 (subst IsOk (sym c.in_ok-insert_all.was) refl) in
     let taken : take c.insert_all.result.0 items ≡ items = take_all c.insert_all.result.0 items (omega (arith, all)) in
-    record {
-      start = made.table;
-      new = made.new;
-      inserted = subst (λ (xs : List (g.row.C-Key.Denot × g.row.C-Value.Denot)). IsAfterInserts K.format (insert_owned K.format) made.table (encoded_all K xs) c.insert_all.new.self) taken (c.insert_all.ensures.inserted made.table made.image);
-    }
+    (c.in_ok-rebuilt.rebuilt, c.in_ok-rebuilt.ensures.ok, subst (λ (xs : List (g.row.C-Key.Denot × g.row.C-Value.Denot)). run (insert_owned K.format) c.in_ok-rebuilt.rebuilt (encoded_all K xs) ≡ Some c.insert_all.new.self) taken c.insert_all.ensures.inserted)
 
 pub returns-clause-ok : goal.returns-clause-ok
 returns-clause-ok g c P is =
     let K = coding_of g.C.EncodedKey.ByteArray.LEN g.C.EncodedKey.ByteArray.bytes g.C.EncodedKey.ByteArray.of_bytes g.C.EncodedValue.ByteArray.LEN g.C.EncodedValue.ByteArray.bytes g.C.EncodedValue.ByteArray.of_bytes g.C.H.HashFn.hash g.C.Config.encode_key g.C.Config.encode_value g.C.Config.decode_key g.C.Config.decode_value in
     let items = c.args.items.now in
-    let made = c.in_ok-rebuilt.ensures.ok in
-    let all = c.insert_all.ensures.all.0 (subst IsOk (sym c.in_ok-insert_all.was) refl) in
+    let all = c.insert_all.ensures.accepted.0 (subst IsOk (sym c.in_ok-insert_all.was) refl) in
     let taken : take c.insert_all.result.0 items ≡ items = take_all c.insert_all.result.0 items (omega (arith, all)) in
-    let inserted = subst (λ (xs : List (g.row.C-Key.Denot × g.row.C-Value.Denot)). IsAfterInserts K.format (insert_owned K.format) made.table (encoded_all K xs) c.insert_all.new.self) taken (c.insert_all.ensures.inserted made.table made.image) in
-    rebuilt-IsImage K items c.args.max_item_count c.args.max_load_factor_percent made.table made.new c.insert_all.new.self inserted P is
+    rebuilt-is K items c.args.max_item_count c.args.max_load_factor_percent c.in_ok-rebuilt.rebuilt c.in_ok-rebuilt.ensures.ok c.insert_all.new.self (subst (λ (xs : List (g.row.C-Key.Denot × g.row.C-Value.Denot)). run (insert_owned K.format) c.in_ok-rebuilt.rebuilt (encoded_all K xs) ≡ Some c.insert_all.new.self) taken c.insert_all.ensures.inserted) P is
 
 pub returns-in_err-insert_all-clause-err : goal.returns-in_err-insert_all-clause-err
 returns-in_err-insert_all-clause-err g c =

@@ -1,10 +1,13 @@
-use Rattle.std.proofs.Common.{rules, ◌≡◌, ◌↔◌, subst, take, length, List, IsOk}
+use Rattle.std.proofs.Common.{rules, ◌≡◌, ◌↔◌, ◌∙◌, sym, subst, take, length, List, IsOk, arith}
+use Rattle.std.specs.List.{zip}
+use Rattle.std.proofs.lemmas.List.{take_all}
 use Rattle.odht_base.specs.Insert.{insert_owned}
 use Rattle.odht_base.specs.Table.{Table}
-use Rattle.odht_base.specs.Valid.{IsImage}
+use Rattle.odht_base.proofs.lemmas.Options.{some_same}
 use Rattle.odht_header.specs.Coding.{Coding, coding_of}
 use Rattle.odht.specs.Lists.{encoded_all, IsAfterInserts}
-use Rattle.odht_calls.specs.Builds.{IsHandedOut}
+use Rattle.odht.specs.Plain.{IsPlainList}
+use Rattle.odht_calls.specs.Builds.{IsGrownAfterInserts}
 use Rattle.odht_calls.proofs.lemmas.HandedOut.{refused_growing, grown_inserted, handed_growing}
 use Rattle.odht_calls.proofs.build.grown.Given.{Over}
 use Rattle.odht_calls.proofs.build.grown.Goals as goal
@@ -28,12 +31,7 @@ returns g c =
     let K = coding g in
     let keys = c.args.keys.now in
     let values = c.args.values.now in
-    let known = c.insert_items.ensures in
-    let n = c.insert_items.result.0 in
-    let answer = c.insert_items.result.1 in
-    let all = subst (λ (xs : List (g.row.C-Key.Denot × g.row.C-Value.Denot)). IsOk answer ↔ (n ≡ length xs)) c.new.ensures known.all in
-    let inserted = subst (λ (xs : List (g.row.C-Key.Denot × g.row.C-Value.Denot)). (P : Table) → IsImage K.format P c.in-Ok.table → IsAfterInserts K.format (insert_owned K.format) P (encoded_all K (take n xs)) c.insert_items.new.self) c.new.ensures known.inserted in
-    let ok : IsOk answer = search rules in
-    let grown = grown_inserted K keys values c.requires c.insert_items.new.self c.in-Ok.table n answer c.in-Ok.ensures.ok ok all inserted in
-    let copied = subst (λ B. IsHandedOut (λ X. X ≡ B) c.args.out.now c.hand_out.result c.hand_out.new.out c.hand_out.new.len) c.raw_bytes.ensures.bytes c.hand_out.ensures.copied in
-    handed_growing K keys values c.requires c.insert_items.new.self c.args.out.now c.args.len.now c.hand_out.result c.hand_out.new.out c.hand_out.new.len grown copied c.hand_out.ensures.status
+    let list = subst (λ (xs : List (g.row.C-Key.Denot × g.row.C-Value.Denot)). IsPlainList K c.in-Ok.table c.insert_items.new.self xs c.insert_items.result) c.new.ensures c.insert_items.ensures in
+    let ok : IsOk c.insert_items.result.1 = search rules in
+    let grown = grown_inserted K keys values c.requires c.raw_bytes.result.now c.in-Ok.table c.insert_items.new.self c.insert_items.result c.in-Ok.ensures.ok ok list c.raw_bytes.ensures in
+    handed_growing K keys values c.requires c.raw_bytes.result.now c.args.out.now c.args.len.now c.hand_out.result c.hand_out.new.out c.hand_out.new.len grown c.hand_out.ensures.copied c.hand_out.ensures.status

@@ -9,7 +9,7 @@ loop-rest-init g c = up_to_start my_coding c.args.script.now (g.W.Write.contents
 
 pub loop-rest-preserved : goal.loop-rest-preserved
 loop-rest-preserved g c =
-    let told = c.in_ok-answer.ensures c.loop-rest.invariant.held in
+    let told = c.in_ok-answer.ensures in
     up_to_next my_coding c.args.script.now c.loop-rest.rest.now c.cut_line.result.0.now c.cut_line.result.1.now c.loop-rest.table c.answer.new.table
     (g.W.Write.contents c.args.output.now) (g.W.Write.contents c.loop-rest.output) (g.W.Write.contents c.answer.new.output) told.0
     c.loop-rest.invariant c.cut_line.ensures.line told.1 told.2

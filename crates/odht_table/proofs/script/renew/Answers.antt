@@ -16,7 +16,7 @@ returns-in-Ok g c =
     let is = c.in-Ok.ensures in
     let line = joined (codes "slots ") (decimal slots) (codes " max ") (decimal most) (10 ∷ []) ∙ ap (λ m. line_of (new_text slots m)) is.most in (
       new_text slots (max_items slots (factor_of c.args.percent)),
-      made _ slots is.table.0 c.in-Ok.fresh.table (good_percent c.args.percent (λ h. let e = is.bad_percent.1 h in cc)) is.slots is.table.1 is.table.2,
+      made _ slots c.in-Ok.fresh.table (good_percent c.args.percent (λ h. let e = is.bad_percent.1 h in cc)) is.slots is.table,
       OnOk-more c.writeln.result (λ written. subst (λ text. Appends (g.W.Write.contents c.args.output.now) (g.W.Write.contents c.writeln.new.self) text) line written) c.writeln.ensures.bytes,
     )
 

@@ -1,12 +1,15 @@
-use Rattle.std.proofs.Common.{◌≡◌, ◌∙◌, sym, ap, subst, length, List, Err, inr}
+use Rattle.std.proofs.Common.{◌≡◌, ◌∙◌, sym, ap, subst, length, List, Err, inr, refl, take, Some, IsOk, arith}
 use Rattle.std.proofs.lemmas.Result.{IfOk-from_err, IfErr-at_err, err_from_is_err_and}
 use Rattle.std.specs.Prelude.{OnOk}
 use Rattle.odht_base.specs.Load.{factor_of, slots_for}
 use Rattle.odht_header.specs.Coding.{coding_of}
-use Rattle.odht.specs.Inserts.{IsFresh}
-use Rattle.odht.specs.LastValues.{HasLastValues, IsCollected}
-use Rattle.odht.specs.Lists.{IsFreshAfterInserts}
 use Rattle.odht.proofs.lemmas.NewRefusals.{not_both, passed_on, either, on_err}
+use Rattle.std.proofs.lemmas.List.{take_all}
+use Rattle.odht_base.specs.Insert.{insert_owned, run}
+use Rattle.odht_base.specs.Table.{fresh}
+use Rattle.odht.specs.Lists.{encoded_all, HasSizeOf}
+use Rattle.odht.specs.Plain.{HasLastValuesIn, IsCollectedIn, IsPlainList}
+use Rattle.odht.proofs.lemmas.PlainLists.{list_fits, list_few, list_values}
 use Rattle.odht.proofs.hash_table_owned.HashTableOwned.from_iterator.Goals as goal
 
 pub returns-clause-ok : goal.returns-clause-ok
@@ -17,12 +20,21 @@ returns-clause-ok g c =
     let after = ran.1.2 tt in
     let slice : c.as_slice.result.now ≡ ran.0 = c.as_slice.ensures.value ∙ ran.2.0 in
     let long : c.len.result ≡ length c.as_slice.result.now = c.len.ensures ∙ ran.2.1 ∙ ap length (sym slice) in
-    let made : IsFresh K.format (length c.as_slice.result.now) p c.in_ok-table.table = subst (λ n. IsFresh K.format n p c.in_ok-table.table) long c.in_ok-table.ensures.ok in
-    let all : IsCollected K p c.as_slice.result.now c.insert_all.new.self = record {
-      inserted = subst (λ r. OnOk r (IsFreshAfterInserts K p c.as_slice.result.now c.insert_all.new.self)) c.in_ok-insert_all.was (c.insert_all.ensures.fresh p made);
-      last_values = subst (λ r. OnOk r (HasLastValues K c.as_slice.result.now c.insert_all.new.self)) c.in_ok-insert_all.was (c.insert_all.ensures.last_values c.len.result p c.in_ok-table.ensures.ok);
+    let xs = c.as_slice.result.now in
+    let made : fresh (length xs) p ≡ Some c.in_ok-table.table = subst (λ n. fresh n p ≡ Some c.in_ok-table.table) long c.in_ok-table.ensures.ok in
+    let said = c.insert_all.ensures in
+    let list : IsPlainList K c.in_ok-table.table c.insert_all.new.self xs c.insert_all.result = record { accepted = said.accepted; inserted = said.inserted; maps = said.maps; stays = said.stays; at_maximum = said.at_maximum; memory = said.memory } in
+    let whole = list.accepted.0 (subst IsOk (sym c.in_ok-insert_all.was) refl) in
+    let taken : take c.insert_all.result.0 xs ≡ xs = take_all c.insert_all.result.0 xs (omega (arith, whole)) in
+    let all : IsCollectedIn K p xs c.insert_all.new.self = record {
+      start = c.in_ok-table.table;
+      new = made;
+      inserted = subst (λ (ys : List (g.row.C-Key.Denot × g.row.C-Value.Denot)). run (insert_owned K.format) c.in_ok-table.table (encoded_all K ys) ≡ Some c.insert_all.new.self) taken list.inserted;
+      never_grown = subst (λ r. OnOk r (HasSizeOf c.in_ok-table.table c.insert_all.new.self)) c.in_ok-insert_all.was (list_fits K _ _ xs _ list p made);
+      few = list_few K _ _ xs _ list p made whole;
+      last_values = subst (λ r. OnOk r (HasLastValuesIn K xs c.insert_all.new.self)) c.in_ok-insert_all.was (list_values K _ _ xs _ list (length xs) p made);
     } in
-    (ran.0, (after.0, (ran.1.0, ran.1.1, after.1)), subst (λ (xs : List (g.row.C-Key.Denot × g.row.C-Value.Denot)). IsCollected K p xs c.insert_all.new.self) slice all)
+    (ran.0, (after.0, (ran.1.0, ran.1.1, after.1)), subst (λ (xs : List (g.row.C-Key.Denot × g.row.C-Value.Denot)). IsCollectedIn K p xs c.insert_all.new.self) slice all)
 
 pub collect-requires-clause-can : goal.collect-requires-clause-can
 collect-requires-clause-can g c = c.requires.can

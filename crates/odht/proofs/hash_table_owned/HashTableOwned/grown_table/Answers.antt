@@ -1,8 +1,8 @@
 use Rattle.std.proofs.Common.{◌≡◌, ◌*◌, ◌∙◌, sym, ap, subst, arith, length, replicate, take_at, Some}
 use Rattle.std.proofs.lemmas.List.{length-replicate}
 use Rattle.odht_base.specs.Bytes.{bytes_at}
-use Rattle.odht_base.specs.Decoded.{header_count, header_factor}
 use Rattle.odht_base.specs.Format.{Format, format_of, entry_len}
+use Rattle.odht_base.specs.Valid.{IsImage}
 use Rattle.odht_raw.specs.Frame.{IsAccepted}
 use Rattle.odht_raw.proofs.lemmas.NewTables.{bytes_at-zeros}
 use Rattle.odht.specs.Growths.{grown_slots_of}
@@ -40,11 +40,5 @@ returns-clause-ok g c =
     let moved = c.write_moved.ensures in
     let slots : grown_slots_of c.self.inside.table ≡ Some c.in-Some.slot_count = sym (ap grown_slots_of (c.header.ensures.bytes ∙ ap (λ x. x.table) c.self-inside.view_is)) ∙ c.in-Some.ensures.slots in
     let grown = grown_from _ c.self.inside.table c.write_moved.new.out c.in-Some.slot_count slots moved.moved moved.count moved.factor in
-    record {
-      on_valid = λ P is.
-          let q = grown.on_valid P (record { valid = is.valid; bytes = c.self.view_is ∙ is.bytes }) in
-          (q.0, q.1, record { valid = q.2.valid; bytes = same ∙ q.2.bytes });
-      accepted = subst (IsAccepted F) (sym same) grown.accepted;
-      count = ap header_count same ∙ grown.count ∙ ap header_count c.self.view_is;
-      factor = ap header_factor same ∙ grown.factor ∙ ap header_factor c.self.view_is;
-    }
+    let q = grown.on_valid c.args.self.now (subst (λ P. IsImage F P c.self.inside.table) c.self.view_is c.self.invariant) in
+    (q.0, q.1, record { valid = q.2.valid; bytes = same ∙ q.2.bytes })

@@ -1,7 +1,6 @@
 use Rattle.std.proofs.Common.{◌-◌, ◌≤◌, take, length}
 use Rattle.odht_base.specs.Insert.{insert_owned}
-use Rattle.odht_base.specs.Table.{Table}
-use Rattle.odht_base.specs.Valid.{IsImage}
+use Rattle.odht_base.specs.Image.{image}
 use Rattle.odht_header.specs.Coding.{coding_of}
 use Rattle.odht.specs.Lists.{encoded_all, IsAfterInserts}
 use Rattle.odht.proofs.hash_table_owned.HashTableOwned.insert_items.Given as goal
@@ -12,7 +11,7 @@ invariant-growths g l =
     let items = g.I.Items.items l.items in
     record {
       within : l.accepted ≤ length items;
-      inserted : (P : Table) → IsImage c.format P l.fn.self → IsAfterInserts c.format (insert_owned c.format) P (encoded_all c (take l.accepted items)) l.self;
+      inserted : IsAfterInserts c.format (insert_owned c.format) l.fn.self (encoded_all c (take l.accepted items)) (image c.format l.self);
     }
 
 abbrev pub decreases-growths : goal.decreases-growths

@@ -1,18 +1,16 @@
-use Rattle.std.proofs.Common.{◌∙◌}
+use Rattle.std.proofs.Common.{subst}
+use Rattle.odht_base.specs.Format.{Format, format_of}
+use Rattle.odht_base.specs.Valid.{IsImage}
 use Rattle.odht.proofs.hash_table_owned.HashTableOwned.insert_order_with.Goals as goal
 
 pub returns-clause-order : goal.returns-clause-order
-returns-clause-order g c P image =
-    c.insert_order_with.ensures.order P (record {
-      valid = image.valid;
-      parts = c.as_raw.ensures.parts P (record { valid = image.valid; bytes = c.self.view_is ∙ image.bytes });
-      counted = c.requires P image;
-    })
+returns-clause-order g c =
+    let F : Format = format_of g.C.EncodedKey.ByteArray.LEN g.C.EncodedValue.ByteArray.LEN g.C.H.HashFn.hash in
+    let is = subst (λ P. IsImage F P c.self.inside.table) c.self.view_is c.self.invariant in
+    c.insert_order_with.ensures.order c.args.self.now (record { valid = is.valid; parts = c.as_raw.ensures.parts _ is; counted = c.requires })
 
 pub returns-clause-made : goal.returns-clause-made
-returns-clause-made g c P image =
-    c.insert_order_with.ensures.made P (record {
-      valid = image.valid;
-      parts = c.as_raw.ensures.parts P (record { valid = image.valid; bytes = c.self.view_is ∙ image.bytes });
-      counted = c.requires P image;
-    })
+returns-clause-made g c =
+    let F : Format = format_of g.C.EncodedKey.ByteArray.LEN g.C.EncodedValue.ByteArray.LEN g.C.H.HashFn.hash in
+    let is = subst (λ P. IsImage F P c.self.inside.table) c.self.view_is c.self.invariant in
+    c.insert_order_with.ensures.made c.args.self.now (record { valid = is.valid; parts = c.as_raw.ensures.parts _ is; counted = c.requires })

@@ -2,6 +2,7 @@ use Rattle.std.proofs.Common.{◌≡◌, ◌*◌, ◌∙◌, sym, ap, subst, ari
 use Rattle.std.proofs.lemmas.List.{length-replicate}
 use Rattle.odht_base.specs.Bytes.{bytes_at}
 use Rattle.odht_base.specs.Format.{Format, format_of, entry_len}
+use Rattle.odht_base.specs.Valid.{IsImage}
 use Rattle.odht_raw.specs.Frame.{IsAccepted}
 use Rattle.odht_raw.proofs.lemmas.NewTables.{bytes_at-zeros}
 use Rattle.odht.proofs.hash_table_owned.HashTableOwned.moved.Given.{Over}
@@ -31,12 +32,8 @@ from_raw_bytes_unchecked-requires-after_bounds g c κs within =
     subst (IsAccepted F) (sym (all g c)) c.write_moved.ensures.moved.accepted
 
 pub returns-clause-ok : goal.returns-clause-ok
-returns-clause-ok g c =
+returns-clause-ok g c room =
     let F : Format = format_of g.C.EncodedKey.ByteArray.LEN g.C.EncodedValue.ByteArray.LEN g.C.H.HashFn.hash in
     let same = c.from_raw_bytes_unchecked.ensures ∙ all g (goal.at.returns-clause-ok g c).After-new in
-    record {
-      on_valid = λ P is room.
-          let q = c.write_moved.ensures.moved.on_valid P (record { valid = is.valid; bytes = c.self.view_is ∙ is.bytes }) room in
-          (q.0, q.1, record { valid = q.2.valid; bytes = same ∙ q.2.bytes });
-      accepted = subst (IsAccepted F) (sym same) c.write_moved.ensures.moved.accepted;
-    }
+    let q = c.write_moved.ensures.moved.on_valid c.args.self.now (subst (λ P. IsImage F P c.self.inside.table) c.self.view_is c.self.invariant) room in
+    (q.0, q.1, record { valid = q.2.valid; bytes = same ∙ q.2.bytes })

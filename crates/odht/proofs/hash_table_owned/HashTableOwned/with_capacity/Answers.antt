@@ -1,12 +1,20 @@
-use Rattle.std.proofs.Common.{◌≡◌, ap, subst, Some}
+use Rattle.std.proofs.Common.{◌≡◌, ◌∙◌, sym, ap, subst, Some}
 use Rattle.std.proofs.lemmas.Result.{IfOk-from_err, err_from_is_err_and}
 use Rattle.std.specs.Prelude.{option_map}
-use Rattle.odht_base.specs.Format.{Format, format_of}
+use Rattle.odht_base.specs.Format.{Format, format_of, IsFormat}
 use Rattle.odht_base.specs.Load.{factor_of, slots_for}
 use Rattle.odht_base.specs.Table.{empty}
-use Rattle.odht_base.specs.Valid.{IsImage}
 use Rattle.odht.proofs.lemmas.NewRefusals.{fails-factor, fails-passed, fails-made}
+use Rattle.odht_header.proofs.lemmas.Formats.{IsFormat-format_of}
+use Rattle.odht.proofs.lemmas.Plain.{the_table, decoded_image}
+use Rattle.odht.proofs.hash_table_owned.HashTableOwned.with_capacity.Given.{Over}
 use Rattle.odht.proofs.hash_table_owned.HashTableOwned.with_capacity.Goals as goal
+
+abbrev format : Over → Format
+format g = format_of g.C.EncodedKey.ByteArray.LEN g.C.EncodedValue.ByteArray.LEN g.C.H.HashFn.hash
+
+fits : (g : Over) → IsFormat (format g)
+fits g = IsFormat-format_of _ _ _ _ g.met.C.Config.key_fits g.met.C.Config.value_fits g.met.C.Config.key_hashes g.met.C.H.HashFn.fits
 
 pub returns-in_err-table-clause-ok : goal.returns-in_err-table-clause-ok
 returns-in_err-table-clause-ok g c = IfOk-from_err c.from_residual.result _ c.from_residual.ensures.0
@@ -17,19 +25,17 @@ returns-in_err-table-clause-err g c =
     let fails = fails-factor _ _ _ _ c.empty_table.result c.from_percent-factor.ensures c.empty_table.ensures.err in
     fails-passed _ _ _ c.empty_table.result fails c.from_residual.result h.1 h.2 c.in_err-table.was
 
+pub invariant_of-result : goal.invariant_of-result
+invariant_of-result g c =
+    let made = c.in_ok-table.ensures.ok in
+    decoded_image _ _ (fits g) (_, made.2)
+
 pub returns-clause-ok : goal.returns-clause-ok
 returns-clause-ok g c =
-    let F : Format = format_of g.C.EncodedKey.ByteArray.LEN g.C.EncodedValue.ByteArray.LEN g.C.H.HashFn.hash in
-    let n = c.args.max_item_count in
     let made = c.in_ok-table.ensures.ok in
-    let s = made.0 in
     let factor = c.from_percent-factor.ensures in
-    let slots : slots_for n (factor_of c.args.max_load_factor_percent) ≡ Some s = subst (λ f. slots_for n f ≡ Some s) factor made.1 in
-    record {
-      table = empty s (factor_of c.args.max_load_factor_percent);
-      new = ap (option_map (λ t. empty t (factor_of c.args.max_load_factor_percent))) slots;
-      image = subst (λ f. IsImage F (empty s f) c.in_ok-table.table) factor made.2;
-    }
+    ap (option_map (λ t. empty t (factor_of c.args.max_load_factor_percent))) (subst (λ f. slots_for c.args.max_item_count f ≡ Some made.0) factor made.1)
+    ∙ ap (λ f. Some (empty made.0 f)) (sym factor) ∙ ap Some (sym (the_table (format g) _ _ (fits g) made.2))
 
 pub returns-clause-err : goal.returns-clause-err
 returns-clause-err g c =

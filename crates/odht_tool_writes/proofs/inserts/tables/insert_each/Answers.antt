@@ -1,7 +1,7 @@
-use Rattle.std.proofs.Common.{◌≡◌, ◌∙◌, ◌+◌, List, [], ◌∷◌, ◌++◌, ℕ, length, take, sym, ap, subst}
+use Rattle.std.proofs.Common.{◌≡◌, ◌∙◌, ◌+◌, List, [], ◌∷◌, ◌++◌, ℕ, length, take, take_all, sym, ap, subst, arith}
 use Rattle.std.proofs.lemmas.List.{take_more}
 use Rattle.odht.proofs.lemmas.DynLists.{fits_accepted}
-use Rattle.odht_tool_writes.proofs.OwnedRuns.{AreRun, more_run}
+use Rattle.odht_tool_writes.proofs.OwnedRuns.{AreRun, more_run, run_inserted}
 use Rattle.odht_tool_writes.proofs.inserts.tables.insert_each.Goals as goal
 
 pub loop-index-preserved : goal.loop-index-preserved
@@ -19,3 +19,9 @@ loop-index-preserved g c =
     take_more pairs i _ c.loop-index-test.true ∙ ap (λ x. take i pairs ++ (x ∷ [])) (sym (pair ∙ c.index-pairs-index.is)) in
     subst (AreRun h c.args.table.now c.insert.new.self) (sym more)
     (more_run h c.args.table.now t c.insert.new.self (take i pairs) k v c.in_default.field-0 c.loop-index.invariant (c.in_default.ensures.inserted key value) c.insert.ensures.lengths)
+
+pub returns-clause-inserted : goal.returns-clause-inserted
+returns-clause-inserted g c =
+    let pairs = c.args.pairs.now in
+    let last : take c.loop-index.index pairs ≡ pairs = take_all c.loop-index.index pairs (omega (arith, c.loop-index-test.false, c.loop-index.auto.index-end)) in
+    run_inserted g.H.HashFn.hash c.args.table.now c.loop-index.table pairs (subst (AreRun g.H.HashFn.hash c.args.table.now c.loop-index.table) last c.loop-index.invariant)
