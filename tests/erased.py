@@ -127,6 +127,11 @@ UNDONE = {
     "a list of C": (r"let (\w+) = unsafe \{ crate :: lists :: (?:list|list_mut) \( \1 , \1_len \) \} ; ", ""),
     "a list for C": (r"(\w+) : \* const ([\w() ]+?|\[ u8 ; \d+ \]) , \1_len : usize", r"\1 : & [ \2 ]"),
     "a written list for C": (r"(\w+) : \* mut ([\w() ]+?|\[ u8 ; \d+ \]) , \1_len : usize", r"\1 : & mut [ \2 ]"),
+    "an inline in debug builds": (
+        r"# \[ cfg_attr \( debug_assertions , inline \) \] "
+        r"# \[ cfg_attr \( not \( debug_assertions \) , inline \( always \) \) \]",
+        "# [ inline ( always ) ]",
+    ),
     "an open enum": (r"# \[ non_exhaustive \] (?=pub enum (?:Dyn)?Error\b)", ""),
     "an export": (r"\bunsafe extern \"C\" fn", 'extern "C" fn'),
     "an import of the host": (r"^use crate :: host :: prelude :: \* ; ", ""),

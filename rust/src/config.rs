@@ -134,7 +134,8 @@ impl HashFn for hash::UnHashFn {
 }
 
 impl HashFn for hash::Xxh64HashFn {
-    #[inline(always)]
+    #[cfg_attr(debug_assertions, inline)]
+    #[cfg_attr(not(debug_assertions), inline(always))]
     fn hash(bytes: &[u8]) -> u32 {
         <Self as hash::HashFn>::hash(bytes)
     }
@@ -165,7 +166,8 @@ impl<H: HashFn> hash::HashFn for Hash<H> {
         name
     }
 
-    #[inline(always)]
+    #[cfg_attr(debug_assertions, inline)]
+    #[cfg_attr(not(debug_assertions), inline(always))]
     fn hash(bytes: &[u8]) -> u32 {
         H::hash(bytes)
     }
@@ -192,22 +194,26 @@ impl<C: Config> config::Config for Proved<C> {
     type EncodedValue = C::EncodedValue;
     type H = Hash<C::H>;
 
-    #[inline(always)]
+    #[cfg_attr(debug_assertions, inline)]
+    #[cfg_attr(not(debug_assertions), inline(always))]
     fn encode_key(k: &C::Key) -> C::EncodedKey {
         C::encode_key(k)
     }
 
-    #[inline(always)]
+    #[cfg_attr(debug_assertions, inline)]
+    #[cfg_attr(not(debug_assertions), inline(always))]
     fn encode_value(v: &C::Value) -> C::EncodedValue {
         C::encode_value(v)
     }
 
-    #[inline(always)]
+    #[cfg_attr(debug_assertions, inline)]
+    #[cfg_attr(not(debug_assertions), inline(always))]
     fn decode_key(k: &C::EncodedKey) -> C::Key {
         C::decode_key(k)
     }
 
-    #[inline(always)]
+    #[cfg_attr(debug_assertions, inline)]
+    #[cfg_attr(not(debug_assertions), inline(always))]
     fn decode_value(v: &C::EncodedValue) -> C::Value {
         C::decode_value(v)
     }

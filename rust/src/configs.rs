@@ -32,22 +32,26 @@ macro_rules! ready {
             type EncodedValue = [u8; $value_len];
             type H = $hash;
 
-            #[inline(always)]
+            #[cfg_attr(debug_assertions, inline)]
+            #[cfg_attr(not(debug_assertions), inline(always))]
             fn encode_key(k: &$key) -> [u8; $key_len] {
                 <proved::$name as config::Config>::encode_key(k)
             }
 
-            #[inline(always)]
+            #[cfg_attr(debug_assertions, inline)]
+            #[cfg_attr(not(debug_assertions), inline(always))]
             fn encode_value(v: &$value) -> [u8; $value_len] {
                 <proved::$name as config::Config>::encode_value(v)
             }
 
-            #[inline(always)]
+            #[cfg_attr(debug_assertions, inline)]
+            #[cfg_attr(not(debug_assertions), inline(always))]
             fn decode_key(k: &[u8; $key_len]) -> $key {
                 <proved::$name as config::Config>::decode_key(k)
             }
 
-            #[inline(always)]
+            #[cfg_attr(debug_assertions, inline)]
+            #[cfg_attr(not(debug_assertions), inline(always))]
             fn decode_value(v: &[u8; $value_len]) -> $value {
                 <proved::$name as config::Config>::decode_value(v)
             }

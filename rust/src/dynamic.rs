@@ -165,7 +165,8 @@ impl<H: HashFn, D: Borrow<[u8]>> DynTable<H, D> {
     }
 
     // The bytes, which are as long as they were, and have as many slots.
-    #[inline(always)]
+    #[cfg_attr(debug_assertions, inline)]
+    #[cfg_attr(not(debug_assertions), inline(always))]
     fn bytes(&self) -> &[u8] {
         let bytes = self.data.borrow();
         self.opened.check(bytes, self.layout.proved());
@@ -173,14 +174,16 @@ impl<H: HashFn, D: Borrow<[u8]>> DynTable<H, D> {
     }
 
     // The proved table of the bytes.
-    #[inline(always)]
+    #[cfg_attr(debug_assertions, inline)]
+    #[cfg_attr(not(debug_assertions), inline(always))]
     fn view(&self) -> dynamic::DynTable<Hash<H>, Borrowed<'_>> {
         let store = Borrowed::new(self.bytes());
         dynamic::DynTable::open_unchecked(self.layout.proved(), store)
     }
 
     // The proved parts of the table. That their header fits is known from when the bytes were opened.
-    #[inline(always)]
+    #[cfg_attr(debug_assertions, inline)]
+    #[cfg_attr(not(debug_assertions), inline(always))]
     fn parts(&self) -> SizedTable<'_, Hash<H>> {
         sized_parts(self.bytes(), self.layout.proved())
     }

@@ -15,35 +15,41 @@ impl<C: Config> Config for Stored<C> {
     type EncodedValue = C::EncodedValue;
     type H = C::H;
 
-    #[inline(always)]
+    #[cfg_attr(debug_assertions, inline)]
+    #[cfg_attr(not(debug_assertions), inline(always))]
     fn encode_key(k: &C::EncodedKey) -> C::EncodedKey {
         *k
     }
 
-    #[inline(always)]
+    #[cfg_attr(debug_assertions, inline)]
+    #[cfg_attr(not(debug_assertions), inline(always))]
     fn encode_value(v: &C::EncodedValue) -> C::EncodedValue {
         *v
     }
 
-    #[inline(always)]
+    #[cfg_attr(debug_assertions, inline)]
+    #[cfg_attr(not(debug_assertions), inline(always))]
     fn decode_key(k: &C::EncodedKey) -> C::EncodedKey {
         *k
     }
 
-    #[inline(always)]
+    #[cfg_attr(debug_assertions, inline)]
+    #[cfg_attr(not(debug_assertions), inline(always))]
     fn decode_value(v: &C::EncodedValue) -> C::EncodedValue {
         *v
     }
 }
 
 /// The proved table of bytes whose header and length fit, of keys and values that are encoded.
-#[inline(always)]
+#[cfg_attr(debug_assertions, inline)]
+#[cfg_attr(not(debug_assertions), inline(always))]
 pub fn stored<C: Config>(bytes: &[u8]) -> tables::HashTable<Proved<Stored<C>>, Borrowed<'_>> {
     tables::HashTable::from_raw_bytes_unchecked(Borrowed::new(bytes))
 }
 
 /// The same, to be written.
-#[inline(always)]
+#[cfg_attr(debug_assertions, inline)]
+#[cfg_attr(not(debug_assertions), inline(always))]
 pub fn stored_mut<C: Config>(
     bytes: &mut [u8],
 ) -> tables::HashTable<Proved<Stored<C>>, BorrowedMut<'_>> {

@@ -67,12 +67,14 @@ macro_rules! numbers {
         impl Fixed for $number {
             const LEN: usize = std::mem::size_of::<$number>();
 
-            #[inline(always)]
+            #[cfg_attr(debug_assertions, inline)]
+            #[cfg_attr(not(debug_assertions), inline(always))]
             fn write(&self, to: &mut [u8]) {
                 to.copy_from_slice(&self.to_le_bytes());
             }
 
-            #[inline(always)]
+            #[cfg_attr(debug_assertions, inline)]
+            #[cfg_attr(not(debug_assertions), inline(always))]
             fn read(from: &[u8]) -> Self {
                 let mut bytes = [0; Self::LEN];
                 bytes.copy_from_slice(from);
@@ -87,13 +89,15 @@ numbers!(u8 u16 u32 u64 u128 i8 i16 i32 i64 i128 f32 f64);
 impl Fixed for bool {
     const LEN: usize = 1;
 
-    #[inline(always)]
+    #[cfg_attr(debug_assertions, inline)]
+    #[cfg_attr(not(debug_assertions), inline(always))]
     fn write(&self, to: &mut [u8]) {
         to[0] = u8::from(*self);
     }
 
     /// Each byte but 0 is `true`.
-    #[inline(always)]
+    #[cfg_attr(debug_assertions, inline)]
+    #[cfg_attr(not(debug_assertions), inline(always))]
     fn read(from: &[u8]) -> Self {
         from[0] != 0
     }
@@ -102,14 +106,16 @@ impl Fixed for bool {
 impl<T: Fixed, const N: usize> Fixed for [T; N] {
     const LEN: usize = N * T::LEN;
 
-    #[inline(always)]
+    #[cfg_attr(debug_assertions, inline)]
+    #[cfg_attr(not(debug_assertions), inline(always))]
     fn write(&self, to: &mut [u8]) {
         for (at, member) in self.iter().enumerate() {
             member.write(&mut to[at * T::LEN..(at + 1) * T::LEN]);
         }
     }
 
-    #[inline(always)]
+    #[cfg_attr(debug_assertions, inline)]
+    #[cfg_attr(not(debug_assertions), inline(always))]
     fn read(from: &[u8]) -> Self {
         std::array::from_fn(|at| T::read(&from[at * T::LEN..(at + 1) * T::LEN]))
     }
@@ -120,7 +126,8 @@ macro_rules! tuples {
         impl<$($member: Fixed),*> Fixed for ($($member,)*) {
             const LEN: usize = 0 $(+ $member::LEN)*;
 
-            #[inline(always)]
+            #[cfg_attr(debug_assertions, inline)]
+            #[cfg_attr(not(debug_assertions), inline(always))]
             #[allow(unused_variables, unused_mut, unused_assignments)]
             fn write(&self, mut to: &mut [u8]) {
                 $(
@@ -130,7 +137,8 @@ macro_rules! tuples {
                 )*
             }
 
-            #[inline(always)]
+            #[cfg_attr(debug_assertions, inline)]
+            #[cfg_attr(not(debug_assertions), inline(always))]
             #[allow(unused_variables, unused_mut, unused_assignments, clippy::unused_unit)]
             fn read(mut from: &[u8]) -> Self {
                 ($({
@@ -225,26 +233,30 @@ macro_rules! config {
             type EncodedValue = [u8; <$value as $crate::Fixed>::LEN];
             type H = $crate::__hash_function!($($hash)::+);
 
-            #[inline(always)]
+            #[cfg_attr(debug_assertions, inline)]
+            #[cfg_attr(not(debug_assertions), inline(always))]
             fn encode_key(k: &$key) -> Self::EncodedKey {
                 let mut bytes = [0; <$key as $crate::Fixed>::LEN];
                 $crate::Fixed::write(k, &mut bytes);
                 bytes
             }
 
-            #[inline(always)]
+            #[cfg_attr(debug_assertions, inline)]
+            #[cfg_attr(not(debug_assertions), inline(always))]
             fn encode_value(v: &$value) -> Self::EncodedValue {
                 let mut bytes = [0; <$value as $crate::Fixed>::LEN];
                 $crate::Fixed::write(v, &mut bytes);
                 bytes
             }
 
-            #[inline(always)]
+            #[cfg_attr(debug_assertions, inline)]
+            #[cfg_attr(not(debug_assertions), inline(always))]
             fn decode_key(k: &Self::EncodedKey) -> $key {
                 <$key as $crate::Fixed>::read(k)
             }
 
-            #[inline(always)]
+            #[cfg_attr(debug_assertions, inline)]
+            #[cfg_attr(not(debug_assertions), inline(always))]
             fn decode_value(v: &Self::EncodedValue) -> $value {
                 <$value as $crate::Fixed>::read(v)
             }

@@ -33,12 +33,14 @@ impl<'a, C: Config> Walk<'a, C> {
     }
 
     // How many are left.
-    #[inline(always)]
+    #[cfg_attr(debug_assertions, inline)]
+    #[cfg_attr(not(debug_assertions), inline(always))]
     fn len(&self) -> usize {
         occupied_from::<C>(self.bytes, self.from)
     }
 
-    #[inline(always)]
+    #[cfg_attr(debug_assertions, inline)]
+    #[cfg_attr(not(debug_assertions), inline(always))]
     fn next(&mut self) -> Option<(usize, Stored<C>)> {
         let (slot, (_, entry)) = self.left.next()?;
         self.from = slot + 1;
@@ -68,7 +70,8 @@ fn occupied_from<C: Config>(bytes: &[u8], from: usize) -> usize {
 }
 
 /// How many of these control bytes are those of occupied slots.
-#[inline(always)]
+#[cfg_attr(debug_assertions, inline)]
+#[cfg_attr(not(debug_assertions), inline(always))]
 pub fn occupied_in(own: &[u8]) -> usize {
     // a piece has no more than a byte counts, so that many are added at once
     let in_piece = |piece: &[u8]| -> u8 {
@@ -102,7 +105,8 @@ macro_rules! walks {
         impl<C: Config> Iterator for $name<'_, C> {
             type Item = $item;
 
-            #[inline(always)]
+            #[cfg_attr(debug_assertions, inline)]
+            #[cfg_attr(not(debug_assertions), inline(always))]
             fn next(&mut self) -> Option<Self::Item> {
                 let ($slot, $entry) = self.0.next()?;
                 Some($made)

@@ -52,7 +52,8 @@ impl Opened {
 
     /// Panics where the bytes are not as long as those that were opened, or have another slot count. The layout is that
     /// of `of`. In this order of the tests the compiler moves them out of a loop of lookups.
-    #[inline(always)]
+    #[cfg_attr(debug_assertions, inline)]
+    #[cfg_attr(not(debug_assertions), inline(always))]
     #[allow(unsafe_code)]
     pub fn check(self, bytes: &[u8], layout: Layout) {
         let Some(header) = bytes.first_chunk() else { slots::others() };
@@ -66,7 +67,8 @@ impl Opened {
 }
 
 // The slot count in a header.
-#[inline(always)]
+#[cfg_attr(debug_assertions, inline)]
+#[cfg_attr(not(debug_assertions), inline(always))]
 fn slots_in(header: &[u8; HEADER_SIZE]) -> u64 {
     let (_, fields) = header.split_at(16);
     fields.first_chunk().map_or(0, |field| u64::from_le_bytes(*field))

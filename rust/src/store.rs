@@ -28,14 +28,16 @@ use std::borrow::{Borrow, BorrowMut};
 pub struct BytesOf<T>(pub T);
 
 impl<T: AsRef<[u8]>> Borrow<[u8]> for BytesOf<T> {
-    #[inline(always)]
+    #[cfg_attr(debug_assertions, inline)]
+    #[cfg_attr(not(debug_assertions), inline(always))]
     fn borrow(&self) -> &[u8] {
         self.0.as_ref()
     }
 }
 
 impl<T: AsRef<[u8]> + AsMut<[u8]>> BorrowMut<[u8]> for BytesOf<T> {
-    #[inline(always)]
+    #[cfg_attr(debug_assertions, inline)]
+    #[cfg_attr(not(debug_assertions), inline(always))]
     fn borrow_mut(&mut self) -> &mut [u8] {
         self.0.as_mut()
     }

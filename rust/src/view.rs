@@ -165,7 +165,8 @@ impl<C: Config, D: Borrow<[u8]>> HashTable<C, D> {
     }
 
     // The bytes, which are as long as they were, and have as many slots.
-    #[inline(always)]
+    #[cfg_attr(debug_assertions, inline)]
+    #[cfg_attr(not(debug_assertions), inline(always))]
     pub(crate) fn bytes(&self) -> &[u8] {
         let bytes = self.data.borrow();
         self.opened.check(bytes, Layout::of::<Proved<C>>());
@@ -173,7 +174,8 @@ impl<C: Config, D: Borrow<[u8]>> HashTable<C, D> {
     }
 
     // The proved table of the bytes. That their header fits is known from when they were opened.
-    #[inline(always)]
+    #[cfg_attr(debug_assertions, inline)]
+    #[cfg_attr(not(debug_assertions), inline(always))]
     fn view(&self) -> tables::HashTable<Proved<C>, Borrowed<'_>> {
         tables::HashTable::from_raw_bytes_unchecked(Borrowed::new(self.bytes()))
     }

@@ -7,7 +7,8 @@ use std::slice;
 /// # Safety
 ///
 /// Where the length is not zero, the pointer is to so many items, which nobody writes while the list is in use.
-#[inline(always)]
+#[cfg_attr(debug_assertions, inline)]
+#[cfg_attr(not(debug_assertions), inline(always))]
 pub unsafe fn list<'a, T>(items: *const T, len: usize) -> &'a [T] {
     if len == 0 {
         return &[];
@@ -22,7 +23,8 @@ pub unsafe fn list<'a, T>(items: *const T, len: usize) -> &'a [T] {
 ///
 /// Where the length is not zero, the pointer is to so many items, which nobody else reads or writes while the list is
 /// in use.
-#[inline(always)]
+#[cfg_attr(debug_assertions, inline)]
+#[cfg_attr(not(debug_assertions), inline(always))]
 pub unsafe fn list_mut<'a, T>(items: *mut T, len: usize) -> &'a mut [T] {
     if len == 0 {
         return &mut [];

@@ -78,7 +78,8 @@ macro_rules! __fields {
         impl<$($impl)*> $crate::Fixed for $($of)+ {
             const LEN: usize = 0 $(+ <$type as $crate::Fixed>::LEN)+;
 
-            #[inline(always)]
+            #[cfg_attr(debug_assertions, inline)]
+            #[cfg_attr(not(debug_assertions), inline(always))]
             fn write(&self, to: &mut [u8]) {
                 let rest = to;
                 $(
@@ -88,7 +89,8 @@ macro_rules! __fields {
                 let _ = rest;
             }
 
-            #[inline(always)]
+            #[cfg_attr(debug_assertions, inline)]
+            #[cfg_attr(not(debug_assertions), inline(always))]
             fn read(from: &[u8]) -> Self {
                 let mut rest = from;
                 // the fields of a literal are made in the order in which it has them

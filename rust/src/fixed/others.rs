@@ -9,13 +9,15 @@ impl Fixed for char {
     const LEN: usize = 4;
 
     /// The number of the character, little-endian.
-    #[inline(always)]
+    #[cfg_attr(debug_assertions, inline)]
+    #[cfg_attr(not(debug_assertions), inline(always))]
     fn write(&self, to: &mut [u8]) {
         u32::from(*self).write(to);
     }
 
     /// A number that is no character's is read as [`char::REPLACEMENT_CHARACTER`].
-    #[inline(always)]
+    #[cfg_attr(debug_assertions, inline)]
+    #[cfg_attr(not(debug_assertions), inline(always))]
     fn read(from: &[u8]) -> Self {
         char::from_u32(u32::read(from)).unwrap_or(char::REPLACEMENT_CHARACTER)
     }
@@ -25,7 +27,8 @@ impl<T: Fixed> Fixed for Option<T> {
     const LEN: usize = 1 + T::LEN;
 
     /// `Some` is a byte 1 and the bytes of the value, `None` is zeros of the same number.
-    #[inline(always)]
+    #[cfg_attr(debug_assertions, inline)]
+    #[cfg_attr(not(debug_assertions), inline(always))]
     fn write(&self, to: &mut [u8]) {
         let (is_some, value) = to.split_at_mut(1);
         self.is_some().write(is_some);
@@ -36,7 +39,8 @@ impl<T: Fixed> Fixed for Option<T> {
     }
 
     /// Each first byte but 0 is that of a `Some`. What follows a 0 is not looked at.
-    #[inline(always)]
+    #[cfg_attr(debug_assertions, inline)]
+    #[cfg_attr(not(debug_assertions), inline(always))]
     fn read(from: &[u8]) -> Self {
         let (is_some, value) = from.split_at(1);
         bool::read(is_some).then(|| T::read(value))
@@ -49,13 +53,15 @@ macro_rules! numbers_without_zero {
             const LEN: usize = <$number as Fixed>::LEN;
 
             /// The number, little-endian.
-            #[inline(always)]
+            #[cfg_attr(debug_assertions, inline)]
+            #[cfg_attr(not(debug_assertions), inline(always))]
             fn write(&self, to: &mut [u8]) {
                 self.get().write(to);
             }
 
             /// A zero is read as 1.
-            #[inline(always)]
+            #[cfg_attr(debug_assertions, inline)]
+            #[cfg_attr(not(debug_assertions), inline(always))]
             fn read(from: &[u8]) -> Self {
                 const ONE: $name = match $name::new(1) {
                     Some(one) => one,
@@ -84,12 +90,14 @@ impl Fixed for Ipv4Addr {
     const LEN: usize = 4;
 
     /// The four numbers, as the address is written.
-    #[inline(always)]
+    #[cfg_attr(debug_assertions, inline)]
+    #[cfg_attr(not(debug_assertions), inline(always))]
     fn write(&self, to: &mut [u8]) {
         to.copy_from_slice(&self.octets());
     }
 
-    #[inline(always)]
+    #[cfg_attr(debug_assertions, inline)]
+    #[cfg_attr(not(debug_assertions), inline(always))]
     fn read(from: &[u8]) -> Self {
         Ipv4Addr::from(<[u8; 4]>::read(from))
     }
@@ -99,12 +107,14 @@ impl Fixed for Ipv6Addr {
     const LEN: usize = 16;
 
     /// The sixteen bytes, as the address is written.
-    #[inline(always)]
+    #[cfg_attr(debug_assertions, inline)]
+    #[cfg_attr(not(debug_assertions), inline(always))]
     fn write(&self, to: &mut [u8]) {
         to.copy_from_slice(&self.octets());
     }
 
-    #[inline(always)]
+    #[cfg_attr(debug_assertions, inline)]
+    #[cfg_attr(not(debug_assertions), inline(always))]
     fn read(from: &[u8]) -> Self {
         Ipv6Addr::from(<[u8; 16]>::read(from))
     }

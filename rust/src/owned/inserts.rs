@@ -22,7 +22,8 @@ impl<C: Config> HashTableOwned<C> {
     ///
     /// Where the grown table would be too large. Where memory is refused it ends as Rust's collections do.
     // Always inlined: so the place of the call, which the panic tells, is no argument of the insert itself.
-    #[inline(always)]
+    #[cfg_attr(debug_assertions, inline)]
+    #[cfg_attr(not(debug_assertions), inline(always))]
     #[track_caller]
     pub fn insert(&mut self, key: &C::Key, value: &C::Value) -> Option<C::Value> {
         match self.try_insert(key, value) {

@@ -76,7 +76,8 @@ mod unchecked {
     /// # Safety
     ///
     /// The index is in bounds. `clause` says by what.
-    #[inline(always)]
+    #[cfg_attr(debug_assertions, inline)]
+    #[cfg_attr(not(debug_assertions), inline(always))]
     #[track_caller]
     pub(crate) unsafe fn at<'l, T, I: SliceIndex<[T]> + Clone>(
         list: &'l [T],
@@ -96,7 +97,8 @@ mod unchecked {
     /// # Safety
     ///
     /// The index is in bounds. `clause` says by what.
-    #[inline(always)]
+    #[cfg_attr(debug_assertions, inline)]
+    #[cfg_attr(not(debug_assertions), inline(always))]
     #[track_caller]
     pub(crate) unsafe fn at_mut<'l, T, I: SliceIndex<[T]> + Clone>(
         list: &'l mut [T],
@@ -116,7 +118,8 @@ mod unchecked {
     /// # Safety
     ///
     /// The index is at most the length. `clause` says by what.
-    #[inline(always)]
+    #[cfg_attr(debug_assertions, inline)]
+    #[cfg_attr(not(debug_assertions), inline(always))]
     #[track_caller]
     pub(crate) unsafe fn split_at_mut<'l, T>(
         list: &'l mut [T],

@@ -10,7 +10,8 @@ use crate::proved::header::layout::Layout;
 /// Panics unless a table of `slots` slots and of these lengths has `len` bytes, in a store `M`. A store that owns
 /// them is not looked at: only the proved library writes to them. Nor is any with the feature `checked`, since each
 /// index is checked then.
-#[inline(always)]
+#[cfg_attr(debug_assertions, inline)]
+#[cfg_attr(not(debug_assertions), inline(always))]
 pub(crate) fn check<M>(len: usize, slots: usize, layout: Layout) {
     // what borrows its bytes has nothing to drop
     let is_owned = std::mem::needs_drop::<M>();
@@ -20,7 +21,8 @@ pub(crate) fn check<M>(len: usize, slots: usize, layout: Layout) {
 }
 
 /// Whether a table of `slots` slots and of these lengths has `len` bytes.
-#[inline(always)]
+#[cfg_attr(debug_assertions, inline)]
+#[cfg_attr(not(debug_assertions), inline(always))]
 pub(crate) fn fits(len: usize, slots: usize, layout: Layout) -> bool {
     // A slot has at most 511 bytes, so the length of `MOST` slots does not wrap. No table has no slot.
     const MOST: usize = 1 << 54;
@@ -35,7 +37,8 @@ pub(crate) fn fits(len: usize, slots: usize, layout: Layout) -> bool {
 /// # Safety
 ///
 /// `fits` was true of these numbers. They are of memory that nobody else can write to.
-#[inline(always)]
+#[cfg_attr(debug_assertions, inline)]
+#[cfg_attr(not(debug_assertions), inline(always))]
 #[allow(unsafe_code)]
 pub(crate) unsafe fn known(len: usize, slots: usize, layout: Layout) {
     debug_assert!(fits(len, slots, layout), "a slot count that was seen to fit");

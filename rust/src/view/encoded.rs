@@ -61,7 +61,8 @@ impl<C: Config, D: Borrow<[u8]> + BorrowMut<[u8]>> HashTable<C, D> {
     /// # Panics
     ///
     /// As [`insert`](HashTable::insert).
-    #[inline(always)]
+    #[cfg_attr(debug_assertions, inline)]
+    #[cfg_attr(not(debug_assertions), inline(always))]
     #[track_caller]
     pub fn insert_encoded(&mut self, key: &C::EncodedKey, value: &C::Value) -> Option<C::Value> {
         match self.try_insert_encoded(key, value) {

@@ -82,7 +82,8 @@ impl<C: Config, D: Borrow<[u8]> + BorrowMut<[u8]>> HashTable<C, D> {
     }
 
     // The bytes to be written, which are as long as they were, and have as many slots.
-    #[inline(always)]
+    #[cfg_attr(debug_assertions, inline)]
+    #[cfg_attr(not(debug_assertions), inline(always))]
     pub(super) fn bytes_mut(&mut self) -> &mut [u8] {
         let bytes = self.data.borrow_mut();
         self.opened.check(bytes, Layout::of::<Proved<C>>());
@@ -90,7 +91,8 @@ impl<C: Config, D: Borrow<[u8]> + BorrowMut<[u8]>> HashTable<C, D> {
     }
 
     // The proved table of the bytes, to be written.
-    #[inline(always)]
+    #[cfg_attr(debug_assertions, inline)]
+    #[cfg_attr(not(debug_assertions), inline(always))]
     fn view_mut(&mut self) -> tables::HashTable<Proved<C>, BorrowedMut<'_>> {
         tables::HashTable::from_raw_bytes_unchecked(BorrowedMut::new(self.bytes_mut()))
     }
@@ -115,7 +117,8 @@ impl<C: Config, D: Borrow<[u8]> + BorrowMut<[u8]>> HashTable<C, D> {
     /// Where the table is at its maximum and the key is new; of bytes that are not those of a table also where no slot
     /// is free. Nothing has changed then.
     // Always inlined: so the place of the call, which the panic tells, is no argument of the insert itself.
-    #[inline(always)]
+    #[cfg_attr(debug_assertions, inline)]
+    #[cfg_attr(not(debug_assertions), inline(always))]
     #[track_caller]
     pub fn insert(&mut self, key: &C::Key, value: &C::Value) -> Option<C::Value> {
         match self.try_insert(key, value) {

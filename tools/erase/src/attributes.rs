@@ -1,6 +1,6 @@
 //! Attributes.
 
-use crate::known::{SAME_ATTRIBUTES, SAME_DERIVES};
+use crate::known::{ALWAYS_INLINE, SAME_ATTRIBUTES, SAME_DERIVES};
 use crate::rules::Eraser;
 use crate::source::Done;
 
@@ -15,6 +15,9 @@ impl Eraser<'_> {
         match self.source.text(open + 1) {
             "tactic" => self.source.drop(at, end),
             "derive" => self.derive(at, open, end)?,
+            "inline" if self.source.has(open + 1, "inline ( always )") => {
+                self.source.replace(at, end, ALWAYS_INLINE)
+            }
             name if SAME_ATTRIBUTES.contains(&name) => {}
             _ => return self.source.fail(open + 1, "an unknown attribute"),
         }

@@ -58,6 +58,9 @@ pub const SAME_MACROS: [&str; 3] = ["write", "writeln", "unreachable"];
 /// Attributes that are the same.
 pub const SAME_ATTRIBUTES: [&str; 4] = ["cold", "inline", "repr", "unsafe"];
 
+/// What always inlines, but in debug builds: there each copy is compiled whole, and nothing is saved by it.
+pub const ALWAYS_INLINE: &str = "#[cfg_attr(debug_assertions, inline)]\n#[cfg_attr(not(debug_assertions), inline(always))]";
+
 /// Traits that are derived in the same way.
 pub const SAME_DERIVES: [&str; 5] = ["Clone", "Copy", "Debug", "Eq", "PartialEq"];
 

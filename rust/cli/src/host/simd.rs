@@ -19,19 +19,22 @@ const HIGH: u64 = 0x8080_8080_8080_8080;
 
 impl u8x8 {
     /// The byte, eight times.
-    #[inline(always)]
+    #[cfg_attr(debug_assertions, inline)]
+    #[cfg_attr(not(debug_assertions), inline(always))]
     pub fn splat(byte: u8) -> Self {
         u8x8(u64::from_le_bytes([byte; 8]))
     }
 
     /// The bytes of an array.
-    #[inline(always)]
+    #[cfg_attr(debug_assertions, inline)]
+    #[cfg_attr(not(debug_assertions), inline(always))]
     pub fn from_array(bytes: [u8; 8]) -> Self {
         u8x8(u64::from_le_bytes(bytes))
     }
 
     /// Which bytes are smaller.
-    #[inline(always)]
+    #[cfg_attr(debug_assertions, inline)]
+    #[cfg_attr(not(debug_assertions), inline(always))]
     pub fn simd_lt(self, other: Self) -> Mask {
         let (a, b) = (self.0, other.0);
         // The highest bit of a byte stays set where its lower bits are at least as large.
@@ -40,7 +43,8 @@ impl u8x8 {
     }
 
     /// Which bytes are larger.
-    #[inline(always)]
+    #[cfg_attr(debug_assertions, inline)]
+    #[cfg_attr(not(debug_assertions), inline(always))]
     pub fn simd_gt(self, other: Self) -> Mask {
         other.simd_lt(self)
     }
@@ -48,7 +52,8 @@ impl u8x8 {
 
 impl Mask {
     /// The bit of each byte for which it holds.
-    #[inline(always)]
+    #[cfg_attr(debug_assertions, inline)]
+    #[cfg_attr(not(debug_assertions), inline(always))]
     pub fn to_bitmask(self) -> u64 {
         (self.0 >> 7).wrapping_mul(0x0102_0408_1020_4080) >> 56
     }

@@ -64,13 +64,15 @@ impl<'a> Header<'a> {
     /// `SlotCountNotPowerOfTwo`, `SlotCountTooSmall`, `WrongLength`.
     ///
     /// A table's length is computed in 128 bits, so a forged slot count cannot make it wrap.
-    #[inline(always)]
+    #[cfg_attr(debug_assertions, inline)]
+    #[cfg_attr(not(debug_assertions), inline(always))]
     pub fn sanity_check<C: Config>(&self, raw_bytes_len: usize) -> Result<(), Error> {
         self.check_layout(Layout::of::<C>(), raw_bytes_len)
     }
 
     /// [`Header::sanity_check`] as that of a table of these lengths, whatever the hash function.
-    #[inline(always)]
+    #[cfg_attr(debug_assertions, inline)]
+    #[cfg_attr(not(debug_assertions), inline(always))]
     pub fn check_layout(&self, layout: Layout, raw_bytes_len: usize) -> Result<(), Error> {
         self.check_fields(layout)?;
         self.check_length(layout, raw_bytes_len)
@@ -97,7 +99,8 @@ impl<'a> Header<'a> {
     }
 
     // The first error of the fields: those of `sanity_check` but `WrongLength`.
-    #[inline(always)]
+    #[cfg_attr(debug_assertions, inline)]
+    #[cfg_attr(not(debug_assertions), inline(always))]
     fn check_fields(&self, layout: Layout) -> Result<(), Error> {
         self.check_tag()?;
         self.check_version()?;
@@ -109,7 +112,8 @@ impl<'a> Header<'a> {
     }
 
     /// Whether the first four bytes are those that every table begins with; else `WrongTag`.
-    #[inline(always)]
+    #[cfg_attr(debug_assertions, inline)]
+    #[cfg_attr(not(debug_assertions), inline(always))]
     pub fn check_tag(&self) -> Result<(), Error> {
         let found = self.word(TAG_AT);
         if found == HEADER_TAG {
@@ -120,7 +124,8 @@ impl<'a> Header<'a> {
     }
 
     /// Whether the version is the one that is read; else `WrongVersion`.
-    #[inline(always)]
+    #[cfg_attr(debug_assertions, inline)]
+    #[cfg_attr(not(debug_assertions), inline(always))]
     pub fn check_version(&self) -> Result<(), Error> {
         let found = self.word(VERSION_AT);
         if found == CURRENT_FILE_FORMAT_VERSION {
@@ -138,19 +143,22 @@ impl<'a> Header<'a> {
     }
 
     /// Whether the header says that a control byte takes one byte; else `WrongSizeOf`.
-    #[inline(always)]
+    #[cfg_attr(debug_assertions, inline)]
+    #[cfg_attr(not(debug_assertions), inline(always))]
     pub fn check_metadata_size(&self) -> Result<(), Error> {
         self.check_expected_size(METADATA_SIZE_AT, Part::EntryMetadata, METADATA_SIZE)
     }
 
     /// Whether the header says that it is 32 bytes long; else `WrongSizeOf`.
-    #[inline(always)]
+    #[cfg_attr(debug_assertions, inline)]
+    #[cfg_attr(not(debug_assertions), inline(always))]
     pub fn check_header_size(&self) -> Result<(), Error> {
         self.check_expected_size(HEADER_SIZE_AT, Part::Header, HEADER_SIZE)
     }
 
     // Whether by the byte `at` the part has this size; else `WrongSizeOf`.
-    #[inline(always)]
+    #[cfg_attr(debug_assertions, inline)]
+    #[cfg_attr(not(debug_assertions), inline(always))]
     fn check_expected_size(&self, at: usize, part: Part, expected: usize) -> Result<(), Error> {
         let bytes = self.bytes;
         let found = bytes[at];
@@ -162,7 +170,8 @@ impl<'a> Header<'a> {
     }
 
     /// `SlotCountNotPowerOfTwo` unless the slot count is one, then `SlotCountTooSmall` below 16.
-    #[inline(always)]
+    #[cfg_attr(debug_assertions, inline)]
+    #[cfg_attr(not(debug_assertions), inline(always))]
     pub fn check_slot_count(&self) -> Result<(), Error> {
         let found = self.slot_count();
         if !found.is_power_of_two() {
@@ -175,7 +184,8 @@ impl<'a> Header<'a> {
     }
 
     // Whether a table of the header's slot count has so many bytes; else `WrongLength`.
-    #[inline(always)]
+    #[cfg_attr(debug_assertions, inline)]
+    #[cfg_attr(not(debug_assertions), inline(always))]
     fn check_length(&self, layout: Layout, found: usize) -> Result<(), Error> {
         let slot_count = self.slot_count();
         let expected = layout.len_of_slots(slot_count);
@@ -268,7 +278,8 @@ pub fn write_header<C: Config>(
 
 impl Layout {
     /// [`write_header`] of a table of these lengths.
-    #[inline(always)]
+    #[cfg_attr(debug_assertions, inline)]
+    #[cfg_attr(not(debug_assertions), inline(always))]
     pub fn write_header(
         self,
         header: &mut [u8],

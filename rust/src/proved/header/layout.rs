@@ -39,31 +39,36 @@ pub struct Fixed<K, V> {
 
 impl<K: ByteArray, V: ByteArray> Fixed<K, V> {
     /// The lengths.
-    #[inline(always)]
+    #[cfg_attr(debug_assertions, inline)]
+    #[cfg_attr(not(debug_assertions), inline(always))]
     pub fn new() -> Self {
         Fixed { key: PhantomData, value: PhantomData }
     }
 }
 
 impl<K: ByteArray, V: ByteArray> Lengths for Fixed<K, V> {
-    #[inline(always)]
+    #[cfg_attr(debug_assertions, inline)]
+    #[cfg_attr(not(debug_assertions), inline(always))]
     fn key_len(self) -> usize {
         K::LEN
     }
 
-    #[inline(always)]
+    #[cfg_attr(debug_assertions, inline)]
+    #[cfg_attr(not(debug_assertions), inline(always))]
     fn value_len(self) -> usize {
         V::LEN
     }
 
-    #[inline(always)]
+    #[cfg_attr(debug_assertions, inline)]
+    #[cfg_attr(not(debug_assertions), inline(always))]
     fn entry_len(self) -> usize {
         K::LEN + V::LEN
     }
 
     // Short keys are loaded whole, and compared as their length allows; longer ones are compared
     // where they are.
-    #[inline(always)]
+    #[cfg_attr(debug_assertions, inline)]
+    #[cfg_attr(not(debug_assertions), inline(always))]
     fn is_same_key(self, left: &[u8], right: &[u8]) -> bool {
         if K::LEN > SHORT {
             return is_same_bytes(left, right);
@@ -83,35 +88,41 @@ pub struct Layout {
 
 impl Layout {
     /// The lengths of a configuration.
-    #[inline(always)]
+    #[cfg_attr(debug_assertions, inline)]
+    #[cfg_attr(not(debug_assertions), inline(always))]
     pub fn of<C: Config>() -> Self {
         Layout { key_len: C::EncodedKey::LEN as u8, value_len: C::EncodedValue::LEN as u8 }
     }
 
     /// The length of an entry, in bytes.
-    #[inline(always)]
+    #[cfg_attr(debug_assertions, inline)]
+    #[cfg_attr(not(debug_assertions), inline(always))]
     pub fn entry_len(self) -> usize {
         self.key_len as usize + self.value_len as usize
     }
 }
 
 impl Lengths for Layout {
-    #[inline(always)]
+    #[cfg_attr(debug_assertions, inline)]
+    #[cfg_attr(not(debug_assertions), inline(always))]
     fn key_len(self) -> usize {
         self.key_len as usize
     }
 
-    #[inline(always)]
+    #[cfg_attr(debug_assertions, inline)]
+    #[cfg_attr(not(debug_assertions), inline(always))]
     fn value_len(self) -> usize {
         self.value_len as usize
     }
 
-    #[inline(always)]
+    #[cfg_attr(debug_assertions, inline)]
+    #[cfg_attr(not(debug_assertions), inline(always))]
     fn entry_len(self) -> usize {
         self.key_len as usize + self.value_len as usize
     }
 
-    #[inline(always)]
+    #[cfg_attr(debug_assertions, inline)]
+    #[cfg_attr(not(debug_assertions), inline(always))]
     fn is_same_key(self, left: &[u8], right: &[u8]) -> bool {
         is_same_words(left, right)
     }
@@ -119,7 +130,8 @@ impl Lengths for Layout {
 
 // Whether two lists of the same length are equal. From 8 to 64 bytes are compared where they are,
 // by words with no call; the last word may overlap the one before it.
-#[inline(always)]
+#[cfg_attr(debug_assertions, inline)]
+#[cfg_attr(not(debug_assertions), inline(always))]
 fn is_same_words(left: &[u8], right: &[u8]) -> bool {
     let len = right.len();
     if len < 8 || len > 64 {
@@ -137,7 +149,8 @@ fn is_same_words(left: &[u8], right: &[u8]) -> bool {
 
 impl<'a> Header<'a> {
     /// The lengths of keys and values that the header states.
-    #[inline(always)]
+    #[cfg_attr(debug_assertions, inline)]
+    #[cfg_attr(not(debug_assertions), inline(always))]
     pub fn layout(&self) -> Layout {
         Layout { key_len: self.key_size(), value_len: self.value_size() }
     }

@@ -25,7 +25,8 @@ pub fn layout_for<C: Config>(
 
 impl Layout {
     /// [`bytes_needed`] of a table of these lengths.
-    #[inline(always)]
+    #[cfg_attr(debug_assertions, inline)]
+    #[cfg_attr(not(debug_assertions), inline(always))]
     pub fn bytes_needed(self, slot_count: usize) -> Option<usize> {
         let len = self.len_of_slots(slot_count);
         if len > usize::MAX as u128 {
@@ -35,7 +36,8 @@ impl Layout {
     }
 
     /// [`layout_for`] of a table of these lengths.
-    #[inline(always)]
+    #[cfg_attr(debug_assertions, inline)]
+    #[cfg_attr(not(debug_assertions), inline(always))]
     pub fn table_for(
         self,
         max_item_count: usize,
@@ -47,7 +49,8 @@ impl Layout {
     }
 
     // How many bytes a table of `slot_count` slots has.
-    #[inline(always)]
+    #[cfg_attr(debug_assertions, inline)]
+    #[cfg_attr(not(debug_assertions), inline(always))]
     pub(crate) fn len_of_slots(self, slot_count: usize) -> u128 {
         let entry = self.entry_len() as u128;
         let slots = slot_count as u128;
@@ -56,7 +59,8 @@ impl Layout {
 
     /// Where the entry of a slot begins in the bytes of a table; for the number of slots, where
     /// the control bytes begin.
-    #[inline(always)]
+    #[cfg_attr(debug_assertions, inline)]
+    #[cfg_attr(not(debug_assertions), inline(always))]
     pub fn entry_at(self, slot: usize) -> usize {
         HEADER_SIZE + slot * self.entry_len()
     }
@@ -64,13 +68,15 @@ impl Layout {
 
 /// Where the entry of a slot begins in the bytes of a table; for the number of slots, where the
 /// control bytes begin.
-#[inline(always)]
+#[cfg_attr(debug_assertions, inline)]
+#[cfg_attr(not(debug_assertions), inline(always))]
 pub fn entry_at<C: Config>(slot: usize) -> usize {
     HEADER_SIZE + slot * (C::EncodedKey::LEN + C::EncodedValue::LEN)
 }
 
 // How many bytes a table of `slot_count` slots has.
-#[inline(always)]
+#[cfg_attr(debug_assertions, inline)]
+#[cfg_attr(not(debug_assertions), inline(always))]
 pub(crate) fn len_of_slots<C: Config>(slot_count: usize) -> u128 {
     Layout::of::<C>().len_of_slots(slot_count)
 }

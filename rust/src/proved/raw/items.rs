@@ -14,12 +14,14 @@ pub trait Items<K, V> {
 }
 
 impl<K, V> Items<K, V> for &[(K, V)] {
-    #[inline(always)]
+    #[cfg_attr(debug_assertions, inline)]
+    #[cfg_attr(not(debug_assertions), inline(always))]
     fn count(&self) -> usize {
         self.len()
     }
 
-    #[inline(always)]
+    #[cfg_attr(debug_assertions, inline)]
+    #[cfg_attr(not(debug_assertions), inline(always))]
     fn at(&self, index: usize) -> (&K, &V) {
         let items = *self;
         let (key, value) = &items[index];
@@ -35,19 +37,22 @@ pub struct Zipped<'k, 'v, K, V> {
 
 impl<'k, 'v, K, V> Zipped<'k, 'v, K, V> {
     /// The key and the value at each index of two slices that are equally long.
-    #[inline(always)]
+    #[cfg_attr(debug_assertions, inline)]
+    #[cfg_attr(not(debug_assertions), inline(always))]
     pub fn new(keys: &'k [K], values: &'v [V]) -> Self {
         Zipped { keys, values }
     }
 }
 
 impl<'k, 'v, K, V> Items<K, V> for Zipped<'k, 'v, K, V> {
-    #[inline(always)]
+    #[cfg_attr(debug_assertions, inline)]
+    #[cfg_attr(not(debug_assertions), inline(always))]
     fn count(&self) -> usize {
         self.keys.len()
     }
 
-    #[inline(always)]
+    #[cfg_attr(debug_assertions, inline)]
+    #[cfg_attr(not(debug_assertions), inline(always))]
     fn at(&self, index: usize) -> (&K, &V) {
         let (keys, values) = (self.keys, self.values);
         (&keys[index], &values[index])
@@ -55,7 +60,8 @@ impl<'k, 'v, K, V> Items<K, V> for Zipped<'k, 'v, K, V> {
 }
 
 /// The bytes of a key and those of its value. Each has as many as its type says.
-#[inline(always)]
+#[cfg_attr(debug_assertions, inline)]
+#[cfg_attr(not(debug_assertions), inline(always))]
 pub(crate) fn encode_pair<C: Config>(
     key: &C::Key,
     value: &C::Value,

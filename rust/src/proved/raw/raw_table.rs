@@ -82,7 +82,8 @@ pub fn tag_of(hash: u32) -> u8 {
 }
 
 // How many slots have these control bytes, which end with their mirror.
-#[inline(always)]
+#[cfg_attr(debug_assertions, inline)]
+#[cfg_attr(not(debug_assertions), inline(always))]
 fn slot_count_of(control: &[EntryMetadata]) -> usize {
     control.len() - REFERENCE_GROUP_SIZE
 }
@@ -101,13 +102,15 @@ impl<'a, K: ByteArray, V: ByteArray, H: HashFn> RawTable<'a, K, V, H> {
     }
 
     // The same parts, with keys and values as bytes.
-    #[inline(always)]
+    #[cfg_attr(debug_assertions, inline)]
+    #[cfg_attr(not(debug_assertions), inline(always))]
     pub(crate) fn parts(&self) -> Parts<'a, Fixed<K, V>, H> {
         self.parts.copy()
     }
 
     // The entries.
-    #[inline(always)]
+    #[cfg_attr(debug_assertions, inline)]
+    #[cfg_attr(not(debug_assertions), inline(always))]
     fn entries(&self) -> Entries<'a, K, V> {
         Entries::of(self.parts().stored())
     }
@@ -117,7 +120,8 @@ impl<'a, K: ByteArray, V: ByteArray, H: HashFn> RawTable<'a, K, V, H> {
     ///
     /// On the parts of a placed table it is the map's result. On any parts it is a value that is
     /// stored with an equal key. `find_counted` says how many groups that takes.
-    #[inline(always)]
+    #[cfg_attr(debug_assertions, inline)]
+    #[cfg_attr(not(debug_assertions), inline(always))]
     pub fn find(&self, key: &K) -> Option<V> {
         let (value, _) = self.find_counted(key);
         value
@@ -126,14 +130,16 @@ impl<'a, K: ByteArray, V: ByteArray, H: HashFn> RawTable<'a, K, V, H> {
     /// `find`, and how many groups were read: on the parts of a placed table those up to the first
     /// slot that is free or holds the key, and on any parts at most all groups. How they are
     /// counted: docs/FORMAT.md, "Search".
-    #[inline(always)]
+    #[cfg_attr(debug_assertions, inline)]
+    #[cfg_attr(not(debug_assertions), inline(always))]
     pub fn find_counted(&self, key: &K) -> (Option<V>, usize) {
         self.find_counted_by::<GroupQuery>(key)
     }
 
     /// `find_counted` by a group search of the caller's choice. On the parts of a placed table all
     /// searches give the same.
-    #[inline(always)]
+    #[cfg_attr(debug_assertions, inline)]
+    #[cfg_attr(not(debug_assertions), inline(always))]
     pub fn find_counted_by<Q: Group>(&self, key: &K) -> (Option<V>, usize) {
         match self.parts().find_of::<Q>(key.as_slice()) {
             (Some(value), groups) => (Some(V::from_slice(value)), groups),
@@ -152,7 +158,8 @@ impl<'a, K: ByteArray, V: ByteArray, H: HashFn> RawTable<'a, K, V, H> {
     /// first error: `NonZeroEmpty` of a slot that counts as free, `ControlMismatch` of any other.
     ///
     /// A mismatch can mean that the bytes were written with another hash function.
-    #[inline(always)]
+    #[cfg_attr(debug_assertions, inline)]
+    #[cfg_attr(not(debug_assertions), inline(always))]
     pub fn sanity_check_hashes(&self, slots_to_check: usize) -> Result<(), Error> {
         self.parts().sanity_check_hashes(slots_to_check)
     }

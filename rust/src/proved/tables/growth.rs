@@ -57,7 +57,8 @@ pub(crate) fn grown_layout<C: Config>(header: &Header<'_>) -> Option<(usize, usi
 }
 
 /// The same of a table of these lengths.
-#[inline(always)]
+#[cfg_attr(debug_assertions, inline)]
+#[cfg_attr(not(debug_assertions), inline(always))]
 pub(crate) fn grown_sizes<H: HashFn>(
     layout: Layout,
     header: &Header<'_>,

@@ -43,7 +43,8 @@ impl<C: Config, D: ByteStore> HashTable<C, D> {
     ///
     /// Nothing else is checked. A view of bytes that are accepted and not valid is safe to use,
     /// but its calls keep only what their clauses say of any bytes.
-    #[inline(always)]
+    #[cfg_attr(debug_assertions, inline)]
+    #[cfg_attr(not(debug_assertions), inline(always))]
     pub fn from_raw_bytes(data: D) -> Result<Self, Error> {
         match Allocation::from_raw_bytes(data) {
             Ok(allocation) => Ok(HashTable { allocation }),
@@ -57,7 +58,8 @@ impl<C: Config, D: ByteStore> HashTable<C, D> {
     ///
     /// No slot is checked. A view of bytes that are not valid is safe to use, but its calls keep
     /// only what their clauses say of any bytes.
-    #[inline(always)]
+    #[cfg_attr(debug_assertions, inline)]
+    #[cfg_attr(not(debug_assertions), inline(always))]
     pub fn from_raw_bytes_by_header(data: D) -> Result<Self, Error> {
         match Allocation::from_raw_bytes_by_header(data) {
             Ok(allocation) => Ok(HashTable { allocation }),
@@ -75,7 +77,8 @@ impl<C: Config, D: ByteStore> HashTable<C, D> {
     /// The value of a key, or None. On valid bytes it is the table's value for the key; on any
     /// bytes it is one that some entry has beside this very key. [`HashTable::get_counted`] counts
     /// the groups of such a search.
-    #[inline(always)]
+    #[cfg_attr(debug_assertions, inline)]
+    #[cfg_attr(not(debug_assertions), inline(always))]
     pub fn get(&self, key: &C::Key) -> Option<C::Value> {
         self.get_by::<GroupQuery>(key)
     }
@@ -208,7 +211,8 @@ impl<C: Config, D: ByteStoreMut> HashTable<C, D> {
     /// occupied. No other byte changes.
     ///
     /// The key is hashed once. [`HashTable::get_counted`] counts the groups of such a search.
-    #[inline(always)]
+    #[cfg_attr(debug_assertions, inline)]
+    #[cfg_attr(not(debug_assertions), inline(always))]
     pub fn insert(&mut self, key: &C::Key, value: &C::Value) -> Result<Option<C::Value>, Error> {
         self.insert_by::<GroupQuery>(key, value)
     }

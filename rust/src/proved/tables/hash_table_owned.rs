@@ -172,7 +172,8 @@ impl<C: Config> HashTableOwned<C> {
     /// says.
     ///
     /// The key is hashed once, and once more at a growth, which hashes and places each item again.
-    #[inline(always)]
+    #[cfg_attr(debug_assertions, inline)]
+    #[cfg_attr(not(debug_assertions), inline(always))]
     pub fn insert(&mut self, key: &C::Key, value: &C::Value) -> Result<Option<C::Value>, Error> {
         match self.table.insert(key, value) {
             Ok(old) => Ok(old),

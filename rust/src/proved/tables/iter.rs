@@ -16,7 +16,8 @@ pub struct Iter<'a, C: Config> {
 impl<'a, C: Config> Iterator for Iter<'a, C> {
     type Item = (C::Key, C::Value);
 
-    #[inline(always)]
+    #[cfg_attr(debug_assertions, inline)]
+    #[cfg_attr(not(debug_assertions), inline(always))]
     fn next(&mut self) -> Option<(C::Key, C::Value)> {
         match self.raw.next() {
             Some((_, entry)) => Some((C::decode_key(&entry.key), C::decode_value(&entry.value))),
@@ -40,7 +41,8 @@ pub struct Slots<'a, C: Config> {
 impl<'a, C: Config> Iterator for Slots<'a, C> {
     type Item = (usize, (C::Key, C::Value));
 
-    #[inline(always)]
+    #[cfg_attr(debug_assertions, inline)]
+    #[cfg_attr(not(debug_assertions), inline(always))]
     fn next(&mut self) -> Option<(usize, (C::Key, C::Value))> {
         match self.raw.next() {
             Some((slot, (_, entry))) => {

@@ -25,7 +25,8 @@ pub(crate) struct InSlice<'a, T> {
 }
 
 impl<'a, T> Answers<T> for InSlice<'a, T> {
-    #[inline(always)]
+    #[cfg_attr(debug_assertions, inline)]
+    #[cfg_attr(not(debug_assertions), inline(always))]
     fn put(&mut self, index: usize, answer: T) {
         index_mut!(self.answers[index], "index < places self.old") = answer;
     }
@@ -36,7 +37,8 @@ impl<'a, T> Answers<T> for InSlice<'a, T> {
 /// keys. Eight keys are taken at a time, then the rest one by one.
 ///
 /// Each key is encoded twice, and hashed once. No group is read twice.
-#[inline(always)]
+#[cfg_attr(debug_assertions, inline)]
+#[cfg_attr(not(debug_assertions), inline(always))]
 pub fn get_all<C: Config, A: Answers<Option<C::Value>>>(
     raw: &RawTable<'_, C::EncodedKey, C::EncodedValue, C::H>,
     keys: &[C::Key],
@@ -50,7 +52,8 @@ pub fn get_all<C: Config, A: Answers<Option<C::Value>>>(
 }
 
 // Puts the results of the keys of the full batches, and returns how many keys these are.
-#[inline(always)]
+#[cfg_attr(debug_assertions, inline)]
+#[cfg_attr(not(debug_assertions), inline(always))]
 fn get_batches<C: Config, A: Answers<Option<C::Value>>>(
     raw: &RawTable<'_, C::EncodedKey, C::EncodedValue, C::H>,
     keys: &[C::Key],
@@ -65,7 +68,8 @@ fn get_batches<C: Config, A: Answers<Option<C::Value>>>(
 
 // Puts the results of the eight keys from an index on. It has no loop, so that the first looks
 // stay in registers.
-#[inline(always)]
+#[cfg_attr(debug_assertions, inline)]
+#[cfg_attr(not(debug_assertions), inline(always))]
 fn get_eight<C: Config, A: Answers<Option<C::Value>>>(
     raw: &RawTable<'_, C::EncodedKey, C::EncodedValue, C::H>,
     keys: &[C::Key],
@@ -91,7 +95,8 @@ fn get_eight<C: Config, A: Answers<Option<C::Value>>>(
 }
 
 // Puts the result of the key at an index, from its first look.
-#[inline(always)]
+#[cfg_attr(debug_assertions, inline)]
+#[cfg_attr(not(debug_assertions), inline(always))]
 fn get_one<C: Config, A: Answers<Option<C::Value>>>(
     raw: &RawTable<'_, C::EncodedKey, C::EncodedValue, C::H>,
     look: FirstLook,
@@ -104,7 +109,8 @@ fn get_one<C: Config, A: Answers<Option<C::Value>>>(
 
 // The first look of the search for the key at an index, which `find_at` continues. It reads one
 // group of control bytes.
-#[inline(always)]
+#[cfg_attr(debug_assertions, inline)]
+#[cfg_attr(not(debug_assertions), inline(always))]
 fn first_look_at<C: Config>(
     raw: &RawTable<'_, C::EncodedKey, C::EncodedValue, C::H>,
     keys: &[C::Key],
@@ -115,7 +121,8 @@ fn first_look_at<C: Config>(
 
 // The value of the key at an index, from its first look by `first_look_at`. The key is encoded
 // once more.
-#[inline(always)]
+#[cfg_attr(debug_assertions, inline)]
+#[cfg_attr(not(debug_assertions), inline(always))]
 fn find_at<C: Config>(
     raw: &RawTable<'_, C::EncodedKey, C::EncodedValue, C::H>,
     look: FirstLook,

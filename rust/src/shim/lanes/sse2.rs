@@ -22,13 +22,15 @@ pub struct Mask(__m128i);
 
 impl u8x16 {
     /// The byte, sixteen times.
-    #[inline(always)]
+    #[cfg_attr(debug_assertions, inline)]
+    #[cfg_attr(not(debug_assertions), inline(always))]
     pub fn splat(byte: u8) -> Self {
         u8x16(sse2!(_mm_set1_epi8(byte as i8)))
     }
 
     /// The bytes of an array.
-    #[inline(always)]
+    #[cfg_attr(debug_assertions, inline)]
+    #[cfg_attr(not(debug_assertions), inline(always))]
     pub fn from_array(bytes: [u8; 16]) -> Self {
         #[cfg(test)]
         super::loads::COUNT.set(super::loads::COUNT.get() + 1);
@@ -37,20 +39,23 @@ impl u8x16 {
     }
 
     /// The first sixteen bytes of a slice, which has as many.
-    #[inline(always)]
+    #[cfg_attr(debug_assertions, inline)]
+    #[cfg_attr(not(debug_assertions), inline(always))]
     pub fn from_slice(bytes: &[u8]) -> Self {
         let Some(chunk) = bytes.first_chunk::<16>() else { unreachable!() };
         Self::from_array(*chunk)
     }
 
     /// Which bytes are equal.
-    #[inline(always)]
+    #[cfg_attr(debug_assertions, inline)]
+    #[cfg_attr(not(debug_assertions), inline(always))]
     pub fn simd_eq(self, other: Self) -> Mask {
         Mask(sse2!(_mm_cmpeq_epi8(self.0, other.0)))
     }
 
     /// Which bytes are at least as large.
-    #[inline(always)]
+    #[cfg_attr(debug_assertions, inline)]
+    #[cfg_attr(not(debug_assertions), inline(always))]
     pub fn simd_ge(self, other: Self) -> Mask {
         Mask(sse2!(_mm_cmpeq_epi8(_mm_max_epu8(self.0, other.0), self.0)))
     }
@@ -58,7 +63,8 @@ impl u8x16 {
 
 impl Mask {
     /// The bit of each byte for which it holds.
-    #[inline(always)]
+    #[cfg_attr(debug_assertions, inline)]
+    #[cfg_attr(not(debug_assertions), inline(always))]
     pub fn to_bitmask(self) -> u64 {
         sse2!(_mm_movemask_epi8(self.0)) as u16 as u64
     }

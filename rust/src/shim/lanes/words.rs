@@ -13,13 +13,15 @@ pub struct Mask([u64; 2]);
 
 impl u8x16 {
     /// The byte, sixteen times.
-    #[inline(always)]
+    #[cfg_attr(debug_assertions, inline)]
+    #[cfg_attr(not(debug_assertions), inline(always))]
     pub fn splat(byte: u8) -> Self {
         u8x16([u64::from_ne_bytes([byte; 8]); 2])
     }
 
     /// The bytes of an array.
-    #[inline(always)]
+    #[cfg_attr(debug_assertions, inline)]
+    #[cfg_attr(not(debug_assertions), inline(always))]
     pub fn from_array(bytes: [u8; 16]) -> Self {
         #[cfg(test)]
         super::loads::COUNT.set(super::loads::COUNT.get() + 1);
@@ -28,14 +30,16 @@ impl u8x16 {
     }
 
     /// The first sixteen bytes of a slice, which has as many.
-    #[inline(always)]
+    #[cfg_attr(debug_assertions, inline)]
+    #[cfg_attr(not(debug_assertions), inline(always))]
     pub fn from_slice(bytes: &[u8]) -> Self {
         let Some(chunk) = bytes.first_chunk::<16>() else { unreachable!() };
         Self::from_array(*chunk)
     }
 
     /// Which bytes are equal.
-    #[inline(always)]
+    #[cfg_attr(debug_assertions, inline)]
+    #[cfg_attr(not(debug_assertions), inline(always))]
     pub fn simd_eq(self, other: Self) -> Mask {
         self.each(other, |a, b| {
             let x = a ^ b;
@@ -44,7 +48,8 @@ impl u8x16 {
     }
 
     /// Which bytes are at least as large.
-    #[inline(always)]
+    #[cfg_attr(debug_assertions, inline)]
+    #[cfg_attr(not(debug_assertions), inline(always))]
     pub fn simd_ge(self, other: Self) -> Mask {
         self.each(other, |a, b| {
             // The highest bit of a byte stays set where its lower bits are at least as large.
@@ -53,7 +58,8 @@ impl u8x16 {
         })
     }
 
-    #[inline(always)]
+    #[cfg_attr(debug_assertions, inline)]
+    #[cfg_attr(not(debug_assertions), inline(always))]
     fn each(self, other: Self, of: impl Fn(u64, u64) -> u64) -> Mask {
         Mask([of(self.0[0], other.0[0]), of(self.0[1], other.0[1])])
     }
@@ -61,7 +67,8 @@ impl u8x16 {
 
 impl Mask {
     /// The bit of each byte for which it holds.
-    #[inline(always)]
+    #[cfg_attr(debug_assertions, inline)]
+    #[cfg_attr(not(debug_assertions), inline(always))]
     pub fn to_bitmask(self) -> u64 {
         let bits = |word: u64| (word >> 7).wrapping_mul(0x0102_0408_1020_4080) >> 56;
         bits(self.0[0]) | bits(self.0[1]) << 8

@@ -40,7 +40,8 @@ pub fn collected<C: Config>(
 // which the proof needs. It is not a law of `ByteArray`, since a law speaks of every value of the
 // logic: there a `[u8; 2]` is any list of numbers, and that it has two bytes is known only of one
 // that a function has read.
-#[inline(always)]
+#[cfg_attr(debug_assertions, inline)]
+#[cfg_attr(not(debug_assertions), inline(always))]
 fn hold_pairs<C: Config>(keys: &[C::Key], values: &[C::Value]) {
     for index in 0..keys.len() {
         let key = C::encode_key(&keys[index]);
@@ -52,7 +53,8 @@ fn hold_pairs<C: Config>(keys: &[C::Key], values: &[C::Value]) {
 
 // Makes an empty table in the bytes, whatever they hold, and inserts the pairs in order: there is
 // room for each.
-#[inline(always)]
+#[cfg_attr(debug_assertions, inline)]
+#[cfg_attr(not(debug_assertions), inline(always))]
 fn insert_into_new<C: Config>(
     bytes: &mut [u8],
     percent: Percent,
@@ -65,7 +67,8 @@ fn insert_into_new<C: Config>(
 
 // The same in a store. It is a function of its own since the prover knows what a slice holds after
 // a store of it was lent to a call, and not after the store was moved into a table.
-#[inline(always)]
+#[cfg_attr(debug_assertions, inline)]
+#[cfg_attr(not(debug_assertions), inline(always))]
 fn insert_into_store<C: Config, M: ByteStoreMut>(
     store: &mut M,
     percent: Percent,

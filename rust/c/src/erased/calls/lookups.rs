@@ -11,7 +11,8 @@ pub(crate) struct Arrays<'v, 'f, V> {
 }
 
 impl<'v, 'f, V> Answers<Option<V>> for Arrays<'v, 'f, V> {
-    #[inline(always)]
+    #[cfg_attr(debug_assertions, inline)]
+    #[cfg_attr(not(debug_assertions), inline(always))]
     fn put(&mut self, index: usize, answer: Option<V>) {
         match answer {
             Some(value) => {

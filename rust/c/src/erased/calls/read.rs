@@ -11,7 +11,8 @@ use crate::proved::tables::memory_layout::{is_accepted, Header};
 use crate::proved::tables::{memory_layout, HashTable};
 
 /// Opens the bytes by their header and length. Reads no slot.
-#[inline(always)]
+#[cfg_attr(debug_assertions, inline)]
+#[cfg_attr(not(debug_assertions), inline(always))]
 pub(crate) fn view<C: Config>(bytes: &[u8]) -> Result<HashTable<C, Borrowed<'_>>, Error> {
     HashTable::from_raw_bytes_by_header(Borrowed::new(bytes))
 }

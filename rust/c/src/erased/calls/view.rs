@@ -34,13 +34,15 @@ pub fn open<'a, C: Config>(bytes: &'a [u8], view: &mut View<'a>) -> u32 {
 }
 
 /// The table of a view. Reads none of its bytes.
-#[inline(always)]
+#[cfg_attr(debug_assertions, inline)]
+#[cfg_attr(not(debug_assertions), inline(always))]
 pub fn table<'a, C: Config>(view: &View<'a>) -> HashTable<C, Borrowed<'a>> {
     HashTable::from_raw_bytes_unchecked(Borrowed::new(view.bytes))
 }
 
 /// Writes the value of a key of an opened table to `value`. ABSENT leaves `value` unchanged.
-#[inline(always)]
+#[cfg_attr(debug_assertions, inline)]
+#[cfg_attr(not(debug_assertions), inline(always))]
 pub fn get<C: Config>(
     table: &HashTable<C, Borrowed<'_>>,
     key: &C::Key,

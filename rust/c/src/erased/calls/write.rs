@@ -47,7 +47,8 @@ pub fn init<C: Config, M: ByteStoreMut>(
 
 /// Gives the key this value. A value that it had before is written to `former`. An error leaves
 /// the store and `former` unchanged.
-#[inline(always)]
+#[cfg_attr(debug_assertions, inline)]
+#[cfg_attr(not(debug_assertions), inline(always))]
 pub fn insert<C: Config, M: ByteStoreMut>(
     store: &mut M,
     key: &C::Key,

@@ -8,7 +8,8 @@ use crate::shim::{AllocError, Global};
 use std::io::{self, Write};
 
 /// Writes a line of a key, a tab and a value, in the texts that their types have.
-#[inline(always)]
+#[cfg_attr(debug_assertions, inline)]
+#[cfg_attr(not(debug_assertions), inline(always))]
 pub fn write_pair<K: Text, V: Text, O: Write>(
     key: &K,
     value: &V,
@@ -19,7 +20,8 @@ pub fn write_pair<K: Text, V: Text, O: Write>(
 
 /// Writes a line of a key, a tab and a value, in texts of these forms. Each part is written by
 /// itself: a buffer behind `output` that becomes full is passed on with as many parts as fit.
-#[inline(always)]
+#[cfg_attr(debug_assertions, inline)]
+#[cfg_attr(not(debug_assertions), inline(always))]
 pub fn write_pair_as<K: Text, V: Text, F: Forms, O: Write>(
     key: &K,
     value: &V,

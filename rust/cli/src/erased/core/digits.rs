@@ -41,7 +41,8 @@ fn parse_short(digits: &[u8]) -> Option<u64> {
 }
 
 // The number of eight digits, which are looked at in the lanes of one vector.
-#[inline(always)]
+#[cfg_attr(debug_assertions, inline)]
+#[cfg_attr(not(debug_assertions), inline(always))]
 fn parse_eight(digits: &[u8; 8]) -> Option<u64> {
     let lanes = u8x8::from_array(*digits);
     let below = lanes.simd_lt(u8x8::splat(b'0')).to_bitmask();
@@ -55,7 +56,8 @@ fn parse_eight(digits: &[u8; 8]) -> Option<u64> {
 // The number of the eight digits that are the bytes of a word, the first of them the lowest. Ten
 // times the digits and the digits one byte further on make a number of two digits in each second
 // byte.
-#[inline(always)]
+#[cfg_attr(debug_assertions, inline)]
+#[cfg_attr(not(debug_assertions), inline(always))]
 fn value_of_eight(word: u64) -> u64 {
     let digits = word - 0x3030_3030_3030_3030;
     let pairs = 10 * digits + digits / 0x100;
@@ -67,7 +69,8 @@ fn value_of_eight(word: u64) -> u64 {
 
 // The number of the digits of `front` and these behind them, of which there are so few that each
 // step fits.
-#[inline(always)]
+#[cfg_attr(debug_assertions, inline)]
+#[cfg_attr(not(debug_assertions), inline(always))]
 fn parse_few(front: u64, digits: &[u8]) -> Option<u64> {
     let mut number = front;
     for digit in digits {
@@ -102,7 +105,8 @@ fn push_digit(number: u64, digit: u8) -> Option<u64> {
 }
 
 /// Writes the decimal digits of a number, in one piece.
-#[inline(always)]
+#[cfg_attr(debug_assertions, inline)]
+#[cfg_attr(not(debug_assertions), inline(always))]
 pub(crate) fn write_number<W: Write>(number: u64, output: &mut W) -> io::Result<()> {
     let mut text = [0; 24];
     let start = put_number(number, &mut text);
@@ -125,7 +129,8 @@ fn put_number(number: u64, text: &mut [u8; 24]) -> usize {
 // Puts the digits of a number of at most four before `end`. Returns where they begin. Whether
 // there are one or two, or three or four, is no branch: that would be guessed wrong as often as
 // not.
-#[inline(always)]
+#[cfg_attr(debug_assertions, inline)]
+#[cfg_attr(not(debug_assertions), inline(always))]
 fn put_front(number: u64, text: &mut [u8; 24], end: usize) -> usize {
     if number < 100 {
         put_pair(number, text, end);
@@ -135,7 +140,8 @@ fn put_front(number: u64, text: &mut [u8; 24], end: usize) -> usize {
     end - 3 - one_from(number, 1000)
 }
 
-#[inline(always)]
+#[cfg_attr(debug_assertions, inline)]
+#[cfg_attr(not(debug_assertions), inline(always))]
 fn one_from(number: u64, least: u64) -> usize {
     if number >= least {
         1
@@ -145,14 +151,16 @@ fn one_from(number: u64, least: u64) -> usize {
 }
 
 // Puts the four digits of a number below 10,000 before `end`.
-#[inline(always)]
+#[cfg_attr(debug_assertions, inline)]
+#[cfg_attr(not(debug_assertions), inline(always))]
 fn put_four(four: u64, text: &mut [u8; 24], end: usize) {
     put_pair(four % 100, text, end);
     put_pair(four / 100, text, end - 2);
 }
 
 // Puts the two digits of a number below 100 before `end`.
-#[inline(always)]
+#[cfg_attr(debug_assertions, inline)]
+#[cfg_attr(not(debug_assertions), inline(always))]
 fn put_pair(pair: u64, text: &mut [u8; 24], end: usize) {
     let at = 2 * pair as usize;
     let (tens, ones) = (PAIRS[at], PAIRS[at + 1]);

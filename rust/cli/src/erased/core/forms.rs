@@ -135,17 +135,20 @@ pub trait Forms: Copy {
 pub struct OwnForms;
 
 impl Forms for OwnForms {
-    #[inline(always)]
+    #[cfg_attr(debug_assertions, inline)]
+    #[cfg_attr(not(debug_assertions), inline(always))]
     fn key(self) -> Form {
         Form::Own
     }
 
-    #[inline(always)]
+    #[cfg_attr(debug_assertions, inline)]
+    #[cfg_attr(not(debug_assertions), inline(always))]
     fn value(self) -> Form {
         Form::Own
     }
 
-    #[inline(always)]
+    #[cfg_attr(debug_assertions, inline)]
+    #[cfg_attr(not(debug_assertions), inline(always))]
     fn delimiter(self) -> u8 {
         b'\t'
     }
@@ -169,7 +172,8 @@ impl Forms for GivenForms {
         self.value
     }
 
-    #[inline(always)]
+    #[cfg_attr(debug_assertions, inline)]
+    #[cfg_attr(not(debug_assertions), inline(always))]
     fn delimiter(self) -> u8 {
         b'\t'
     }

@@ -31,7 +31,8 @@ fn read_few(word: &[u8], bytes: &mut [u8]) -> bool {
 }
 
 // These digits, and the digit 0 behind them, 64 in all.
-#[inline(always)]
+#[cfg_attr(debug_assertions, inline)]
+#[cfg_attr(not(debug_assertions), inline(always))]
 fn with_zeros(word: &[u8]) -> [u8; 64] {
     let mut digits = [b'0'; 64];
     digits[..word.len()].copy_from_slice(word);

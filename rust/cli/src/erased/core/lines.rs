@@ -22,7 +22,8 @@ pub(crate) fn read_line<R: BufRead>(reader: &mut R, line: &mut Vec<u8>) -> io::R
 }
 
 // Reads the next line with its end. False at the end of the input.
-#[inline(always)]
+#[cfg_attr(debug_assertions, inline)]
+#[cfg_attr(not(debug_assertions), inline(always))]
 fn read_through<R: BufRead>(reader: &mut R, line: &mut Vec<u8>) -> io::Result<bool> {
     match take_buffered(reader, line)? {
         Buffered::Line => Ok(true),
@@ -41,7 +42,8 @@ enum Buffered {
 }
 
 // Most lines are in the buffer whole, and need one search and one copy.
-#[inline(always)]
+#[cfg_attr(debug_assertions, inline)]
+#[cfg_attr(not(debug_assertions), inline(always))]
 fn take_buffered<R: BufRead>(reader: &mut R, line: &mut Vec<u8>) -> io::Result<Buffered> {
     let available = match reader.fill_buf() {
         Ok(available) => available,
@@ -99,7 +101,8 @@ pub fn read_pair<K: Text, V: Text, I: BufRead>(
 }
 
 /// `read_pair` in texts of these forms.
-#[inline(always)]
+#[cfg_attr(debug_assertions, inline)]
+#[cfg_attr(not(debug_assertions), inline(always))]
 pub fn read_pair_as<K: Text, V: Text, F: Forms, I: BufRead>(
     input: &mut I,
     line: &mut Vec<u8>,
@@ -151,7 +154,8 @@ pub(crate) fn is_left_out<I: BufRead>(input: &mut I, line: &mut Vec<u8>) -> io::
 
 // The key and the value of a line: on either side of the first byte that stands between them, or,
 // where a value is nothing, of a line without that byte.
-#[inline(always)]
+#[cfg_attr(debug_assertions, inline)]
+#[cfg_attr(not(debug_assertions), inline(always))]
 fn parse_pair<K: Text, V: Text, F: Forms>(line: &[u8], forms: F) -> Result<(K, V), LineFault> {
     let (key, value) = parts_of::<V>(line, forms.delimiter(), forms.value())?;
     let Some(key) = K::parse(key, forms.key()) else {
@@ -164,7 +168,8 @@ fn parse_pair<K: Text, V: Text, F: Forms>(line: &[u8], forms: F) -> Result<(K, V
 }
 
 // What is on either side of the first delimiter of a line.
-#[inline(always)]
+#[cfg_attr(debug_assertions, inline)]
+#[cfg_attr(not(debug_assertions), inline(always))]
 fn parts_of<V: Text>(line: &[u8], delimiter: u8, form: Form) -> Result<(&[u8], &[u8]), LineFault> {
     match cut_at(line, delimiter) {
         Some(parts) => Ok(parts),

@@ -26,7 +26,8 @@ pub(crate) fn place_of(bytes: &[u8], byte: u8) -> usize {
 }
 
 // The same of sixteen bytes.
-#[inline(always)]
+#[cfg_attr(debug_assertions, inline)]
+#[cfg_attr(not(debug_assertions), inline(always))]
 fn place_in_lanes(bytes: &[u8], byte: u8) -> usize {
     let bits = u8x16::from_slice(bytes).simd_eq(u8x16::splat(byte)).to_bitmask();
     if bits == 0 {
@@ -37,7 +38,8 @@ fn place_in_lanes(bytes: &[u8], byte: u8) -> usize {
 }
 
 // The same of a few bytes, one after the other.
-#[inline(always)]
+#[cfg_attr(debug_assertions, inline)]
+#[cfg_attr(not(debug_assertions), inline(always))]
 fn place_in_few(bytes: &[u8], byte: u8) -> usize {
     let mut at = 0;
     while at < bytes.len() && bytes[at] != byte {

@@ -64,7 +64,8 @@ fn wanted_of(part: Part, form: Form) -> Wanted {
 // The stored bytes of what is of this type, and of which the word is the text in this form. It is
 // inlined, as `parse_sized` is: what they return has room for 255 bytes, and each call on the way
 // would copy all of it.
-#[inline(always)]
+#[cfg_attr(debug_assertions, inline)]
+#[cfg_attr(not(debug_assertions), inline(always))]
 fn parse_stored(word: &[u8], part: Part, form: Form) -> Option<ShortBytes> {
     match part {
         Part::Nothing => {
@@ -88,7 +89,8 @@ fn bytes_of_u64(number: u64) -> ShortBytes {
 }
 
 // The bytes, so many, of which the word is the text in this form.
-#[inline(always)]
+#[cfg_attr(debug_assertions, inline)]
+#[cfg_attr(not(debug_assertions), inline(always))]
 fn parse_sized(word: &[u8], len: u8, form: Form) -> Option<ShortBytes> {
     let mut bytes = [0; 255];
     let bytes = &mut bytes[..len as usize];

@@ -49,7 +49,8 @@ fn write_sized_slot<H: HashFn, O: Write>(
 }
 
 // Writes the line of these numbers of a slot and of its pair.
-#[inline(always)]
+#[cfg_attr(debug_assertions, inline)]
+#[cfg_attr(not(debug_assertions), inline(always))]
 fn write_slot_text<O: Write>(
     texts: Texts,
     slot: usize,

@@ -68,7 +68,8 @@ where
 }
 
 /// Writes the number of a slot, its control byte and a number of groups, each with a tab after it.
-#[inline(always)]
+#[cfg_attr(debug_assertions, inline)]
+#[cfg_attr(not(debug_assertions), inline(always))]
 pub(crate) fn write_numbers<O: Write>(
     slot: usize,
     tag: u8,

@@ -50,7 +50,8 @@ impl Text for u32 {
         None
     }
 
-    #[inline(always)]
+    #[cfg_attr(debug_assertions, inline)]
+    #[cfg_attr(not(debug_assertions), inline(always))]
     fn write<W: Write>(&self, form: Form, output: &mut W) -> io::Result<()> {
         match form {
             Form::Signed => write_signed(u64::from(*self), u64::from(u32::MAX), output),
@@ -83,7 +84,8 @@ impl Text for u64 {
         None
     }
 
-    #[inline(always)]
+    #[cfg_attr(debug_assertions, inline)]
+    #[cfg_attr(not(debug_assertions), inline(always))]
     fn write<W: Write>(&self, form: Form, output: &mut W) -> io::Result<()> {
         match form {
             Form::Signed => write_signed(*self, u64::MAX, output),
@@ -137,7 +139,8 @@ impl<const N: usize> Text for [u8; N] {
         }
     }
 
-    #[inline(always)]
+    #[cfg_attr(debug_assertions, inline)]
+    #[cfg_attr(not(debug_assertions), inline(always))]
     fn write<W: Write>(&self, form: Form, output: &mut W) -> io::Result<()> {
         match form {
             Form::Plain => write_plain(self, output),
@@ -161,7 +164,8 @@ fn parse_bytes<const N: usize>(word: &[u8]) -> Option<[u8; N]> {
 /// The bytes, at most 32, with these hexadecimal digits: first the value of each digit, then the
 /// byte of each two, so that the compiler makes vectors of both loops. All are read before a wrong
 /// one is noticed, so that no step branches on a digit.
-#[inline(always)]
+#[cfg_attr(debug_assertions, inline)]
+#[cfg_attr(not(debug_assertions), inline(always))]
 pub(crate) fn parse_in_vectors<const N: usize>(word: &[u8]) -> Option<[u8; N]> {
     let mut values = [0; 64];
     if put_values(word, &mut values) >= 16 {
@@ -177,7 +181,8 @@ pub(crate) fn parse_in_vectors<const N: usize>(word: &[u8]) -> Option<[u8; N]> {
 
 // Puts the value of each digit at its place. Returns the largest, which is 16 where a byte is no
 // digit.
-#[inline(always)]
+#[cfg_attr(debug_assertions, inline)]
+#[cfg_attr(not(debug_assertions), inline(always))]
 fn put_values(digits: &[u8], values: &mut [u8; 64]) -> u8 {
     let mut largest = 0;
     for at in 0..digits.len() {
@@ -207,7 +212,8 @@ fn max_of(a: u8, b: u8) -> u8 {
 }
 
 /// The number of a hexadecimal digit of either case, and 16 of any other byte.
-#[inline(always)]
+#[cfg_attr(debug_assertions, inline)]
+#[cfg_attr(not(debug_assertions), inline(always))]
 pub(crate) fn digit_value(byte: u8) -> u8 {
     match byte {
         b'0'..=b'9' => byte - b'0',
@@ -234,7 +240,8 @@ pub fn write_bytes<W: Write>(bytes: &[u8], output: &mut W) -> io::Result<()> {
 
 // Writes the digits of each byte by themselves. A buffer behind `output` that becomes full is then
 // passed on with as many digits as fit, however long the text is.
-#[inline(always)]
+#[cfg_attr(debug_assertions, inline)]
+#[cfg_attr(not(debug_assertions), inline(always))]
 fn write_in_pairs<W: Write>(digits: &[u8], output: &mut W) -> io::Result<()> {
     let mut fault = None;
     let mut rest = digits;
@@ -251,7 +258,8 @@ fn write_in_pairs<W: Write>(digits: &[u8], output: &mut W) -> io::Result<()> {
 }
 
 // Writes two digits. Where that fails, `fault` becomes the error.
-#[inline(always)]
+#[cfg_attr(debug_assertions, inline)]
+#[cfg_attr(not(debug_assertions), inline(always))]
 fn is_written<W: Write>(pair: &[u8; 2], output: &mut W, fault: &mut Option<io::Error>) -> bool {
     went_well(output.write_all(pair), fault)
 }
@@ -260,7 +268,8 @@ fn is_written<W: Write>(pair: &[u8; 2], output: &mut W, fault: &mut Option<io::E
 //
 // The error is put where it stays. As a part of the result it would be copied for each two digits,
 // and zeros in its place where there is none.
-#[inline(always)]
+#[cfg_attr(debug_assertions, inline)]
+#[cfg_attr(not(debug_assertions), inline(always))]
 fn went_well(written: io::Result<()>, fault: &mut Option<io::Error>) -> bool {
     match written {
         Ok(()) => true,
@@ -272,7 +281,8 @@ fn went_well(written: io::Result<()>, fault: &mut Option<io::Error>) -> bool {
 }
 
 // Puts two lower-case digits for each byte at the front of `text`, which is long enough.
-#[inline(always)]
+#[cfg_attr(debug_assertions, inline)]
+#[cfg_attr(not(debug_assertions), inline(always))]
 fn put_bytes(bytes: &[u8], text: &mut [u8]) {
     for at in 0..bytes.len() {
         let byte = bytes[at];
@@ -281,7 +291,8 @@ fn put_bytes(bytes: &[u8], text: &mut [u8]) {
     }
 }
 
-#[inline(always)]
+#[cfg_attr(debug_assertions, inline)]
+#[cfg_attr(not(debug_assertions), inline(always))]
 fn hex_digit(value: u8) -> u8 {
     if value < 10 {
         b'0' + value

@@ -42,7 +42,8 @@ impl Texts {
     }
 
     /// Writes a line of the key and the value that are stored as these bytes.
-    #[inline(always)]
+    #[cfg_attr(debug_assertions, inline)]
+    #[cfg_attr(not(debug_assertions), inline(always))]
     pub fn write_pair<W: Write>(self, key: &[u8], value: &[u8], output: &mut W) -> io::Result<()> {
         self.write_key(key, output)?;
         output.write_all(b"\t")?;
@@ -53,7 +54,8 @@ impl Texts {
 
 /// Writes the text, in this form, of the key or the value of this type that is stored as these
 /// bytes.
-#[inline(always)]
+#[cfg_attr(debug_assertions, inline)]
+#[cfg_attr(not(debug_assertions), inline(always))]
 pub(crate) fn write_stored<W: Write>(
     part: Part,
     form: Form,

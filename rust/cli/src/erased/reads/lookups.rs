@@ -107,7 +107,8 @@ fn read_key<T: Lookups, F: Forms, I: BufRead, O: Write>(
 }
 
 // The key of the next line in the form of keys.
-#[inline(always)]
+#[cfg_attr(debug_assertions, inline)]
+#[cfg_attr(not(debug_assertions), inline(always))]
 fn key_of_line<K: Text, F: Forms, I: BufRead>(
     input: &mut I,
     line: &mut Vec<u8>,

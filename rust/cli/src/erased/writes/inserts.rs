@@ -140,7 +140,8 @@ fn report_all<R: Clock, E: Write>(
 }
 
 // So many bytes, and those of this line with its end.
-#[inline(always)]
+#[cfg_attr(debug_assertions, inline)]
+#[cfg_attr(not(debug_assertions), inline(always))]
 fn with_line(bytes: u64, line: &[u8]) -> u64 {
     bytes.saturating_add(line.len() as u64).saturating_add(1)
 }

@@ -118,7 +118,8 @@ pub fn is_same_word(left: &[u8], right: &[u8], at: usize) -> bool {
 ///
 /// Up to 64 bytes are compared in pieces of eight, then one of four, then the rest: a copy of a
 /// short key is written in such pieces too, and mostly read back fastest in the same.
-#[inline(always)]
+#[cfg_attr(debug_assertions, inline)]
+#[cfg_attr(not(debug_assertions), inline(always))]
 pub fn is_same_bytes(left: &[u8], right: &[u8]) -> bool {
     let len = right.len();
     if len > 64 {
@@ -141,7 +142,8 @@ pub fn is_same_bytes(left: &[u8], right: &[u8]) -> bool {
 }
 
 /// Whether each byte is zero, eight of them at a time.
-#[inline(always)]
+#[cfg_attr(debug_assertions, inline)]
+#[cfg_attr(not(debug_assertions), inline(always))]
 pub fn is_zeros(bytes: &[u8]) -> bool {
     let len = bytes.len();
     if len < 8 {

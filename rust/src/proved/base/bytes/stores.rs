@@ -26,7 +26,8 @@ pub trait ByteStoreMut: ByteStore {
     fn bytes_mut(&mut self) -> &mut [u8];
 
     /// Writes `data` from the byte `at` on. No other byte changes.
-    #[inline(always)]
+    #[cfg_attr(debug_assertions, inline)]
+    #[cfg_attr(not(debug_assertions), inline(always))]
     fn write_at(&mut self, at: usize, data: &[u8]) {
         write_slice(self.bytes_mut(), at, data)
     }
@@ -34,14 +35,16 @@ pub trait ByteStoreMut: ByteStore {
 
 // A borrowed store: what is written to it is written to the store itself.
 impl<M: ByteStore> ByteStore for &mut M {
-    #[inline(always)]
+    #[cfg_attr(debug_assertions, inline)]
+    #[cfg_attr(not(debug_assertions), inline(always))]
     fn bytes(&self) -> &[u8] {
         M::bytes(&**self)
     }
 }
 
 impl<M: ByteStoreMut> ByteStoreMut for &mut M {
-    #[inline(always)]
+    #[cfg_attr(debug_assertions, inline)]
+    #[cfg_attr(not(debug_assertions), inline(always))]
     fn bytes_mut(&mut self) -> &mut [u8] {
         M::bytes_mut(&mut **self)
     }
@@ -92,7 +95,8 @@ impl ByteStore for BorrowedMut<'_> {
 }
 
 impl ByteStoreMut for BorrowedMut<'_> {
-    #[inline(always)]
+    #[cfg_attr(debug_assertions, inline)]
+    #[cfg_attr(not(debug_assertions), inline(always))]
     fn bytes_mut(&mut self) -> &mut [u8] {
         &mut *self.0
     }
@@ -124,14 +128,16 @@ impl ByteStore for OwnedBytes {
 }
 
 impl ByteStoreMut for OwnedBytes {
-    #[inline(always)]
+    #[cfg_attr(debug_assertions, inline)]
+    #[cfg_attr(not(debug_assertions), inline(always))]
     fn bytes_mut(&mut self) -> &mut [u8] {
         self.0.as_mut_slice()
     }
 }
 
 /// Writes `piece` into the slice from the byte `at` on. No other byte changes.
-#[inline(always)]
+#[cfg_attr(debug_assertions, inline)]
+#[cfg_attr(not(debug_assertions), inline(always))]
 pub fn write_slice(all: &mut [u8], at: usize, piece: &[u8]) {
     let target =
         &mut index_mut!(all[at..at + piece.len()], "at + length piece.now ≤ length all.old");
@@ -147,7 +153,8 @@ pub fn write_slice(all: &mut [u8], at: usize, piece: &[u8]) {
 }
 
 // Writes `piece` over the whole slice, of `N` bytes, as an array.
-#[inline(always)]
+#[cfg_attr(debug_assertions, inline)]
+#[cfg_attr(not(debug_assertions), inline(always))]
 fn overwrite_array<const N: usize>(target: &mut [u8], piece: &[u8]) {
     let (Some(to), Some(from)) = (target.first_chunk_mut::<N>(), piece.first_chunk::<N>()) else {
         unreachable!()

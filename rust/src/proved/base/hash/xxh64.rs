@@ -34,7 +34,8 @@ impl HashFn for Xxh64HashFn {
     }
 
     // Inlined at each call: for a key of known length the compiler then drops all other pieces.
-    #[inline(always)]
+    #[cfg_attr(debug_assertions, inline)]
+    #[cfg_attr(not(debug_assertions), inline(always))]
     fn hash(bytes: &[u8]) -> u32 {
         let (opened, after) = add_stripes(bytes);
         let state = opened.wrapping_add(bytes.len() as u64);
@@ -43,7 +44,8 @@ impl HashFn for Xxh64HashFn {
 }
 
 // The state after the stripes of 32 bytes, and the bytes that follow them.
-#[inline(always)]
+#[cfg_attr(debug_assertions, inline)]
+#[cfg_attr(not(debug_assertions), inline(always))]
 fn add_stripes(bytes: &[u8]) -> (u64, &[u8]) {
     if bytes.len() < 32 {
         return (PRIME_5, bytes);
@@ -64,7 +66,8 @@ fn add_stripes(bytes: &[u8]) -> (u64, &[u8]) {
 }
 
 // The state after the bytes that follow the stripes: pieces of eight, then of four, then of one.
-#[inline(always)]
+#[cfg_attr(debug_assertions, inline)]
+#[cfg_attr(not(debug_assertions), inline(always))]
 fn add_remainder(mut state: u64, bytes: &[u8]) -> u64 {
     let mut left = bytes;
     while let Some((piece, after)) = left.split_first_chunk::<8>() {
@@ -79,7 +82,8 @@ fn add_remainder(mut state: u64, bytes: &[u8]) -> u64 {
 }
 
 // The state after these bytes, each a piece of its own.
-#[inline(always)]
+#[cfg_attr(debug_assertions, inline)]
+#[cfg_attr(not(debug_assertions), inline(always))]
 fn add_bytes(mut state: u64, bytes: &[u8]) -> u64 {
     for byte in bytes {
         state = add_last(state, *byte as u64);

@@ -17,7 +17,8 @@ pub fn is_empty_or_deleted(control: u8) -> bool {
 
 /// A bit for each of sixteen control bytes, the lowest for the first: set where the byte counts as
 /// free.
-#[inline(always)]
+#[cfg_attr(debug_assertions, inline)]
+#[cfg_attr(not(debug_assertions), inline(always))]
 pub(super) fn free_bits(control: u8x16) -> u64 {
     control.simd_ge(u8x16::splat(LEAST_FREE)).to_bitmask()
 }
@@ -47,7 +48,8 @@ pub fn occupied(control: &[u8], count: usize) -> IndexSet {
 
 /// The indices of the control bytes that count as free, and of the others. There are up to 64, a
 /// multiple of sixteen.
-#[inline(always)]
+#[cfg_attr(debug_assertions, inline)]
+#[cfg_attr(not(debug_assertions), inline(always))]
 pub fn free_and_occupied(control: &[u8]) -> (IndexSet, IndexSet) {
     let mut free = 0;
     let mut at = 0;

@@ -13,25 +13,29 @@ impl IndexSet {
     pub const CAPACITY: usize = 64;
 
     /// No index.
-    #[inline(always)]
+    #[cfg_attr(debug_assertions, inline)]
+    #[cfg_attr(not(debug_assertions), inline(always))]
     pub fn empty() -> IndexSet {
         IndexSet { bits: 0 }
     }
 
     /// The indices of the bits that are set, from the lowest on.
-    #[inline(always)]
+    #[cfg_attr(debug_assertions, inline)]
+    #[cfg_attr(not(debug_assertions), inline(always))]
     pub fn of_bits(bits: u64) -> IndexSet {
         IndexSet { bits }
     }
 
     /// Whether no index is left.
-    #[inline(always)]
+    #[cfg_attr(debug_assertions, inline)]
+    #[cfg_attr(not(debug_assertions), inline(always))]
     pub fn is_empty(&self) -> bool {
         self.bits == 0
     }
 
     /// The least index that is left; None where none is.
-    #[inline(always)]
+    #[cfg_attr(debug_assertions, inline)]
+    #[cfg_attr(not(debug_assertions), inline(always))]
     pub fn first(&self) -> Option<usize> {
         if self.bits == 0 {
             return None;
@@ -40,13 +44,15 @@ impl IndexSet {
     }
 
     /// Drops the least index that is left, if there is one.
-    #[inline(always)]
+    #[cfg_attr(debug_assertions, inline)]
+    #[cfg_attr(not(debug_assertions), inline(always))]
     pub fn drop_first(&mut self) {
         self.bits &= self.bits.wrapping_sub(1);
     }
 
     /// Takes the least index that is left: returns and drops it; None once all were taken.
-    #[inline(always)]
+    #[cfg_attr(debug_assertions, inline)]
+    #[cfg_attr(not(debug_assertions), inline(always))]
     pub fn take(&mut self) -> Option<usize> {
         let index = self.first()?;
         self.drop_first();

@@ -14,25 +14,29 @@ pub(super) struct LaneSet {
 
 impl LaneSet {
     /// The indices of the bits that are set, from the lowest on. There are sixteen bits.
-    #[inline(always)]
+    #[cfg_attr(debug_assertions, inline)]
+    #[cfg_attr(not(debug_assertions), inline(always))]
     pub(super) fn of_bits(bits: u64) -> LaneSet {
         LaneSet { bits: bits as u16 }
     }
 
     /// The least index that is left; None where none is.
-    #[inline(always)]
+    #[cfg_attr(debug_assertions, inline)]
+    #[cfg_attr(not(debug_assertions), inline(always))]
     pub(super) fn first(&self) -> Option<usize> {
         IndexSet::of_bits(self.bits as u64).first()
     }
 
     /// Drops the least index that is left, if there is one.
-    #[inline(always)]
+    #[cfg_attr(debug_assertions, inline)]
+    #[cfg_attr(not(debug_assertions), inline(always))]
     pub(super) fn drop_first(&mut self) {
         self.bits &= self.bits.wrapping_sub(1);
     }
 
     /// Takes the least index that is left: returns and drops it; None once all were taken.
-    #[inline(always)]
+    #[cfg_attr(debug_assertions, inline)]
+    #[cfg_attr(not(debug_assertions), inline(always))]
     pub(super) fn take(&mut self) -> Option<usize> {
         let index = self.first()?;
         self.drop_first();

@@ -23,7 +23,8 @@ pub struct GroupQuery {
 }
 
 // The index of the byte with the least of these bits.
-#[inline(always)]
+#[cfg_attr(debug_assertions, inline)]
+#[cfg_attr(not(debug_assertions), inline(always))]
 fn first_byte(bits: &IndexSet) -> Option<usize> {
     match bits.first() {
         Some(position) => Some(position / 8),

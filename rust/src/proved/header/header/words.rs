@@ -15,7 +15,8 @@ use crate::proved::header::swisstable_group_query::REFERENCE_GROUP_SIZE;
 /// Whether the header and the length of the bytes fit: true exactly where opening them by header
 /// and length has no error, that is, they are enough for a header, and [`Header::sanity_check`]
 /// finds none. It reads whole words, so it is faster, and does not tell which error comes first.
-#[inline(always)]
+#[cfg_attr(debug_assertions, inline)]
+#[cfg_attr(not(debug_assertions), inline(always))]
 pub fn is_accepted<C: Config>(bytes: &[u8]) -> bool {
     // One test for two: fewer bytes have no room for a header, or for the slots that each table
     // has.
@@ -37,7 +38,8 @@ pub fn is_accepted<C: Config>(bytes: &[u8]) -> bool {
 
 // Whether the first eight bytes, the tag and the four sizes, are those of each table of this
 // configuration.
-#[inline(always)]
+#[cfg_attr(debug_assertions, inline)]
+#[cfg_attr(not(debug_assertions), inline(always))]
 fn has_front<C: Config>(bytes: &[u8]) -> bool {
     let [first, second, third, fourth] = HEADER_TAG;
     let front = [

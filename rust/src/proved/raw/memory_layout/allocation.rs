@@ -28,7 +28,8 @@ impl<C: Config, M: ByteStore> Allocation<C, M> {
     /// then those of [`Header::sanity_check`], then those of [`RawTable::sanity_check_hashes`] on
     /// the first ten slots. On an error the data is dropped. Valid bytes are always opened; bytes
     /// that are opened need not be valid.
-    #[inline(always)]
+    #[cfg_attr(debug_assertions, inline)]
+    #[cfg_attr(not(debug_assertions), inline(always))]
     pub fn from_raw_bytes(data: M) -> Result<Self, Error> {
         let allocation = Self::from_raw_bytes_by_header(data)?;
         allocation.as_raw().sanity_check_hashes(SLOTS_TO_CHECK)?;
@@ -38,7 +39,8 @@ impl<C: Config, M: ByteStore> Allocation<C, M> {
     /// Opens the bytes as those of a table by their header and length alone. The result is the
     /// first error, if any: `TooShort`, then those of [`Header::sanity_check`]. No slot is read.
     /// On an error the data is dropped.
-    #[inline(always)]
+    #[cfg_attr(debug_assertions, inline)]
+    #[cfg_attr(not(debug_assertions), inline(always))]
     pub fn from_raw_bytes_by_header(data: M) -> Result<Self, Error> {
         let bytes = data.bytes();
         let found = bytes.len();
@@ -105,7 +107,8 @@ impl<C: Config, M: ByteStore> Allocation<C, M> {
     }
 
     /// The parts of the table, to be read.
-    #[inline(always)]
+    #[cfg_attr(debug_assertions, inline)]
+    #[cfg_attr(not(debug_assertions), inline(always))]
     pub fn as_raw(&self) -> RawTable<'_, C::EncodedKey, C::EncodedValue, C::H> {
         let (control, entries) = self.data_slices();
         RawTable::new(control, entries)
@@ -113,5 +116,6 @@ impl<C: Config, M: ByteStore> Allocation<C, M> {
 }
 
 // Does nothing: its contract gives the proof that each item of a slice of bytes is below 256.
-#[inline(always)]
+#[cfg_attr(debug_assertions, inline)]
+#[cfg_attr(not(debug_assertions), inline(always))]
 pub(crate) fn hold_bytes(bytes: &[u8]) {}

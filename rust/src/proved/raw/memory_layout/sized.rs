@@ -42,13 +42,15 @@ pub fn check_opening<H: HashFn>(bytes: &[u8], layout: Layout) -> Result<(), Erro
 
 /// The parts of bytes whose header and length fit. Of the bytes of a valid table they are its
 /// parts.
-#[inline(always)]
+#[cfg_attr(debug_assertions, inline)]
+#[cfg_attr(not(debug_assertions), inline(always))]
 pub fn sized_parts<H: HashFn>(bytes: &[u8], layout: Layout) -> SizedTable<'_, H> {
     cut::<H>(bytes, layout)
 }
 
 // `sized_parts` of bytes that are as long as their header says.
-#[inline(always)]
+#[cfg_attr(debug_assertions, inline)]
+#[cfg_attr(not(debug_assertions), inline(always))]
 fn cut<H: HashFn>(bytes: &[u8], layout: Layout) -> SizedTable<'_, H> {
     let slots = Header::of(bytes).slot_count();
     crate::shim::slots::check::<&[u8]>(bytes.len(), slots, layout);

@@ -18,7 +18,8 @@ use crate::proved::raw::swisstable_group_query::{Group, GroupQuery};
 /// The clause says what such a slot is, not when there is one: the slot count would always be
 /// right, and slower. No entry is read, so the calls for several keys do not depend on one
 /// another.
-#[inline(always)]
+#[cfg_attr(debug_assertions, inline)]
+#[cfg_attr(not(debug_assertions), inline(always))]
 pub(crate) fn expected_slot<K: ByteArray, V: ByteArray, H: HashFn, Q: Group>(
     control: &[EntryMetadata],
     key: &K,
@@ -40,7 +41,8 @@ pub(crate) fn expected_slot<K: ByteArray, V: ByteArray, H: HashFn, Q: Group>(
 /// `insert_step` of a key with this hash, whose search was expected to end at this slot. Where
 /// there is room and the slot still counts as free the pair is written there; else the whole
 /// search is made.
-#[inline(always)]
+#[cfg_attr(debug_assertions, inline)]
+#[cfg_attr(not(debug_assertions), inline(always))]
 pub(crate) fn insert_ahead<K: ByteArray, V: ByteArray, H: HashFn>(
     control: &mut [EntryMetadata],
     entries: &mut [u8],
@@ -57,7 +59,8 @@ pub(crate) fn insert_ahead<K: ByteArray, V: ByteArray, H: HashFn>(
 
 // Where the search for the key ends. It was expected to end at this slot. Without room it is the
 // whole search, which alone says what comes before its end.
-#[inline(always)]
+#[cfg_attr(debug_assertions, inline)]
+#[cfg_attr(not(debug_assertions), inline(always))]
 fn expected_end<K: ByteArray, V: ByteArray, H: HashFn>(
     control: &[EntryMetadata],
     entries: &[u8],

@@ -64,7 +64,8 @@ fn check_in_order<S: TableSlots>(table: &S, start: usize, size: usize) -> Result
 
 // What is known after a span of `size` slots from `start` on, of which the free ones have no
 // error, from what is known before it. The others are taken in their order.
-#[inline(always)]
+#[cfg_attr(debug_assertions, inline)]
+#[cfg_attr(not(debug_assertions), inline(always))]
 fn take_others<S: TableSlots>(
     table: &S,
     start: usize,
@@ -92,7 +93,8 @@ fn take_others<S: TableSlots>(
 }
 
 // Whether the slots whose indices from `start` on are marked are free, with no error.
-#[inline(always)]
+#[cfg_attr(debug_assertions, inline)]
+#[cfg_attr(not(debug_assertions), inline(always))]
 fn are_free<S: TableSlots>(table: &S, start: usize, free: IndexSet) -> bool {
     let control = table.control_bytes();
     let mut free = free;

@@ -35,13 +35,15 @@ impl<'a, K: ByteArray, V: ByteArray> Entries<'a, K, V> {
     }
 
     // These entries, with keys and values as types.
-    #[inline(always)]
+    #[cfg_attr(debug_assertions, inline)]
+    #[cfg_attr(not(debug_assertions), inline(always))]
     pub(super) fn of(stored: Stored<'a, Fixed<K, V>>) -> Self {
         Entries { stored }
     }
 
     // The same entries, with keys and values as bytes.
-    #[inline(always)]
+    #[cfg_attr(debug_assertions, inline)]
+    #[cfg_attr(not(debug_assertions), inline(always))]
     pub(super) fn stored(&self) -> Stored<'a, Fixed<K, V>> {
         self.stored.copy()
     }
@@ -60,7 +62,8 @@ impl<'a, K: ByteArray, V: ByteArray> Entries<'a, K, V> {
     }
 
     // Whether the key of a slot is `key`.
-    #[inline(always)]
+    #[cfg_attr(debug_assertions, inline)]
+    #[cfg_attr(not(debug_assertions), inline(always))]
     pub(super) fn is_at(&self, slot: usize, key: &K) -> bool {
         self.stored().has_key(slot, key.as_slice())
     }

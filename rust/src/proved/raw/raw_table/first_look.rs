@@ -19,7 +19,8 @@ pub struct FirstLook {
 
 impl<'a, L: Lengths, H: HashFn> Parts<'a, L, H> {
     /// [`RawTable::first_look`] of a key that is given as bytes.
-    #[inline(always)]
+    #[cfg_attr(debug_assertions, inline)]
+    #[cfg_attr(not(debug_assertions), inline(always))]
     pub fn first_look(&self, key: &[u8]) -> FirstLook {
         let mask = self.len() - 1;
         let hash = H::hash(key);
@@ -32,7 +33,8 @@ impl<'a, L: Lengths, H: HashFn> Parts<'a, L, H> {
     /// [`RawTable::find_from`] of a key that is given as bytes.
     // The first group is not looked at by the function for later ones: keys in a near cache took
     // up to a tenth longer.
-    #[inline(always)]
+    #[cfg_attr(debug_assertions, inline)]
+    #[cfg_attr(not(debug_assertions), inline(always))]
     pub fn find_from(&self, look: FirstLook, key: &[u8]) -> Option<&'a [u8]> {
         let mask = self.len() - 1;
         let home = look.hash as usize & mask;
@@ -55,7 +57,8 @@ impl<'a, L: Lengths, H: HashFn> Parts<'a, L, H> {
 impl<'a, K: ByteArray, V: ByteArray, H: HashFn> RawTable<'a, K, V, H> {
     /// The first look of the search for a key, from which [`RawTable::find_from`] goes on. It
     /// hashes the key and reads one group of control bytes, and no entry.
-    #[inline(always)]
+    #[cfg_attr(debug_assertions, inline)]
+    #[cfg_attr(not(debug_assertions), inline(always))]
     pub fn first_look(&self, key: &K) -> FirstLook {
         self.parts().first_look(key.as_slice())
     }
@@ -65,7 +68,8 @@ impl<'a, K: ByteArray, V: ByteArray, H: HashFn> RawTable<'a, K, V, H> {
     ///
     /// The matches of the look are compared in turn. Where none holds the key and the group has no
     /// free byte, the search goes on with the second group.
-    #[inline(always)]
+    #[cfg_attr(debug_assertions, inline)]
+    #[cfg_attr(not(debug_assertions), inline(always))]
     pub fn find_from(&self, look: FirstLook, key: &K) -> Option<V> {
         match self.parts().find_from(look, key.as_slice()) {
             Some(value) => Some(V::from_slice(value)),

@@ -17,37 +17,43 @@ pub struct GroupProbe<'a> {
 impl<'a> GroupProbe<'a> {
     /// The first group of the probe order of a hash, or of a home slot, in the control bytes of
     /// `slots` slots.
-    #[inline(always)]
+    #[cfg_attr(debug_assertions, inline)]
+    #[cfg_attr(not(debug_assertions), inline(always))]
     pub fn new(control: &'a [EntryMetadata], slots: usize, hash: usize) -> Self {
         GroupProbe { scan: Scan::new(control, slots), probe: ProbeSeq::new(hash, slots - 1) }
     }
 
     /// How many groups were read.
-    #[inline(always)]
+    #[cfg_attr(debug_assertions, inline)]
+    #[cfg_attr(not(debug_assertions), inline(always))]
     pub fn groups(&self) -> usize {
         self.scan.groups()
     }
 
     /// The first slot of the group.
-    #[inline(always)]
+    #[cfg_attr(debug_assertions, inline)]
+    #[cfg_attr(not(debug_assertions), inline(always))]
     pub fn start(&self) -> usize {
         self.probe.index()
     }
 
     /// The sixteen control bytes of the group. Counts one group more.
-    #[inline(always)]
+    #[cfg_attr(debug_assertions, inline)]
+    #[cfg_attr(not(debug_assertions), inline(always))]
     pub fn read(&mut self) -> &'a [EntryMetadata] {
         self.scan.group(self.probe.index())
     }
 
     /// Whether it is the last group.
-    #[inline(always)]
+    #[cfg_attr(debug_assertions, inline)]
+    #[cfg_attr(not(debug_assertions), inline(always))]
     pub fn is_last(&self) -> bool {
         self.probe.is_last()
     }
 
     /// Goes on to the next group.
-    #[inline(always)]
+    #[cfg_attr(debug_assertions, inline)]
+    #[cfg_attr(not(debug_assertions), inline(always))]
     pub fn advance(&mut self) {
         let mask = self.probe.mask();
         self.probe.advance(mask);

@@ -23,7 +23,8 @@ use crate::proved::raw::swisstable_group_query::{Group, GroupQuery, REFERENCE_GR
 /// Each slot before it, or of `Neither` each slot, has another tag than the key or another key.
 /// "Before" is in the probe order. A slot below 16 has two control bytes, and counts as what
 /// either of them says, so it may count as both.
-#[inline(always)]
+#[cfg_attr(debug_assertions, inline)]
+#[cfg_attr(not(debug_assertions), inline(always))]
 pub fn search<K: ByteArray, V: ByteArray, H: HashFn, Q: Group>(
     scan: &mut Scan<'_>,
     entries: &Entries<'_, K, V>,
@@ -34,7 +35,8 @@ pub fn search<K: ByteArray, V: ByteArray, H: HashFn, Q: Group>(
 }
 
 /// `search` of a key whose hash is known.
-#[inline(always)]
+#[cfg_attr(debug_assertions, inline)]
+#[cfg_attr(not(debug_assertions), inline(always))]
 pub fn search_hashed<K: ByteArray, V: ByteArray, H: HashFn, Q: Group>(
     scan: &mut Scan<'_>,
     entries: &Entries<'_, K, V>,
@@ -46,7 +48,8 @@ pub fn search_hashed<K: ByteArray, V: ByteArray, H: HashFn, Q: Group>(
 
 /// The search for a key with this hash among the keys of the entries. It reads control bytes only
 /// through the scan, which counts each group.
-#[inline(always)]
+#[cfg_attr(debug_assertions, inline)]
+#[cfg_attr(not(debug_assertions), inline(always))]
 pub(super) fn search_stored<L: Lengths, H: HashFn, Q: Group>(
     scan: &mut Scan<'_>,
     stored: &Stored<'_, L>,
@@ -58,7 +61,8 @@ pub(super) fn search_stored<L: Lengths, H: HashFn, Q: Group>(
 }
 
 // The rest of a search that is under way, from the position of the probe on.
-#[inline(always)]
+#[cfg_attr(debug_assertions, inline)]
+#[cfg_attr(not(debug_assertions), inline(always))]
 fn search_from<L: Lengths, H: HashFn, Q: Group>(
     scan: &mut Scan<'_>,
     probe: ProbeSeq<REFERENCE_GROUP_SIZE>,
@@ -103,7 +107,8 @@ pub(super) fn late_search<L: Lengths, H: HashFn>(
 
 // Searches the sixteen slots from `start` on, whose control bytes are `bytes`, in pieces of the
 // group search's size.
-#[inline(always)]
+#[cfg_attr(debug_assertions, inline)]
+#[cfg_attr(not(debug_assertions), inline(always))]
 fn look_at_group<L: Lengths, H: HashFn, Q: Group>(
     bytes: &[EntryMetadata],
     start: usize,
@@ -127,7 +132,8 @@ fn look_at_group<L: Lengths, H: HashFn, Q: Group>(
 }
 
 // Searches the slots from `start` on, modulo the slot count, whose control bytes are `bytes`.
-#[inline(always)]
+#[cfg_attr(debug_assertions, inline)]
+#[cfg_attr(not(debug_assertions), inline(always))]
 fn look_at_piece<L: Lengths, H: HashFn, Q: Group>(
     bytes: &[EntryMetadata],
     start: usize,

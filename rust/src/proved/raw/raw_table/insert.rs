@@ -14,7 +14,8 @@ use crate::proved::raw::swisstable_group_query::{Group, REFERENCE_GROUP_SIZE};
 /// `room`, the number of entries that may be added, is not zero, writes the pair into the first
 /// free slot of the key's probe order. Returns the former value; or `Full`, with nothing changed,
 /// where the key is new and there is no room or no free slot.
-#[inline(always)]
+#[cfg_attr(debug_assertions, inline)]
+#[cfg_attr(not(debug_assertions), inline(always))]
 pub(crate) fn insert_step<K: ByteArray, V: ByteArray, H: HashFn, Q: Group>(
     control: &mut [EntryMetadata],
     entries: &mut [u8],
@@ -28,7 +29,8 @@ pub(crate) fn insert_step<K: ByteArray, V: ByteArray, H: HashFn, Q: Group>(
 }
 
 /// Where the search for a key that is inserted ends, and the key's tag.
-#[inline(always)]
+#[cfg_attr(debug_assertions, inline)]
+#[cfg_attr(not(debug_assertions), inline(always))]
 pub(crate) fn step_end<K: ByteArray, V: ByteArray, H: HashFn, Q: Group>(
     control: &[EntryMetadata],
     entries: &[u8],
@@ -46,7 +48,8 @@ pub(crate) fn step_end<K: ByteArray, V: ByteArray, H: HashFn, Q: Group>(
 /// alone into the slot that holds the key, or, where there is room, the entry with its tag into
 /// the free slot. Returns the former value; or `Full`, with nothing changed, where there is no
 /// room for a new entry, or the search met neither slot.
-#[inline(always)]
+#[cfg_attr(debug_assertions, inline)]
+#[cfg_attr(not(debug_assertions), inline(always))]
 pub(crate) fn insert_at<K: ByteArray, V: ByteArray, H: HashFn>(
     control: &mut [EntryMetadata],
     entries: &mut [u8],
@@ -77,7 +80,8 @@ pub(crate) fn insert_at<K: ByteArray, V: ByteArray, H: HashFn>(
 
 /// Writes the pair into a slot, the tag into the slot's control byte, and for a slot below 16 the
 /// tag into the mirror.
-#[inline(always)]
+#[cfg_attr(debug_assertions, inline)]
+#[cfg_attr(not(debug_assertions), inline(always))]
 pub(crate) fn fill_slot<K: ByteArray, V: ByteArray, H: HashFn>(
     control: &mut [EntryMetadata],
     entries: &mut [u8],

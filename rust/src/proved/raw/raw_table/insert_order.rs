@@ -109,7 +109,8 @@ fn is_ready<S: TableSlots>(
 }
 
 // Whether a slot is one of the first group of a home, and not below the home.
-#[inline(always)]
+#[cfg_attr(debug_assertions, inline)]
+#[cfg_attr(not(debug_assertions), inline(always))]
 fn is_near(slot: usize, home: usize) -> bool {
     home <= slot && slot - home < REFERENCE_GROUP_SIZE
 }

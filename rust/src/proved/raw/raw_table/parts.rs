@@ -30,7 +30,8 @@ pub type SizedTable<'a, H> = Parts<'a, Layout, H>;
 
 impl<'a, H: HashFn> Parts<'a, Layout, H> {
     /// The table of these parts. No control byte and no entry is checked.
-    #[inline(always)]
+    #[cfg_attr(debug_assertions, inline)]
+    #[cfg_attr(not(debug_assertions), inline(always))]
     pub fn new(
         control: &'a [EntryMetadata],
         entries: &'a [u8],
@@ -41,7 +42,8 @@ impl<'a, H: HashFn> Parts<'a, Layout, H> {
     }
 
     /// The lengths of keys and values.
-    #[inline(always)]
+    #[cfg_attr(debug_assertions, inline)]
+    #[cfg_attr(not(debug_assertions), inline(always))]
     pub fn layout(&self) -> Layout {
         self.stored.lengths()
     }
@@ -49,19 +51,22 @@ impl<'a, H: HashFn> Parts<'a, Layout, H> {
 
 impl<'a, L: Lengths, H: HashFn> Parts<'a, L, H> {
     /// The table of these control bytes and entries. Nothing is checked.
-    #[inline(always)]
+    #[cfg_attr(debug_assertions, inline)]
+    #[cfg_attr(not(debug_assertions), inline(always))]
     pub fn of(control: &'a [EntryMetadata], stored: Stored<'a, L>) -> Self {
         Parts { control, stored, hash: PhantomData }
     }
 
     // A second reader of the same parts.
-    #[inline(always)]
+    #[cfg_attr(debug_assertions, inline)]
+    #[cfg_attr(not(debug_assertions), inline(always))]
     pub(super) fn copy(&self) -> Self {
         Parts { control: self.control, stored: self.stored.copy(), hash: PhantomData }
     }
 
     /// The entries.
-    #[inline(always)]
+    #[cfg_attr(debug_assertions, inline)]
+    #[cfg_attr(not(debug_assertions), inline(always))]
     pub fn stored(&self) -> Stored<'a, L> {
         self.stored.copy()
     }
@@ -79,43 +84,50 @@ impl<'a, L: Lengths, H: HashFn> Parts<'a, L, H> {
     }
 
     /// The control bytes with their mirror.
-    #[inline(always)]
+    #[cfg_attr(debug_assertions, inline)]
+    #[cfg_attr(not(debug_assertions), inline(always))]
     pub fn controls(&self) -> &'a [EntryMetadata] {
         self.control
     }
 
     /// How many slots there are.
-    #[inline(always)]
+    #[cfg_attr(debug_assertions, inline)]
+    #[cfg_attr(not(debug_assertions), inline(always))]
     pub fn len(&self) -> usize {
         self.stored.slots()
     }
 
     /// The control byte of a slot, or for an index from the slot count on of its mirror.
-    #[inline(always)]
+    #[cfg_attr(debug_assertions, inline)]
+    #[cfg_attr(not(debug_assertions), inline(always))]
     pub fn control(&self, index: usize) -> EntryMetadata {
         self.control[index]
     }
 
     /// The entry of a slot: key, then value.
-    #[inline(always)]
+    #[cfg_attr(debug_assertions, inline)]
+    #[cfg_attr(not(debug_assertions), inline(always))]
     pub fn entry(&self, slot: usize) -> &'a [u8] {
         self.stored.entry(slot)
     }
 
     /// The key of a slot.
-    #[inline(always)]
+    #[cfg_attr(debug_assertions, inline)]
+    #[cfg_attr(not(debug_assertions), inline(always))]
     pub fn key(&self, slot: usize) -> &'a [u8] {
         self.stored.key(slot)
     }
 
     /// The value of a slot.
-    #[inline(always)]
+    #[cfg_attr(debug_assertions, inline)]
+    #[cfg_attr(not(debug_assertions), inline(always))]
     pub fn value(&self, slot: usize) -> &'a [u8] {
         self.stored.value(slot)
     }
 
     /// Whether the entry of a slot has this key, which is as long as the keys are.
-    #[inline(always)]
+    #[cfg_attr(debug_assertions, inline)]
+    #[cfg_attr(not(debug_assertions), inline(always))]
     pub(super) fn has_key(&self, slot: usize, key: &[u8]) -> bool {
         self.stored.has_key(slot, key)
     }
@@ -125,7 +137,8 @@ impl<'a, L: Lengths, H: HashFn> Parts<'a, L, H> {
     ///
     /// On the parts of a placed table it is the map's result. On any parts it is a value that is
     /// stored with an equal key. `find_counted` says how many groups that takes.
-    #[inline(always)]
+    #[cfg_attr(debug_assertions, inline)]
+    #[cfg_attr(not(debug_assertions), inline(always))]
     pub fn find(&self, key: &[u8]) -> Option<&'a [u8]> {
         let (value, _) = self.find_counted(key);
         value
@@ -134,7 +147,8 @@ impl<'a, L: Lengths, H: HashFn> Parts<'a, L, H> {
     /// `find`, and how many groups were read: on the parts of a placed table those up to the first
     /// slot that is free or holds the key, and on any parts at most all groups. How they are
     /// counted: docs/FORMAT.md, "Search".
-    #[inline(always)]
+    #[cfg_attr(debug_assertions, inline)]
+    #[cfg_attr(not(debug_assertions), inline(always))]
     pub fn find_counted(&self, key: &[u8]) -> (Option<&'a [u8]>, usize) {
         match key.len() {
             4 => self.find_of::<GroupQuery>(&key[..4]),
@@ -148,7 +162,8 @@ impl<'a, L: Lengths, H: HashFn> Parts<'a, L, H> {
 
     /// `find_counted` by a group search of the caller's choice. It is inlined where the compiler
     /// knows the length of the key, and so hashes and compares it with no loop.
-    #[inline(always)]
+    #[cfg_attr(debug_assertions, inline)]
+    #[cfg_attr(not(debug_assertions), inline(always))]
     pub(super) fn find_of<Q: Group>(&self, key: &[u8]) -> (Option<&'a [u8]>, usize) {
         let mut scan = Scan::new(self.controls(), self.len());
         let stored = self.stored();
@@ -163,7 +178,8 @@ impl<'a, L: Lengths, H: HashFn> Parts<'a, L, H> {
 
     // Where the search for a key that is inserted ends, and the key's tag. It is inlined where the
     // compiler knows the length of the key, as `find_of` is.
-    #[inline(always)]
+    #[cfg_attr(debug_assertions, inline)]
+    #[cfg_attr(not(debug_assertions), inline(always))]
     pub(super) fn search_end(&self, key: &[u8]) -> (Search, u8) {
         let mut scan = Scan::new(self.controls(), self.len());
         let stored = self.stored();
@@ -173,7 +189,8 @@ impl<'a, L: Lengths, H: HashFn> Parts<'a, L, H> {
     }
 
     /// The value of the slot where the search for a key ended, if that slot holds the key.
-    #[inline(always)]
+    #[cfg_attr(debug_assertions, inline)]
+    #[cfg_attr(not(debug_assertions), inline(always))]
     pub(super) fn value_at(&self, end: Search) -> Option<&'a [u8]> {
         match end {
             Search::Found(slot) => Some(self.value(slot)),
@@ -186,7 +203,8 @@ impl<'a, L: Lengths, H: HashFn> Parts<'a, L, H> {
     /// first error: `NonZeroEmpty` of a slot that counts as free, `ControlMismatch` of any other.
     ///
     /// A mismatch can mean that the bytes were written with another hash function.
-    #[inline(always)]
+    #[cfg_attr(debug_assertions, inline)]
+    #[cfg_attr(not(debug_assertions), inline(always))]
     pub fn sanity_check_hashes(&self, slots_to_check: usize) -> Result<(), Error> {
         check_hashes(self, slots_to_check)
     }

@@ -22,7 +22,8 @@ const LARGE: usize = 1 << 20;
 /// Each item costs a search. In tables of 2^20 slots and more the group at the home slot may be
 /// read ahead, for eight keys in turn: these keys are encoded twice, and a new key whose slot was
 /// seen free then needs no further search.
-#[inline(always)]
+#[cfg_attr(debug_assertions, inline)]
+#[cfg_attr(not(debug_assertions), inline(always))]
 pub(crate) fn insert_run<C: Config, I: Items<C::Key, C::Value>>(
     control: &mut [EntryMetadata],
     entries: &mut [u8],
@@ -37,7 +38,8 @@ pub(crate) fn insert_run<C: Config, I: Items<C::Key, C::Value>>(
 }
 
 // `insert_run`, an item at a time.
-#[inline(always)]
+#[cfg_attr(debug_assertions, inline)]
+#[cfg_attr(not(debug_assertions), inline(always))]
 fn insert_in_turn<C: Config, I: Items<C::Key, C::Value>>(
     control: &mut [EntryMetadata],
     entries: &mut [u8],
@@ -93,7 +95,8 @@ fn insert_in_batches<C: Config, I: Items<C::Key, C::Value>>(
 
 // `insert_run` of the eight items from `from` on. Their slots are looked up first, and no look-up
 // depends on another one.
-#[inline(always)]
+#[cfg_attr(debug_assertions, inline)]
+#[cfg_attr(not(debug_assertions), inline(always))]
 fn insert_batch<C: Config, I: Items<C::Key, C::Value>>(
     control: &mut [EntryMetadata],
     entries: &mut [u8],
@@ -128,7 +131,8 @@ fn insert_batch<C: Config, I: Items<C::Key, C::Value>>(
 
 // The hashes of the keys of the eight items from `from` on, and the slots where their searches are
 // expected to end.
-#[inline(always)]
+#[cfg_attr(debug_assertions, inline)]
+#[cfg_attr(not(debug_assertions), inline(always))]
 fn look_ahead<C: Config, I: Items<C::Key, C::Value>>(
     control: &[EntryMetadata],
     items: &I,

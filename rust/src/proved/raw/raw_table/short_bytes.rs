@@ -13,7 +13,8 @@ pub struct ShortBytes {
 
 impl ShortBytes {
     /// A copy of the bytes, of which there are at most 255.
-    #[inline(always)]
+    #[cfg_attr(debug_assertions, inline)]
+    #[cfg_attr(not(debug_assertions), inline(always))]
     pub fn of(slice: &[u8]) -> Self {
         let mut bytes = [0; 255];
         let len = slice.len();

@@ -13,7 +13,8 @@ use crate::proved::raw::swisstable_group_query::REFERENCE_GROUP_SIZE;
 
 /// Where the search for a key that is inserted ends, and the key's tag. Keys of some lengths have
 /// a copy of the search each, as in [`SizedTable::find_counted`].
-#[inline(always)]
+#[cfg_attr(debug_assertions, inline)]
+#[cfg_attr(not(debug_assertions), inline(always))]
 pub(crate) fn sized_step_end<H: HashFn>(
     control: &[EntryMetadata],
     entries: &[u8],

@@ -6,7 +6,8 @@ use crate::proved::raw::error::Error;
 
 /// Checks the first `slots_to_check` slots, or all where there are fewer, and returns the first
 /// error: `NonZeroEmpty` of a slot that counts as free, `ControlMismatch` of any other.
-#[inline(always)]
+#[cfg_attr(debug_assertions, inline)]
+#[cfg_attr(not(debug_assertions), inline(always))]
 pub(super) fn check_hashes<S: TableSlots>(table: &S, slots_to_check: usize) -> Result<(), Error> {
     let slots = slots_to_check.min(table.slots());
     for slot in 0..slots {
@@ -16,7 +17,8 @@ pub(super) fn check_hashes<S: TableSlots>(table: &S, slots_to_check: usize) -> R
 }
 
 /// What opening checks of one slot.
-#[inline(always)]
+#[cfg_attr(debug_assertions, inline)]
+#[cfg_attr(not(debug_assertions), inline(always))]
 pub(super) fn check_slot<S: TableSlots>(table: &S, slot: usize) -> Result<(), Error> {
     let control = table.control_bytes();
     if is_empty_or_deleted(control[slot]) {
@@ -31,7 +33,8 @@ pub(super) fn check_slot<S: TableSlots>(table: &S, slot: usize) -> Result<(), Er
 
 /// The hash of the key of an occupied slot; `ControlMismatch` where its tag is not the control
 /// byte.
-#[inline(always)]
+#[cfg_attr(debug_assertions, inline)]
+#[cfg_attr(not(debug_assertions), inline(always))]
 pub(super) fn check_key<S: TableSlots>(table: &S, slot: usize) -> Result<u32, Error> {
     let hash = table.hash_of(slot);
     let control = table.control_bytes();

@@ -16,31 +16,36 @@ pub struct Stored<'a, L: Lengths> {
 
 impl<'a, L: Lengths> Stored<'a, L> {
     /// The entries of `slots` slots in `bytes`.
-    #[inline(always)]
+    #[cfg_attr(debug_assertions, inline)]
+    #[cfg_attr(not(debug_assertions), inline(always))]
     pub fn new(bytes: &'a [u8], slots: usize, lengths: L) -> Self {
         Stored { bytes, slots, lengths }
     }
 
     // A second reader of the same entries.
-    #[inline(always)]
+    #[cfg_attr(debug_assertions, inline)]
+    #[cfg_attr(not(debug_assertions), inline(always))]
     pub(super) fn copy(&self) -> Self {
         Stored { bytes: self.bytes, slots: self.slots, lengths: self.lengths }
     }
 
     /// How many slots there are.
-    #[inline(always)]
+    #[cfg_attr(debug_assertions, inline)]
+    #[cfg_attr(not(debug_assertions), inline(always))]
     pub fn slots(&self) -> usize {
         self.slots
     }
 
     /// The lengths of keys and values.
-    #[inline(always)]
+    #[cfg_attr(debug_assertions, inline)]
+    #[cfg_attr(not(debug_assertions), inline(always))]
     pub fn lengths(&self) -> L {
         self.lengths
     }
 
     /// The entry of a slot: key, then value.
-    #[inline(always)]
+    #[cfg_attr(debug_assertions, inline)]
+    #[cfg_attr(not(debug_assertions), inline(always))]
     pub fn entry(&self, slot: usize) -> &'a [u8] {
         let bytes = self.bytes;
         let entry_len = self.lengths.entry_len();
@@ -49,14 +54,16 @@ impl<'a, L: Lengths> Stored<'a, L> {
     }
 
     /// The key of a slot.
-    #[inline(always)]
+    #[cfg_attr(debug_assertions, inline)]
+    #[cfg_attr(not(debug_assertions), inline(always))]
     pub fn key(&self, slot: usize) -> &'a [u8] {
         let entry = self.entry(slot);
         &index!(entry[..self.lengths.key_len()], "slot < self.now.entries.slots")
     }
 
     /// The value of a slot.
-    #[inline(always)]
+    #[cfg_attr(debug_assertions, inline)]
+    #[cfg_attr(not(debug_assertions), inline(always))]
     pub fn value(&self, slot: usize) -> &'a [u8] {
         let entry = self.entry(slot);
         &index!(entry[self.lengths.key_len()..], "slot < self.now.entries.slots")
@@ -66,7 +73,8 @@ impl<'a, L: Lengths> Stored<'a, L> {
     // The entry is cut by the length of `key`: where the compiler knows that length, it compares
     // with no loop. The whole entry is cut out of the bytes, as `value` cuts it: where the value is
     // read next, that is the same cut, and is made once.
-    #[inline(always)]
+    #[cfg_attr(debug_assertions, inline)]
+    #[cfg_attr(not(debug_assertions), inline(always))]
     pub fn has_key(&self, slot: usize, key: &[u8]) -> bool {
         let entry = self.entry(slot);
         self.lengths

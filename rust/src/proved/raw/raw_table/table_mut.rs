@@ -37,14 +37,16 @@ impl<'c, 'e, K: ByteArray, V: ByteArray, H: HashFn> RawTableMut<'c, 'e, K, V, H>
     /// written with its tag into a slot that counted as free, and no other byte changes; `Full` is
     /// returned only where each slot counts as occupied and a search slot by slot can end without
     /// the key.
-    #[inline(always)]
+    #[cfg_attr(debug_assertions, inline)]
+    #[cfg_attr(not(debug_assertions), inline(always))]
     pub fn insert(&mut self, key: K, value: V) -> Result<Option<V>, Error> {
         self.insert_by::<GroupQuery>(key, value)
     }
 
     /// `insert` by a group search of the caller's choice. On the parts of a placed table all
     /// searches leave the same parts.
-    #[inline(always)]
+    #[cfg_attr(debug_assertions, inline)]
+    #[cfg_attr(not(debug_assertions), inline(always))]
     pub fn insert_by<Q: Group>(&mut self, key: K, value: V) -> Result<Option<V>, Error> {
         // As many entries may be added as there are free slots.
         insert_step::<K, V, H, Q>(self.control, self.entries, key, value, usize::MAX)
@@ -58,14 +60,16 @@ impl<'c, 'e, K: ByteArray, V: ByteArray, H: HashFn> RawTableMut<'c, 'e, K, V, H>
     /// occupied. On any parts the entry is written with its tag into the first slot of the order
     /// that counted as free, and no other byte changes; `Full` is returned only where each slot
     /// counts as occupied.
-    #[inline(always)]
+    #[cfg_attr(debug_assertions, inline)]
+    #[cfg_attr(not(debug_assertions), inline(always))]
     pub fn place(&mut self, key: K, value: V) -> Result<(), Error> {
         self.place_by::<GroupQuery>(key, value)
     }
 
     /// `place` by a group search of the caller's choice. On the parts of a placed table all
     /// searches leave the same parts.
-    #[inline(always)]
+    #[cfg_attr(debug_assertions, inline)]
+    #[cfg_attr(not(debug_assertions), inline(always))]
     pub fn place_by<Q: Group>(&mut self, key: K, value: V) -> Result<(), Error> {
         let (control, entries) = (&mut *self.control, &mut *self.entries);
         let hash = H::hash(key.as_slice());

@@ -29,27 +29,32 @@ pub(crate) trait TableSlots {
 }
 
 impl<'a, L: Lengths, H: HashFn> TableSlots for Parts<'a, L, H> {
-    #[inline(always)]
+    #[cfg_attr(debug_assertions, inline)]
+    #[cfg_attr(not(debug_assertions), inline(always))]
     fn slots(&self) -> usize {
         self.len()
     }
 
-    #[inline(always)]
+    #[cfg_attr(debug_assertions, inline)]
+    #[cfg_attr(not(debug_assertions), inline(always))]
     fn control_bytes(&self) -> &[EntryMetadata] {
         self.controls()
     }
 
-    #[inline(always)]
+    #[cfg_attr(debug_assertions, inline)]
+    #[cfg_attr(not(debug_assertions), inline(always))]
     fn hash_of(&self, slot: usize) -> u32 {
         hash_by_len::<H>(self.key(slot))
     }
 
-    #[inline(always)]
+    #[cfg_attr(debug_assertions, inline)]
+    #[cfg_attr(not(debug_assertions), inline(always))]
     fn has_zeros(&self, slot: usize) -> bool {
         is_zeros(self.entry(slot))
     }
 
-    #[inline(always)]
+    #[cfg_attr(debug_assertions, inline)]
+    #[cfg_attr(not(debug_assertions), inline(always))]
     fn have_same_key(&self, slot: usize, other: usize) -> bool {
         self.has_key(slot, self.key(other))
     }
@@ -57,7 +62,8 @@ impl<'a, L: Lengths, H: HashFn> TableSlots for Parts<'a, L, H> {
 
 // The hash of a key. One of eight bytes, as most are, is told apart: the compiler reads it with no
 // loop, also where lengths are numbers. To tell more lengths apart takes longer than it saves.
-#[inline(always)]
+#[cfg_attr(debug_assertions, inline)]
+#[cfg_attr(not(debug_assertions), inline(always))]
 fn hash_by_len<H: HashFn>(key: &[u8]) -> u32 {
     if key.len() == 8 {
         return H::hash(&key[..8]);
@@ -66,7 +72,8 @@ fn hash_by_len<H: HashFn>(key: &[u8]) -> u32 {
 }
 
 /// The home of the key in a slot.
-#[inline(always)]
+#[cfg_attr(debug_assertions, inline)]
+#[cfg_attr(not(debug_assertions), inline(always))]
 pub(super) fn home_of<S: TableSlots>(table: &S, slot: usize) -> usize {
     // The slot may come from a list of the caller's. It is masked, so that it is a slot of the table
     // even where another process changed the control bytes since the list was begun.

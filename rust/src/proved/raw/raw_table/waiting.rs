@@ -22,7 +22,8 @@ pub(crate) fn list_occupied(control: &[EntryMetadata], slot_count: usize, out: &
 
 // Lists the slots that are marked from `start` on, each as one that waits, behind the first
 // `listed` numbers, as far as there is room. Returns how many numbers are listed then.
-#[inline(always)]
+#[cfg_attr(debug_assertions, inline)]
+#[cfg_attr(not(debug_assertions), inline(always))]
 fn list_marked(start: usize, marks: IndexSet, out: &mut [usize], listed: usize) -> usize {
     let mut marks = marks;
     let mut listed = listed;

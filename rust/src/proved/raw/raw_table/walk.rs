@@ -80,7 +80,8 @@ impl<'a, K: ByteArray, V: ByteArray> RawIter<'a, K, V> {
 impl<'a, K: ByteArray, V: ByteArray> Iterator for RawIter<'a, K, V> {
     type Item = (EntryMetadata, Entry<K, V>);
 
-    #[inline(always)]
+    #[cfg_attr(debug_assertions, inline)]
+    #[cfg_attr(not(debug_assertions), inline(always))]
     fn next(&mut self) -> Option<(EntryMetadata, Entry<K, V>)> {
         let (_, item) = self.slots.next()?;
         Some(item)

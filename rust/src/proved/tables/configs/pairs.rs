@@ -81,22 +81,26 @@ impl<K: HashedBy<H>, V: Fits, H: HashFn> Config for Pairs<K, V, H> {
 
     type H = H;
 
-    #[inline(always)]
+    #[cfg_attr(debug_assertions, inline)]
+    #[cfg_attr(not(debug_assertions), inline(always))]
     fn encode_key(k: &K) -> K::Bytes {
         k.to_bytes()
     }
 
-    #[inline(always)]
+    #[cfg_attr(debug_assertions, inline)]
+    #[cfg_attr(not(debug_assertions), inline(always))]
     fn encode_value(v: &V) -> V::Bytes {
         v.to_bytes()
     }
 
-    #[inline(always)]
+    #[cfg_attr(debug_assertions, inline)]
+    #[cfg_attr(not(debug_assertions), inline(always))]
     fn decode_key(k: &K::Bytes) -> K {
         K::of_bytes(k)
     }
 
-    #[inline(always)]
+    #[cfg_attr(debug_assertions, inline)]
+    #[cfg_attr(not(debug_assertions), inline(always))]
     fn decode_value(v: &V::Bytes) -> V {
         V::of_bytes(v)
     }

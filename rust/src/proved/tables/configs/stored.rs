@@ -23,12 +23,14 @@ pub trait Stored {
 impl Stored for u32 {
     type Bytes = [u8; 4];
 
-    #[inline(always)]
+    #[cfg_attr(debug_assertions, inline)]
+    #[cfg_attr(not(debug_assertions), inline(always))]
     fn to_bytes(&self) -> [u8; 4] {
         self.to_le_bytes()
     }
 
-    #[inline(always)]
+    #[cfg_attr(debug_assertions, inline)]
+    #[cfg_attr(not(debug_assertions), inline(always))]
     fn of_bytes(bytes: &[u8; 4]) -> u32 {
         u32::from_le_bytes(*bytes)
     }
@@ -41,12 +43,14 @@ impl Stored for u32 {
 impl Stored for u64 {
     type Bytes = [u8; 8];
 
-    #[inline(always)]
+    #[cfg_attr(debug_assertions, inline)]
+    #[cfg_attr(not(debug_assertions), inline(always))]
     fn to_bytes(&self) -> [u8; 8] {
         self.to_le_bytes()
     }
 
-    #[inline(always)]
+    #[cfg_attr(debug_assertions, inline)]
+    #[cfg_attr(not(debug_assertions), inline(always))]
     fn of_bytes(bytes: &[u8; 8]) -> u64 {
         u64::from_le_bytes(*bytes)
     }
@@ -59,12 +63,14 @@ impl Stored for u64 {
 impl Stored for () {
     type Bytes = [u8; 0];
 
-    #[inline(always)]
+    #[cfg_attr(debug_assertions, inline)]
+    #[cfg_attr(not(debug_assertions), inline(always))]
     fn to_bytes(&self) -> [u8; 0] {
         []
     }
 
-    #[inline(always)]
+    #[cfg_attr(debug_assertions, inline)]
+    #[cfg_attr(not(debug_assertions), inline(always))]
     fn of_bytes(_bytes: &[u8; 0]) {}
 
     fn kept(&self) {}
@@ -73,12 +79,14 @@ impl Stored for () {
 impl<const N: usize> Stored for [u8; N] {
     type Bytes = [u8; N];
 
-    #[inline(always)]
+    #[cfg_attr(debug_assertions, inline)]
+    #[cfg_attr(not(debug_assertions), inline(always))]
     fn to_bytes(&self) -> [u8; N] {
         *self
     }
 
-    #[inline(always)]
+    #[cfg_attr(debug_assertions, inline)]
+    #[cfg_attr(not(debug_assertions), inline(always))]
     fn of_bytes(bytes: &[u8; N]) -> [u8; N] {
         *bytes
     }

@@ -10,7 +10,8 @@ use crate::proved::tables::swisstable_group_query::Group;
 
 impl<C: Config, D: ByteStore> HashTable<C, D> {
     /// `get` by a group search of the caller's choice. On valid bytes all searches give the same.
-    #[inline(always)]
+    #[cfg_attr(debug_assertions, inline)]
+    #[cfg_attr(not(debug_assertions), inline(always))]
     pub fn get_by<Q: Group>(&self, key: &C::Key) -> Option<C::Value> {
         let table = self.as_raw();
         let key = C::encode_key(key);
@@ -46,7 +47,8 @@ impl<C: Config, D: ByteStore> HashTable<C, D> {
 impl<C: Config, D: ByteStoreMut> HashTable<C, D> {
     /// `insert` by a group search of the caller's choice. On valid bytes all searches leave the
     /// same bytes.
-    #[inline(always)]
+    #[cfg_attr(debug_assertions, inline)]
+    #[cfg_attr(not(debug_assertions), inline(always))]
     pub fn insert_by<Q: Group>(
         &mut self,
         key: &C::Key,

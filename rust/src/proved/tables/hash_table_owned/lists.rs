@@ -19,7 +19,8 @@ impl<C: Config> HashTableOwned<C> {
 
     /// `insert_all` of items in any form, such as the keys and the values of two slices
     /// ([`Zipped`](crate::proved::tables::items::Zipped)).
-    #[inline(always)]
+    #[cfg_attr(debug_assertions, inline)]
+    #[cfg_attr(not(debug_assertions), inline(always))]
     pub fn insert_items<I: Items<C::Key, C::Value>>(
         &mut self,
         items: &I,

@@ -21,7 +21,8 @@ pub trait Stored: Copy {
 pub struct Digits32;
 
 impl Stored for Digits32 {
-    #[inline(always)]
+    #[cfg_attr(debug_assertions, inline)]
+    #[cfg_attr(not(debug_assertions), inline(always))]
     fn write_text<W: Write>(self, bytes: &[u8], output: &mut W) -> io::Result<()> {
         let number = u32::from_le_bytes(<[u8; 4]>::from_slice(bytes));
         write_number(u64::from(number), output)
@@ -33,7 +34,8 @@ impl Stored for Digits32 {
 pub struct Digits64;
 
 impl Stored for Digits64 {
-    #[inline(always)]
+    #[cfg_attr(debug_assertions, inline)]
+    #[cfg_attr(not(debug_assertions), inline(always))]
     fn write_text<W: Write>(self, bytes: &[u8], output: &mut W) -> io::Result<()> {
         write_number(u64::from_le_bytes(<[u8; 8]>::from_slice(bytes)), output)
     }

@@ -107,7 +107,8 @@ fn write_pairs<K: Stored, V: Stored, H: HashFn, O: Write>(
     Ok(())
 }
 
-#[inline(always)]
+#[cfg_attr(debug_assertions, inline)]
+#[cfg_attr(not(debug_assertions), inline(always))]
 fn write_pair_line<K: Stored, V: Stored, O: Write>(
     keys: K,
     values: V,

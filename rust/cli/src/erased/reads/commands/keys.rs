@@ -66,7 +66,8 @@ fn write_keys<K: Stored, H: HashFn, O: Write>(
     Ok(())
 }
 
-#[inline(always)]
+#[cfg_attr(debug_assertions, inline)]
+#[cfg_attr(not(debug_assertions), inline(always))]
 fn write_key<K: Stored, O: Write>(keys: K, key: &[u8], output: &mut O) -> io::Result<()> {
     keys.write_text(key, output)?;
     output.write_all(b"\n")

@@ -21,7 +21,8 @@ where
 
     type Value = C::Value;
 
-    #[inline(always)]
+    #[cfg_attr(debug_assertions, inline)]
+    #[cfg_attr(not(debug_assertions), inline(always))]
     fn look_up(&self, alloc: Global, keys: &[C::Key]) -> Result<Vec<Option<C::Value>>, AllocError> {
         let mut values = absent_values::<C::Value>(alloc, keys.len())?;
         self.get_all(keys, values.as_mut_slice());

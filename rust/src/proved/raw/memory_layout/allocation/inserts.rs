@@ -20,7 +20,8 @@ impl<C: Config, M: ByteStoreMut> Allocation<C, M> {
     ///
     /// The slot count is read before the search, the rest of the header after it, and the key is
     /// hashed once.
-    #[inline(always)]
+    #[cfg_attr(debug_assertions, inline)]
+    #[cfg_attr(not(debug_assertions), inline(always))]
     pub fn insert_by<Q: Group>(
         &mut self,
         key: &C::Key,
@@ -73,7 +74,8 @@ impl<C: Config, M: ByteStoreMut> Allocation<C, M> {
     /// search. In tables of 2^20 slots and more the group at the home slot may be read ahead, for
     /// eight keys in turn: these keys are encoded twice, and a new key whose slot was seen free
     /// then needs no further search.
-    #[inline(always)]
+    #[cfg_attr(debug_assertions, inline)]
+    #[cfg_attr(not(debug_assertions), inline(always))]
     pub fn insert_items<I: Items<C::Key, C::Value>>(&mut self, items: &I, from: usize) -> usize {
         let store = &mut self.store;
         let bytes = store.bytes_mut();
@@ -104,7 +106,8 @@ impl<C: Config, M: ByteStoreMut> Allocation<C, M> {
 }
 
 // Writes the item count of a header.
-#[inline(always)]
+#[cfg_attr(debug_assertions, inline)]
+#[cfg_attr(not(debug_assertions), inline(always))]
 pub(crate) fn write_count(header: &mut [u8], item_count: usize) {
     write_slice(header, ITEM_COUNT_AT, &(item_count as u64).to_le_bytes());
 }

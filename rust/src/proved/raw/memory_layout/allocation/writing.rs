@@ -22,7 +22,8 @@ impl<C: Config, M: ByteStoreMut> Allocation<C, M> {
     /// byte and, for a slot below 16, its mirror. No other byte changes, the item count neither:
     /// that the key's search ends at this slot, and that the tag is the key's, is the caller's
     /// part. The clause `pair` says that key and value have the lengths of the format.
-    #[inline(always)]
+    #[cfg_attr(debug_assertions, inline)]
+    #[cfg_attr(not(debug_assertions), inline(always))]
     pub fn write_entry(
         &mut self,
         slot: usize,
@@ -42,7 +43,8 @@ impl<C: Config, M: ByteStoreMut> Allocation<C, M> {
 
     /// Writes the value alone into the entry of a slot. No other byte changes. The clause `value`
     /// says that it has the length of the format.
-    #[inline(always)]
+    #[cfg_attr(debug_assertions, inline)]
+    #[cfg_attr(not(debug_assertions), inline(always))]
     pub fn write_value(&mut self, slot: usize, value: &C::EncodedValue) {
         let store = &mut self.store;
         store.write_at(entry_at::<C>(slot) + C::EncodedKey::LEN, value.as_slice());
