@@ -31,7 +31,7 @@ fn insert_both<H: HashFn>(
     assert_eq!(table.raw_bytes(), writing.bytes);
     let mut left = vec![9; value.len()];
     let told = other.insert_into(key, value, &mut left);
-    assert_eq!(told, expected.clone().map(|former| former.is_some()));
+    assert_eq!(told.as_ref().map(|it| *it), expected.as_ref().map(|former| former.is_some()));
     assert_eq!(left, expected.ok().flatten().unwrap_or(vec![9; value.len()]));
     assert_eq!(other.raw_bytes(), writing.bytes);
 }
