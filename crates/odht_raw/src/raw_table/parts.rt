@@ -193,6 +193,18 @@ impl<'a, L: Lengths, H: HashFn> Parts<'a, L, H> {
         self.stored.key(slot)
     }
 
+    /// `key` of a slot that may come from a list of the caller's (see `Stored::listed_key`).
+    #[inline(always)]
+    pub(super) fn listed_key(&self, slot: usize) -> &'a [u8]
+        requires { slot < self.now.parts.entries.slots }
+        ensures value { let F = entry_format self.now.key_len self.now.value_len
+            in result.now ≡ slot_key F self.now.parts.entries.bytes slot }
+        ensures len { length result.now ≡ self.now.key_len }
+        ensures hashes { H.MIN_LEN ≤ length result.now }
+    {
+        self.stored.listed_key(slot)
+    }
+
     /// The value of a slot.
     #[inline(always)]
     pub fn value(&self, slot: usize) -> &'a [u8]

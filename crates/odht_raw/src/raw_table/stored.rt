@@ -100,6 +100,20 @@ impl<'a, L: Lengths> Stored<'a, L> {
         &entry[..self.lengths.key_len()]
     }
 
+    /// `key` of a slot that may come from a list of the caller's. The plain-Rust build checks this
+    /// index alone: the list may name any slot where another process rewrites the bytes meanwhile.
+    #[inline(always)]
+    pub(super) fn listed_key(&self, slot: usize) -> &'a [u8]
+        requires { slot < self.now.entries.slots }
+        ensures value { result.now
+            ≡ slot_key (stored_format self.now) self.now.entries.bytes slot }
+        ensures len { length result.now ≡ self.now.key_len }
+    {
+        let bytes = self.bytes;
+        let at = slot * self.lengths.entry_len();
+        &bytes[at..at + self.lengths.key_len()]
+    }
+
     /// The value of a slot.
     #[inline(always)]
     pub fn value(&self, slot: usize) -> &'a [u8]

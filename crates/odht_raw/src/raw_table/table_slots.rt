@@ -40,6 +40,12 @@ pub(crate) trait TableSlots {
         requires { slot < (parts self.now).entries.slots }
         ensures { IsHashAt (format self.now) (parts self.now) slot result };
 
+    /// `hash_of` of a slot that may come from a list. The plain-Rust build checks this index: where
+    /// another process rewrites the table's bytes meanwhile, the list may name any slot.
+    fn listed_hash_of(&self, slot: usize) -> u32
+        requires { slot < (parts self.now).entries.slots }
+        ensures { IsHashAt (format self.now) (parts self.now) slot result };
+
     /// Whether the entry of a slot is zeros.
     fn has_zeros(&self, slot: usize) -> bool
         requires { slot < (parts self.now).entries.slots }
@@ -77,6 +83,11 @@ impl<'a, L: Lengths, H: HashFn> TableSlots for Parts<'a, L, H> {
     }
 
     #[inline(always)]
+    fn listed_hash_of(&self, slot: usize) -> u32 {
+        hash_by_len::<H>(self.listed_key(slot))
+    }
+
+    #[inline(always)]
     fn has_zeros(&self, slot: usize) -> bool {
         is_zeros(self.entry(slot))
     }
@@ -107,8 +118,5 @@ pub(super) fn home_of<S: TableSlots>(table: &S, slot: usize) -> usize
     ensures { let T = S.parts table.now in let F = S.format table.now
         in result ≡ F.hash (slot_key F T.entries.bytes slot) % T.entries.slots }
 {
-    // The slot may come from a list of the caller's. It is masked, so that it is a slot of the table
-    // even where another process changed the control bytes since the list was begun.
-    let mask = table.slots() - 1;
-    table.hash_of(slot & mask) as usize & mask
+    table.listed_hash_of(slot) as usize & (table.slots() - 1)
 }

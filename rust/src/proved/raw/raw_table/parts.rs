@@ -108,6 +108,12 @@ impl<'a, L: Lengths, H: HashFn> Parts<'a, L, H> {
         self.stored.key(slot)
     }
 
+    /// `key` of a slot that may come from a list of the caller's (see `Stored::listed_key`).
+    #[inline(always)]
+    pub(super) fn listed_key(&self, slot: usize) -> &'a [u8] {
+        self.stored.listed_key(slot)
+    }
+
     /// The value of a slot.
     #[inline(always)]
     pub fn value(&self, slot: usize) -> &'a [u8] {

@@ -55,6 +55,15 @@ impl<'a, L: Lengths> Stored<'a, L> {
         &index!(entry[..self.lengths.key_len()], "slot < self.now.entries.slots")
     }
 
+    /// `key` of a slot that may come from a list of the caller's. The plain-Rust build checks this
+    /// index alone: the list may name any slot where another process rewrites the bytes meanwhile.
+    #[inline(always)]
+    pub(super) fn listed_key(&self, slot: usize) -> &'a [u8] {
+        let bytes = self.bytes;
+        let at = slot * self.lengths.entry_len();
+        &bytes[at..at + self.lengths.key_len()]
+    }
+
     /// The value of a slot.
     #[inline(always)]
     pub fn value(&self, slot: usize) -> &'a [u8] {

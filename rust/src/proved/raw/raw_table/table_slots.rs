@@ -21,6 +21,10 @@ pub(crate) trait TableSlots {
     /// The hash of the key in a slot.
     fn hash_of(&self, slot: usize) -> u32;
 
+    /// `hash_of` of a slot that may come from a list. The plain-Rust build checks this index: where
+    /// another process rewrites the table's bytes meanwhile, the list may name any slot.
+    fn listed_hash_of(&self, slot: usize) -> u32;
+
     /// Whether the entry of a slot is zeros.
     fn has_zeros(&self, slot: usize) -> bool;
 
@@ -42,6 +46,11 @@ impl<'a, L: Lengths, H: HashFn> TableSlots for Parts<'a, L, H> {
     #[inline(always)]
     fn hash_of(&self, slot: usize) -> u32 {
         hash_by_len::<H>(self.key(slot))
+    }
+
+    #[inline(always)]
+    fn listed_hash_of(&self, slot: usize) -> u32 {
+        hash_by_len::<H>(self.listed_key(slot))
     }
 
     #[inline(always)]
@@ -68,8 +77,5 @@ fn hash_by_len<H: HashFn>(key: &[u8]) -> u32 {
 /// The home of the key in a slot.
 #[inline(always)]
 pub(super) fn home_of<S: TableSlots>(table: &S, slot: usize) -> usize {
-    // The slot may come from a list of the caller's. It is masked, so that it is a slot of the table
-    // even where another process changed the control bytes since the list was begun.
-    let mask = table.slots() - 1;
-    table.hash_of(slot & mask) as usize & mask
+    table.listed_hash_of(slot) as usize & (table.slots() - 1)
 }
