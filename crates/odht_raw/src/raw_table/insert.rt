@@ -73,8 +73,44 @@ fn step_end<K: ByteArray, V: ByteArray, H: HashFn, Q: Group>(
 /// alone into the slot that holds the key, or, where there is room, the entry with its tag into
 /// the free slot. Returns the former value; or `Full`, with nothing changed, where there is no
 /// room for a new entry, or the search met neither slot.
+// Each kind of end has a call of its own, so that the compiler goes from where a search ends to
+// what is written there, with no second test of the kind.
 #[inline(always)]
 pub(crate) fn insert_at<K: ByteArray, V: ByteArray, H: HashFn>(
+    control: &mut [EntryMetadata],
+    entries: &mut [u8],
+    slots: usize,
+    key: K,
+    value: V,
+    end: (Search, u8),
+    room: usize,
+) -> Result<Option<V>, Error>
+    requires lengths { ArePartLengths H.MIN_LEN K.LEN V.LEN (length entries.old)
+        (length control.old) }
+    requires slots { slots ≡ length control.old - 16 }
+    requires end { IsTaggedEnd (format_of K.LEN V.LEN H.hash) room entries.old control.old
+        (K.bytes key) end }
+    ensures { let F = format_of K.LEN V.LEN H.hash
+        in let p : Pair = record { key = K.bytes key; value = V.bytes value }
+        in IsStepWhere (λ P. end.0 ≡ answer F P.cells p.key) F V.of_bytes room
+        (entries.old, control.old) p result (entries.new, control.new) }
+{
+    match end.0 {
+        Search::Found(_) => {
+            insert_at_end::<K, V, H>(control, entries, slots, key, value, end, room)
+        }
+        Search::Free(_) => {
+            insert_at_end::<K, V, H>(control, entries, slots, key, value, end, room)
+        }
+        Search::Neither => {
+            insert_at_end::<K, V, H>(control, entries, slots, key, value, end, room)
+        }
+    }
+}
+
+// `insert_at`, for an end of any kind.
+#[inline(always)]
+fn insert_at_end<K: ByteArray, V: ByteArray, H: HashFn>(
     control: &mut [EntryMetadata],
     entries: &mut [u8],
     slots: usize,

@@ -131,8 +131,8 @@ fn is_reached<S: TableSlots>(table: &S, slot: usize, hash: u32) -> bool {
     let before = slot.wrapping_sub(probe.start()) & (slots - 1);
     let group = GroupQuery::of(probe.read(), tag_of(hash));
     if before < REFERENCE_GROUP_SIZE
-        && group.first_empty().unwrap_or(REFERENCE_GROUP_SIZE) >= before
-        && group.first_match().unwrap_or(REFERENCE_GROUP_SIZE) >= before
+        && group.first_empty().unwrap_or(before) >= before
+        && group.first_match().unwrap_or(before) >= before
     {
         return true;
     }
