@@ -10,7 +10,6 @@ mod inserts;
 mod new_tables;
 mod opening;
 mod prefix;
-mod sized_new;
 
 pub use crate::proved::header::header::{
     is_accepted, write_header, Header, HEADER_SIZE, LEAST_FACTOR,
@@ -24,7 +23,6 @@ pub use check::{
 };
 pub use cuts::{parts_in, sized_parts};
 pub use inserts::{insert_sized, insert_sized_into};
-pub use new_tables::{allocate, clear_entries, init_in_place, write_empty};
+pub use new_tables::{allocate, clear_entries, init_in_place, init_parts, write_empty};
 pub use opening::{check_by_header, check_opening, check_opening_in, stated_layout};
 pub use prefix::{sized_table_len, table_len};
-pub use sized_new::init_sized;
