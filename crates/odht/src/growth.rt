@@ -17,7 +17,7 @@ use crate::bytes::{ByteArray, ByteStore};
 use crate::config::{Coded, Config};
 use crate::hash::HashFn;
 use crate::hash_table::HashTable;
-use crate::layout::Layout;
+use crate::layout::{Fixed, Layout};
 use crate::load::Factor;
 use crate::memory_layout::{self, HEADER_SIZE, Header};
 use crate::raw_table::{RawIter, RawTableMut};
@@ -65,7 +65,8 @@ impl<C: Config, D: ByteStore> HashTable<C, D> {
             // `out` has the length of the grown table.
             unreachable!()
         };
-        memory_layout::clear_entries::<C>(out, slot_count);
+        let lengths: Fixed<C::EncodedKey, C::EncodedValue> = Fixed::new();
+        memory_layout::clear_entries(out, lengths, slot_count);
         write_moved(self, slot_count, out);
     }
 }
@@ -128,7 +129,8 @@ fn write_walked<C: Config>(
     ensures { IsWritten ⟦<C as Coded>⟧.coding.format slot_count item_count max_load_factor.0
         (map (stored C.EncodedKey.bytes C.EncodedValue.bytes) walk.entry) bytes.new }
 {
-    memory_layout::write_empty::<C>(bytes, slot_count, item_count, max_load_factor);
+    let lengths: Fixed<C::EncodedKey, C::EncodedValue> = Fixed::new();
+    memory_layout::write_empty(bytes, lengths, slot_count, item_count, max_load_factor);
     let (table, control) = bytes.split_at_mut(memory_layout::entry_at::<C>(slot_count));
     let (_header, entries) = table.split_at_mut(HEADER_SIZE);
     place_walk::<C::EncodedKey, C::EncodedValue, C::H>(control, entries, walk);

@@ -1,6 +1,6 @@
 //! The lengths of encoded keys and values: as types, known at compile time, or as numbers, known
 //! only at run time.
-ghost use Rattle.std.specs.Prelude.{◌≡◌, ◌↔◌, ◌+◌, ◌<◌, ◌^◌, ℕ, length, slice_index, IsTrue};
+ghost use Rattle.std.specs.Prelude.{◌≡◌, ◌↔◌, ◌+◌, ◌<◌, ◌≤◌, ◌^◌, ℕ, length, slice_index, IsTrue};
 
 use crate::bytes::{ByteArray, is_same_bytes, is_same_word};
 use crate::config::Config;
@@ -109,6 +109,20 @@ impl Layout {
         Layout {
             key_len: C::EncodedKey::LEN as u8,
             value_len: C::EncodedValue::LEN as u8,
+        }
+    }
+
+    /// Short lengths as numbers.
+    #[inline(always)]
+    pub fn of_lengths<L: Lengths>(lengths: L) -> Self
+        requires key { L.key_len lengths ≤ 255 }
+        requires value { L.value_len lengths ≤ 255 }
+        ensures key { result.key_len ≡ L.key_len lengths }
+        ensures value { result.value_len ≡ L.value_len lengths }
+    {
+        Layout {
+            key_len: lengths.key_len() as u8,
+            value_len: lengths.value_len() as u8,
         }
     }
 

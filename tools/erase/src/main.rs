@@ -46,7 +46,6 @@ const PLAN: Plan<'static> = Plan {
         unchecked("read_u32", ARRAYS, "at + 4 ≤ length bytes.now", ARRAYS),
         unchecked("read_u64", ARRAYS, "at + 8 ≤ length bytes.now", ARRAYS),
         unchecked("is_same_bytes", ARRAYS, "length left.now ≡ length right.now", ARRAYS),
-        unchecked("data_slices", ALLOCATION, ACCEPTED, ALLOCATION),
         unchecked("entry", STORED, "slot < self.now.entries.slots", STORED),
         unchecked("key", STORED, "slot < self.now.entries.slots", STORED),
         unchecked("value", STORED, "slot < self.now.entries.slots", STORED),

@@ -22,7 +22,7 @@ use crate::growth::grown_sizes;
 use crate::hash::HashFn;
 use crate::layout::Layout;
 use crate::load::Factor;
-use crate::memory_layout::{HEADER_SIZE, Header, init_sized};
+use crate::memory_layout::{HEADER_SIZE, Header, init_parts};
 use crate::raw_table::{SizedIter, SizedTableMut};
 
 impl<H: HashFn, D: ByteStore> DynTable<H, D> {
@@ -93,7 +93,7 @@ fn write_walked<H: HashFn>(
     ensures { let F = format_of layout.key_len layout.value_len H.hash
         in IsWritten F slot_count item_count max_load_factor.0 walk.entry bytes.new }
 {
-    init_sized(bytes, layout, slot_count, item_count, max_load_factor);
+    init_parts(bytes, layout, slot_count, item_count, max_load_factor);
     let (table, control) = bytes.split_at_mut(layout.entry_at(slot_count));
     let (_header, entries) = table.split_at_mut(HEADER_SIZE);
     place_walk::<H>(control, entries, layout, walk);

@@ -16,7 +16,7 @@ use crate::error::Error;
 use crate::hash::HashFn;
 use crate::layout::Layout;
 use crate::load::Factor;
-use crate::memory_layout::init_sized;
+use crate::memory_layout::init_parts;
 
 impl<H: HashFn, D: ByteStore> DynTable<H, D> {
     /// The length in bytes of a new table of these lengths for `max_item_count` items, at a load
@@ -103,6 +103,6 @@ fn init_bytes<H: HashFn, D: ByteStoreMut>(
     if found != expected {
         return Err(Error::InitLength { found, expected });
     }
-    init_sized(store.bytes_mut(), layout, slot_count, 0, factor);
+    init_parts(store.bytes_mut(), layout, slot_count, 0, factor);
     Ok(())
 }

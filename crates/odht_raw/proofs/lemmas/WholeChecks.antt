@@ -1,6 +1,7 @@
 -- The whole check has no error exactly for valid bytes.
 use Rattle.std.proofs.Common.{◌≡◌, ◌<◌, ◌≤◌, ◌∙◌, ◌+◌, ◌-◌, ◌==◌, ℕ, true≢false, sym, ap, ap₂, subst, subst₂, refl, List, [], ◌∷◌, Option, Some, None, option_map, is_none, All, length, slice_index, arith}
 use Rattle.std.specs.List.{list_all}
+use Rattle.std.specs.Prelude.{Result, IsOk, MatchOption, ◌↔◌}
 use Rattle.odht_base.specs.Bytes.{bytes_at}
 use Rattle.odht_base.specs.Format.{Format, IsFormat, entry_len, tag}
 use Rattle.odht_base.specs.Image.{control_byte, image}
@@ -16,8 +17,10 @@ use Rattle.odht_base.proofs.lemmas.Parts.{length-controls, slice_index-controls,
 use Rattle.odht_raw.specs.Frame.{IsAccepted}
 use Rattle.std.proofs.lemmas.Option.{none-some}
 use Rattle.odht_base.specs.Bounds.{first_longer}
+use Rattle.odht_header.specs.declared.error.Error.{Error}
 use Rattle.odht_header.specs.declared.error.Error.TheVariants.{SearchTooLong}
-use Rattle.odht_header.specs.Refusals.{view_refusal, longer_refusal, late_refusal_by, check_refusal}
+use Rattle.odht_header.specs.Refusals.{checked, view_refusal, longer_refusal, late_refusal_by, check_refusal}
+use Rattle.odht_header.proofs.lemmas.FirstErrors.{IsOk-checked, checked-IsOk}
 use Rattle.odht_raw.proofs.lemmas.Accepted.{IsAccepted-image}
 use Rattle.odht_raw.proofs.lemmas.ImagesOpen.{view_refusal-image}
 use Rattle.odht_raw.proofs.lemmas.Openings.{check_refusal-late}
@@ -114,6 +117,18 @@ longer_refusal-None ctrl g e = go (first_longer ctrl g) e
     go : (o : Option ℕ) → option_map (λ home. SearchTooLong home g) o ≡ None → o ≡ None
     go None e = refl
     go (Some b) e = absurd (none-some _ (sym e))
+
+-- so the answer of the rest says whether they are valid, and whether searches are within the bound
+pub checked_late : (F : Format) → IsFormat F → (o : Option ℕ) (B : List ℕ) → All (λ x. x < 256) B → IsAccepted F B → (r : Result (Unit {0}) Error) → r ≡ checked (late_refusal_by F o B)
+    → MatchOption o (IsOk r ↔ IsValidBytes F B) (λ g. IsOk r ↔ (IsValidBytes F B × (first_longer (controls_of F B) g ≡ None)))
+checked_late F f None B small accepted r e = (
+  λ ok. (valid_late F None B small accepted (IsOk-checked _ (subst IsOk e ok))).0,
+  λ valid. subst IsOk (sym e) (checked-IsOk _ (late_valid F None B f valid refl)),
+)
+checked_late F f (Some g) B small accepted r e = (
+  λ ok. let late = valid_late F (Some g) B small accepted (IsOk-checked _ (subst IsOk e ok)) in (late.0, longer_refusal-None _ g late.1),
+  λ valid. subst IsOk (sym e) (checked-IsOk _ (late_valid F (Some g) B f valid.0 (ap (option_map (λ home. SearchTooLong home g)) valid.1))),
+)
 
 -- the whole check has no error for them
 pub valid_check : (F : Format) (B : List ℕ) → IsFormat F → IsValidBytes F B → check_refusal F B ≡ None

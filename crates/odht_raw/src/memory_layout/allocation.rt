@@ -11,10 +11,12 @@ ghost use Rattle.odht_raw.specs.Dumps.{parts_of};
 ghost use Rattle.odht_raw.specs.Frame.{IsAccepted};
 ghost use Rattle.odht_header.specs.Refusals.{opening_refusal, view_refusal};
 
-use super::{Entries, EntryMetadata, HEADER_SIZE, Header, entry_at};
+use super::cuts::cut;
+use super::{Entries, EntryMetadata, Header, check_by_header, check_opening_in};
 use crate::bytes::{ByteArray, ByteStore};
 use crate::config::{Coded, Config};
 use crate::error::Error;
+use crate::layout::{Fixed, Layout};
 use crate::raw_table::RawTable;
 use std::marker::{Model, PhantomData};
 
@@ -23,9 +25,6 @@ mod inserts;
 mod writing;
 
 pub(super) use inserts::write_count;
-
-// How many slots are checked when a view is opened.
-pub(super) const SLOTS_TO_CHECK: usize = 10;
 
 /// A store of the bytes of a table, whose header and length fit. In a contract it is the store.
 #[derive(Drop)]
@@ -60,9 +59,12 @@ impl<C: Config, M: ByteStore> Allocation<C, M> {
         ensures valid { (P : Table) → IsImage ⟦<C as Coded>⟧.coding.format P (M.bytes «data»)
             → IsOk result }
     {
-        let allocation = Self::from_raw_bytes_by_header(data)?;
-        allocation.as_raw().sanity_check_hashes(SLOTS_TO_CHECK)?;
-        Ok(allocation)
+        let lengths: Fixed<C::EncodedKey, C::EncodedValue> = Fixed::new();
+        check_opening_in::<Fixed<C::EncodedKey, C::EncodedValue>, C::H>(data.bytes(), lengths)?;
+        Ok(Allocation {
+            store: data,
+            config: PhantomData,
+        })
     }
 
     /// Opens the bytes as those of a table by their header and length alone. The result is the
@@ -74,12 +76,7 @@ impl<C: Config, M: ByteStore> Allocation<C, M> {
         ensures err { result_err result
             ≡ opening_refusal ⟦<C as Coded>⟧.coding.format (M.bytes «data») }
     {
-        let bytes = data.bytes();
-        let found = bytes.len();
-        if found < HEADER_SIZE {
-            return Err(Error::TooShort { found });
-        }
-        Header::of(bytes).sanity_check::<C>(found)?;
+        check_by_header(data.bytes(), Layout::of::<C>())?;
         Ok(Allocation {
             store: data,
             config: PhantomData,
@@ -152,13 +149,11 @@ impl<C: Config, M: ByteStore> Allocation<C, M> {
             → IsImage ⟦<C as Coded>⟧.coding.format P (M.bytes self.now)
             → IsPartsOf ⟦<C as Coded>⟧.coding.format P result.1.bytes result.0.now }
     {
+        let lengths: Fixed<C::EncodedKey, C::EncodedValue> = Fixed::new();
         let bytes = self.store.bytes();
         let slots = Header::of(bytes).slot_count();
-        let control = entry_at::<C>(slots);
-        (
-            &bytes[control..],
-            Entries::new(&bytes[HEADER_SIZE..control], slots),
-        )
+        let parts = cut::<Fixed<C::EncodedKey, C::EncodedValue>, C::H>(bytes, slots, lengths);
+        (parts.controls(), Entries::of(parts.stored()))
     }
 
     /// The parts of the table, to be read.

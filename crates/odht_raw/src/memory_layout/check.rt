@@ -1,16 +1,21 @@
-//! The whole check of the bytes of a table.
-ghost use Rattle.std.specs.Prelude.{◌≡◌, ◌↔◌, IsOk, None, Some};
+//! The whole check of the bytes of a table. The lengths of keys and values are types or numbers.
+ghost use Rattle.std.specs.Prelude.{◌≡◌, ◌≤◌, ◌↔◌, IsOk, MatchOption, None, Some};
 ghost use Rattle.odht_base.specs.Valid.{IsValidBytes};
 ghost use Rattle.odht_base.specs.Bounds.{first_longer};
 ghost use Rattle.odht_base.specs.Decoded.{controls_of, entries_of};
+ghost use Rattle.odht_base.specs.Format.{format_of};
 ghost use Rattle.odht_header.specs.Refusals.{checked, late_refusal, check_refusal};
 ghost use Rattle.odht_header.specs.Refusals.{late_refusal_by, check_refusal_by};
+ghost use Rattle.odht_raw.specs.Frame.{IsAccepted};
+ghost use Rattle.odht_raw.specs.PartLengths.{ArePairLengths};
 
-use super::Header;
 use super::allocation::{Allocation, hold_bytes};
+use super::{Header, parts_in};
 use crate::bytes::{Borrowed, ByteStore};
 use crate::config::{Coded, Config};
 use crate::error::Error;
+use crate::hash::HashFn;
+use crate::layout::{Fixed, Layout, Lengths};
 use crate::raw_table::{TableSlots, check_mirror, check_slots, longer_refusal};
 
 /// A bound of searches, in groups, that tables of hashes that vary keep: about twice the longest
@@ -71,8 +76,8 @@ impl<C: Config, M: ByteStore> Allocation<C, M> {
             ≡ checked (late_refusal ⟦<C as Coded>⟧.coding.format (M.bytes self.now)) }
         ensures valid { IsOk result ↔ IsValidBytes ⟦<C as Coded>⟧.coding.format (M.bytes self.now) }
     {
-        hold_bytes(self.raw_bytes());
-        check_late(&self.header(), &self.as_raw().parts(), None)
+        let lengths: Fixed<C::EncodedKey, C::EncodedValue> = Fixed::new();
+        check_parts::<Fixed<C::EncodedKey, C::EncodedValue>, C::H>(self.raw_bytes(), lengths, None)
     }
 
     /// `check_rest` with a bound of searches, as in [`check_all_within`]. Ok exactly for valid
@@ -85,9 +90,71 @@ impl<C: Config, M: ByteStore> Allocation<C, M> {
             in IsOk result ↔ (IsValidBytes F (M.bytes self.now)
             × (first_longer (controls_of F (M.bytes self.now)) groups ≡ None)) }
     {
-        hold_bytes(self.raw_bytes());
-        check_late(&self.header(), &self.as_raw().parts(), Some(groups))
+        let lengths: Fixed<C::EncodedKey, C::EncodedValue> = Fixed::new();
+        let bytes = self.raw_bytes();
+        check_parts::<Fixed<C::EncodedKey, C::EncodedValue>, C::H>(bytes, lengths, Some(groups))
     }
+}
+
+/// Checks what [`check_opening`](super::check_opening) leaves out, and returns the first error, as
+/// [`Allocation::check_rest`] does. Ok exactly for valid bytes.
+///
+/// It reads what that reads.
+pub fn check_sized<H: HashFn>(bytes: &[u8], layout: Layout) -> Result<(), Error>
+    requires accepted { IsAccepted (format_of layout.key_len layout.value_len H.hash) bytes.now }
+    requires hashes { H.MIN_LEN ≤ layout.key_len }
+    ensures first { let F = format_of layout.key_len layout.value_len H.hash
+        in result ≡ checked (late_refusal_by F None bytes.now) }
+    ensures valid { let F = format_of layout.key_len layout.value_len H.hash
+        in IsOk result ↔ IsValidBytes F bytes.now }
+{
+    check_parts::<Layout, H>(bytes, layout, None)
+}
+
+/// `check_sized` with a bound of searches, as in [`check_all_within`]: after the maximum item
+/// count, and before any search for a key, `SearchTooLong` of the least home from which a search
+/// may read more than `groups` groups. Ok exactly for valid bytes in which each home has, among
+/// the first `groups` groups of its probe order, a control byte that counts as free. Then no
+/// search, of a present or an absent key, reads more.
+///
+/// For bytes of strangers: whatever they are, for `s` slots it reads at most `2 * s * groups`
+/// groups and makes at most `16 * s * groups` comparisons of keys. It allocates nothing.
+pub fn check_sized_within<H: HashFn>(
+    bytes: &[u8],
+    layout: Layout,
+    groups: usize,
+) -> Result<(), Error>
+    requires accepted { IsAccepted (format_of layout.key_len layout.value_len H.hash) bytes.now }
+    requires hashes { H.MIN_LEN ≤ layout.key_len }
+    ensures first { let F = format_of layout.key_len layout.value_len H.hash
+        in result ≡ checked (late_refusal_by F (Some groups) bytes.now) }
+    ensures valid { let F = format_of layout.key_len layout.value_len H.hash
+        in IsOk result ↔ (IsValidBytes F bytes.now
+        × (first_longer (controls_of F bytes.now) groups ≡ None)) }
+{
+    check_parts::<Layout, H>(bytes, layout, Some(groups))
+}
+
+/// Checks what [`check_opening_in`](super::check_opening_in) leaves out, with a bound of searches
+/// where there is one, and returns the first error. The whole checks of all tables are this one.
+pub fn check_parts<L: Lengths, H: HashFn>(
+    bytes: &[u8],
+    lengths: L,
+    groups: Option<usize>,
+) -> Result<(), Error>
+    requires accepted { IsAccepted (format_of (L.key_len lengths) (L.value_len lengths) H.hash)
+        bytes.now }
+    requires pair { ArePairLengths H.MIN_LEN (L.key_len lengths) (L.value_len lengths) }
+    ensures first { let F = format_of (L.key_len lengths) (L.value_len lengths) H.hash
+        in result ≡ checked (late_refusal_by F groups bytes.now) }
+    ensures valid { let F = format_of (L.key_len lengths) (L.value_len lengths) H.hash
+        in MatchOption groups (IsOk result ↔ IsValidBytes F bytes.now)
+        (λ g. IsOk result ↔ (IsValidBytes F bytes.now
+        × (first_longer (controls_of F bytes.now) g ≡ None))) }
+{
+    hold_bytes(bytes);
+    let table = parts_in::<L, H>(bytes, lengths);
+    check_late(&Header::of(bytes), &table, groups)
 }
 
 /// What the whole check adds to opening, of a header and the parts behind it, with a bound of

@@ -66,7 +66,7 @@ impl<'a, K: ByteArray, V: ByteArray> Entries<'a, K, V> {
 
     // These entries, with keys and values as types.
     #[inline(always)]
-    pub(super) fn of(stored: Stored<'a, Fixed<K, V>>) -> Self
+    pub(crate) fn of(stored: Stored<'a, Fixed<K, V>>) -> Self
         requires { AreLengths K.LEN V.LEN stored.key_len stored.value_len }
         ensures { result ≡ stored.entry.entries }
     {

@@ -4,9 +4,8 @@ ghost use Rattle.std.specs.Prelude.{◌≡◌, ◌-◌, ◌*◌, ◌+◌, ◌≤
 ghost use Rattle.odht_base.specs.Load.{IsSlotCount};
 ghost use Rattle.odht_raw.specs.PartLengths.{ArePartLengths};
 
-use super::free_search::first_free;
-use super::writes::{write_at_end, write_slot};
-use super::{EntryMetadata, Parts, ShortBytes, Stored, slot_count_of, tag_of};
+use super::writes::{write_at_end, write_new};
+use super::{EntryMetadata, Parts, ShortBytes, Stored, slot_count_of};
 use crate::error::Error;
 use crate::hash::HashFn;
 use crate::layout::{Layout, Lengths};
@@ -68,24 +67,8 @@ impl<'c, 'e, L: Lengths, H: HashFn> PartsMut<'c, 'e, L, H> {
         requires value { length value.now ≡ L.value_len (sized_layout self.old) }
         ensures { IsSizedPlacing self.old key.now value.now result self.new }
     {
-        hold_bytes(key);
-        hold_bytes(value);
-        let hash = H::hash(key);
-        let (control, entries) = (&mut *self.control, &mut *self.entries);
-        let Some(slot) = first_free::<GroupQuery>(control, hash) else {
-            return Err(Error::Full);
-        };
-        write_slot(
-            control,
-            entries,
-            slot_count_of(control),
-            self.lengths,
-            key,
-            value,
-            tag_of(hash),
-            slot,
-        );
-        Ok(())
+        let lengths = self.lengths;
+        write_new::<L, H, GroupQuery>(self.control, self.entries, lengths, key, value)
     }
 
     /// Overwrites the value stored with the key, or writes the pair into the first free slot of

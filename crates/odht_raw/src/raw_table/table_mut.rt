@@ -3,12 +3,13 @@ ghost use Rattle.std.specs.Prelude.{◌≡◌, ◌-◌, ◌*◌, ◌+◌, ◌≤
 ghost use Rattle.odht_base.specs.Load.{IsSlotCount};
 ghost use Rattle.odht_raw.specs.PartLengths.{ArePartLengths};
 
-use super::free_search::first_free;
-use super::insert::{fill_slot, insert_step};
-use super::{Entries, EntryMetadata, RawTable, slot_count_of, tag_of};
+use super::insert::insert_step;
+use super::writes::write_new;
+use super::{Entries, EntryMetadata, RawTable, slot_count_of};
 use crate::bytes::ByteArray;
 use crate::error::Error;
 use crate::hash::HashFn;
+use crate::layout::Fixed;
 use crate::swisstable_group_query::{Group, GroupQuery};
 use std::fmt;
 use std::marker::PhantomData;
@@ -96,14 +97,9 @@ impl<'c, 'e, K: ByteArray, V: ByteArray, H: HashFn> RawTableMut<'c, 'e, K, V, H>
     pub fn place_by<Q: Group>(&mut self, key: K, value: V) -> Result<(), Error>
         ensures { IsMutPlacing self.old key value result self.new }
     {
-        let (control, entries) = (&mut *self.control, &mut *self.entries);
-        let hash = H::hash(key.as_slice());
-        let Some(slot) = first_free::<Q>(control, hash) else {
-            return Err(Error::Full);
-        };
-        let slots = slot_count_of(control);
-        fill_slot::<K, V, H>(control, entries, slots, &key, &value, tag_of(hash), slot);
-        Ok(())
+        let lengths: Fixed<K, V> = Fixed::new();
+        let (key, value) = (key.as_slice(), value.as_slice());
+        write_new::<Fixed<K, V>, H, Q>(self.control, self.entries, lengths, key, value)
     }
 }
 

@@ -1,5 +1,5 @@
 //! The write of a pair into the parts of a table, whose lengths of keys and values are types or
-//! numbers: where the search for its key ended, or into a slot.
+//! numbers: where the search for its key ended, into the first free slot, or into a slot.
 //!
 //! It does not return the former value of the key. A caller that wants it reads it where the search
 //! ended, before the write.
@@ -9,19 +9,23 @@ ghost use Rattle.odht_base.specs.Bytes.{overwritten_at};
 ghost use Rattle.odht_base.specs.Format.{Format, format_of};
 ghost use Rattle.odht_base.specs.Load.{IsSlotCount};
 ghost use Rattle.odht_base.specs.Numbers.{IsBytes};
-ghost use Rattle.odht_base.specs.Table.{Pair};
+ghost use Rattle.odht_base.specs.Table.{Pair, Table};
+ghost use Rattle.odht_base.specs.Valid.{IsPartsOf};
 ghost use Rattle.odht_base.specs.Writes.{tagged};
 ghost use Rattle.odht_raw.specs.Formers.{answered, former_of};
 ghost use Rattle.odht_raw.specs.PartLengths.{ArePairLengths, ArePartLengths};
+ghost use Rattle.odht_raw.specs.PartsPlacings.{IsNewTo, IsNewPlacing, IsAddition};
 ghost use Rattle.odht_raw.specs.SearchResults.{MatchSearchResult, answer};
 ghost use Rattle.odht_raw.specs.Steps.{IsStepWhere, IsTaggedEnd};
 
-use super::{EntryMetadata, Search};
+use super::free_search::first_free;
+use super::{EntryMetadata, Search, slot_count_of, tag_of};
 use crate::bytes::write_slice;
 use crate::error::Error;
 use crate::hash::HashFn;
 use crate::layout::Lengths;
-use crate::swisstable_group_query::REFERENCE_GROUP_SIZE;
+use crate::memory_layout::hold_bytes;
+use crate::swisstable_group_query::{Group, REFERENCE_GROUP_SIZE};
 
 /// Writes a pair where the search for its key ended, which comes with the key's tag: the value
 /// alone into the slot that holds the key, or, where there is room, the entry with its tag into
@@ -70,6 +74,48 @@ pub(crate) fn write_at_end<L: Lengths, H: HashFn>(
         }
         Search::Neither => Err(Error::Full),
     }
+}
+
+/// Writes the pair into the first free slot of its key's probe order. No key is compared, so it is
+/// for a key that the table does not have. `Full`, with nothing changed, where no slot is free.
+#[inline(always)]
+pub(super) fn write_new<L: Lengths, H: HashFn, Q: Group>(
+    control: &mut [EntryMetadata],
+    entries: &mut [u8],
+    lengths: L,
+    key: &[u8],
+    value: &[u8],
+) -> Result<(), Error>
+    requires lengths { ArePartLengths H.MIN_LEN (L.key_len lengths) (L.value_len lengths)
+        (length entries.old) (length control.old) }
+    requires key { length key.now ≡ L.key_len lengths }
+    requires value { length value.now ≡ L.value_len lengths }
+    ensures placed { let F = format_of (L.key_len lengths) (L.value_len lengths) H.hash
+        in let p : Pair = record { key = key.now; value = value.now }
+        in (P : Table) → IsPartsOf F P entries.old control.old → IsNewTo P p
+        → IsNewPlacing F P p result entries.new control.new }
+    ensures change { let F = format_of (L.key_len lengths) (L.value_len lengths) H.hash
+        in let p : Pair = record { key = key.now; value = value.now }
+        in IsAddition F entries.old control.old p result entries.new control.new }
+{
+    hold_bytes(key);
+    hold_bytes(value);
+    let hash = H::hash(key);
+    let Some(slot) = first_free::<Q>(control, hash) else {
+        return Err(Error::Full);
+    };
+    let slots = slot_count_of(control);
+    write_slot(
+        control,
+        entries,
+        slots,
+        lengths,
+        key,
+        value,
+        tag_of(hash),
+        slot,
+    );
+    Ok(())
 }
 
 /// Writes the pair into a slot, the tag into the slot's control byte, and for a slot below 16 the

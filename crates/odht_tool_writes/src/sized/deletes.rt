@@ -21,7 +21,7 @@ use odht::bytes::Borrowed;
 use odht::dynamic::{DynTable, DynTableOwned, Layout, ShortBytes};
 use odht::hash::HashFn;
 use odht::load::Percent;
-use odht::memory_layout::{Header, init_sized};
+use odht::memory_layout::{Header, init_parts};
 use odht::raw_table::SizedIter;
 use odht_tool_core::failure::Failure;
 use odht_tool_core::keys::{Word, write_absent};
@@ -128,7 +128,7 @@ fn cleared<H: HashFn>(
     let Ok(mut empty) = vec![in alloc; 0; len] else {
         return Err(Failure::Memory);
     };
-    init_sized(
+    init_parts(
         empty.as_mut_slice(),
         layout,
         header.slot_count(),

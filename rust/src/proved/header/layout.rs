@@ -88,6 +88,12 @@ impl Layout {
         Layout { key_len: C::EncodedKey::LEN as u8, value_len: C::EncodedValue::LEN as u8 }
     }
 
+    /// Short lengths as numbers.
+    #[inline(always)]
+    pub fn of_lengths<L: Lengths>(lengths: L) -> Self {
+        Layout { key_len: lengths.key_len() as u8, value_len: lengths.value_len() as u8 }
+    }
+
     /// The length of an entry, in bytes.
     #[inline(always)]
     pub fn entry_len(self) -> usize {

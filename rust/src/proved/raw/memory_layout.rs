@@ -10,8 +10,6 @@ mod inserts;
 mod new_tables;
 mod opening;
 mod prefix;
-mod sized_check;
-mod sized_new;
 
 pub use crate::proved::header::header::{
     is_accepted, write_header, Header, HEADER_SIZE, LEAST_FACTOR,
@@ -20,11 +18,11 @@ pub use crate::proved::header::sizes::{bytes_needed, entry_at, layout_for};
 pub use crate::proved::raw::raw_table::{Entries, EntryMetadata};
 pub(crate) use allocation::hold_bytes;
 pub use allocation::Allocation;
-pub use check::{check_all, check_all_within, DEFAULT_GROUPS};
+pub use check::{
+    check_all, check_all_within, check_parts, check_sized, check_sized_within, DEFAULT_GROUPS,
+};
 pub use cuts::{parts_in, sized_parts};
 pub use inserts::{insert_sized, insert_sized_into};
-pub use new_tables::{allocate, clear_entries, init_in_place, write_empty};
-pub use opening::{check_by_header, check_opening, stated_layout};
+pub use new_tables::{allocate, clear_entries, init_in_place, init_parts, write_empty};
+pub use opening::{check_by_header, check_opening, check_opening_in, stated_layout};
 pub use prefix::{sized_table_len, table_len};
-pub use sized_check::{check_sized, check_sized_within};
-pub use sized_new::init_sized;

@@ -5,7 +5,7 @@ use crate::proved::tables::bytes::{ByteArray, ByteStore};
 use crate::proved::tables::config::Config;
 use crate::proved::tables::hash::HashFn;
 use crate::proved::tables::hash_table::HashTable;
-use crate::proved::tables::layout::Layout;
+use crate::proved::tables::layout::{Fixed, Layout};
 use crate::proved::tables::load::Factor;
 use crate::proved::tables::memory_layout::{self, Header, HEADER_SIZE};
 use crate::proved::tables::raw_table::{RawIter, RawTableMut};
@@ -45,7 +45,8 @@ impl<C: Config, D: ByteStore> HashTable<C, D> {
             // `out` has the length of the grown table.
             unreachable!()
         };
-        memory_layout::clear_entries::<C>(out, slot_count);
+        let lengths: Fixed<C::EncodedKey, C::EncodedValue> = Fixed::new();
+        memory_layout::clear_entries(out, lengths, slot_count);
         write_moved(self, slot_count, out);
     }
 }
@@ -96,7 +97,8 @@ fn write_walked<C: Config>(
     max_load_factor: Factor,
     walk: RawIter<'_, C::EncodedKey, C::EncodedValue>,
 ) {
-    memory_layout::write_empty::<C>(bytes, slot_count, item_count, max_load_factor);
+    let lengths: Fixed<C::EncodedKey, C::EncodedValue> = Fixed::new();
+    memory_layout::write_empty(bytes, lengths, slot_count, item_count, max_load_factor);
     let (table, control) = bytes.split_at_mut(memory_layout::entry_at::<C>(slot_count));
     let (_header, entries) = table.split_at_mut(HEADER_SIZE);
     place_walk::<C::EncodedKey, C::EncodedValue, C::H>(control, entries, walk);

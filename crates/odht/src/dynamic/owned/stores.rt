@@ -12,7 +12,7 @@ use crate::error::Error;
 use crate::hash::HashFn;
 use crate::layout::Layout;
 use crate::load::Factor;
-use crate::memory_layout::{check_opening, check_sized, init_sized};
+use crate::memory_layout::{check_opening, check_sized, init_parts};
 use std::alloc::Global;
 
 // The bytes of an empty table of these lengths with the slots for so many items.
@@ -35,7 +35,7 @@ pub(super) fn empty<H: HashFn>(
     let Ok(mut bytes) = vec![in alloc; 0; len] else {
         return Err(Error::Memory);
     };
-    init_sized(bytes.as_mut_slice(), layout, slot_count, 0, factor);
+    init_parts(bytes.as_mut_slice(), layout, slot_count, 0, factor);
     Ok(bytes)
 }
 

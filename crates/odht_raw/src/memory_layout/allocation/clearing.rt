@@ -8,7 +8,8 @@ ghost use Rattle.odht_raw.specs.Frame.{IsAccepted};
 use super::Allocation;
 use crate::bytes::ByteStoreMut;
 use crate::config::{Coded, Config};
-use crate::memory_layout::new_tables::init_bytes;
+use crate::layout::Fixed;
+use crate::memory_layout::init_parts;
 
 impl<C: Config, M: ByteStoreMut> Allocation<C, M> {
     /// Makes each slot free: the bytes are then those of the empty table with the slot count and
@@ -24,6 +25,7 @@ impl<C: Config, M: ByteStoreMut> Allocation<C, M> {
         let slot_count = header.slot_count();
         let factor = header.max_load_factor();
         let store = &mut self.store;
-        init_bytes::<C>(store.bytes_mut(), slot_count, 0, factor);
+        let lengths: Fixed<C::EncodedKey, C::EncodedValue> = Fixed::new();
+        init_parts(store.bytes_mut(), lengths, slot_count, 0, factor);
     }
 }

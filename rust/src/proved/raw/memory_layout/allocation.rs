@@ -1,10 +1,12 @@
 // Made by `make rust` of crates/odht_raw/src/memory_layout/allocation.rt.
 //! The bytes of a table in a store: opening and reading.
 
-use super::{entry_at, Entries, EntryMetadata, Header, HEADER_SIZE};
+use super::cuts::cut;
+use super::{check_by_header, check_opening_in, Entries, EntryMetadata, Header};
 use crate::proved::raw::bytes::{ByteArray, ByteStore};
 use crate::proved::raw::config::Config;
 use crate::proved::raw::error::Error;
+use crate::proved::raw::layout::{Fixed, Layout};
 use crate::proved::raw::raw_table::RawTable;
 use std::marker::PhantomData;
 
@@ -13,9 +15,6 @@ mod inserts;
 mod writing;
 
 pub(super) use inserts::write_count;
-
-// How many slots are checked when a view is opened.
-pub(super) const SLOTS_TO_CHECK: usize = 10;
 
 /// A store of the bytes of a table, whose header and length fit. In a contract it is the store.
 pub struct Allocation<C: Config, M: ByteStore> {
@@ -30,9 +29,9 @@ impl<C: Config, M: ByteStore> Allocation<C, M> {
     /// that are opened need not be valid.
     #[inline(always)]
     pub fn from_raw_bytes(data: M) -> Result<Self, Error> {
-        let allocation = Self::from_raw_bytes_by_header(data)?;
-        allocation.as_raw().sanity_check_hashes(SLOTS_TO_CHECK)?;
-        Ok(allocation)
+        let lengths: Fixed<C::EncodedKey, C::EncodedValue> = Fixed::new();
+        check_opening_in::<Fixed<C::EncodedKey, C::EncodedValue>, C::H>(data.bytes(), lengths)?;
+        Ok(Allocation { store: data, config: PhantomData })
     }
 
     /// Opens the bytes as those of a table by their header and length alone. The result is the
@@ -40,12 +39,7 @@ impl<C: Config, M: ByteStore> Allocation<C, M> {
     /// On an error the data is dropped.
     #[inline(always)]
     pub fn from_raw_bytes_by_header(data: M) -> Result<Self, Error> {
-        let bytes = data.bytes();
-        let found = bytes.len();
-        if found < HEADER_SIZE {
-            return Err(Error::TooShort { found });
-        }
-        Header::of(bytes).sanity_check::<C>(found)?;
+        check_by_header(data.bytes(), Layout::of::<C>())?;
         Ok(Allocation { store: data, config: PhantomData })
     }
 
@@ -81,6 +75,7 @@ impl<C: Config, M: ByteStore> Allocation<C, M> {
     /// are its parts.
     #[inline]
     pub fn data_slices(&self) -> (&[EntryMetadata], Entries<'_, C::EncodedKey, C::EncodedValue>) {
+        let lengths: Fixed<C::EncodedKey, C::EncodedValue> = Fixed::new();
         let bytes = self.store.bytes();
         let slots = Header::of(bytes).slot_count();
         crate::shim::slots::check::<M>(
@@ -88,20 +83,8 @@ impl<C: Config, M: ByteStore> Allocation<C, M> {
             slots,
             crate::proved::header::layout::Layout::of::<C>(),
         );
-        let control = entry_at::<C>(slots);
-        (
-            &index!(
-                bytes[control..],
-                "IsAccepted (format_of C.EncodedKey.LEN C.EncodedValue.LEN C.H.hash)"
-            ),
-            Entries::new(
-                &index!(
-                    bytes[HEADER_SIZE..control],
-                    "IsAccepted (format_of C.EncodedKey.LEN C.EncodedValue.LEN C.H.hash)"
-                ),
-                slots,
-            ),
-        )
+        let parts = cut::<Fixed<C::EncodedKey, C::EncodedValue>, C::H>(bytes, slots, lengths);
+        (parts.controls(), Entries::of(parts.stored()))
     }
 
     /// The parts of the table, to be read.

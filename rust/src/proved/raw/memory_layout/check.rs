@@ -1,11 +1,13 @@
 // Made by `make rust` of crates/odht_raw/src/memory_layout/check.rt.
-//! The whole check of the bytes of a table.
+//! The whole check of the bytes of a table. The lengths of keys and values are types or numbers.
 
 use super::allocation::{hold_bytes, Allocation};
-use super::Header;
+use super::{parts_in, Header};
 use crate::proved::raw::bytes::{Borrowed, ByteStore};
 use crate::proved::raw::config::Config;
 use crate::proved::raw::error::Error;
+use crate::proved::raw::hash::HashFn;
+use crate::proved::raw::layout::{Fixed, Layout, Lengths};
 use crate::proved::raw::raw_table::{check_mirror, check_slots, longer_refusal, TableSlots};
 
 /// A bound of searches, in groups, that tables of hashes that vary keep: about twice the longest
@@ -53,17 +55,54 @@ impl<C: Config, M: ByteStore> Allocation<C, M> {
     /// key's probe order up to it are read, sixteen at a time. A key is compared only with keys at
     /// earlier positions that have its tag.
     pub fn check_rest(&self) -> Result<(), Error> {
-        hold_bytes(self.raw_bytes());
-        check_late(&self.header(), &self.as_raw().parts(), None)
+        let lengths: Fixed<C::EncodedKey, C::EncodedValue> = Fixed::new();
+        check_parts::<Fixed<C::EncodedKey, C::EncodedValue>, C::H>(self.raw_bytes(), lengths, None)
     }
 
     /// `check_rest` with a bound of searches, as in [`check_all_within`]. Ok exactly for valid
     /// bytes in which each home has, among the first `groups` groups of its probe order, a control
     /// byte that counts as free.
     pub fn check_rest_within(&self, groups: usize) -> Result<(), Error> {
-        hold_bytes(self.raw_bytes());
-        check_late(&self.header(), &self.as_raw().parts(), Some(groups))
+        let lengths: Fixed<C::EncodedKey, C::EncodedValue> = Fixed::new();
+        let bytes = self.raw_bytes();
+        check_parts::<Fixed<C::EncodedKey, C::EncodedValue>, C::H>(bytes, lengths, Some(groups))
     }
+}
+
+/// Checks what [`check_opening`](super::check_opening) leaves out, and returns the first error, as
+/// [`Allocation::check_rest`] does. Ok exactly for valid bytes.
+///
+/// It reads what that reads.
+pub fn check_sized<H: HashFn>(bytes: &[u8], layout: Layout) -> Result<(), Error> {
+    check_parts::<Layout, H>(bytes, layout, None)
+}
+
+/// `check_sized` with a bound of searches, as in [`check_all_within`]: after the maximum item
+/// count, and before any search for a key, `SearchTooLong` of the least home from which a search
+/// may read more than `groups` groups. Ok exactly for valid bytes in which each home has, among
+/// the first `groups` groups of its probe order, a control byte that counts as free. Then no
+/// search, of a present or an absent key, reads more.
+///
+/// For bytes of strangers: whatever they are, for `s` slots it reads at most `2 * s * groups`
+/// groups and makes at most `16 * s * groups` comparisons of keys. It allocates nothing.
+pub fn check_sized_within<H: HashFn>(
+    bytes: &[u8],
+    layout: Layout,
+    groups: usize,
+) -> Result<(), Error> {
+    check_parts::<Layout, H>(bytes, layout, Some(groups))
+}
+
+/// Checks what [`check_opening_in`](super::check_opening_in) leaves out, with a bound of searches
+/// where there is one, and returns the first error. The whole checks of all tables are this one.
+pub fn check_parts<L: Lengths, H: HashFn>(
+    bytes: &[u8],
+    lengths: L,
+    groups: Option<usize>,
+) -> Result<(), Error> {
+    hold_bytes(bytes);
+    let table = parts_in::<L, H>(bytes, lengths);
+    check_late(&Header::of(bytes), &table, groups)
 }
 
 /// What the whole check adds to opening, of a header and the parts behind it, with a bound of

@@ -1,10 +1,12 @@
 // Made by `make rust` of crates/odht_raw/src/memory_layout/new_tables.rt.
-//! New tables, in given bytes and in newly allocated memory.
+//! New tables, in given bytes and in newly allocated memory. The lengths of keys and values are
+//! types or numbers.
 
-use super::{bytes_needed, entry_at, write_header, Allocation, HEADER_SIZE};
+use super::{bytes_needed, Allocation, HEADER_SIZE};
 use crate::proved::raw::bytes::{ByteStoreMut, OwnedBytes};
 use crate::proved::raw::config::Config;
 use crate::proved::raw::error::Error;
+use crate::proved::raw::layout::{Fixed, Layout, Lengths};
 use crate::proved::raw::load::Factor;
 use crate::proved::raw::raw_table::FREE;
 use crate::shim::Global;
@@ -17,38 +19,46 @@ pub fn init_in_place<C: Config, M: ByteStoreMut>(
     item_count: usize,
     max_load_factor: Factor,
 ) -> Allocation<C, M> {
-    init_bytes::<C>(data.bytes_mut(), slot_count, item_count, max_load_factor);
+    let lengths: Fixed<C::EncodedKey, C::EncodedValue> = Fixed::new();
+    init_parts(data.bytes_mut(), lengths, slot_count, item_count, max_load_factor);
     Allocation::from_raw_bytes_unchecked(data)
 }
 
-// `init_in_place` on the bytes themselves.
-pub(crate) fn init_bytes<C: Config>(
+/// `init_in_place` in the bytes themselves, of a table of these lengths. The hash function does not
+/// matter.
+pub fn init_parts<L: Lengths>(
     bytes: &mut [u8],
+    lengths: L,
     slot_count: usize,
     item_count: usize,
     max_load_factor: Factor,
 ) {
-    clear_entries::<C>(bytes, slot_count);
-    write_empty::<C>(bytes, slot_count, item_count, max_load_factor);
+    clear_entries(bytes, lengths, slot_count);
+    write_empty(bytes, lengths, slot_count, item_count, max_load_factor);
 }
 
 /// Writes zeros over the entries of the bytes of a table of `slot_count` slots. No other byte
 /// changes.
-pub fn clear_entries<C: Config>(bytes: &mut [u8], slot_count: usize) {
-    bytes[HEADER_SIZE..entry_at::<C>(slot_count)].fill(0);
+pub fn clear_entries<L: Lengths>(bytes: &mut [u8], lengths: L, slot_count: usize) {
+    let end = HEADER_SIZE + slot_count * lengths.entry_len();
+    bytes[HEADER_SIZE..end].fill(0);
 }
 
 /// Writes a table of `slot_count` free slots into bytes whose entries are zeros: the header, and
-/// the control bytes with their mirror. The header's item count is `item_count`.
-pub fn write_empty<C: Config>(
+/// the control bytes with their mirror. The header's item count is `item_count`. The hash function
+/// does not matter.
+pub fn write_empty<L: Lengths>(
     bytes: &mut [u8],
+    lengths: L,
     slot_count: usize,
     item_count: usize,
     max_load_factor: Factor,
 ) {
-    let (table, control) = bytes.split_at_mut(entry_at::<C>(slot_count));
+    let at = HEADER_SIZE + slot_count * lengths.entry_len();
+    let (table, control) = bytes.split_at_mut(at);
     let (header, _entries) = table.split_at_mut(HEADER_SIZE);
-    write_header::<C>(header, slot_count, item_count, max_load_factor);
+    let layout = Layout::of_lengths(lengths);
+    layout.write_header(header, slot_count, item_count, max_load_factor);
     control.fill(FREE);
 }
 
@@ -68,6 +78,7 @@ pub fn allocate<C: Config>(
         return Err(Error::Capacity);
     };
     let mut bytes = crate::shim::zeroed_bytes(alloc, len)?;
-    write_empty::<C>(bytes.as_mut_slice(), slot_count, item_count, max_load_factor);
+    let lengths: Fixed<C::EncodedKey, C::EncodedValue> = Fixed::new();
+    write_empty(bytes.as_mut_slice(), lengths, slot_count, item_count, max_load_factor);
     Ok(Allocation::from_raw_bytes_unchecked(OwnedBytes::new(bytes)))
 }

@@ -1,12 +1,14 @@
 // Made by `make rust` of crates/odht_raw/src/memory_layout/opening.rt.
-//! Opening the bytes of a table whose lengths of keys and values are numbers: the lengths that a
-//! header states, and the checks.
+//! Opening the bytes of a table: the lengths that a header states, and the checks. The lengths of
+//! keys and values are types or numbers.
 
-use super::allocation::SLOTS_TO_CHECK;
-use super::{sized_parts, Header, HEADER_SIZE};
+use super::{parts_in, Header, HEADER_SIZE};
 use crate::proved::raw::error::Error;
 use crate::proved::raw::hash::HashFn;
-use crate::proved::raw::layout::Layout;
+use crate::proved::raw::layout::{Layout, Lengths};
+
+// How many slots are checked when a view is opened.
+const SLOTS_TO_CHECK: usize = 10;
 
 /// The lengths of keys and values that the header at the front of the bytes states, of which
 /// nothing is checked; `TooShort` where they are too few for one.
@@ -32,9 +34,17 @@ pub fn check_by_header(bytes: &[u8], layout: Layout) -> Result<(), Error> {
 }
 
 /// Checks the bytes as those of a table of these lengths, and returns the first error: those of
-/// [`check_by_header`], then those of [`SizedTable::sanity_check_hashes`] on the first ten slots.
-/// Bytes that pass need not be valid.
+/// [`check_by_header`], then those of [`Parts::sanity_check_hashes`] on the first ten slots. Bytes
+/// that pass need not be valid.
+///
+/// [`Parts::sanity_check_hashes`]: crate::proved::raw::raw_table::Parts::sanity_check_hashes
+#[inline(always)]
+pub fn check_opening_in<L: Lengths, H: HashFn>(bytes: &[u8], lengths: L) -> Result<(), Error> {
+    check_by_header(bytes, Layout::of_lengths(lengths))?;
+    parts_in::<L, H>(bytes, lengths).sanity_check_hashes(SLOTS_TO_CHECK)
+}
+
+/// [`check_opening_in`] where the lengths are numbers.
 pub fn check_opening<H: HashFn>(bytes: &[u8], layout: Layout) -> Result<(), Error> {
-    check_by_header(bytes, layout)?;
-    sized_parts::<H>(bytes, layout).sanity_check_hashes(SLOTS_TO_CHECK)
+    check_opening_in::<Layout, H>(bytes, layout)
 }

@@ -36,7 +36,7 @@ impl<'a, K: ByteArray, V: ByteArray> Entries<'a, K, V> {
 
     // These entries, with keys and values as types.
     #[inline(always)]
-    pub(super) fn of(stored: Stored<'a, Fixed<K, V>>) -> Self {
+    pub(crate) fn of(stored: Stored<'a, Fixed<K, V>>) -> Self {
         Entries { stored }
     }
 

@@ -2,9 +2,8 @@
 //! The parts of a table, borrowed to be written. The lengths of keys and values are types or
 //! numbers.
 
-use super::free_search::first_free;
-use super::writes::{write_at_end, write_slot};
-use super::{slot_count_of, tag_of, EntryMetadata, Parts, ShortBytes, Stored};
+use super::writes::{write_at_end, write_new};
+use super::{slot_count_of, EntryMetadata, Parts, ShortBytes, Stored};
 use crate::proved::raw::error::Error;
 use crate::proved::raw::hash::HashFn;
 use crate::proved::raw::layout::{Layout, Lengths};
@@ -40,24 +39,8 @@ impl<'c, 'e, L: Lengths, H: HashFn> PartsMut<'c, 'e, L, H> {
     /// It does what [`RawTableMut::place`](super::RawTableMut::place) does to the parts of a table
     /// whose keys and values have these lengths, to any parts too.
     pub fn place(&mut self, key: &[u8], value: &[u8]) -> Result<(), Error> {
-        hold_bytes(key);
-        hold_bytes(value);
-        let hash = H::hash(key);
-        let (control, entries) = (&mut *self.control, &mut *self.entries);
-        let Some(slot) = first_free::<GroupQuery>(control, hash) else {
-            return Err(Error::Full);
-        };
-        write_slot(
-            control,
-            entries,
-            slot_count_of(control),
-            self.lengths,
-            key,
-            value,
-            tag_of(hash),
-            slot,
-        );
-        Ok(())
+        let lengths = self.lengths;
+        write_new::<L, H, GroupQuery>(self.control, self.entries, lengths, key, value)
     }
 
     /// Overwrites the value stored with the key, or writes the pair into the first free slot of

@@ -1,12 +1,13 @@
 // Made by `make rust` of crates/odht_raw/src/raw_table/table_mut.rt.
 //! The parts of a table, borrowed to be written.
 
-use super::free_search::first_free;
-use super::insert::{fill_slot, insert_step};
-use super::{slot_count_of, tag_of, Entries, EntryMetadata, RawTable};
+use super::insert::insert_step;
+use super::writes::write_new;
+use super::{slot_count_of, Entries, EntryMetadata, RawTable};
 use crate::proved::raw::bytes::ByteArray;
 use crate::proved::raw::error::Error;
 use crate::proved::raw::hash::HashFn;
+use crate::proved::raw::layout::Fixed;
 use crate::proved::raw::swisstable_group_query::{Group, GroupQuery};
 use std::fmt;
 use std::marker::PhantomData;
@@ -67,14 +68,9 @@ impl<'c, 'e, K: ByteArray, V: ByteArray, H: HashFn> RawTableMut<'c, 'e, K, V, H>
     /// searches leave the same parts.
     #[inline(always)]
     pub fn place_by<Q: Group>(&mut self, key: K, value: V) -> Result<(), Error> {
-        let (control, entries) = (&mut *self.control, &mut *self.entries);
-        let hash = H::hash(key.as_slice());
-        let Some(slot) = first_free::<Q>(control, hash) else {
-            return Err(Error::Full);
-        };
-        let slots = slot_count_of(control);
-        fill_slot::<K, V, H>(control, entries, slots, &key, &value, tag_of(hash), slot);
-        Ok(())
+        let lengths: Fixed<K, V> = Fixed::new();
+        let (key, value) = (key.as_slice(), value.as_slice());
+        write_new::<Fixed<K, V>, H, Q>(self.control, self.entries, lengths, key, value)
     }
 }
 

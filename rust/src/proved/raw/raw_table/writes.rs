@@ -1,16 +1,18 @@
 // Made by `make rust` of crates/odht_raw/src/raw_table/writes.rt.
 //! The write of a pair into the parts of a table, whose lengths of keys and values are types or
-//! numbers: where the search for its key ended, or into a slot.
+//! numbers: where the search for its key ended, into the first free slot, or into a slot.
 //!
 //! It does not return the former value of the key. A caller that wants it reads it where the search
 //! ended, before the write.
 
-use super::{EntryMetadata, Search};
+use super::free_search::first_free;
+use super::{slot_count_of, tag_of, EntryMetadata, Search};
 use crate::proved::raw::bytes::write_slice;
 use crate::proved::raw::error::Error;
 use crate::proved::raw::hash::HashFn;
 use crate::proved::raw::layout::Lengths;
-use crate::proved::raw::swisstable_group_query::REFERENCE_GROUP_SIZE;
+use crate::proved::raw::memory_layout::hold_bytes;
+use crate::proved::raw::swisstable_group_query::{Group, REFERENCE_GROUP_SIZE};
 
 /// Writes a pair where the search for its key ended, which comes with the key's tag: the value
 /// alone into the slot that holds the key, or, where there is room, the entry with its tag into
@@ -45,6 +47,27 @@ pub(crate) fn write_at_end<L: Lengths, H: HashFn>(
         }
         Search::Neither => Err(Error::Full),
     }
+}
+
+/// Writes the pair into the first free slot of its key's probe order. No key is compared, so it is
+/// for a key that the table does not have. `Full`, with nothing changed, where no slot is free.
+#[inline(always)]
+pub(super) fn write_new<L: Lengths, H: HashFn, Q: Group>(
+    control: &mut [EntryMetadata],
+    entries: &mut [u8],
+    lengths: L,
+    key: &[u8],
+    value: &[u8],
+) -> Result<(), Error> {
+    hold_bytes(key);
+    hold_bytes(value);
+    let hash = H::hash(key);
+    let Some(slot) = first_free::<Q>(control, hash) else {
+        return Err(Error::Full);
+    };
+    let slots = slot_count_of(control);
+    write_slot(control, entries, slots, lengths, key, value, tag_of(hash), slot);
+    Ok(())
 }
 
 /// Writes the pair into a slot, the tag into the slot's control byte, and for a slot below 16 the

@@ -7,7 +7,7 @@ use crate::proved::tables::growth::grown_sizes;
 use crate::proved::tables::hash::HashFn;
 use crate::proved::tables::layout::Layout;
 use crate::proved::tables::load::Factor;
-use crate::proved::tables::memory_layout::{init_sized, Header, HEADER_SIZE};
+use crate::proved::tables::memory_layout::{init_parts, Header, HEADER_SIZE};
 use crate::proved::tables::raw_table::{SizedIter, SizedTableMut};
 
 impl<H: HashFn, D: ByteStore> DynTable<H, D> {
@@ -54,7 +54,7 @@ fn write_walked<H: HashFn>(
     max_load_factor: Factor,
     walk: SizedIter<'_, H>,
 ) {
-    init_sized(bytes, layout, slot_count, item_count, max_load_factor);
+    init_parts(bytes, layout, slot_count, item_count, max_load_factor);
     let (table, control) = bytes.split_at_mut(layout.entry_at(slot_count));
     let (_header, entries) = table.split_at_mut(HEADER_SIZE);
     place_walk::<H>(control, entries, layout, walk);

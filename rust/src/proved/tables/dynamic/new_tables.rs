@@ -7,7 +7,7 @@ use crate::proved::tables::error::Error;
 use crate::proved::tables::hash::HashFn;
 use crate::proved::tables::layout::Layout;
 use crate::proved::tables::load::Factor;
-use crate::proved::tables::memory_layout::init_sized;
+use crate::proved::tables::memory_layout::init_parts;
 
 impl<H: HashFn, D: ByteStore> DynTable<H, D> {
     /// The length in bytes of a new table of these lengths for `max_item_count` items, at a load
@@ -63,6 +63,6 @@ fn init_bytes<H: HashFn, D: ByteStoreMut>(
     if found != expected {
         return Err(Error::InitLength { found, expected });
     }
-    init_sized(store.bytes_mut(), layout, slot_count, 0, factor);
+    init_parts(store.bytes_mut(), layout, slot_count, 0, factor);
     Ok(())
 }

@@ -13,7 +13,7 @@ use Rattle.odht_raw.proofs.lemmas.Borrows.{borrowed-bytes}
 use Rattle.odht_raw.proofs.lemmas.NewTables.{IsAccepted-new, with_count-new}
 use Rattle.odht.proofs.lemmas.NewRefusals.{new_refusal-large, new_refusal-wrong, new_refusal-fits}
 use Rattle.odht.proofs.dynamic.new_tables.init_bytes.Given.{Over}
-use Rattle.odht.proofs.dynamic.new_tables.init_bytes.Goals.{After-init_sized}
+use Rattle.odht.proofs.dynamic.new_tables.init_bytes.Goals.{After-init_parts}
 use Rattle.odht.proofs.dynamic.new_tables.init_bytes.Goals as goal
 
 pub returns-in_default-clause-err : goal.returns-in_default-clause-err
@@ -36,10 +36,10 @@ returns-then-found-expected-clause-err g c =
     rw (found, layout.long) (sym (new_refusal-wrong F n f (length B) s layout.slots (omega (arith, layout.long, layout.fits)) (λ e. c.if-found-expected.true (found ∙ e ∙ sym layout.long))))
 
 -- the store that is left has these bytes
-left : (g : Over) (c : After-init_sized g) → g.D.ByteStore.bytes (g.D.ByteStoreMut.after_borrow c.args.store.now c.init_sized.new.bytes) ≡ c.init_sized.new.bytes
+left : (g : Over) (c : After-init_parts g) → g.D.ByteStore.bytes (g.D.ByteStoreMut.after_borrow c.args.store.now c.init_parts.new.bytes) ≡ c.init_parts.new.bytes
 left g c =
-    borrowed-bytes g.D.ByteStore.bytes g.D.ByteStoreMut.holding g.D.ByteStoreMut.after_borrow g.met.D.ByteStoreMut.held g.met.D.ByteStoreMut.after_borrow_fits c.args.store.now c.init_sized.new.bytes
-    (c.init_sized.auto.bytes ∙ ap length c.bytes_mut.ensures.value)
+    borrowed-bytes g.D.ByteStore.bytes g.D.ByteStoreMut.holding g.D.ByteStoreMut.after_borrow g.met.D.ByteStoreMut.held g.met.D.ByteStoreMut.after_borrow_fits c.args.store.now c.init_parts.new.bytes
+    (c.init_parts.auto.bytes ∙ ap length c.bytes_mut.ensures.value)
 
 pub returns-clause-ok : goal.returns-clause-ok
 returns-clause-ok g c =
@@ -54,7 +54,7 @@ returns-clause-ok g c =
       new = ap (option_map (λ t. empty t f)) layout.slots;
       image = record {
         valid = empty-IsValid s f F count (omega (arith, c.requires.percent.0)) (omega (arith, c.requires.percent.1));
-        bytes = left g (goal.at.returns-clause-ok g c).After-init_sized ∙ c.init_sized.ensures F.hash ∙ ap (λ t. with_count (image F (empty s t)) 0) c.from_percent-factor.ensures ∙ with_count-new F s 0 f count;
+        bytes = left g (goal.at.returns-clause-ok g c).After-init_parts ∙ c.init_parts.ensures F.hash ∙ ap (λ t. with_count (image F (empty s t)) 0) c.from_percent-factor.ensures ∙ with_count-new F s 0 f count;
       };
     }
 
@@ -69,14 +69,14 @@ returns-clause-err g c =
     let found : length c.bytes-found.result.now ≡ length B = ap length c.bytes-found.ensures in
     sym (new_refusal-fits F n f (length B) s layout.slots (omega (arith, layout.long, layout.fits)) (omega (arith, found, layout.long, c.if-found-expected.false)))
 
-pub init_sized-requires-clause-len : goal.init_sized-requires-clause-len
-init_sized-requires-clause-len g c = ap length c.bytes_mut.ensures.value ∙ ap length (sym c.bytes-found.ensures) ∙ c.if-found-expected.false ∙ (c.in-Some.ensures.some g.H.HashFn.hash).long
+pub init_parts-requires-clause-len : goal.init_parts-requires-clause-len
+init_parts-requires-clause-len g c = ap length c.bytes_mut.ensures.value ∙ ap length (sym c.bytes-found.ensures) ∙ c.if-found-expected.false ∙ (c.in-Some.ensures.some g.H.HashFn.hash).long
 
-pub init_sized-requires-clause-slots : goal.init_sized-requires-clause-slots
-init_sized-requires-clause-slots g c = (c.in-Some.ensures.some g.H.HashFn.hash).least.is_count
+pub init_parts-requires-clause-slots : goal.init_parts-requires-clause-slots
+init_parts-requires-clause-slots g c = (c.in-Some.ensures.some g.H.HashFn.hash).least.is_count
 
 pub returns-clause-accepted : goal.returns-clause-accepted
 returns-clause-accepted g c =
     let F = format_of c.args.layout.key_len c.args.layout.value_len g.H.HashFn.hash in
-    subst (IsAccepted F) (sym (left g (goal.at.returns-clause-accepted g c).After-init_sized ∙ c.init_sized.ensures F.hash))
+    subst (IsAccepted F) (sym (left g (goal.at.returns-clause-accepted g c).After-init_parts ∙ c.init_parts.ensures F.hash))
     (IsAccepted-new F c.in-Some.slot_count 0 c.from_percent-factor.result.0 (c.in-Some.ensures.some F.hash).least.is_count)

@@ -15,8 +15,8 @@ long g c =
     let F : Format = format_of g.C.EncodedKey.ByteArray.LEN g.C.EncodedValue.ByteArray.LEN g.C.H.HashFn.hash in
     asked_len F c.header.result c.in-Some.slot_count _ _ c.in-Some.ensures (ap (grown_len F) (c.header.ensures.bytes ∙ ap g.D.ByteStore.bytes c.self.view_is) ∙ c.requires)
 
-pub clear_entries-requires-after_bounds : goal.clear_entries-requires-after_bounds
-clear_entries-requires-after_bounds g c κs within = long g (goal.at.clear_entries-requires-after_bounds g c).In-Some
+pub clear_entries-requires-clause-len : goal.clear_entries-requires-clause-len
+clear_entries-requires-clause-len g c = long g (goal.at.clear_entries-requires-clause-len g c).In-Some
 
 pub write_moved-requires-clause-room : goal.write_moved-requires-clause-room
 write_moved-requires-clause-room g c κs within =

@@ -11,7 +11,7 @@ use Rattle.odht_raw.proofs.memory_layout.new_tables.allocate.Goals as goal
 use Rattle.odht_raw.proofs.memory_layout.new_tables.allocate.Goals.{After-new}
 
 pub write_empty-requires-clause-zeros : goal.write_empty-requires-clause-zeros
-write_empty-requires-clause-zeros g c κs within =
+write_empty-requires-clause-zeros g c =
     let F : Format = format_of g.C.EncodedKey.ByteArray.LEN g.C.EncodedValue.ByteArray.LEN g.C.H.HashFn.hash in
     let n = c.args.slot_count * entry_len F in
     let long : c.in-Some.len ≡ image_len F c.args.slot_count = c.in-Some.ensures.len in
@@ -23,7 +23,7 @@ all : (g : Over) (c : After-new g)
     → c.new.result ≡ with_count (image (format_of g.C.EncodedKey.ByteArray.LEN g.C.EncodedValue.ByteArray.LEN g.C.H.HashFn.hash) (empty c.args.slot_count c.args.max_load_factor.0)) c.args.item_count
 all g c =
     let long : length c.write_empty.new.bytes ≡ c.in_ok-bytes.bytes.len = omega (arith, c.write_empty.auto.bytes, c.as_mut_slice.ensures.len) in
-    c.new.ensures ∙ take_at c.write_empty.new.bytes _ c.in_ok-bytes.bytes.len long ∙ c.write_empty.ensures
+    c.new.ensures ∙ take_at c.write_empty.new.bytes _ c.in_ok-bytes.bytes.len long ∙ c.write_empty.ensures g.C.H.HashFn.hash
 
 pub from_raw_bytes_unchecked-requires-after_bounds :
     goal.from_raw_bytes_unchecked-requires-after_bounds

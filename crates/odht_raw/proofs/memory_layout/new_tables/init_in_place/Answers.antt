@@ -9,6 +9,6 @@ pub from_raw_bytes_unchecked-requires-after_bounds :
     goal.from_raw_bytes_unchecked-requires-after_bounds
 from_raw_bytes_unchecked-requires-after_bounds g c κs within =
     let F : Format = format_of g.C.EncodedKey.ByteArray.LEN g.C.EncodedValue.ByteArray.LEN g.C.H.HashFn.hash in
-    let same = borrowed-bytes g.M.ByteStore.bytes g.M.ByteStoreMut.holding g.M.ByteStoreMut.after_borrow g.met.M.ByteStoreMut.held g.met.M.ByteStoreMut.after_borrow_fits c.args.data c.init_bytes.new.bytes
-    (c.init_bytes.auto.bytes ∙ ap length c.bytes_mut.ensures.value) in
-    subst (IsAccepted F) (sym (same ∙ c.init_bytes.ensures)) (IsAccepted-new F c.args.slot_count c.args.item_count c.args.max_load_factor.0 c.requires.slots)
+    let same = borrowed-bytes g.M.ByteStore.bytes g.M.ByteStoreMut.holding g.M.ByteStoreMut.after_borrow g.met.M.ByteStoreMut.held g.met.M.ByteStoreMut.after_borrow_fits c.args.data c.init_parts.new.bytes
+    (c.init_parts.auto.bytes ∙ ap length c.bytes_mut.ensures.value) in
+    subst (IsAccepted F) (sym (same ∙ c.init_parts.ensures g.C.H.HashFn.hash)) (IsAccepted-new F c.args.slot_count c.args.item_count c.args.max_load_factor.0 c.requires.slots)

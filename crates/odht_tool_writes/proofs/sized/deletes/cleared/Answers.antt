@@ -16,16 +16,16 @@ use Rattle.odht_tool_writes.specs.Deletes.{cleared}
 use Rattle.odht_tool_writes.proofs.NewTables.{on_value}
 use Rattle.odht_tool_writes.proofs.sized.deletes.cleared.Goals as goal
 
-pub init_sized-requires-clause-slots : goal.init_sized-requires-clause-slots
-init_sized-requires-clause-slots g c =
+pub init_parts-requires-clause-slots : goal.init_parts-requires-clause-slots
+init_parts-requires-clause-slots g c =
     let F = dyn_format c.args.old.now g.H.HashFn.hash in
     let P = c.requires.0 in
     let slots : c.slot_count.result ≡ slot_count P =
     c.slot_count.ensures ∙ ap header_slots (c.of-header.ensures ∙ c.raw_bytes-bytes.ensures.bytes) ∙ slots_of_image F P c.args.old.now.store.0.now c.requires.1 in
     subst IsSlotCount (sym slots) c.requires.1.valid.placed.slots
 
-pub init_sized-requires-clause-len : goal.init_sized-requires-clause-len
-init_sized-requires-clause-len g c =
+pub init_parts-requires-clause-len : goal.init_parts-requires-clause-len
+init_parts-requires-clause-len g c =
     let F = dyn_format c.args.old.now g.H.HashFn.hash in
     let P = c.requires.0 in
     let is = c.requires.1 in
@@ -54,10 +54,10 @@ returns-clause-ok g c P is =
     let slots : s ≡ header_slots B = c.slot_count.ensures ∙ ap header_slots header in
     let factor : f ≡ header_factor B = c.max_load_factor.ensures ∙ ap header_factor header in
     let count : IsSlotCount s = subst IsSlotCount (sym (slots ∙ slots_of_image F P B is)) is.valid.placed.slots in
-    let out = c.init_sized.new.bytes in
-    let long : length out ≡ c.in-Ok.empty.len = omega (arith, c.init_sized.auto.bytes, c.as_mut_slice.ensures.len) in
+    let out = c.init_parts.new.bytes in
+    let long : length out ≡ c.in-Ok.empty.len = omega (arith, c.init_parts.auto.bytes, c.as_mut_slice.ensures.len) in
     let written : c.as_slice.result.now ≡ image F (empty (header_slots B) (header_factor B)) =
-    c.as_slice.ensures.value ∙ take_at out _ c.in-Ok.empty.len long ∙ c.init_sized.ensures h ∙ with_count-new (format_of layout.key_len layout.value_len h) s 0 f count
+    c.as_slice.ensures.value ∙ take_at out _ c.in-Ok.empty.len long ∙ c.init_parts.ensures h ∙ with_count-new (format_of layout.key_len layout.value_len h) s 0 f count
     ∙ (λ i. image (formats i) (empty (slots i) (factor i))) in
     let image : IsImage F (cleared P) c.as_slice.result.now = cleared_image F P B is c.as_slice.result.now written in
     let copied : IfOk c.map_err.result (λ t. t ≡ dyn_store layout.key_len layout.value_len c.as_slice.result.now) = search rules in

@@ -13,7 +13,7 @@ use crate::proved::tables::bytes::Borrowed;
 use crate::proved::tables::dynamic::{DynTable, DynTableOwned, Layout, ShortBytes};
 use crate::proved::tables::hash::HashFn;
 use crate::proved::tables::load::Percent;
-use crate::proved::tables::memory_layout::{init_sized, Header};
+use crate::proved::tables::memory_layout::{init_parts, Header};
 use crate::proved::tables::raw_table::SizedIter;
 use crate::shim::Global;
 use std::io::{self, Write};
@@ -85,7 +85,7 @@ fn cleared<H: HashFn>(
     let Ok(mut empty) = crate::host::lists::filled(alloc, 0, len) else {
         return Err(Failure::Memory);
     };
-    init_sized(empty.as_mut_slice(), layout, header.slot_count(), 0, header.max_load_factor());
+    init_parts(empty.as_mut_slice(), layout, header.slot_count(), 0, header.max_load_factor());
     DynTableOwned::from_raw_bytes(alloc, layout, empty.as_slice()).map_err(|_| Failure::Memory)
 }
 

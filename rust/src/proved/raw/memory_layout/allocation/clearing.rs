@@ -4,7 +4,8 @@
 use super::Allocation;
 use crate::proved::raw::bytes::ByteStoreMut;
 use crate::proved::raw::config::Config;
-use crate::proved::raw::memory_layout::new_tables::init_bytes;
+use crate::proved::raw::layout::Fixed;
+use crate::proved::raw::memory_layout::init_parts;
 
 impl<C: Config, M: ByteStoreMut> Allocation<C, M> {
     /// Makes each slot free: the bytes are then those of the empty table with the slot count and
@@ -14,6 +15,7 @@ impl<C: Config, M: ByteStoreMut> Allocation<C, M> {
         let slot_count = header.slot_count();
         let factor = header.max_load_factor();
         let store = &mut self.store;
-        init_bytes::<C>(store.bytes_mut(), slot_count, 0, factor);
+        let lengths: Fixed<C::EncodedKey, C::EncodedValue> = Fixed::new();
+        init_parts(store.bytes_mut(), lengths, slot_count, 0, factor);
     }
 }

@@ -5,7 +5,7 @@ use crate::proved::tables::error::Error;
 use crate::proved::tables::hash::HashFn;
 use crate::proved::tables::layout::Layout;
 use crate::proved::tables::load::Factor;
-use crate::proved::tables::memory_layout::{check_opening, check_sized, init_sized};
+use crate::proved::tables::memory_layout::{check_opening, check_sized, init_parts};
 use crate::shim::Global;
 use alloc::vec::Vec;
 
@@ -23,7 +23,7 @@ pub(super) fn empty<H: HashFn>(
     let Ok(mut bytes) = crate::shim::zeroed_bytes(alloc, len) else {
         return Err(Error::Memory);
     };
-    init_sized(bytes.as_mut_slice(), layout, slot_count, 0, factor);
+    init_parts(bytes.as_mut_slice(), layout, slot_count, 0, factor);
     Ok(bytes)
 }
 

@@ -32,11 +32,11 @@ returns-in_default-vec-clause-err g c =
     let F = format_of c.args.layout.key_len c.args.layout.value_len g.H.HashFn.hash in
     fails_memory (bytes_coding F) _ _ _ _ (layout g (goal.at.returns-in_default-vec-clause-err g c).In-Some)
 
-pub init_sized-requires-clause-slots : goal.init_sized-requires-clause-slots
-init_sized-requires-clause-slots g c = (c.in-Some.ensures.some g.H.HashFn.hash).least.is_count
+pub init_parts-requires-clause-slots : goal.init_parts-requires-clause-slots
+init_parts-requires-clause-slots g c = (c.in-Some.ensures.some g.H.HashFn.hash).least.is_count
 
-pub init_sized-requires-clause-len : goal.init_sized-requires-clause-len
-init_sized-requires-clause-len g c =
+pub init_parts-requires-clause-len : goal.init_parts-requires-clause-len
+init_parts-requires-clause-len g c =
     let zeros : c.as_mut_slice.result.now ≡ replicate c.in-Some.len 0 = c.as_mut_slice.ensures.value ∙ c.in-Ok.ensures.items_if_clones_equal (λ y e. e) in
     ap length zeros ∙ length-replicate c.in-Some.len 0 ∙ (c.in-Some.ensures.some g.H.HashFn.hash).long
 
@@ -47,14 +47,14 @@ returns-clause-ok g c =
     let f = factor_of c.args.max_load_factor_percent in
     let at = layout g (goal.at.returns-clause-ok g c).In-Some in
     let count = at.least.is_count in
-    let out = c.init_sized.new.bytes in
-    let long : length out ≡ c.in-Ok.bytes.len = omega (arith, c.init_sized.auto.bytes, c.as_mut_slice.ensures.len) in
+    let out = c.init_parts.new.bytes in
+    let long : length out ≡ c.in-Ok.bytes.len = omega (arith, c.init_parts.auto.bytes, c.as_mut_slice.ensures.len) in
     record {
       table = empty s f;
       new = ap (option_map (λ t. empty t f)) at.slots;
       image = record {
         valid = empty-IsValid s f F count (omega (arith, c.requires.percent.0)) (omega (arith, c.requires.percent.1));
-        bytes = take_at out _ c.in-Ok.bytes.len long ∙ c.init_sized.ensures F.hash ∙ ap (λ t. with_count (image F (empty s t)) 0) c.from_percent-factor.ensures ∙ with_count-new F s 0 f count;
+        bytes = take_at out _ c.in-Ok.bytes.len long ∙ c.init_parts.ensures F.hash ∙ ap (λ t. with_count (image F (empty s t)) 0) c.from_percent-factor.ensures ∙ with_count-new F s 0 f count;
       };
     }
 
