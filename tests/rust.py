@@ -37,8 +37,13 @@ CARGO_FILES = f"{TOP}/build/cargo"
 sys.path.insert(0, f"{TOP}/tools")
 import watched
 
-# what a failed test prints needs no lines of the standard library, and what is built is not built again in parts
-CARGO = {"CARGO_TERM_COLOR": "never", "CARGO_PROFILE_DEV_DEBUG": "0", "CARGO_INCREMENTAL": "0"}
+# what a failed test prints needs no lines of the standard library, and what is built is not built again in parts; as one
+# unit, since each of several would have its own copy of each function that is always inlined
+CARGO = {"CARGO_TERM_COLOR": "never", "CARGO_PROFILE_DEV_DEBUG": "0", "CARGO_INCREMENTAL": "0",
+         "CARGO_PROFILE_DEV_CODEGEN_UNITS": "1"}
+# What is not optimized has no pass of LLVM either, of which there would be one: it inlines what is always inlined, and most
+# of the time goes to these copies. Overflows still panic, and assertions are checked.
+NO_PASSES = {"RUSTFLAGS": f"{os.environ.get('RUSTFLAGS', '')} -C no-prepopulate-passes".strip()}
 
 
 class Failed(Exception):
@@ -171,7 +176,7 @@ OF_MODULES = ["all", "long", "no_simd", "no_std"]
 def tests_of_crate(*features):
     """Runs the tests in rust/tests and rust/src/tests with these features."""
     each_file_is_run()
-    passed = cargo("rust", "test", "--lib", *named(QUICK), *features)
+    passed = cargo("rust", "test", "--lib", *named(QUICK), *features, **NO_PASSES)
     return passed + cargo("rust", "test", *named(LONG), *features, CARGO_PROFILE_TEST_OPT_LEVEL="1")
 
 
@@ -241,7 +246,7 @@ def without_std():
     for target in targets_without_std():
         cargo("rust/without_std", "build", "--lib", "--target", target, **files)
         done += 1
-    return done + cargo("rust", "test", *NO_STD, *named(["no_std"]))
+    return done + cargo("rust", "test", *NO_STD, *named(["no_std"]), **NO_PASSES)
 
 
 def lints():
@@ -350,7 +355,7 @@ TESTS = {
     "crate": tests_of_crate,
     "examples": examples,
     "checked": lambda: tests_of_crate("--features", "checked"),
-    "no_simd": lambda: cargo("rust", "test", "--features", "no_simd", *NO_SIMD),
+    "no_simd": lambda: cargo("rust", "test", "--features", "no_simd", *NO_SIMD, **NO_PASSES),
     "without_std": without_std,
     "programs": programs,
     "compat": lambda: user("rust/compat"),
