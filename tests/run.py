@@ -151,6 +151,10 @@ def script(*words):
     return lambda part: part.counted(sys.executable, *words)
 
 
+def calls_for_c(part):
+    return part.counted("sh", "tests/c/run.sh", f"{BUILT}/libodht.a", env={**os.environ, "OBJECTS": rust.OBJECTS})
+
+
 def crate_for_rust(part):
     # `current` is of the part `generated`
     names = [it for it in rust.TESTS if it != "current"]
@@ -186,7 +190,7 @@ def package_over_the_archive(part):
 
 # each part, what it needs, and its call; those that take longest first
 PARTS = {
-    "calls": (["libodht.a"], lambda part: part.counted("sh", "tests/c/run.sh", f"{BUILT}/libodht.a")),
+    "calls": (["libodht.a"], calls_for_c),
     "rust": (["libodht.a"] if unproved.KIT else [], crate_for_rust),
     "ffi": (["libodht.a"], package_over_the_archive),
     "rattle": ([IN_RATTLE], tests_in_rattle),

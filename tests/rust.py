@@ -34,15 +34,14 @@ from concurrent.futures import ThreadPoolExecutor
 
 TOP = os.path.dirname(os.path.dirname(os.path.realpath(__file__)))
 CARGO_FILES = f"{TOP}/build/cargo"
+OBJECTS = f"{TOP}/build/objects_of_c"  # what the parts `calls` and `rust` compile alike of tests/c
 sys.path.insert(0, f"{TOP}/tools")
 import watched
 
-# what a failed test prints needs no lines of the standard library, and what is built is not built again in parts; as one
-# unit, since each of several would have its own copy of each function that is always inlined
-CARGO = {"CARGO_TERM_COLOR": "never", "CARGO_PROFILE_DEV_DEBUG": "0", "CARGO_INCREMENTAL": "0",
-         "CARGO_PROFILE_DEV_CODEGEN_UNITS": "1"}
-# What is not optimized has no pass of LLVM either, of which there would be one: it inlines what is always inlined, and most
-# of the time goes to these copies. Overflows still panic, and assertions are checked.
+# a failed test prints no lines of the standard library; and one unit has once what is always inlined, and is built once
+CARGO = {"CARGO_TERM_COLOR": "never", "CARGO_PROFILE_DEV_DEBUG": "0", "CARGO_INCREMENTAL": "0"}
+CARGO["CARGO_PROFILE_DEV_CODEGEN_UNITS"] = "1"
+# of unoptimized tests: LLVM's one pass inlines what is always inlined, and most of the time would go to these copies
 NO_PASSES = {"RUSTFLAGS": f"{os.environ.get('RUSTFLAGS', '')} -C no-prepopulate-passes".strip()}
 
 
@@ -344,7 +343,7 @@ def library_for_c():
         passed += 1
     for script, folder in (("examples.sh", libraries), ("installed.sh", CARGO_FILES), ("linked.sh", CARGO_FILES)):
         passed += len(re.findall("well", run(["sh", f"rust/c/{script}", folder])))
-    printed = run(["sh", "tests/c/run.sh", f"{libraries}/libodht.a", "cc"], SANITIZERS="no")
+    printed = run(["sh", "tests/c/run.sh", f"{libraries}/libodht.a", "cc"], SANITIZERS="no", OBJECTS=OBJECTS)
     return passed + int(re.search(r"(\d+) passed, 0 failed", printed)[1])
 
 
