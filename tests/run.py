@@ -14,8 +14,8 @@
     word       all vectors and the tests in Rattle once more, with the word search compiled in
 
 What a part needs is built first, by tools/unproved.py, into build/unproved/; what is current there is kept. The kit's
-front end runs once for all programs (tools/programs_together.py), and once for both crates of tests. For `word`
-that is done of a copy of the sources, in a folder for temporary files: the gate takes no second crates.txt in here.
+front end runs twice: once for all programs and the library for C (tools/programs_together.py), and once for both crates
+of tests. What `word` needs is in these two, as copies of the crates under other names (tools/word_search.py).
 
 What a part prints is in build/logs/PART.log too. A part that hangs, for 600 seconds or those that TEST_SECONDS gives
 (tools/watched.py), is ended: it counts as failed, and is told as ENDED. Where there is no kit of Rattle, the parts that
@@ -41,14 +41,13 @@ import programs_together
 import rust
 import unproved
 import watched
-import word_search
 
-# the names of this folder are built of a copy of the sources, with the word search
+# what is built with the word search
 WORD = f"{BUILT}/word"
 PRINTING = threading.Lock()
 IN_RATTLE = unproved.TESTS
-# the programs that are lowered once for all of them
-PROGRAMS = ["odht_tool", "odht_vectors", "odht_memory", "odht_table"]
+# what is lowered once for all of them
+PROGRAMS = ["odht_tool", "libodht.a", "odht_vectors", "odht_memory", "odht_table", "word/odht_vectors"]
 # of processor time, for one test in Rattle: what works without end is ended by it, and what sleeps by tools/watched.py
 TEST_IN_RATTLE = 600
 # the limit by the clock that `rattle-test` has: a year, since a machine may be busy
@@ -135,13 +134,14 @@ def vectors(part, built=BUILT):
     return passed, failed, printed
 
 
-def tests_in_rattle(part, built=BUILT):
-    words = [f"{unproved.KIT}/bin/rattle-test", "--seconds", str(NEVER)]
-    return part.counted(*limited(TEST_IN_RATTLE, *words, f"{built}/{IN_RATTLE}"))
+def tests_in_rattle(part, search="by_lanes"):
+    words = [f"{unproved.KIT}/bin/rattle-test", "--seconds", str(NEVER), "--filter", f"{search}::"]
+    passed, failed, printed = part.counted(*limited(TEST_IN_RATTLE, *words, f"{BUILT}/{IN_RATTLE}"))
+    return passed, failed if passed else 1, printed
 
 
 def with_word_search(part):
-    ran = [it(part, WORD) for it in (vectors, tests_in_rattle)]
+    ran = [vectors(part, WORD), tests_in_rattle(part, "by_words")]
     passed, failed = (sum(it[at] for it in ran) for at in (0, 1))
     return passed, failed, "\n".join(printed for _, failures, printed in ran if failures)
 
@@ -149,6 +149,10 @@ def with_word_search(part):
 def script(*words):
     """Returns the call of a part that is a program in Python."""
     return lambda part: part.counted(sys.executable, *words)
+
+
+def calls_for_c(part):
+    return part.counted("sh", "tests/c/run.sh", f"{BUILT}/libodht.a", env={**os.environ, "OBJECTS": rust.OBJECTS})
 
 
 def crate_for_rust(part):
@@ -186,12 +190,12 @@ def package_over_the_archive(part):
 
 # each part, what it needs, and its call; those that take longest first
 PARTS = {
-    "calls": (["libodht.a"], lambda part: part.counted("sh", "tests/c/run.sh", f"{BUILT}/libodht.a")),
+    "calls": (["libodht.a"], calls_for_c),
     "rust": (["libodht.a"] if unproved.KIT else [], crate_for_rust),
     "ffi": (["libodht.a"], package_over_the_archive),
     "rattle": ([IN_RATTLE], tests_in_rattle),
     "vectors": (["odht_vectors"], vectors),
-    "word": ([f"word/{it}" for it in (IN_RATTLE, "odht_vectors")], with_word_search),
+    "word": ([IN_RATTLE, "word/odht_vectors"], with_word_search),
     "memory": (["odht_memory", "odht_table", "odht_tool"], script("tests/memory.py", BUILT)),
     "tool": (["odht_tool"], program_of_the_kit),
     "cli": (["odht_tool"] if unproved.KIT else [], program_of_erased_source),
@@ -208,17 +212,7 @@ PARTS = {
 
 def build(name, together):
     """Builds what a part needs. Returns whether it was built anew."""
-    if name in PROGRAMS:
-        return together.build(name)
-    if not name.startswith("word/"):
-        return unproved.build(BUILT, name)
-    crate = name.removeprefix("word/")
-    to = f"{BUILT}/{name}"
-    before = os.stat(to).st_mtime_ns if os.path.exists(to) else 0
-    with tempfile.TemporaryDirectory(prefix="odht-word-") as copy:
-        word_search.copy_sources(copy, unproved.all_crates_of(crate))
-        unproved.call(sys.executable, f"{copy}/tools/unproved.py", WORD, crate)
-    return before != os.stat(to).st_mtime_ns
+    return together.build(name) if name in PROGRAMS else unproved.build(BUILT, name)
 
 
 def built(name, together):

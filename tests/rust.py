@@ -34,11 +34,15 @@ from concurrent.futures import ThreadPoolExecutor
 
 TOP = os.path.dirname(os.path.dirname(os.path.realpath(__file__)))
 CARGO_FILES = f"{TOP}/build/cargo"
+OBJECTS = f"{TOP}/build/objects_of_c"  # what the parts `calls` and `rust` compile alike of tests/c
 sys.path.insert(0, f"{TOP}/tools")
 import watched
 
-# what a failed test prints needs no lines of the standard library, and what is built is not built again in parts
+# a failed test prints no lines of the standard library; and one unit has once what is always inlined, and is built once
 CARGO = {"CARGO_TERM_COLOR": "never", "CARGO_PROFILE_DEV_DEBUG": "0", "CARGO_INCREMENTAL": "0"}
+CARGO["CARGO_PROFILE_DEV_CODEGEN_UNITS"] = "1"
+# of unoptimized tests: LLVM's one pass inlines what is always inlined, and most of the time would go to these copies
+NO_PASSES = {"RUSTFLAGS": f"{os.environ.get('RUSTFLAGS', '')} -C no-prepopulate-passes".strip()}
 
 
 class Failed(Exception):
@@ -171,7 +175,7 @@ OF_MODULES = ["all", "long", "no_simd", "no_std"]
 def tests_of_crate(*features):
     """Runs the tests in rust/tests and rust/src/tests with these features."""
     each_file_is_run()
-    passed = cargo("rust", "test", "--lib", *named(QUICK), *features)
+    passed = cargo("rust", "test", "--lib", *named(QUICK), *features, **NO_PASSES)
     return passed + cargo("rust", "test", *named(LONG), *features, CARGO_PROFILE_TEST_OPT_LEVEL="1")
 
 
@@ -241,7 +245,7 @@ def without_std():
     for target in targets_without_std():
         cargo("rust/without_std", "build", "--lib", "--target", target, **files)
         done += 1
-    return done + cargo("rust", "test", *NO_STD, *named(["no_std"]))
+    return done + cargo("rust", "test", *NO_STD, *named(["no_std"]), **NO_PASSES)
 
 
 def lints():
@@ -339,7 +343,7 @@ def library_for_c():
         passed += 1
     for script, folder in (("examples.sh", libraries), ("installed.sh", CARGO_FILES), ("linked.sh", CARGO_FILES)):
         passed += len(re.findall("well", run(["sh", f"rust/c/{script}", folder])))
-    printed = run(["sh", "tests/c/run.sh", f"{libraries}/libodht.a", "cc"], SANITIZERS="no")
+    printed = run(["sh", "tests/c/run.sh", f"{libraries}/libodht.a", "cc"], SANITIZERS="no", OBJECTS=OBJECTS)
     return passed + int(re.search(r"(\d+) passed, 0 failed", printed)[1])
 
 
@@ -350,7 +354,7 @@ TESTS = {
     "crate": tests_of_crate,
     "examples": examples,
     "checked": lambda: tests_of_crate("--features", "checked"),
-    "no_simd": lambda: cargo("rust", "test", "--features", "no_simd", *NO_SIMD),
+    "no_simd": lambda: cargo("rust", "test", "--features", "no_simd", *NO_SIMD, **NO_PASSES),
     "without_std": without_std,
     "programs": programs,
     "compat": lambda: user("rust/compat"),

@@ -32,10 +32,33 @@ sanitizes() {
     "$1" $sanitizers "$room/empty.c" -o "$room/empty" 2> /dev/null && "$room/empty" 2> /dev/null
 }
 
+# Compiles with a compiler and further flags, and prints the folder of the object files. Where OBJECTS names a folder,
+# what is without sanitizers stays there: a run over another archive takes it, with the same compiler and sources.
+compiled() {
+    made=$room/objects
+    rm -rf "$made"
+    if [ -n "${OBJECTS-}" ] && [ -z "$2" ] && has flock; then
+        sum=$({ "$1" --version && echo "$flags" && cat ./*.c ./*.h ../../include/*; } | sha256sum | cut -c1-16)
+        made=$OBJECTS/$1-$sum
+    fi
+    mkdir -p "$made"
+    # shellcheck disable=SC2086
+    (
+        if has flock; then flock 9; fi
+        if [ ! -f "$made/whole" ]; then
+            for source in ./*.c; do
+                "$1" $flags $2 -I../../include -c "$source" -o "$made/${source%.c}.o" || exit 1
+            done
+            touch "$made/whole"
+        fi
+    ) 9> "$made/lock" >&2 || return 1
+    echo "$made"
+}
+
 # Compiles with a compiler and further flags, and runs.
 try() {
     # shellcheck disable=SC2086
-    if ! "$1" $flags $2 -I../../include ./*.c "$library" $wrapped -o "$room/tests" ||
+    if ! objects=$(compiled "$1" "$2") || ! "$1" $2 "$objects"/*.o "$library" $wrapped -o "$room/tests" ||
         ! "$room/tests"; then
         echo "tests/c: failed with $1 $2" >&2
         status=1
