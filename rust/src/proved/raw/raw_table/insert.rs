@@ -72,9 +72,9 @@ pub(crate) fn insert_at<K: ByteArray, V: ByteArray, H: HashFn>(
     }
 }
 
-// `insert_at`, for an end of any kind.
+/// `insert_at` with one body for each kind of end.
 #[inline(always)]
-fn insert_at_end<K: ByteArray, V: ByteArray, H: HashFn>(
+pub(super) fn insert_at_end<K: ByteArray, V: ByteArray, H: HashFn>(
     control: &mut [EntryMetadata],
     entries: &mut [u8],
     slots: usize,
