@@ -1,12 +1,12 @@
 //! Inserts into the bytes of a table: the parts are written, and last the item count. The lengths
 //! of keys and values are types or numbers.
-ghost use Rattle.std.specs.Prelude.{◌≡◌, ◌≤◌, ◌<◌, length, option_map, IfOk, IsOk, ⊤};
+ghost use Rattle.std.specs.Prelude.{◌≡◌, ◌≤◌, ◌<◌, length, option_map, IfOk, IsTrue, ⊤};
 ghost use Rattle.odht_base.specs.Decoded.{header_slots, entries_of, controls_of};
 ghost use Rattle.odht_base.specs.Format.{format_of, tag as key_tag};
 ghost use Rattle.odht_base.specs.Table.{Table};
 ghost use Rattle.odht_base.specs.Valid.{IsImage};
 ghost use Rattle.odht_raw.specs.FormerWrites.{IsOneInto};
-ghost use Rattle.odht_raw.specs.Formers.{answered, former_of};
+ghost use Rattle.odht_raw.specs.Formers.{answered, former_of, write_result};
 ghost use Rattle.odht_raw.specs.Frame.{IsAccepted, IsFramed};
 ghost use Rattle.odht_raw.specs.Parts.{stored_in};
 ghost use Rattle.odht_raw.specs.Runs.{IsOnePlaced};
@@ -27,9 +27,9 @@ use crate::raw_table::{Parts, Search, ShortBytes, is_found, write_at_end};
 use crate::swisstable_group_query::Group;
 
 // Writes the pair where the search for its key ended, which comes with the key's tag, and counts
-// a new entry. `Full`, with nothing changed, where the key is new and the header's item count is
-// its maximum or more, or no slot is free. The slot count is that of the header, which is read
-// once for an insert.
+// a new entry. Returns whether it wrote: not, with nothing changed, where the key is new and the
+// header's item count is its maximum or more, or no slot is free. The caller's error is `Full`
+// then. The slot count is that of the header, which is read once for an insert.
 //
 // In the clauses the former value stands in an Ok. It is not returned.
 #[inline(always)]
@@ -40,7 +40,7 @@ fn insert_in<L: Lengths, H: HashFn>(
     key: &[u8],
     value: &[u8],
     end: (Search, u8),
-) -> Result<(), Error>
+) -> bool
     requires accepted { IsAccepted (format_of (L.key_len lengths) (L.value_len lengths) H.hash)
         bytes.old }
     requires slots { slots ≡ header_slots bytes.old }
@@ -58,13 +58,13 @@ fn insert_in<L: Lengths, H: HashFn>(
         (format_of (L.key_len lengths) (L.value_len lengths) H.hash)
         in (P : Table)
         → IsImage c.format P bytes.old
-        → IfOk (answered c.format (entries_of c.format bytes.old) end.0 result)
+        → IfOk (answered c.format (entries_of c.format bytes.old) end.0 (write_result result))
         (λ old. IsOnePlaced c P key.now value.now old bytes.new) }
     ensures framed { let c = bytes_coding
         (format_of (L.key_len lengths) (L.value_len lengths) H.hash)
         in IsFramed c bytes.old key.now value.now
-        (answered c.format (entries_of c.format bytes.old) end.0 result) bytes.new }
-    ensures found { MatchSearchResult end.0 (λ _. IsOk result) (λ _. ⊤) ⊤ }
+        (answered c.format (entries_of c.format bytes.old) end.0 (write_result result)) bytes.new }
+    ensures found { MatchSearchResult end.0 (λ _. IsTrue result) (λ _. ⊤) ⊤ }
     ensures accepted { IsAccepted (format_of (L.key_len lengths) (L.value_len lengths) H.hash)
         bytes.new }
     ensures len { length bytes.new ≡ length bytes.old }
@@ -79,16 +79,14 @@ fn insert_in<L: Lengths, H: HashFn>(
     let header = Header::of(front);
     let count = header.item_count();
     let room = header.max_load_factor().apply(slots).saturating_sub(count);
-    match write_at_end::<L, H>(control, entries, slots, lengths, key, value, end, room) {
-        Ok(()) => {
-            if is_found(end.0) {
-                return Ok(());
-            }
-            write_count(front, count + 1);
-            Ok(())
-        }
-        Err(refused) => Err(refused),
+    if !write_at_end::<L, H>(control, entries, slots, lengths, key, value, end, room) {
+        return false;
     }
+    if is_found(end.0) {
+        return true;
+    }
+    write_count(front, count + 1);
+    true
 }
 
 /// Gives the key this value in the bytes of a table, and returns its former one. `Full`, with
@@ -118,9 +116,10 @@ pub fn insert_sized<H: HashFn>(
     let parts = cut::<Layout, H>(&*bytes, slots, layout);
     let end = parts.insert_end(key);
     let former = parts.short_value_at(end.0);
-    match insert_in::<Layout, H>(bytes, slots, layout, key, value, end) {
-        Ok(()) => Ok(former),
-        Err(refused) => Err(refused),
+    if insert_in::<Layout, H>(bytes, slots, layout, key, value, end) {
+        Ok(former)
+    } else {
+        Err(Error::Full)
     }
 }
 
@@ -149,10 +148,7 @@ pub fn insert_sized_into<H: HashFn>(
     let end = parts.insert_end(key);
     let had = parts.copy_value_at(end.0, former);
     let written = insert_in::<Layout, H>(bytes, slots, layout, key, value, end);
-    match written {
-        Ok(()) => Ok(had),
-        Err(refused) => Err(refused),
-    }
+    if written { Ok(had) } else { Err(Error::Full) }
 }
 
 /// `insert_sized` of a key and a value of a configuration, by a group search of the caller's
@@ -181,11 +177,12 @@ pub(crate) fn insert_typed<C: Config, Q: Group>(
     let parts = cut::<Fixed<C::EncodedKey, C::EncodedValue>, C::H>(&*bytes, slots, lengths);
     let end = parts.search_end::<Q>(key);
     let former = former_value::<C>(&parts, end.0);
-    match insert_in::<Fixed<C::EncodedKey, C::EncodedValue>, C::H>(
+    if insert_in::<Fixed<C::EncodedKey, C::EncodedValue>, C::H>(
         bytes, slots, lengths, key, value, end,
     ) {
-        Ok(()) => Ok(former),
-        Err(refused) => Err(refused),
+        Ok(former)
+    } else {
+        Err(Error::Full)
     }
 }
 

@@ -11,7 +11,7 @@ ghost use Rattle.odht_raw.specs.PartLengths.{ArePairLengths, ArePartLengths, Are
 ghost use Rattle.odht_raw.specs.Searches.{IsSearchEnd};
 ghost use Rattle.odht_raw.specs.Steps.{IsStepEnd, IsStepWhere};
 
-use super::insert::insert_at;
+use super::insert::insert_at_end;
 use super::{
     Entries, EntryMetadata, Scan, Search, is_empty_or_deleted, search_hashed, slot_count_of, tag_of,
 };
@@ -73,7 +73,7 @@ pub(crate) fn insert_ahead<K: ByteArray, V: ByteArray, H: HashFn>(
 {
     let slots = slot_count_of(control);
     let end = expected_end::<K, V, H>(control, entries, slots, &key, hash, slot, room);
-    insert_at::<K, V, H>(
+    insert_at_end::<K, V, H>(
         control,
         entries,
         slots,

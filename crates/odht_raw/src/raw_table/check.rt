@@ -181,11 +181,11 @@ fn is_reached<S: TableSlots>(table: &S, slot: usize, hash: u32) -> bool
     let mut probe = GroupProbe::new(table.control_bytes(), slots, hash as usize);
     let before = slot.wrapping_sub(probe.start()) & (slots - 1);
     let group = GroupQuery::of(probe.read(), tag_of(hash));
-    if before < REFERENCE_GROUP_SIZE
-        && group.first_empty().unwrap_or(before) >= before
-        && group.first_match().unwrap_or(before) >= before
-    {
-        return true;
+    // A match lies in the group, and so does a slot that is not behind it.
+    if let Some(index) = group.first_match() {
+        if before <= index && before <= group.first_empty().unwrap_or(REFERENCE_GROUP_SIZE) {
+            return true;
+        }
     }
     is_reached_late(table, slot, hash, group)
 }

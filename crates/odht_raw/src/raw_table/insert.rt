@@ -108,9 +108,9 @@ pub(crate) fn insert_at<K: ByteArray, V: ByteArray, H: HashFn>(
     }
 }
 
-// `insert_at`, for an end of any kind.
+/// `insert_at` with one body for each kind of end.
 #[inline(always)]
-fn insert_at_end<K: ByteArray, V: ByteArray, H: HashFn>(
+pub(super) fn insert_at_end<K: ByteArray, V: ByteArray, H: HashFn>(
     control: &mut [EntryMetadata],
     entries: &mut [u8],
     slots: usize,
@@ -134,9 +134,10 @@ fn insert_at_end<K: ByteArray, V: ByteArray, H: HashFn>(
     let parts: Parts<'_, Fixed<K, V>, H> = Parts::of(&*control, stored);
     let former = parts.typed_value_at(end.0);
     let (key, value) = (key.as_slice(), value.as_slice());
-    match write_at_end::<Fixed<K, V>, H>(control, entries, slots, lengths, key, value, end, room) {
-        Ok(()) => Ok(former),
-        Err(refused) => Err(refused),
+    if write_at_end::<Fixed<K, V>, H>(control, entries, slots, lengths, key, value, end, room) {
+        Ok(former)
+    } else {
+        Err(Error::Full)
     }
 }
 

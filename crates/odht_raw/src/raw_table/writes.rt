@@ -4,7 +4,7 @@
 //! It does not return the former value of the key. A caller that wants it reads it where the search
 //! ended, before the write.
 ghost use Rattle.std.specs.Prelude.{◌≡◌, ◌+◌, ◌-◌, ◌*◌, ◌<◌, ◌++◌, ℕ, List, length, IsTrue, IsFalse};
-ghost use Rattle.std.specs.Prelude.{Some, None, IsOk, ⊤};
+ghost use Rattle.std.specs.Prelude.{Some, None, ⊤};
 ghost use Rattle.odht_base.specs.Bytes.{overwritten_at};
 ghost use Rattle.odht_base.specs.Format.{Format, format_of};
 ghost use Rattle.odht_base.specs.Load.{IsSlotCount};
@@ -12,7 +12,7 @@ ghost use Rattle.odht_base.specs.Numbers.{IsBytes};
 ghost use Rattle.odht_base.specs.Table.{Pair, Table};
 ghost use Rattle.odht_base.specs.Valid.{IsPartsOf};
 ghost use Rattle.odht_base.specs.Writes.{tagged};
-ghost use Rattle.odht_raw.specs.Formers.{answered, former_of};
+ghost use Rattle.odht_raw.specs.Formers.{answered, former_of, write_result};
 ghost use Rattle.odht_raw.specs.PartLengths.{ArePairLengths, ArePartLengths};
 ghost use Rattle.odht_raw.specs.PartsPlacings.{IsNewTo, IsNewPlacing, IsAddition};
 ghost use Rattle.odht_raw.specs.SearchResults.{MatchSearchResult, answer};
@@ -29,10 +29,12 @@ use crate::swisstable_group_query::{Group, REFERENCE_GROUP_SIZE};
 
 /// Writes a pair where the search for its key ended, which comes with the key's tag: the value
 /// alone into the slot that holds the key, or, where there is room, the entry with its tag into
-/// the free slot. `Full`, with nothing changed, where there is no room for a new entry, or the
-/// search met neither slot.
+/// the free slot. Returns whether it wrote: not, with nothing changed, where there is no room for a
+/// new entry, or the search met neither slot. The caller's error is `Full` then.
 ///
 /// In the clause the former value stands in an Ok. It is not returned.
+// It returns no `Result`: the room for its errors is cleared, which kept the compiler from going
+// from where a search ends straight to what is written there.
 #[inline(always)]
 pub(crate) fn write_at_end<L: Lengths, H: HashFn>(
     control: &mut [EntryMetadata],
@@ -43,7 +45,7 @@ pub(crate) fn write_at_end<L: Lengths, H: HashFn>(
     value: &[u8],
     end: (Search, u8),
     room: usize,
-) -> Result<(), Error>
+) -> bool
     requires lengths { ArePartLengths H.MIN_LEN (L.key_len lengths) (L.value_len lengths)
         (length entries.old) (length control.old) }
     requires slots { slots ≡ length control.old - 16 }
@@ -54,25 +56,25 @@ pub(crate) fn write_at_end<L: Lengths, H: HashFn>(
     ensures step { let F = format_of (L.key_len lengths) (L.value_len lengths) H.hash
         in let p : Pair = record { key = key.now; value = value.now }
         in IsStepWhere (λ P. end.0 ≡ answer F P.cells p.key) F (λ b. b) room
-        (entries.old, control.old) p (answered F entries.old end.0 result)
+        (entries.old, control.old) p (answered F entries.old end.0 (write_result result))
         (entries.new, control.new) }
-    ensures found { MatchSearchResult end.0 (λ _. IsOk result) (λ _. ⊤) ⊤ }
+    ensures found { MatchSearchResult end.0 (λ _. IsTrue result) (λ _. ⊤) ⊤ }
 {
     let (end, tag) = end;
     match end {
         Search::Found(slot) => {
             let at = slot * lengths.entry_len() + lengths.key_len();
             write_slice(entries, at, value);
-            Ok(())
+            true
         }
         Search::Free(slot) => {
             if room == 0 {
-                return Err(Error::Full);
+                return false;
             }
             write_slot(control, entries, slots, lengths, key, value, tag, slot);
-            Ok(())
+            true
         }
-        Search::Neither => Err(Error::Full),
+        Search::Neither => false,
     }
 }
 

@@ -15,9 +15,9 @@ use crate::proved::raw::raw_table::{is_found, write_at_end, Parts, Search, Short
 use crate::proved::raw::swisstable_group_query::Group;
 
 // Writes the pair where the search for its key ended, which comes with the key's tag, and counts
-// a new entry. `Full`, with nothing changed, where the key is new and the header's item count is
-// its maximum or more, or no slot is free. The slot count is that of the header, which is read
-// once for an insert.
+// a new entry. Returns whether it wrote: not, with nothing changed, where the key is new and the
+// header's item count is its maximum or more, or no slot is free. The caller's error is `Full`
+// then. The slot count is that of the header, which is read once for an insert.
 //
 // In the clauses the former value stands in an Ok. It is not returned.
 #[inline(always)]
@@ -28,7 +28,7 @@ fn insert_in<L: Lengths, H: HashFn>(
     key: &[u8],
     value: &[u8],
     end: (Search, u8),
-) -> Result<(), Error> {
+) -> bool {
     hold_bytes(bytes);
     hold_bytes(key);
     hold_bytes(value);
@@ -39,16 +39,14 @@ fn insert_in<L: Lengths, H: HashFn>(
     let header = Header::of(front);
     let count = header.item_count();
     let room = header.max_load_factor().apply(slots).saturating_sub(count);
-    match write_at_end::<L, H>(control, entries, slots, lengths, key, value, end, room) {
-        Ok(()) => {
-            if is_found(end.0) {
-                return Ok(());
-            }
-            write_count(front, count + 1);
-            Ok(())
-        }
-        Err(refused) => Err(refused),
+    if !write_at_end::<L, H>(control, entries, slots, lengths, key, value, end, room) {
+        return false;
     }
+    if is_found(end.0) {
+        return true;
+    }
+    write_count(front, count + 1);
+    true
 }
 
 /// Gives the key this value in the bytes of a table, and returns its former one. `Full`, with
@@ -66,9 +64,10 @@ pub fn insert_sized<H: HashFn>(
     let parts = cut::<Layout, H>(&*bytes, slots, layout);
     let end = parts.insert_end(key);
     let former = parts.short_value_at(end.0);
-    match insert_in::<Layout, H>(bytes, slots, layout, key, value, end) {
-        Ok(()) => Ok(former),
-        Err(refused) => Err(refused),
+    if insert_in::<Layout, H>(bytes, slots, layout, key, value, end) {
+        Ok(former)
+    } else {
+        Err(Error::Full)
     }
 }
 
@@ -88,9 +87,10 @@ pub fn insert_sized_into<H: HashFn>(
     let end = parts.insert_end(key);
     let had = parts.copy_value_at(end.0, former);
     let written = insert_in::<Layout, H>(bytes, slots, layout, key, value, end);
-    match written {
-        Ok(()) => Ok(had),
-        Err(refused) => Err(refused),
+    if written {
+        Ok(had)
+    } else {
+        Err(Error::Full)
     }
 }
 
@@ -109,11 +109,12 @@ pub(crate) fn insert_typed<C: Config, Q: Group>(
     let parts = cut::<Fixed<C::EncodedKey, C::EncodedValue>, C::H>(&*bytes, slots, lengths);
     let end = parts.search_end::<Q>(key);
     let former = former_value::<C>(&parts, end.0);
-    match insert_in::<Fixed<C::EncodedKey, C::EncodedValue>, C::H>(
+    if insert_in::<Fixed<C::EncodedKey, C::EncodedValue>, C::H>(
         bytes, slots, lengths, key, value, end,
     ) {
-        Ok(()) => Ok(former),
-        Err(refused) => Err(refused),
+        Ok(former)
+    } else {
+        Err(Error::Full)
     }
 }
 

@@ -2,7 +2,7 @@
 //! Inserts of several keys whose slots are looked up ahead, so that the memory accesses to their
 //! control bytes overlap.
 
-use super::insert::insert_at;
+use super::insert::insert_at_end;
 use super::{
     is_empty_or_deleted, search_hashed, slot_count_of, tag_of, Entries, EntryMetadata, Scan, Search,
 };
@@ -52,7 +52,7 @@ pub(crate) fn insert_ahead<K: ByteArray, V: ByteArray, H: HashFn>(
 ) -> Result<Option<V>, Error> {
     let slots = slot_count_of(control);
     let end = expected_end::<K, V, H>(control, entries, slots, &key, hash, slot, room);
-    insert_at::<K, V, H>(control, entries, slots, key, value, (end, tag_of(hash)), room)
+    insert_at_end::<K, V, H>(control, entries, slots, key, value, (end, tag_of(hash)), room)
 }
 
 // Where the search for the key ends. It was expected to end at this slot. Without room it is the

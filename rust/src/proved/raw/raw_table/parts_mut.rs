@@ -59,19 +59,12 @@ impl<'c, 'e, L: Lengths, H: HashFn> PartsMut<'c, 'e, L, H> {
         let parts: Parts<'_, L, H> = Parts::of(&*control, stored);
         let end = parts.insert_end(key);
         let former = parts.short_value_at(end.0);
-        match write_at_end::<L, H>(
-            control,
-            entries,
-            slots,
-            lengths,
-            key,
-            value,
-            end,
-            // As many entries may be added as there are free slots.
-            usize::MAX,
-        ) {
-            Ok(()) => Ok(former),
-            Err(refused) => Err(refused),
+        // As many entries may be added as there are free slots.
+        let room = usize::MAX;
+        if write_at_end::<L, H>(control, entries, slots, lengths, key, value, end, room) {
+            Ok(former)
+        } else {
+            Err(Error::Full)
         }
     }
 }

@@ -16,10 +16,12 @@ use crate::proved::raw::swisstable_group_query::{Group, REFERENCE_GROUP_SIZE};
 
 /// Writes a pair where the search for its key ended, which comes with the key's tag: the value
 /// alone into the slot that holds the key, or, where there is room, the entry with its tag into
-/// the free slot. `Full`, with nothing changed, where there is no room for a new entry, or the
-/// search met neither slot.
+/// the free slot. Returns whether it wrote: not, with nothing changed, where there is no room for a
+/// new entry, or the search met neither slot. The caller's error is `Full` then.
 ///
 /// In the clause the former value stands in an Ok. It is not returned.
+// It returns no `Result`: the room for its errors is cleared, which kept the compiler from going
+// from where a search ends straight to what is written there.
 #[inline(always)]
 pub(crate) fn write_at_end<L: Lengths, H: HashFn>(
     control: &mut [EntryMetadata],
@@ -30,22 +32,22 @@ pub(crate) fn write_at_end<L: Lengths, H: HashFn>(
     value: &[u8],
     end: (Search, u8),
     room: usize,
-) -> Result<(), Error> {
+) -> bool {
     let (end, tag) = end;
     match end {
         Search::Found(slot) => {
             let at = slot * lengths.entry_len() + lengths.key_len();
             write_slice(entries, at, value);
-            Ok(())
+            true
         }
         Search::Free(slot) => {
             if room == 0 {
-                return Err(Error::Full);
+                return false;
             }
             write_slot(control, entries, slots, lengths, key, value, tag, slot);
-            Ok(())
+            true
         }
-        Search::Neither => Err(Error::Full),
+        Search::Neither => false,
     }
 }
 

@@ -1,10 +1,11 @@
-use Rattle.std.proofs.Common.{rules, ◌≡◌, ◌<◌, ◌≤◌, ◌+◌, ◌-◌, ◌*◌, ◌^◌, ◌∙◌, ℕ, List, [], ◌∷◌, length, Some, None, Ok, sym, ap, subst, refl, arith, take, drop, ◌++◌}
+use Rattle.std.proofs.Common.{rules, true, false, ◌≡◌, ◌<◌, ◌≤◌, ◌+◌, ◌-◌, ◌*◌, ◌^◌, ◌∙◌, ℕ, List, [], ◌∷◌, length, Some, None, Ok, sym, ap, subst, refl, arith, take, drop, ◌++◌}
 use Rattle.odht_base.specs.Format.{Format, format_of, entry_len}
-use Rattle.std.specs.Prelude.{Option, Result, IsOk, ⊤}
+use Rattle.std.specs.Prelude.{Bool, Option, Result, IsTrue, ⊤}
 use Rattle.odht_raw.specs.SearchResults.{MatchSearchResult}
 use Rattle.odht_raw.specs.declared.raw_table.search_result.Search.{Search}
 use Rattle.odht_raw.specs.declared.raw_table.search_result.Search.TheVariants.{Found, Free, Neither}
 use Rattle.odht_header.specs.declared.error.Error.{Error}
+use Rattle.odht_header.specs.declared.error.Error.TheVariants.{Full}
 use Rattle.odht_base.proofs.lemmas.ByteRanges.{bytes_at-take}
 use Rattle.odht_base.specs.Load.{IsSlotCount, max_items}
 use Rattle.odht_base.specs.Decoded.{header_slots, header_count, header_factor}
@@ -12,12 +13,12 @@ use Rattle.odht_base.specs.Table.{Table}
 use Rattle.odht_base.specs.Valid.{IsImage, IsPairOf}
 use Rattle.odht_base.specs.Writes.{with_count}
 use Rattle.odht_header.specs.Coding.{Coding, encoded}
-use Rattle.odht_raw.specs.Frame.{header_maximum}
+use Rattle.odht_raw.specs.Frame.{IsOnlyFull, header_maximum}
 use Rattle.odht_raw.specs.PartLengths.{ArePartLengths}
 use Rattle.odht_raw.specs.PartsInserts.{AnswersFormer}
 use Rattle.odht_raw.specs.Runs.{IsPartsRun}
 use Rattle.odht_raw.specs.Sized.{bytes_coding}
-use Rattle.odht_raw.specs.Formers.{answered, former_of}
+use Rattle.odht_raw.specs.Formers.{answered, former_of, write_result}
 use Rattle.odht_base.specs.Decoded.{entries_of, controls_of}
 use Rattle.std.proofs.lemmas.List.{drop-take}
 use Rattle.odht_raw.specs.Parts.{stored_in}
@@ -131,7 +132,7 @@ module _ (g : Over) (c : After-write_at_end g)
     (end : IsSearchEnd (F g (g.L.Lengths.key_len c.args.lengths) (g.L.Lengths.value_len c.args.lengths)) (stored_in c.split_at_mut-front.result.1.now c.split_at_mut-table.result.1.now) c.split_at_mut-table.result.1.now c.args.key.now c.args.end.0)
     (same : entries_of (F g (g.L.Lengths.key_len c.args.lengths) (g.L.Lengths.value_len c.args.lengths)) c.args.bytes.now ≡ c.split_at_mut-front.result.1.now) where
   abbrev R : Result (Option (List ℕ)) Error
-  R = answered (F g (g.L.Lengths.key_len c.args.lengths) (g.L.Lengths.value_len c.args.lengths)) c.split_at_mut-front.result.1.now c.args.end.0 c.write_at_end.result
+  R = answered (F g (g.L.Lengths.key_len c.args.lengths) (g.L.Lengths.value_len c.args.lengths)) c.split_at_mut-front.result.1.now c.args.end.0 (write_result c.write_at_end.result)
 
   abbrev value_of : List ℕ → List ℕ
   value_of b = b
@@ -182,8 +183,8 @@ module _ (g : Over) (c : After-write_at_end g)
   run_over old ok = one_run (K g (g.L.Lengths.key_len c.args.lengths) (g.L.Lengths.value_len c.args.lengths)) c.args.bytes.now _ _ _ cut c.args.key.now c.args.value.now fits value_of R _ _ framed (Some old) ok
 
   -- the answer of an Ok
-  answer_is : (o : Option (List ℕ)) → c.write_at_end.result ≡ Ok tt → former_of (F g (g.L.Lengths.key_len c.args.lengths) (g.L.Lengths.value_len c.args.lengths)) c.split_at_mut-front.result.1.now c.args.end.0 ≡ o → R ≡ Ok o
-  answer_is o ok is = ap (answered (F g (g.L.Lengths.key_len c.args.lengths) (g.L.Lengths.value_len c.args.lengths)) c.split_at_mut-front.result.1.now c.args.end.0) ok ∙ ap Ok is
+  answer_is : (o : Option (List ℕ)) → c.write_at_end.result ≡ true → former_of (F g (g.L.Lengths.key_len c.args.lengths) (g.L.Lengths.value_len c.args.lengths)) c.split_at_mut-front.result.1.now c.args.end.0 ≡ o → R ≡ Ok o
+  answer_is o ok is = ap (λ w. answered (F g (g.L.Lengths.key_len c.args.lengths) (g.L.Lengths.value_len c.args.lengths)) c.split_at_mut-front.result.1.now c.args.end.0 (write_result w)) ok ∙ ap Ok is
 
   -- what the search found, told by the entries of the bytes
   former_is : (o : Option (List ℕ)) → former_of (F g (g.L.Lengths.key_len c.args.lengths) (g.L.Lengths.value_len c.args.lengths)) c.split_at_mut-front.result.1.now c.args.end.0 ≡ o → former_of (F g (g.L.Lengths.key_len c.args.lengths) (g.L.Lengths.value_len c.args.lengths)) (entries_of (F g (g.L.Lengths.key_len c.args.lengths) (g.L.Lengths.value_len c.args.lengths)) c.args.bytes.now) c.args.end.0 ≡ o
@@ -197,7 +198,7 @@ overflow_add-count g c =
     let end = ended g front in
     let same = entries_are g front in
     let none = c.is_found.ensures.absent (F g (g.L.Lengths.key_len c.args.lengths) (g.L.Lengths.value_len c.args.lengths)) c.split_at_mut-front.result.1.now c.if-is_found.false in
-    let ok = answer_is g at cut end same None c.in-Ok.is none in
+    let ok = answer_is g at cut end same None c.if-not-write_at_end.false none in
     let told = former_is g at cut end same None none in
     let some = added g at cut end same ok in
     omega (arith, some, count_is g at cut end same, small g at cut end same)
@@ -210,7 +211,7 @@ returns-then-is_found-clause-placed g c P is =
     let end = ended g front in
     let same = entries_are g front in
     let found = c.is_found.ensures.found (F g (g.L.Lengths.key_len c.args.lengths) (g.L.Lengths.value_len c.args.lengths)) c.split_at_mut-front.result.1.now c.if-is_found.true in
-    let ok = answer_is g at cut end same (Some found.0) c.in-Ok.is found.1 in
+    let ok = answer_is g at cut end same (Some found.0) c.if-not-write_at_end.false found.1 in
     let told = former_is g at cut end same (Some found.0) found.1 in
     let placed = one_placed (K g (g.L.Lengths.key_len c.args.lengths) (g.L.Lengths.value_len c.args.lengths)) c.args.bytes.now _ _ _ cut c.args.key.now c.args.value.now (fits g at cut end same) (value_of g at cut end same) (R g at cut end same) _ _ (framed g at cut end same) (Some found.0) ok
     c.split_at_mut-front.result.0.now (kept g at cut end same) (omega arith) (λ b. b) (λ b. refl) P is (answers g at cut end same P is) in
@@ -224,7 +225,7 @@ returns-then-is_found-clause-framed g c =
     let end = ended g front in
     let same = entries_are g front in
     let found = c.is_found.ensures.found (F g (g.L.Lengths.key_len c.args.lengths) (g.L.Lengths.value_len c.args.lengths)) c.split_at_mut-front.result.1.now c.if-is_found.true in
-    let ok = answer_is g at cut end same (Some found.0) c.in-Ok.is found.1 in
+    let ok = answer_is g at cut end same (Some found.0) c.if-not-write_at_end.false found.1 in
     let told = former_is g at cut end same (Some found.0) found.1 in
     let done = one_overwritten (K g (g.L.Lengths.key_len c.args.lengths) (g.L.Lengths.value_len c.args.lengths)) c.args.bytes.now _ _ _ cut c.args.key.now c.args.value.now (fits g at cut end same) (value_of g at cut end same) (R g at cut end same) _ _ (framed g at cut end same)
     c.hold_bytes.ensures (counted g at cut end same) (small g at cut end same) (λ b. b) (λ b. refl) found.0 ok in
@@ -238,7 +239,7 @@ returns-then-is_found-clause-accepted g c =
     let end = ended g front in
     let same = entries_are g front in
     let found = c.is_found.ensures.found (F g (g.L.Lengths.key_len c.args.lengths) (g.L.Lengths.value_len c.args.lengths)) c.split_at_mut-front.result.1.now c.if-is_found.true in
-    let ok = answer_is g at cut end same (Some found.0) c.in-Ok.is found.1 in
+    let ok = answer_is g at cut end same (Some found.0) c.if-not-write_at_end.false found.1 in
     let told = former_is g at cut end same (Some found.0) found.1 in
     list_accepted (K g (g.L.Lengths.key_len c.args.lengths) (g.L.Lengths.value_len c.args.lengths)) c.args.bytes.now _ _ _ cut ((c.args.key.now, c.args.value.now) ∷ []) 0 _ _ _ (kept g at cut end same) (run_over g at cut end same found.0 ok) (omega arith) (counted g at cut end same) (small g at cut end same)
 
@@ -250,7 +251,7 @@ returns-then-is_found-clause-len g c =
     let end = ended g front in
     let same = entries_are g front in
     let found = c.is_found.ensures.found (F g (g.L.Lengths.key_len c.args.lengths) (g.L.Lengths.value_len c.args.lengths)) c.split_at_mut-front.result.1.now c.if-is_found.true in
-    let ok = answer_is g at cut end same (Some found.0) c.in-Ok.is found.1 in
+    let ok = answer_is g at cut end same (Some found.0) c.if-not-write_at_end.false found.1 in
     let told = former_is g at cut end same (Some found.0) found.1 in
     list_length (K g (g.L.Lengths.key_len c.args.lengths) (g.L.Lengths.value_len c.args.lengths)) c.args.bytes.now _ _ _ cut ((c.args.key.now, c.args.value.now) ∷ []) 0 _ _ _ (kept g at cut end same) (run_over g at cut end same found.0 ok) (omega arith) (counted g at cut end same) (small g at cut end same)
 
@@ -262,109 +263,115 @@ written : (g : Over) (c : After-write_at_end g) (cut : IsCut (F g (g.L.Lengths.k
     → H' ≡ with_count c.split_at_mut-front.result.0.now (header_count c.args.bytes.now + 1)
 written g c cut end same H' is = is ∙ ap (λ m. with_count c.split_at_mut-front.result.0.now (m + 1)) (count_is g c cut end same)
 
-pub returns-else-is_found-clause-placed : goal.returns-else-is_found-clause-placed
-returns-else-is_found-clause-placed g c P is =
-    let at = (goal.at.returns-else-is_found-clause-placed g c).After-write_at_end in
-    let front = (goal.at.returns-else-is_found-clause-placed g c).After-split_at_mut-front in
+pub returns-clause-placed : goal.returns-clause-placed
+returns-clause-placed g c P is =
+    let at = (goal.at.returns-clause-placed g c).After-write_at_end in
+    let front = (goal.at.returns-clause-placed g c).After-split_at_mut-front in
     let cut = cut g front in
     let end = ended g front in
     let same = entries_are g front in
     let none = c.is_found.ensures.absent (F g (g.L.Lengths.key_len c.args.lengths) (g.L.Lengths.value_len c.args.lengths)) c.split_at_mut-front.result.1.now c.if-is_found.false in
-    let ok = answer_is g at cut end same None c.in-Ok.is none in
+    let ok = answer_is g at cut end same None c.if-not-write_at_end.false none in
     let told = former_is g at cut end same None none in
     let placed = one_placed (K g (g.L.Lengths.key_len c.args.lengths) (g.L.Lengths.value_len c.args.lengths)) c.args.bytes.now _ _ _ cut c.args.key.now c.args.value.now (fits g at cut end same) (value_of g at cut end same) (R g at cut end same) _ _ (framed g at cut end same) None ok
     c.write_count.new.header (written g at cut end same c.write_count.new.header c.write_count.ensures) (let some = added g at cut end same ok in omega (arith, some)) (λ b. b) (λ b. refl) P is (answers g at cut end same P is) in
     subst (λ (o : Option (List ℕ)). IsOnePlaced (K g (g.L.Lengths.key_len c.args.lengths) (g.L.Lengths.value_len c.args.lengths)) P c.args.key.now c.args.value.now o (c.write_count.new.header ++ c.write_at_end.new.entries ++ c.write_at_end.new.control)) (sym told) placed
 
-pub returns-else-is_found-clause-framed : goal.returns-else-is_found-clause-framed
-returns-else-is_found-clause-framed g c =
-    let at = (goal.at.returns-else-is_found-clause-framed g c).After-write_at_end in
-    let front = (goal.at.returns-else-is_found-clause-framed g c).After-split_at_mut-front in
+pub returns-clause-framed : goal.returns-clause-framed
+returns-clause-framed g c =
+    let at = (goal.at.returns-clause-framed g c).After-write_at_end in
+    let front = (goal.at.returns-clause-framed g c).After-split_at_mut-front in
     let cut = cut g front in
     let end = ended g front in
     let same = entries_are g front in
     let none = c.is_found.ensures.absent (F g (g.L.Lengths.key_len c.args.lengths) (g.L.Lengths.value_len c.args.lengths)) c.split_at_mut-front.result.1.now c.if-is_found.false in
-    let ok = answer_is g at cut end same None c.in-Ok.is none in
+    let ok = answer_is g at cut end same None c.if-not-write_at_end.false none in
     let told = former_is g at cut end same None none in
     let done = one_added (K g (g.L.Lengths.key_len c.args.lengths) (g.L.Lengths.value_len c.args.lengths)) c.args.bytes.now _ _ _ cut c.args.key.now c.args.value.now (fits g at cut end same) (value_of g at cut end same) (R g at cut end same) _ _ (framed g at cut end same)
     c.hold_bytes.ensures (counted g at cut end same) (small g at cut end same) (λ b. b) (λ b. refl) ok c.write_count.new.header (written g at cut end same c.write_count.new.header c.write_count.ensures) in
     subst (λ (o : Option (List ℕ)). IsFramed (K g (g.L.Lengths.key_len c.args.lengths) (g.L.Lengths.value_len c.args.lengths)) c.args.bytes.now c.args.key.now c.args.value.now (Ok o) (c.write_count.new.header ++ c.write_at_end.new.entries ++ c.write_at_end.new.control)) (sym told) done
 
-pub returns-else-is_found-clause-accepted : goal.returns-else-is_found-clause-accepted
-returns-else-is_found-clause-accepted g c =
-    let at = (goal.at.returns-else-is_found-clause-accepted g c).After-write_at_end in
-    let front = (goal.at.returns-else-is_found-clause-accepted g c).After-split_at_mut-front in
+pub returns-clause-accepted : goal.returns-clause-accepted
+returns-clause-accepted g c =
+    let at = (goal.at.returns-clause-accepted g c).After-write_at_end in
+    let front = (goal.at.returns-clause-accepted g c).After-split_at_mut-front in
     let cut = cut g front in
     let end = ended g front in
     let same = entries_are g front in
     let none = c.is_found.ensures.absent (F g (g.L.Lengths.key_len c.args.lengths) (g.L.Lengths.value_len c.args.lengths)) c.split_at_mut-front.result.1.now c.if-is_found.false in
-    let ok = answer_is g at cut end same None c.in-Ok.is none in
+    let ok = answer_is g at cut end same None c.if-not-write_at_end.false none in
     let told = former_is g at cut end same None none in
     list_accepted (K g (g.L.Lengths.key_len c.args.lengths) (g.L.Lengths.value_len c.args.lengths)) c.args.bytes.now _ _ _ cut ((c.args.key.now, c.args.value.now) ∷ []) 1 _ _ _ (written g at cut end same c.write_count.new.header c.write_count.ensures)
     (one_run (K g (g.L.Lengths.key_len c.args.lengths) (g.L.Lengths.value_len c.args.lengths)) c.args.bytes.now _ _ _ cut c.args.key.now c.args.value.now (fits g at cut end same) (value_of g at cut end same) (R g at cut end same) _ _ (framed g at cut end same) None ok)
     (let some = added g at cut end same ok in omega (arith, some)) (counted g at cut end same) (small g at cut end same)
 
-pub returns-else-is_found-clause-len : goal.returns-else-is_found-clause-len
-returns-else-is_found-clause-len g c =
-    let at = (goal.at.returns-else-is_found-clause-len g c).After-write_at_end in
-    let front = (goal.at.returns-else-is_found-clause-len g c).After-split_at_mut-front in
+pub returns-clause-len : goal.returns-clause-len
+returns-clause-len g c =
+    let at = (goal.at.returns-clause-len g c).After-write_at_end in
+    let front = (goal.at.returns-clause-len g c).After-split_at_mut-front in
     let cut = cut g front in
     let end = ended g front in
     let same = entries_are g front in
     let none = c.is_found.ensures.absent (F g (g.L.Lengths.key_len c.args.lengths) (g.L.Lengths.value_len c.args.lengths)) c.split_at_mut-front.result.1.now c.if-is_found.false in
-    let ok = answer_is g at cut end same None c.in-Ok.is none in
+    let ok = answer_is g at cut end same None c.if-not-write_at_end.false none in
     let told = former_is g at cut end same None none in
     list_length (K g (g.L.Lengths.key_len c.args.lengths) (g.L.Lengths.value_len c.args.lengths)) c.args.bytes.now _ _ _ cut ((c.args.key.now, c.args.value.now) ∷ []) 1 _ _ _ (written g at cut end same c.write_count.new.header c.write_count.ensures)
     (one_run (K g (g.L.Lengths.key_len c.args.lengths) (g.L.Lengths.value_len c.args.lengths)) c.args.bytes.now _ _ _ cut c.args.key.now c.args.value.now (fits g at cut end same) (value_of g at cut end same) (R g at cut end same) _ _ (framed g at cut end same) None ok)
     (let some = added g at cut end same ok in omega (arith, some)) (counted g at cut end same) (small g at cut end same)
 
-pub returns-in-Err-clause-framed : goal.returns-in-Err-clause-framed
-returns-in-Err-clause-framed g c =
-    let at = (goal.at.returns-in-Err-clause-framed g c).After-write_at_end in
-    let front = (goal.at.returns-in-Err-clause-framed g c).After-split_at_mut-front in
+pub returns-then-not-write_at_end-clause-framed : goal.returns-then-not-write_at_end-clause-framed
+returns-then-not-write_at_end-clause-framed g c =
+    let at = (goal.at.returns-then-not-write_at_end-clause-framed g c).After-write_at_end in
+    let front = (goal.at.returns-then-not-write_at_end-clause-framed g c).After-split_at_mut-front in
     let cut = cut g front in
     let end = ended g front in
     let same = entries_are g front in
     one_refused (K g (g.L.Lengths.key_len c.args.lengths) (g.L.Lengths.value_len c.args.lengths)) c.args.bytes.now _ _ _ cut c.args.key.now c.args.value.now (fits g at cut end same) (value_of g at cut end same) (R g at cut end same) _ _ (framed g at cut end same)
-    c.hold_bytes.ensures (counted g at cut end same) (small g at cut end same) (λ b. b) (λ b. refl) c.in-Err.refused (ap (answered (F g (g.L.Lengths.key_len c.args.lengths) (g.L.Lengths.value_len c.args.lengths)) c.split_at_mut-front.result.1.now c.args.end.0) c.in-Err.is)
+    c.hold_bytes.ensures (counted g at cut end same) (small g at cut end same) (λ b. b) (λ b. refl) Full (ap (λ w. answered (F g (g.L.Lengths.key_len c.args.lengths) (g.L.Lengths.value_len c.args.lengths)) c.split_at_mut-front.result.1.now c.args.end.0 (write_result w)) c.if-not-write_at_end.true)
+
+-- a write that was not made changed nothing
+refused : (g : Over) (c : After-write_at_end g) → c.write_at_end.result ≡ false
+    → IsOnlyFull c.split_at_mut-front.result.1.now c.split_at_mut-table.result.1.now (write_result false) c.write_at_end.new.entries c.write_at_end.new.control
+refused g c none =
+    let answer : Bool → Result (Option (List ℕ)) Error = λ w. answered (F g (g.L.Lengths.key_len c.args.lengths) (g.L.Lengths.value_len c.args.lengths)) c.split_at_mut-front.result.1.now c.args.end.0 (write_result w) in
+    let is = subst (λ w. IsOnlyFull c.split_at_mut-front.result.1.now c.split_at_mut-table.result.1.now (answer w) c.write_at_end.new.entries c.write_at_end.new.control) none c.write_at_end.ensures.step.any.errors in
+    record { only_full = refl; refused_control = is.refused_control; refused_entries = is.refused_entries }
 
 -- what is refused changes nothing
 unchanged : (g : Over) (c : After-write_at_end g) → c.write_at_end.new.entries ≡ c.split_at_mut-front.result.1.now → c.write_at_end.new.control ≡ c.split_at_mut-table.result.1.now
     → IsPartsRun (K g (g.L.Lengths.key_len c.args.lengths) (g.L.Lengths.value_len c.args.lengths)) c.split_at_mut-front.result.1.now c.split_at_mut-table.result.1.now [] 0 c.write_at_end.new.entries c.write_at_end.new.control
 unchanged g c entries control = rw (entries, control) IsPartsRun.start
 
-pub returns-in-Err-clause-accepted : goal.returns-in-Err-clause-accepted
-returns-in-Err-clause-accepted g c =
-    let at = (goal.at.returns-in-Err-clause-accepted g c).After-write_at_end in
-    let front = (goal.at.returns-in-Err-clause-accepted g c).After-split_at_mut-front in
+pub returns-then-not-write_at_end-clause-accepted : goal.returns-then-not-write_at_end-clause-accepted
+returns-then-not-write_at_end-clause-accepted g c =
+    let at = (goal.at.returns-then-not-write_at_end-clause-accepted g c).After-write_at_end in
+    let front = (goal.at.returns-then-not-write_at_end-clause-accepted g c).After-split_at_mut-front in
     let cut = cut g front in
     let end = ended g front in
     let same = entries_are g front in
-    list_accepted (K g (g.L.Lengths.key_len c.args.lengths) (g.L.Lengths.value_len c.args.lengths)) c.args.bytes.now _ _ _ cut [] 0 _ _ _ (kept g at cut end same) (unchanged g at c.in-Err.ensures.step.any.errors.refused_entries c.in-Err.ensures.step.any.errors.refused_control) (omega arith) (counted g at cut end same) (small g at cut end same)
+    list_accepted (K g (g.L.Lengths.key_len c.args.lengths) (g.L.Lengths.value_len c.args.lengths)) c.args.bytes.now _ _ _ cut [] 0 _ _ _ (kept g at cut end same) (unchanged g at (refused g at c.if-not-write_at_end.true).refused_entries (refused g at c.if-not-write_at_end.true).refused_control) (omega arith) (counted g at cut end same) (small g at cut end same)
 
-pub returns-in-Err-clause-len : goal.returns-in-Err-clause-len
-returns-in-Err-clause-len g c =
-    let at = (goal.at.returns-in-Err-clause-len g c).After-write_at_end in
-    let front = (goal.at.returns-in-Err-clause-len g c).After-split_at_mut-front in
+pub returns-then-not-write_at_end-clause-len : goal.returns-then-not-write_at_end-clause-len
+returns-then-not-write_at_end-clause-len g c =
+    let at = (goal.at.returns-then-not-write_at_end-clause-len g c).After-write_at_end in
+    let front = (goal.at.returns-then-not-write_at_end-clause-len g c).After-split_at_mut-front in
     let cut = cut g front in
     let end = ended g front in
     let same = entries_are g front in
-    list_length (K g (g.L.Lengths.key_len c.args.lengths) (g.L.Lengths.value_len c.args.lengths)) c.args.bytes.now _ _ _ cut [] 0 _ _ _ (kept g at cut end same) (unchanged g at c.in-Err.ensures.step.any.errors.refused_entries c.in-Err.ensures.step.any.errors.refused_control) (omega arith) (counted g at cut end same) (small g at cut end same)
+    list_length (K g (g.L.Lengths.key_len c.args.lengths) (g.L.Lengths.value_len c.args.lengths)) c.args.bytes.now _ _ _ cut [] 0 _ _ _ (kept g at cut end same) (unchanged g at (refused g at c.if-not-write_at_end.true).refused_entries (refused g at c.if-not-write_at_end.true).refused_control) (omega arith) (counted g at cut end same) (small g at cut end same)
 
--- an Ok is one wherever the search ended
-abbrev done : Result (Unit {0}) Error
-done = Ok tt
-
-ok_anywhere : (end : Search) → MatchSearchResult end (λ _. IsOk done) (λ _. ⊤) ⊤
-ok_anywhere (Found i) = refl
-ok_anywhere (Free i) = tt
-ok_anywhere Neither = tt
+-- a write that was made is one wherever the search ended
+wrote_anywhere : (end : Search) → MatchSearchResult end (λ _. IsTrue true) (λ _. ⊤) ⊤
+wrote_anywhere (Found i) = refl
+wrote_anywhere (Free i) = tt
+wrote_anywhere Neither = tt
 
 pub returns-then-is_found-clause-found : goal.returns-then-is_found-clause-found
-returns-then-is_found-clause-found g c = ok_anywhere c.args.end.0
+returns-then-is_found-clause-found g c = wrote_anywhere c.args.end.0
 
-pub returns-else-is_found-clause-found : goal.returns-else-is_found-clause-found
-returns-else-is_found-clause-found g c = ok_anywhere c.args.end.0
+pub returns-clause-found : goal.returns-clause-found
+returns-clause-found g c = wrote_anywhere c.args.end.0
 
-pub returns-in-Err-clause-found : goal.returns-in-Err-clause-found
-returns-in-Err-clause-found g c = c.in-Err.ensures.found
+pub returns-then-not-write_at_end-clause-found : goal.returns-then-not-write_at_end-clause-found
+returns-then-not-write_at_end-clause-found g c =
+    subst (λ w. MatchSearchResult c.args.end.0 (λ _. IsTrue w) (λ _. ⊤) ⊤) c.if-not-write_at_end.true c.write_at_end.ensures.found

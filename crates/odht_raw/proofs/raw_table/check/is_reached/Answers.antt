@@ -1,8 +1,10 @@
 use Rattle.std.proofs.Common.{◌≡◌, ◌∙◌, ℕ, Option, Some, None, ◌+◌, ◌-◌, ◌%◌, ◌/◌, ◌^◌, ◌<◌, ◌≤◌, true, bit_and, List, length, slice_get, sym, ap, subst, subst₂, arith, refl}
 use Rattle.std.specs.Option.{unwrap_or}
+use Rattle.std.proofs.lemmas.Option.{get_or_from_slice_get, slice_get_within}
+use Rattle.std.specs.Prelude.{Contains, slice_index}
+use Rattle.odht_base.specs.Decoded.{slot_key}
 use Rattle.odht_base.specs.Bytes.{bytes_at}
 use Rattle.odht_base.specs.Format.{Format}
-use Rattle.odht_base.specs.Decoded.{slot_key}
 use Rattle.odht_base.specs.Probe.{probe_slot}
 use Rattle.odht_raw.specs.Checks.{cells_of, IsGroupSearch}
 use Rattle.odht_raw.specs.Homes.{HasHomes}
@@ -61,24 +63,24 @@ module _ (g : Over) (c : After-of-group g) where
       let read = c.read.ensures.bytes ∙ (λ i. bytes_at (control i) ((sym c.start.ensures.slot ∙ home_is) i) 16) in
       subst₂ (λ b h. IsGroupSearch b h c.of-group.result) read c.tag_of.ensures (record { report = c.of-group.ensures.matches; free = c.of-group.ensures.free })
 
--- a position within a group that is not behind what was found is not behind sixteen either
-or_sixteen : (found : Option ℕ) (b : ℕ) → b < 16 → b ≤ unwrap_or found b → b ≤ unwrap_or found 16
-or_sixteen None b low le = omega (arith, low)
-or_sixteen (Some n) b low le = le
+-- the first match of a report is an index of its group
+first_low : (bs xs : List ℕ) (i : ℕ) → ((j : ℕ) → Contains xs j → (j < length bs) × (slice_index bs j < 128)) → slice_get xs 0 ≡ Some i → i < length bs
+first_low bs xs i occupied is = (occupied i (0, slice_get_within xs 0 i is, get_or_from_slice_get xs 0 i i is)).0
 
-pub returns-then-unwrap_or-before-2 : goal.returns-then-unwrap_or-before-2
-returns-then-unwrap_or-before-2 g c fitting =
-    let at = (goal.at.returns-then-unwrap_or-before-2 g c).After-of-group in
+pub returns-then-before-unwrap_or : goal.returns-then-before-unwrap_or
+returns-then-before-unwrap_or g c fitting =
+    let at = (goal.at.returns-then-before-unwrap_or g c).After-of-group in
     let p = parts g at in
     let least = p.slots.least in
     let is = behind_is g at in
     let behind = (c.args.slot + s g at - home g at) % s g at in
-    let near : behind < 16 = subst (λ n. n < 16) is c.if-before-lt-REFERENCE_GROUP_SIZE.true in
-    let free : behind ≤ unwrap_or c.of-group.result.free 16 =
-    or_sixteen c.of-group.result.free behind near (subst₂ (λ n m. n ≤ m) is (c.unwrap_or.ensures ∙ (λ i. unwrap_or (c.first_empty.ensures i) (is i))) c.if-unwrap_or-before.true) in
-    let unmatched : behind ≤ unwrap_or (slice_get c.of-group.result.matches 0) 16 =
-    or_sixteen (slice_get c.of-group.result.matches 0) behind near
-    (subst₂ (λ n m. n ≤ m) is (c.unwrap_or-then-unwrap_or-before.ensures ∙ (λ i. unwrap_or (c.first_match.ensures i) (is i))) c.if-unwrap_or-before-2.true) in
+    let index = c.in-Some.index in
+    let first : slice_get c.of-group.result.matches 0 ≡ Some index = sym c.first_match.ensures ∙ c.in-Some.is in
+    let low : index < 16 = subst (λ n. index < n) c.read.ensures.len (first_low c.read.result.now c.of-group.result.matches index c.of-group.ensures.matches.occupied first) in
+    let before : behind ≤ index = subst (λ n. n ≤ index) is c.if-before-index.true in
+    let near : behind < 16 = omega (arith, before, low) in
+    let free : behind ≤ unwrap_or c.of-group.result.free 16 = subst₂ (λ n m. n ≤ m) is (c.unwrap_or.ensures ∙ ap (λ o. unwrap_or o 16) c.first_empty.ensures) c.if-before-unwrap_or.true in
+    let unmatched : behind ≤ unwrap_or (slice_get c.of-group.result.matches 0) 16 = subst (λ o. behind ≤ unwrap_or o 16) (sym first) before in
     let tagged : IsGroupSearch (bytes_at (T g at).control (home g at) 16) ((F g at).hash (key g at) / 2 ^ 25) c.of-group.result =
     subst (λ h. IsGroupSearch (bytes_at (T g at).control (home g at) 16) (h / 2 ^ 25) c.of-group.result) c.requires.hash (look g at) in
     ends_here c.args.hash (s g at) (home g at) 0 c.args.slot p.slots (omega arith) (omega (arith, least)) (sym (home_position (home g at) (s g at) (home_low g at))) c.requires.slot

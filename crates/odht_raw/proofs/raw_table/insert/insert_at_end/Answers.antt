@@ -3,7 +3,7 @@ use Rattle.std.specs.Prelude.{option_map, ⊤}
 use Rattle.odht_base.specs.Format.{Format, format_of}
 use Rattle.odht_base.specs.Table.{Pair}
 use Rattle.odht_header.specs.declared.error.Error.{Error}
-use Rattle.odht_raw.specs.Formers.{answered, former_of, with_former}
+use Rattle.odht_raw.specs.Formers.{answered, former_of, with_former, write_result}
 use Rattle.odht_raw.specs.SearchResults.{MatchSearchResult, answer}
 use Rattle.odht_raw.specs.Sized.{SizedParts, parts_with, sized_format, sized_parts}
 use Rattle.odht_raw.specs.Steps.{IsStepWhere, IsTaggedEnd}
@@ -37,7 +37,7 @@ write_at_end-requires-clause-end g c =
 stepped : (g : Over) (c : After-write_at_end g) (parts : c.of-parts.result ≡ sized_parts g.K.ByteArray.LEN g.V.ByteArray.LEN c.args.slots c.args.entries.now c.args.control.now)
     → IsStepWhere (λ P. c.args.end.0 ≡ answer (format g) P.cells (g.K.ByteArray.bytes c.args.key)) (format g) g.V.ByteArray.of_bytes c.args.room (c.args.entries.now, c.args.control.now)
     (record { key = g.K.ByteArray.bytes c.args.key; value = g.V.ByteArray.bytes c.args.value })
-    (with_former c.typed_value_at-former.result c.write_at_end.result) (c.write_at_end.new.entries, c.write_at_end.new.control)
+    (with_former c.typed_value_at-former.result (write_result c.write_at_end.result)) (c.write_at_end.new.entries, c.write_at_end.new.control)
 stepped g c parts =
     let F = format g in
     let es = c.args.entries.now in
@@ -47,27 +47,27 @@ stepped g c parts =
     let value = g.V.ByteArray.bytes c.args.value in
     let p : Pair = record { key = key; value = value } in
     let found = former_of F es c.args.end.0 in
-    let step : IsStepWhere (λ P. c.args.end.0 ≡ answer F P.cells key) F (λ b. b) c.args.room (es, ctrl) p (answered F es c.args.end.0 c.write_at_end.result) t' =
-    subst (λ (v : List ℕ). IsStepWhere (λ P. c.args.end.0 ≡ answer F P.cells key) F (λ b. b) c.args.room (es, ctrl) (record { key = key; value = v }) (answered F es c.args.end.0 c.write_at_end.result) t') c.as_slice-value.ensures.value
-    (subst (λ (k : List ℕ). IsStepWhere (λ P. c.args.end.0 ≡ answer F P.cells k) F (λ b. b) c.args.room (es, ctrl) (record { key = k; value = c.as_slice-value.result.now }) (answered F es c.args.end.0 c.write_at_end.result) t') c.as_slice-key.ensures.value
+    let step : IsStepWhere (λ P. c.args.end.0 ≡ answer F P.cells key) F (λ b. b) c.args.room (es, ctrl) p (answered F es c.args.end.0 (write_result c.write_at_end.result)) t' =
+    subst (λ (v : List ℕ). IsStepWhere (λ P. c.args.end.0 ≡ answer F P.cells key) F (λ b. b) c.args.room (es, ctrl) (record { key = key; value = v }) (answered F es c.args.end.0 (write_result c.write_at_end.result)) t') c.as_slice-value.ensures.value
+    (subst (λ (k : List ℕ). IsStepWhere (λ P. c.args.end.0 ≡ answer F P.cells k) F (λ b. b) c.args.room (es, ctrl) (record { key = k; value = c.as_slice-value.result.now }) (answered F es c.args.end.0 (write_result c.write_at_end.result)) t') c.as_slice-key.ensures.value
     c.write_at_end.ensures.step) in
     let former : c.typed_value_at-former.result ≡ option_map g.V.ByteArray.of_bytes found =
     c.typed_value_at-former.ensures ∙ ap (λ (S : SizedParts). option_map g.V.ByteArray.of_bytes (former_of (sized_format S g.H.HashFn.hash) S.parts.entries.bytes c.args.end.0)) parts in
-    subst (λ o. IsStepWhere (λ P. c.args.end.0 ≡ answer F P.cells key) F g.V.ByteArray.of_bytes c.args.room (es, ctrl) p (with_former o c.write_at_end.result) t') (sym former)
-    (decoded_step g.V.ByteArray.of_bytes (λ P. c.args.end.0 ≡ answer F P.cells key) F c.args.room (es, ctrl) p found c.write_at_end.result t' step)
+    subst (λ o. IsStepWhere (λ P. c.args.end.0 ≡ answer F P.cells key) F g.V.ByteArray.of_bytes c.args.room (es, ctrl) p (with_former o (write_result c.write_at_end.result)) t') (sym former)
+    (decoded_step g.V.ByteArray.of_bytes (λ P. c.args.end.0 ≡ answer F P.cells key) F c.args.room (es, ctrl) p found (write_result c.write_at_end.result) t' step)
 
-pub returns-in-Ok : goal.returns-in-Ok
-returns-in-Ok g c =
+pub returns-then-write_at_end : goal.returns-then-write_at_end
+returns-then-write_at_end g c =
     let F = format g in
-    let at = goal.at.returns-in-Ok g c in
+    let at = goal.at.returns-then-write_at_end g c in
     let p : Pair = record { key = g.K.ByteArray.bytes c.args.key; value = g.V.ByteArray.bytes c.args.value } in
-    subst (λ (r : Result (Unit {0}) Error). IsStepWhere (λ P. c.args.end.0 ≡ answer F P.cells p.key) F g.V.ByteArray.of_bytes c.args.room (c.args.entries.now, c.args.control.now) p (with_former c.typed_value_at-former.result r) (c.write_at_end.new.entries, c.write_at_end.new.control)) c.in-Ok.is
+    subst (λ w. IsStepWhere (λ P. c.args.end.0 ≡ answer F P.cells p.key) F g.V.ByteArray.of_bytes c.args.room (c.args.entries.now, c.args.control.now) p (with_former c.typed_value_at-former.result (write_result w)) (c.write_at_end.new.entries, c.write_at_end.new.control)) c.if-write_at_end.true
     (stepped g at.After-write_at_end (parts_are g at.After-of-parts))
 
-pub returns-in-Err : goal.returns-in-Err
-returns-in-Err g c =
+pub returns-else-write_at_end : goal.returns-else-write_at_end
+returns-else-write_at_end g c =
     let F = format g in
-    let at = goal.at.returns-in-Err g c in
+    let at = goal.at.returns-else-write_at_end g c in
     let p : Pair = record { key = g.K.ByteArray.bytes c.args.key; value = g.V.ByteArray.bytes c.args.value } in
-    subst (λ (r : Result (Unit {0}) Error). IsStepWhere (λ P. c.args.end.0 ≡ answer F P.cells p.key) F g.V.ByteArray.of_bytes c.args.room (c.args.entries.now, c.args.control.now) p (with_former c.typed_value_at-former.result r) (c.write_at_end.new.entries, c.write_at_end.new.control)) c.in-Err.is
+    subst (λ w. IsStepWhere (λ P. c.args.end.0 ≡ answer F P.cells p.key) F g.V.ByteArray.of_bytes c.args.room (c.args.entries.now, c.args.control.now) p (with_former c.typed_value_at-former.result (write_result w)) (c.write_at_end.new.entries, c.write_at_end.new.control)) c.if-write_at_end.false
     (stepped g at.After-write_at_end (parts_are g at.After-of-parts))

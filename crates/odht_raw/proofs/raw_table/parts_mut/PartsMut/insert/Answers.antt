@@ -5,7 +5,8 @@ use Rattle.odht_base.specs.Table.{Pair, Table}
 use Rattle.odht_base.specs.Valid.{IsPartsOf}
 use Rattle.odht_header.proofs.lemmas.Formats.{IsFormat-format_of}
 use Rattle.odht_header.specs.declared.error.Error.{Error}
-use Rattle.odht_raw.specs.Formers.{answered, former_of, with_former}
+use Rattle.odht_header.specs.declared.error.Error.TheVariants.{Full}
+use Rattle.odht_raw.specs.Formers.{answered, former_of, with_former, write_result}
 use Rattle.odht_raw.specs.Parts.{stored_in}
 use Rattle.odht_raw.specs.PartsInserts.{IsInsertChange, IsPartsInsert}
 use Rattle.odht_raw.specs.SearchResults.{MatchSearchResult, answer}
@@ -55,7 +56,7 @@ write_at_end-requires-clause-end g c =
 module _ (g : Over) (c : After-write_at_end g)
     (parts : c.of-parts.result ≡ sized_parts (g.L.Lengths.key_len c.args.self.now.lengths) (g.L.Lengths.value_len c.args.self.now.lengths) (length c.args.self.now.control.now - 16) c.args.self.now.entries.now c.args.self.now.control.now)
     (end : IsSearchEnd (format_of (g.L.Lengths.key_len c.args.self.now.lengths) (g.L.Lengths.value_len c.args.self.now.lengths) g.H.HashFn.hash) (stored_in c.args.self.now.entries.now c.args.self.now.control.now) c.args.self.now.control.now c.args.key.now c.insert_end-end.result.0)
-    (r : Result (Option (List ℕ)) Error) (is : with_former c.short_value_at-former.result c.write_at_end.result ≡ r) where
+    (r : Result (Option (List ℕ)) Error) (is : with_former c.short_value_at-former.result (write_result c.write_at_end.result) ≡ r) where
   abbrev F : Format
   F = format_of (g.L.Lengths.key_len c.args.self.now.lengths) (g.L.Lengths.value_len c.args.self.now.lengths) g.H.HashFn.hash
 
@@ -76,7 +77,7 @@ module _ (g : Over) (c : After-write_at_end g)
       let former : c.short_value_at-former.result ≡ former_of F es c.insert_end-end.result.0 =
       c.short_value_at-former.ensures ∙ ap (λ (S : SizedParts). former_of (sized_format S g.H.HashFn.hash) S.parts.entries.bytes c.insert_end-end.result.0) parts in
       subst (λ (a : Result (Option (List ℕ)) Error). IsStepWhere (λ P. c.insert_end-end.result.0 ≡ answer F P.cells p.key) F value_of 18446744073709551615 (es, ctrl) p a (c.write_at_end.new.entries, c.write_at_end.new.control))
-      (ap (λ o. with_former o c.write_at_end.result) (sym former) ∙ is) c.write_at_end.ensures.step
+      (ap (λ o. with_former o (write_result c.write_at_end.result)) (sym former) ∙ is) c.write_at_end.ensures.step
 
   changed : IsInsertChange F value_of es ctrl p r c.write_at_end.new.entries c.write_at_end.new.control
   changed = step-change F value_of 18446744073709551615 p r (omega arith) es ctrl c.write_at_end.new.entries c.write_at_end.new.control step.any
@@ -88,20 +89,20 @@ module _ (g : Over) (c : After-write_at_end g)
       step-insert F value_of 18446744073709551615 p r (omega arith) P es ctrl c.write_at_end.new.entries c.write_at_end.new.control (length ctrl - 16) f (omega (arith, t.slots.least)) h
       (step.placed P h (end.on_placed P h)) step.any
 
-pub returns-in-Ok : goal.returns-in-Ok
-returns-in-Ok g c =
-    let at = goal.at.returns-in-Ok g c in
+pub returns-then-write_at_end : goal.returns-then-write_at_end
+returns-then-write_at_end g c =
+    let at = goal.at.returns-then-write_at_end g c in
     let parts = parts_are g at.After-of-parts in
     let end = ended g at.After-insert_end-end parts in
     let r : Result (Option (List ℕ)) Error = Ok c.short_value_at-former.result in
-    let is : with_former c.short_value_at-former.result c.write_at_end.result ≡ r = ap (with_former c.short_value_at-former.result) c.in-Ok.is in
+    let is : with_former c.short_value_at-former.result (write_result c.write_at_end.result) ≡ r = ap (λ w. with_former c.short_value_at-former.result (write_result w)) c.if-write_at_end.true in
     record { parts = placed g at.After-write_at_end parts end r is; change = changed g at.After-write_at_end parts end r is; layout = refl; loans = refl }
 
-pub returns-in-Err : goal.returns-in-Err
-returns-in-Err g c =
-    let at = goal.at.returns-in-Err g c in
+pub returns-else-write_at_end : goal.returns-else-write_at_end
+returns-else-write_at_end g c =
+    let at = goal.at.returns-else-write_at_end g c in
     let parts = parts_are g at.After-of-parts in
     let end = ended g at.After-insert_end-end parts in
-    let r : Result (Option (List ℕ)) Error = Err c.in-Err.refused in
-    let is : with_former c.short_value_at-former.result c.write_at_end.result ≡ r = ap (with_former c.short_value_at-former.result) c.in-Err.is in
+    let r : Result (Option (List ℕ)) Error = Err Full in
+    let is : with_former c.short_value_at-former.result (write_result c.write_at_end.result) ≡ r = ap (λ w. with_former c.short_value_at-former.result (write_result w)) c.if-write_at_end.false in
     record { parts = placed g at.After-write_at_end parts end r is; change = changed g at.After-write_at_end parts end r is; layout = refl; loans = refl }
