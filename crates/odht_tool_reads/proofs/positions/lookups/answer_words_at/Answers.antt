@@ -1,18 +1,28 @@
-use Rattle.std.proofs.Common.{◌≡◌, List, ℕ, Option, Some, None, Result, Ok, Err, length, map, sym, subst}
+use Rattle.std.proofs.Common.{◌≡◌, ◌∙◌, map, ap, subst}
+use Rattle.std.specs.Io.KnownBytes.{Appends}
 use Rattle.std.specs.List.{AllZip}
-use Rattle.std.specs.Prelude.{IfErr, IfSome, string_bytes}
-use Rattle.std.proofs.lemmas.List.{length-map}
+use Rattle.std.specs.Prelude.{IfSome, string_bytes}
 use Rattle.odht.specs.Files.{file_coding}
 use Rattle.odht_tool_core.specs.JsonAnswers.{answer_in, no_key_line}
 use Rattle.odht_tool_core.specs.SizedTexts.{IsSizedOf, sized_text}
-use Rattle.odht_tool_reads.specs.Gets.{IsWordAnswer}
-use Rattle.odht_tool_reads.specs.GetWords.{IsWordsFailure}
-use Rattle.odht_tool_reads.proofs.WordAnswers.{words_got}
+use Rattle.odht_tool_reads.specs.Gets.{IsWordAnswer, word_lines, words_status}
 use Rattle.odht_tool_reads.proofs.positions.lookups.answer_words_at.Goals as goal
 
 pub returns-in-Some : goal.returns-in-Some
 returns-in-Some g c B over opens =
     let coding = file_coding c.args.table.now g.H.HashFn.hash in
-    let R = IsSizedOf c.args.style.forms.key in
-    let ws = map string_bytes c.args.words.now in
-    ?
+    let o = g.O.Write.contents in
+    let style = c.args.style in
+    let ws = map string_bytes c.args.words.now in (
+      opens,
+      record {
+        answers = c.in-Some.answers.items;
+        each =
+            subst (λ found. IfSome found (λ v. AllZip (IsWordAnswer coding (IsSizedOf style.forms.key) B) ws v.items)) c.in-Some.is (c.in_ok-answers.ensures.given B over);
+        written =
+            subst (λ answers. Appends (o c.args.output.now) (o c.write_words.new.output)
+            (word_lines (answer_in style.is_json (sized_text style.forms.key) (sized_text style.forms.value)) (no_key_line style.is_json) ws answers))
+            c.as_slice-in-Some.ensures.value c.in_ok-status-in-Some.ensures.written;
+        status = c.in_ok-status-in-Some.ensures.status ∙ ap words_status c.as_slice-in-Some.ensures.value;
+      },
+    )
