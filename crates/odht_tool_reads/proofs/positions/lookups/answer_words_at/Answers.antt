@@ -8,8 +8,8 @@ use Rattle.odht_tool_core.specs.SizedTexts.{IsSizedOf, sized_text}
 use Rattle.odht_tool_reads.specs.Gets.{IsWordAnswer, word_lines, words_status}
 use Rattle.odht_tool_reads.proofs.positions.lookups.answer_words_at.Goals as goal
 
-pub returns-in-Some : goal.returns-in-Some
-returns-in-Some g c B over opens =
+pub returns-in_ok-status-in-Some : goal.returns-in_ok-status-in-Some
+returns-in_ok-status-in-Some g c B over opens =
     let coding = file_coding c.args.table.now g.H.HashFn.hash in
     let o = g.O.Write.contents in
     let style = c.args.style in
