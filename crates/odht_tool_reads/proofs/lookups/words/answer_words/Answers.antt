@@ -1,7 +1,8 @@
-use Rattle.std.proofs.Common.{◌≡◌, length, map, sym, subst}
+use Rattle.std.proofs.Common.{◌≡◌, ◌∙◌, length, map, sym, ap, subst}
 use Rattle.std.specs.List.{AllZip}
 use Rattle.std.specs.Prelude.{IfErr, string_bytes}
 use Rattle.std.proofs.lemmas.List.{length-map}
+use Rattle.std.proofs.lemmas.Slice.Zip.{AllZip-long}
 use Rattle.odht.specs.Dynamic.{dyn_coding}
 use Rattle.odht_tool_core.specs.JsonAnswers.{answer_in, no_key_line}
 use Rattle.odht_tool_core.specs.SizedTexts.{IsSizedOf, sized_text}
@@ -9,6 +10,13 @@ use Rattle.odht_tool_reads.specs.Gets.{IsWordAnswer}
 use Rattle.odht_tool_reads.specs.GetWords.{IsWordsFailure}
 use Rattle.odht_tool_reads.proofs.WordAnswers.{words_got}
 use Rattle.odht_tool_reads.proofs.lookups.words.answer_words.Goals as goal
+
+-- there are as many answers as words
+pub write_words-requires : goal.write_words-requires
+write_words-requires g c =
+    let R = IsWordAnswer (dyn_coding c.args.table.now g.H.HashFn.hash) (IsSizedOf c.args.style.forms.key) c.args.table.now.store.0.now in
+    let words = c.args.words.now in
+    ap length c.as_slice.ensures.value ∙ AllZip-long R (map string_bytes words) c.in_ok-answers.answers.items c.in_ok-answers.ensures ∙ length-map words string_bytes
 
 -- the answers are those to the words, and their lines were written
 pub returns : goal.returns
