@@ -101,7 +101,8 @@ impl<'a, L: Lengths> Stored<'a, L> {
     }
 
     /// `key` of a slot that may come from a list of the caller's. The plain-Rust build checks this
-    /// index alone: the list may name any slot where another process rewrites the bytes meanwhile.
+    /// index, and not that of `key`: if another process rewrites the bytes, the list may name any
+    /// slot.
     #[inline(always)]
     pub(super) fn listed_key(&self, slot: usize) -> &'a [u8]
         requires { slot < self.now.entries.slots }

@@ -22,7 +22,7 @@ pub const DEFAULT_GROUPS: usize = 128;
 /// The rules and their order are those of docs/FORMAT.md, "What is rejected, and in which order".
 /// It allocates nothing. Where hashes vary its time is linear in the bytes. At worst, where all
 /// keys of `s` slots have one hash, it reads about `s*s/32` groups and makes `s*s/2` comparisons
-/// of keys: over an hour for 2^20 slots. For bytes of strangers there is [`check_all_within`].
+/// of keys: over an hour for 2^20 slots. For untrusted bytes there is [`check_all_within`].
 pub fn check_all<C: Config>(bytes: &[u8]) -> Result<(), Error> {
     let allocation: Allocation<C, Borrowed<'_>> = Allocation::from_raw_bytes(Borrowed::new(bytes))?;
     allocation.check_rest()
@@ -35,7 +35,7 @@ pub fn check_all<C: Config>(bytes: &[u8]) -> Result<(), Error> {
 /// more. A table in which a home has none is rejected, also where the search for each of its keys
 /// ends within the bound.
 ///
-/// For bytes of strangers: whatever they are, for `s` slots it reads at most `2 * s * groups`
+/// For untrusted bytes: whatever they are, for `s` slots it reads at most `2 * s * groups`
 /// groups and makes at most `16 * s * groups` comparisons of keys. It allocates nothing. With
 /// `groups` of `s / 16` or more it returns what `check_all` returns (no clause says it).
 pub fn check_all_within<C: Config>(bytes: &[u8], groups: usize) -> Result<(), Error> {
@@ -83,7 +83,7 @@ pub fn check_sized<H: HashFn>(bytes: &[u8], layout: Layout) -> Result<(), Error>
 /// the first `groups` groups of its probe order, a control byte that counts as free. Then no
 /// search, of a present or an absent key, reads more.
 ///
-/// For bytes of strangers: whatever they are, for `s` slots it reads at most `2 * s * groups`
+/// For untrusted bytes: whatever they are, for `s` slots it reads at most `2 * s * groups`
 /// groups and makes at most `16 * s * groups` comparisons of keys. It allocates nothing.
 pub fn check_sized_within<H: HashFn>(
     bytes: &[u8],
