@@ -2,7 +2,7 @@
 #![tactic(auto)]
 
 pub mod commands;
+mod dynamic;
 mod inserts;
 mod shapes;
-mod sized;
 mod warnings;

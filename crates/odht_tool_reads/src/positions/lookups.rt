@@ -6,7 +6,7 @@ ghost use Rattle.odht.specs.Files.{file_coding};
 ghost use Rattle.odht_header.specs.Refusals.{view_refusal};
 ghost use Rattle.odht_tool_core.specs.Endings.{IsOutputFailure};
 ghost use Rattle.odht_tool_core.specs.JsonAnswers.{answer_in};
-ghost use Rattle.odht_tool_core.specs.SizedTexts.{IsSizedOf, sized_text, sized_wanted};
+ghost use Rattle.odht_tool_core.specs.DynTexts.{IsDynamicOf, dynamic_text, dynamic_wanted};
 ghost use Rattle.odht_tool_core.specs.Texts.{answers_by};
 ghost use Rattle.odht_tool_reads.specs.Gets.{AreAnswers, AreWordsGot, answered_status};
 ghost use Rattle.odht_tool_reads.specs.Positions.{ByPosition, IsTableAt};
@@ -38,8 +38,8 @@ pub(super) fn answer_words_at<H: HashFn, S: ReadAt + Drop, O: Write>(
         → view_refusal c.format B ≡ None
         → (let old = O.contents output.old in let new = O.contents output.new
         in ByPosition old new (AreWordsGot c
-        (answer_in style.is_json (sized_text key) (sized_text style.forms.value))
-        (IsSizedOf key) (sized_wanted key) B (map string_bytes words.now) old new) result) }
+        (answer_in style.is_json (dynamic_text key) (dynamic_text style.forms.value))
+        (IsDynamicOf key) (dynamic_wanted key) B (map string_bytes words.now) old new) result) }
 {
     let keys = keys_of_words::<ShortBytes, GivenForms>(alloc, words, style.forms)?;
     match values_at(alloc, table, keys.as_slice())? {
@@ -83,8 +83,8 @@ fn write_values<O: Write>(
     requires { length values.now ≡ length keys.now }
     ensures status { IfOk result (λ s. s ≡ answered_status values.now) }
     ensures written { OnOk result (Appends (O.contents output.old) (O.contents output.new)
-        (answers_by (answer_in style.is_json (sized_text style.forms.key)
-        (sized_text style.forms.value)) keys.now values.now)) }
+        (answers_by (answer_in style.is_json (dynamic_text style.forms.key)
+        (dynamic_text style.forms.value)) keys.now values.now)) }
     ensures err { IfErr result IsOutputFailure }
 {
     write_answers_in(keys, values, style, output).map_err(Failure::Output)?;

@@ -5,10 +5,10 @@ ghost use Rattle.odht_base.specs.Valid.{IsImage};
 ghost use Rattle.odht_header.specs.Refusals.{check_refusal_by};
 ghost use Rattle.odht_tool_writes.specs.Inserted.{copy_failure};
 
+use crate::dynamic::builds::{build_dynamic, put_dynamic};
 use crate::inserts::insert_into_file;
 use crate::inserts::lines::{Place, check_lines, insert_lines, left, makes_no_table, place_of};
 use crate::shapes::for_shape;
-use crate::sized::builds::{build_other, put_other};
 use odht::HashTableOwned;
 use odht::config::{Coded, Config};
 use odht::dynamic::Layout;
@@ -24,7 +24,7 @@ use odht_tool_core::progress::Watch;
 use odht_tool_core::shapes::{Hash, Shape};
 use odht_tool_core::status::Status;
 use odht_tool_core::text::Text;
-use odht_tool_tables::sized::check_lengths;
+use odht_tool_tables::dynamic::check_lengths;
 use std::alloc::Global;
 use std::io::{BufRead, Write};
 use std::os::fd::AsFd;
@@ -69,7 +69,9 @@ where
             let forms = LineForms { forms, delimiter };
             build_in(rt, place, shape, forms, options, input, output, errors)
         }
-        AnyShape::Other(shape) => { build_other(rt, place, shape, options, input, output, errors) }
+        AnyShape::Other(shape) => {
+            build_dynamic(rt, place, shape, options, input, output, errors)
+        }
     }
 }
 
@@ -148,7 +150,7 @@ where
         AnyShape::Ready(shape) => put_ready(
             rt, new, shape, forms, bytes, bound, watch, input, errors,
         ),
-        AnyShape::Other(shape) => put_other(
+        AnyShape::Other(shape) => put_dynamic(
             rt, new, shape, forms, bytes, bound, watch, input, errors,
         ),
     }

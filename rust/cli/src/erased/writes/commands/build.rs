@@ -12,13 +12,13 @@ use crate::erased::core::progress::Watch;
 use crate::erased::core::shapes::{Hash, Shape};
 use crate::erased::core::status::Status;
 use crate::erased::core::text::Text;
-use crate::erased::tables::sized::check_lengths;
+use crate::erased::tables::dynamic::check_lengths;
 use crate::erased::writes::inserts::insert_into_file;
 use crate::erased::writes::inserts::lines::{
     check_lines, insert_lines, left, makes_no_table, place_of, Place,
 };
 use crate::erased::writes::shapes::for_shape;
-use crate::erased::writes::sized::builds::{build_other, put_other};
+use crate::erased::writes::dynamic::builds::{build_dynamic, put_dynamic};
 use crate::host::prelude::*;
 use crate::host::rt::{Clock, Files};
 use crate::proved::tables::config::Config;
@@ -68,7 +68,7 @@ where
             let forms = LineForms { forms, delimiter };
             build_in(rt, place, shape, forms, options, input, output, errors)
         }
-        AnyShape::Other(shape) => build_other(rt, place, shape, options, input, output, errors),
+        AnyShape::Other(shape) => build_dynamic(rt, place, shape, options, input, output, errors),
     }
 }
 
@@ -153,7 +153,7 @@ where
             put_ready(rt, new, shape, forms, bytes, bound, watch, input, errors)
         }
         AnyShape::Other(shape) => {
-            put_other(rt, new, shape, forms, bytes, bound, watch, input, errors)
+            put_dynamic(rt, new, shape, forms, bytes, bound, watch, input, errors)
         }
     }
 }
