@@ -282,7 +282,7 @@ impl<H: HashFn, D: Borrow<[u8]>> DynTable<H, D> {
         self.check_rest().is_ok()
     }
 
-    /// [`check_rest`](DynTable::check_rest) for bytes of strangers, whose time nobody can make long: it also returns an
+    /// [`check_rest`](DynTable::check_rest) for untrusted bytes, whose time nobody can make long: it also returns an
     /// error where a home has, among the first `groups` groups of sixteen of its probe order, no control byte that
     /// counts as free. Where there is no error, no search, of a present or an absent key, reads more.
     ///
@@ -293,7 +293,7 @@ impl<H: HashFn, D: Borrow<[u8]>> DynTable<H, D> {
         check_dynamic_within::<Hash<H>>(self.bytes(), self.layout.proved(), groups)
     }
 
-    /// [`verify`](DynTable::verify) for bytes of strangers: whether
+    /// [`verify`](DynTable::verify) for untrusted bytes: whether
     /// [`check_rest_within`](DynTable::check_rest_within) finds no error.
     ///
     /// ```

@@ -260,7 +260,7 @@ impl<C: Config> HashTableOwned<C> {
         self.0.insert_order(out)
     }
 
-    /// [`insert_order`](HashTableOwned::insert_order) for tables of strangers, where it has `scratch` to write to: it
+    /// [`insert_order`](HashTableOwned::insert_order) for untrusted tables, where it has `scratch` to write to: it
     /// returns the same, and leaves the same order in `out`. `scratch` has as many numbers as
     /// [`insert_order_scratch`](HashTableOwned::insert_order_scratch) says or more, of any values; with fewer this is
     /// `insert_order`, in the time that that takes. It takes no memory.

@@ -109,7 +109,7 @@ pub fn check_all<C: Config>(bytes: &[u8]) -> Result<(), Error> {
     raw::memory_layout::check_all::<Proved<C>>(bytes)
 }
 
-/// [`check_all`] with a bound of searches, for bytes of strangers: also checks that each home has, among the first
+/// [`check_all`] with a bound of searches, for untrusted bytes: also checks that each home has, among the first
 /// `groups` groups of sixteen of its probe order, a control byte that counts as free. Then no search, of a present or
 /// an absent key, reads more. For `s` slots it reads at most `2 * s * groups` groups and compares at most
 /// `16 * s * groups` keys, whatever the bytes are.

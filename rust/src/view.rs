@@ -335,7 +335,7 @@ impl<C: Config, D: Borrow<[u8]>> HashTable<C, D> {
         self.view().verify()
     }
 
-    /// [`verify`](HashTable::verify) for bytes of strangers, whose time nobody can make long: also whether each home
+    /// [`verify`](HashTable::verify) for untrusted bytes, whose time nobody can make long: also whether each home
     /// has, among the first `groups` groups of sixteen of its probe order, a control byte that counts as free. Then no
     /// search, of a present or an absent key, reads more.
     ///

@@ -1,4 +1,4 @@
-//! The exports of tables of any lengths: the caller names the lengths of keys and values, and the
+//! The exports of dynamic tables: the caller names the lengths of keys and values, and the
 //! hash function.
 //!
 //! Statuses have the names of include/odht.h without `ODHT_`. Each call but `layout_of` answers

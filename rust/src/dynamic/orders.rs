@@ -45,7 +45,7 @@ impl<H: HashFn, D: Borrow<[u8]>> DynTable<H, D> {
         self.counted(out.len()).insert_order(out)
     }
 
-    /// [`insert_order`](DynTable::insert_order) for tables of strangers, where it has `scratch` to write to: it returns
+    /// [`insert_order`](DynTable::insert_order) for untrusted tables, where it has `scratch` to write to: it returns
     /// the same, and leaves the same order in `out`. `scratch` has as many numbers as
     /// [`insert_order_scratch`](DynTable::insert_order_scratch) says or more, of any values; with fewer this is
     /// `insert_order`, in the time that that takes. The bytes are those of a table, as [`verify`](DynTable::verify)

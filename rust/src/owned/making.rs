@@ -163,7 +163,7 @@ impl<C: Config> HashTableOwned<C> {
         tables::HashTableOwned::from_raw_bytes(Global, data).map(HashTableOwned)
     }
 
-    /// [`try_from_raw_bytes`](HashTableOwned::try_from_raw_bytes) for bytes of strangers: rejected are also bytes in
+    /// [`try_from_raw_bytes`](HashTableOwned::try_from_raw_bytes) for untrusted bytes: rejected are also bytes in
     /// which a search may read more than `groups` groups of sixteen control bytes, as by
     /// [`check_all_within`](crate::check_all_within).
     ///

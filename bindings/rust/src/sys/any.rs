@@ -1,4 +1,4 @@
-//! Tables of any lengths: keys and values are so many bytes, also many of them, and their lengths are in bytes.
+//! Dynamic tables: keys and values are so many bytes, also many of them, and their lengths are in bytes.
 
 use super::{Layout, View};
 

@@ -12,7 +12,7 @@ impl<C: Config, D: ByteStore> HashTable<C, D> {
     /// reads more. [`DEFAULT_GROUPS`](crate::memory_layout::DEFAULT_GROUPS) is a bound that tables
     /// of hashes that vary keep.
     ///
-    /// It is for bytes of strangers: whatever they are it costs no more than
+    /// It is for untrusted bytes: whatever they are it costs no more than
     /// [`memory_layout::check_all_within`](crate::memory_layout::check_all_within), which returns
     /// the error.
     pub fn verify_within(&self, groups: usize) -> bool

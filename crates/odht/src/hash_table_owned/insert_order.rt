@@ -29,7 +29,7 @@ impl<C: Config> HashTableOwned<C> {
         self.table.as_raw().insert_order(out)
     }
 
-    /// `insert_order` for tables of strangers, where it has `scratch` to write to: it returns the
+    /// `insert_order` for untrusted tables, where it has `scratch` to write to: it returns the
     /// same. `scratch` has as many numbers as `insert_order_scratch` says or more, of any values;
     /// with fewer this is `insert_order`, in the time that that takes. The clauses say that `out`
     /// has an order; that it is the same one is tested.

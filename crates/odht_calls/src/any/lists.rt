@@ -1,4 +1,4 @@
-//! The calls for many keys of a table of any lengths: lookups, and inserts in turn.
+//! The calls for many keys of a dynamic table: lookups, and inserts in turn.
 ghost use Rattle.std.specs.Prelude.{◌≡◌, ◌≤◌, length};
 ghost use Rattle.odht_base.specs.Format.{format_of};
 ghost use Rattle.odht_raw.specs.Frame.{IsAccepted};

@@ -1,4 +1,4 @@
-//! Opened tables of any lengths as a caller in C keeps them, and lookups that skip the header.
+//! Opened dynamic tables as a caller in C keeps them, and lookups that skip the header.
 ghost use Rattle.std.specs.Prelude.{◌≡◌, ◌≤◌, length};
 ghost use Rattle.odht_base.specs.Format.{format_of};
 ghost use Rattle.odht_raw.specs.Frame.{IsAccepted};

@@ -1,4 +1,4 @@
-//! The calls that write a table of any lengths.
+//! The calls that write a dynamic table.
 ghost use Rattle.std.specs.Prelude.{◌≡◌, ◌≤◌, length};
 ghost use Rattle.odht_base.specs.Format.{format_of};
 ghost use Rattle.odht_raw.specs.DynParts.{bytes_coding};

@@ -50,7 +50,7 @@ pub miscounted : check_outcome (codes "a") (overwritten_at one_bytes 8 (2 ∷ []
 unfolding opened digits
 miscounted = refl
 
--- a table of other sizes, whose key has another home by its hash than the slot that it is in; and keys of three bytes,
+-- a dynamic table, whose key has another home by its hash than the slot that it is in; and keys of three bytes,
 -- which are too short for a hash function
 pub any_sizes : (check_outcome (codes "a") other_bytes (Some Unhash) None ≡ writes (codes "a: Key in slot 5 is not reachable by its search\n") NotDone)
     × (check_outcome (codes "a") (overwritten_at one_bytes 5 (3 ∷ [])) (Some Unhash) None ≡ fails (ShortKeys 3))

@@ -128,7 +128,7 @@ impl<C: Config> HashTableOwned<C> {
         Self::from_raw_bytes_unchecked(alloc, raw_bytes)
     }
 
-    /// `from_raw_bytes` for bytes of strangers: also rejected, as by
+    /// `from_raw_bytes` for untrusted bytes: also rejected, as by
     /// [`memory_layout::check_all_within`], are bytes in which a search may read more than
     /// `groups` groups of control bytes. The check costs what that call does.
     ///

@@ -1,5 +1,5 @@
 // Made by `make rust` of crates/odht_calls/src/any.rt.
-//! The calls for tables of any lengths: the caller names the lengths of keys and values, and the
+//! The calls for dynamic tables: the caller names the lengths of keys and values, and the
 //! hash function, by a layout.
 
 /// Calls a function for the hash function of a layout, which is its type parameter, with the

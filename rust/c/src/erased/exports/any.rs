@@ -1,5 +1,5 @@
 // Made by `make rust` of crates/odht_c/src/any.rt.
-//! The exports of tables of any lengths: the caller names the lengths of keys and values, and the
+//! The exports of dynamic tables: the caller names the lengths of keys and values, and the
 //! hash function.
 //!
 //! Statuses have the names of include/odht.h without `ODHT_`. Each call but `layout_of` answers

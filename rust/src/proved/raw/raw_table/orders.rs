@@ -33,7 +33,7 @@ impl<'a, K: ByteArray, V: ByteArray, H: HashFn> RawTable<'a, K, V, H> {
         self.parts().insert_order_scratch()
     }
 
-    /// `insert_order` for tables of strangers: it returns the same. `scratch` has as many numbers
+    /// `insert_order` for untrusted tables: it returns the same. `scratch` has as many numbers
     /// as `insert_order_scratch` says or more, of any values; with fewer this is `insert_order`,
     /// in the time that that takes. The clause says that `out` has an order; that it is the same
     /// one is tested.

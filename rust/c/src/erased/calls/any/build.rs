@@ -1,5 +1,5 @@
 // Made by `make rust` of crates/odht_calls/src/any/build.rt.
-//! Tables of any lengths that are built from pairs: in the caller's bytes, or in memory of their
+//! Dynamic tables that are built from pairs: in the caller's bytes, or in memory of their
 //! own and then copied to the caller's.
 
 use super::lists::insert_pieces;

@@ -1,5 +1,5 @@
 // Made by `make rust` of crates/odht_calls/src/any/lists.rt.
-//! The calls for many keys of a table of any lengths: lookups, and inserts in turn.
+//! The calls for many keys of a dynamic table: lookups, and inserts in turn.
 
 use super::pieces::{are_pieces, deciding_pairs, piece};
 use super::read::view;

@@ -1,5 +1,5 @@
 // Made by `make rust` of crates/odht_calls/src/any/order.rt.
-//! The call for an order of inserts that makes a table of any lengths.
+//! The call for an order of inserts that makes a dynamic table.
 
 use super::read::whole;
 use super::{with_hash, AnyLayout};

@@ -1,5 +1,5 @@
 // Made by `make rust` of crates/odht_calls/src/any/places.rt.
-//! The calls that open or check a table of any lengths and tell where the first error is.
+//! The calls that open or check a dynamic table and tell where the first error is.
 
 use super::read::{whole, whole_within};
 use super::{with_hash, AnyLayout};

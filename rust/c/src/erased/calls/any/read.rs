@@ -1,5 +1,5 @@
 // Made by `make rust` of crates/odht_calls/src/any/read.rt.
-//! The calls that read a table of any lengths.
+//! The calls that read a dynamic table.
 
 use super::{with_hash, AnyLayout};
 use crate::erased::calls::status::{status_of, ABSENT, BAD_LAYOUT, BAD_LENGTHS, OK};

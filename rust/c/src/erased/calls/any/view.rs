@@ -1,5 +1,5 @@
 // Made by `make rust` of crates/odht_calls/src/any/view.rt.
-//! Opened tables of any lengths as a caller in C keeps them, and lookups that skip the header.
+//! Opened dynamic tables as a caller in C keeps them, and lookups that skip the header.
 
 use super::pieces::{are_pieces, piece, put_answer};
 use super::{with_hash, AnyLayout};

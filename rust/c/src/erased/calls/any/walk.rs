@@ -1,5 +1,5 @@
 // Made by `make rust` of crates/odht_calls/src/any/walk.rt.
-//! Walks over a table of any lengths that write its pairs to arrays, a part at a time.
+//! Walks over a dynamic table that write its pairs to arrays, a part at a time.
 
 use super::pieces::{are_pieces, put_piece};
 use super::read::view;

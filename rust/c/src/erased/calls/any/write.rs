@@ -1,5 +1,5 @@
 // Made by `make rust` of crates/odht_calls/src/any/write.rt.
-//! The calls that write a table of any lengths.
+//! The calls that write a dynamic table.
 
 use super::read::view;
 use super::{with_hash, AnyLayout};

@@ -1,5 +1,5 @@
 // Made by `make rust` of crates/odht_c/src/any/views.rt.
-//! The exports that open a table of any lengths, and look up in an opened one.
+//! The exports that open a dynamic table, and look up in an opened one.
 //!
 //! The header is not checked again: the caller ensures that the bytes of a view are accepted, as
 //! after `open_view` with the same lengths. `BAD_LAYOUT` as of the other exports.

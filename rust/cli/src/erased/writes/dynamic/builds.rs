@@ -1,5 +1,5 @@
 // Made by `make rust` of crates/odht_tool_writes/src/dynamic/builds.rt.
-//! `odht build` and `odht put` of tables of other sizes than the ready shapes have.
+//! `odht build` and `odht put` of dynamic tables.
 
 use crate::erased::core::any::OtherShape;
 use crate::erased::core::arguments::BuildOptions;

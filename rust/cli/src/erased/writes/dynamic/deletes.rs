@@ -1,5 +1,5 @@
 // Made by `make rust` of crates/odht_tool_writes/src/dynamic/deletes.rt.
-//! `odht delete` of tables of any lengths of keys and values.
+//! `odht delete` of dynamic tables.
 
 use crate::erased::core::failure::Failure;
 use crate::erased::core::keys::{write_absent, Word};

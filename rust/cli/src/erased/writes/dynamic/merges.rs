@@ -1,5 +1,5 @@
 // Made by `make rust` of crates/odht_tool_writes/src/dynamic/merges.rt.
-//! `odht merge` of tables of any lengths of keys and values.
+//! `odht merge` of dynamic tables.
 
 use crate::erased::core::any::AnyShape;
 use crate::erased::core::arguments::Duplicates;
