@@ -1,8 +1,10 @@
-//! Tables whose lengths of keys and values are known at run time alone, such as those of a file.
+//! Dynamic tables: the lengths of keys and values are known only at run time, such as those of a
+//! file.
 //!
-//! A configuration says how long keys and values are, and a table of other lengths needs another one. A [`DynTable`]
-//! has the lengths as numbers: it reads and writes the same bytes, of any lengths, and its keys and values are the
-//! bytes as they are stored. The hash function stays a type, since the bytes do not name it.
+//! A configuration says how long keys and values are, and a table of other lengths needs another
+//! one. A [`DynTable`] has the lengths as numbers: it reads and writes the same bytes, of any
+//! lengths, and its keys and values are the bytes as they are stored. The hash function stays a
+//! type, since the bytes do not name it.
 //!
 //! ```
 //! use odht::dynamic::{DynTable, Layout};
@@ -308,8 +310,9 @@ impl<H: HashFn, D: Borrow<[u8]>> DynTable<H, D> {
         self.check_rest_within(groups).is_ok()
     }
 
-    /// Whether each home has, among the first `groups` groups of sixteen of its probe order, a control byte that counts
-    /// as free. Then no search in valid bytes reads more. It reads control bytes alone.
+    /// Whether each home has, among the first `groups` groups of sixteen of its probe order, a
+    /// control byte that counts as free. Then no search in valid bytes reads more. It reads only
+    /// control bytes.
     #[must_use]
     pub fn searches_within(&self, groups: usize) -> bool {
         self.parts().searches_within(groups)

@@ -352,8 +352,9 @@ impl<C: Config, D: Borrow<[u8]>> HashTable<C, D> {
         self.view().verify_within(groups)
     }
 
-    /// Whether each home has, among the first `groups` groups of sixteen of its probe order, a control byte that counts
-    /// as free. Then no search in valid bytes reads more. It reads control bytes alone.
+    /// Whether each home has, among the first `groups` groups of sixteen of its probe order, a
+    /// control byte that counts as free. Then no search in valid bytes reads more. It reads only
+    /// control bytes.
     ///
     /// ```
     /// # use odht::{configs::U64ToU32, HashTable, HashTableOwned};

@@ -86,7 +86,7 @@ macro_rules! declare {
                 #[link_name = concat!("odht_", stringify!($module), "_check")]
                 pub fn check(bytes: *const u8, bytes_len: usize) -> u32;
 
-                /// The same, and whether from each slot a free one comes within so many groups: no search reads more.
+                /// The same, and whether from each slot a free one comes within that many groups: no search reads more.
                 #[link_name = concat!("odht_", stringify!($module), "_check_within")]
                 pub fn check_within(bytes: *const u8, bytes_len: usize, groups: usize) -> u32;
 

@@ -5,7 +5,7 @@
 use std::collections::BTreeMap;
 use std::process::Command;
 
-/// What a parameter is to the machine: `*const`, `*mut`, or a number of so many bits.
+/// What a parameter is to the machine: `*const`, `*mut`, or a number of that many bits.
 type Kinds = Vec<String>;
 
 /// What the preprocessor of C makes of the header, whose macros declare the calls; `None` outside of the repository.

@@ -77,7 +77,7 @@ impl<C: Config, D: ByteStore> HashTable<C, D> {
         }
     }
 
-    /// Opens bytes as a table by their header and their length alone, or returns the first error:
+    /// Opens bytes as a table, and checks only their header and length; or returns the first error:
     /// of too few bytes, of the header, of the length. On an error the store is dropped.
     /// docs/FORMAT.md, "What is rejected, and in which order", has the order.
     ///

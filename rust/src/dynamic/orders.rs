@@ -77,8 +77,8 @@ impl<H: HashFn, D: Borrow<[u8]>> DynTable<H, D> {
         self.view().insert_order_scratch()
     }
 
-    // The proved table, for a list of so many numbers. That it takes no other list is all that its steps need, whatever
-    // the bytes are.
+    // The proved table, for a list of that many numbers. That it takes no other list is all that
+    // its steps need, whatever the bytes are.
     #[track_caller]
     fn counted(&self, numbers: usize) -> dynamic::DynTable<Hash<H>, Borrowed<'_>> {
         let table = self.view();

@@ -19,7 +19,8 @@ impl<C: Config> HashTableOwned<C> {
         Self::default()
     }
 
-    /// An empty table that takes at least so many items before it grows. The load factor is in percent of the slots.
+    /// An empty table that takes at least that many items before it grows. The load factor is in
+    /// percent of the slots.
     ///
     /// ```
     /// use odht::{configs::U64ToU32, HashTableOwned};
@@ -30,8 +31,8 @@ impl<C: Config> HashTableOwned<C> {
     ///
     /// # Panics
     ///
-    /// Where the percentage is not from 1 to 100, and where no table is large enough. Where memory is refused it ends
-    /// as Rust's collections do.
+    /// Where the percentage is not from 1 to 100, and where no table is large enough. Where memory
+    /// is refused it ends as Rust's collections do.
     #[track_caller]
     #[must_use]
     pub fn with_capacity(max_item_count: usize, max_load_factor_percent: u8) -> Self {

@@ -1,5 +1,5 @@
-//! The original's stress test of raw tables: all keys of two bytes in as many slots, so that none is free, and once
-//! more in twice as many.
+//! The original's stress test of raw tables: all keys of two bytes in as many slots, so that none
+//! is free, and again in twice as many.
 
 use crate::proved::base::hash::FxHashFn;
 use crate::proved::header::error::Error;

@@ -1,4 +1,4 @@
-//! An order of inserts that makes a table whose lengths are known at run time alone.
+//! An order of inserts that makes a dynamic table.
 ghost use Rattle.odht.specs.Tables.{OfTable};
 ghost use Rattle.std.specs.Prelude.{◌≡◌, ◌↔◌, ◌*◌, ◌-◌, ◌^◌, length, min, IsTrue};
 ghost use Rattle.odht_base.specs.Decoded.{header_slots};

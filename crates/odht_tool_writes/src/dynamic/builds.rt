@@ -94,7 +94,7 @@ where
     insert_lines(rt, place, table, forms, options, input, output, errors)
 }
 
-/// An empty table of these lengths, for so many items.
+/// An empty table of these lengths, for that many items.
 pub fn make_lengths<H: HashFn>(
     alloc: Global,
     layout: Layout,

@@ -1,5 +1,6 @@
 // Made by `make rust` of crates/odht/src/dynamic.rt.
-//! Tables whose lengths of keys and values are known at run time alone, such as those of a file.
+//! Dynamic tables: the lengths of keys and values are known only at run time, such as those of a
+//! file.
 
 use crate::proved::tables::bytes::ByteStore;
 use crate::proved::tables::error::Error;
@@ -28,7 +29,7 @@ pub use file::{FileError, FileTable};
 pub use owned::DynTableOwned;
 pub use prefix::table_len;
 
-/// Why bytes are not opened as a table whose lengths are known at run time alone, or such a table
+/// Why bytes are not opened as a dynamic table, or such a table
 /// takes no pair.
 #[derive(Debug, PartialEq, Eq)]
 #[non_exhaustive]
@@ -203,7 +204,7 @@ impl<H: HashFn, D: ByteStore> DynTable<H, D> {
 
     /// Whether each home has, among the first `groups` groups of its probe order, a control byte
     /// that counts as free. Then no search in valid bytes, of a present or an absent key, reads
-    /// more. It reads control bytes alone: for `s` slots at most `s * groups` groups.
+    /// more. It reads only control bytes: for `s` slots at most `s * groups` groups.
     pub fn searches_within(&self, groups: usize) -> bool {
         self.as_dynamic().searches_within(groups)
     }

@@ -58,7 +58,7 @@ impl<C: Config> HashTableOwned<C> {
     /// `items` has to end (`ends`), and its `next` may be called (`can`). The clauses speak of the
     /// list `xs` that it gives until then (`EndsAfter`).
     ///
-    /// `Capacity` only where no slot count is enough for so many items, or its length passes
+    /// `Capacity` only where no slot count is enough for that many items, or its length passes
     /// `usize`; `Memory` where the allocator gives none.
     pub fn from_iterator<I: Iterator<Item = (C::Key, C::Value)>>(
         alloc: Global,
@@ -171,7 +171,7 @@ impl<C: Config> HashTableOwned<C> {
     /// slots, or more bytes than a `usize` counts; that it comes for no other reason, no clause
     /// says.
     ///
-    /// The key is hashed once, and once more at a growth, which hashes and places each item again.
+    /// The key is hashed once, and again at a growth, which hashes and places each item again.
     #[inline(always)]
     pub fn insert(&mut self, key: &C::Key, value: &C::Value) -> Result<Option<C::Value>, Error> {
         match self.table.insert(key, value) {
@@ -210,7 +210,7 @@ impl<C: Config> HashTableOwned<C> {
     }
 }
 
-// An empty table with the slots for so many items at this load factor.
+// An empty table with the slots for that many items at this load factor.
 fn empty_table<C: Config>(
     alloc: Global,
     max_item_count: usize,

@@ -18,7 +18,7 @@ pub fn main(rt: HostRuntime) -> ExitCode {
     match run_buffered(rt.alloc(), &mut rt.stdin(), rt.stdout()) {
         Ok(_) => ExitCode::SUCCESS,
         Err(fault) => {
-            // Where writing to standard error fails too, the status alone reports the fault.
+            // Where writing to standard error fails too, only the status reports the fault.
             let _ = writeln!(rt.stderr(), "{fault}");
             ExitCode::FAILURE
         }

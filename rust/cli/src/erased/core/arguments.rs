@@ -151,10 +151,10 @@ impl Command {
     }
 }
 
-/// A command that reads its file alone. A bound is one of searches, in groups; none with
+/// A command that only reads its file. A bound is one of searches, in groups; none with
 /// `--whole`.
 pub enum Reading {
-    // begin readings: made of commands.txt by tools/commands; `make manual` makes it anew
+    // begin readings: made of commands.txt by tools/commands; `make manual` makes it again
     Info { bound: Option<usize>, is_json: bool },
     Check { hash: Option<Hash>, bound: Option<usize>, is_json: bool },
     Count { hash: Option<Hash>, bound: Option<usize> },
@@ -214,7 +214,7 @@ pub fn parse(alloc: Global, words: Vec<String>) -> Result<Request, Misuse> {
     draft.finish()
 }
 
-// `help`, and the two words after it, if there are so many.
+// `help`, and the two words after it, if there are that many.
 fn parse_help(command: Option<String>, more: Option<String>) -> Result<Request, Misuse> {
     let Some(command) = command else {
         return Ok(Request::Help(None));

@@ -5,7 +5,7 @@ use crate::host::prelude::*;
 use crate::host::simd::prelude::*;
 use std::io::{self, Write};
 
-// The number of any so many digits fits 64 bits.
+// The number of any that many digits fits 64 bits.
 const SAFE_DIGITS: usize = 19;
 
 // The digits of the numbers below 100, two each.

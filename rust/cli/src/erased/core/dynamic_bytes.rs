@@ -1,5 +1,5 @@
 // Made by `make rust` of crates/odht_tool_core/src/dynamic_bytes.rt.
-//! Keys and values of a length that is known at run time alone, as text: by the type that the form
+//! Keys and values of a length that is known only at run time, as text: by the type that the form
 //! says they are of.
 
 use crate::erased::core::forms::Form;
@@ -87,7 +87,7 @@ fn bytes_of_u64(number: u64) -> ShortBytes {
     ShortBytes::of(&number.to_le_bytes())
 }
 
-// The bytes, so many, of which the word is the text in this form.
+// The bytes, that many, of which the word is the text in this form.
 #[inline(always)]
 fn parse_dynamic(word: &[u8], len: u8, form: Form) -> Option<ShortBytes> {
     let mut bytes = [0; 255];

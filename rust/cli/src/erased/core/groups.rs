@@ -52,7 +52,7 @@ pub fn groups_to_free(
     groups.min(most + 1)
 }
 
-// How many of so many groups are looked at, by the bound.
+// How many of that many groups are looked at, by the bound.
 fn most_groups(groups: usize, bound: Option<usize>) -> usize {
     match bound {
         None => groups,

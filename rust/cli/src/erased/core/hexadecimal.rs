@@ -1,11 +1,10 @@
 // Made by `make rust` of crates/odht_tool_core/src/hexadecimal.rt.
-//! Words of hexadecimal digits that are read as bytes, of a length that is known at run time
-//! alone.
+//! Words of hexadecimal digits that are read as bytes, of a length that is known only at run time.
 
 use crate::erased::core::text::{digit_value, parse_in_vectors};
 use crate::host::prelude::*;
 
-/// Whether the word is two hexadecimal digits, of either case, for each of so many bytes as there
+/// Whether the word is two hexadecimal digits, of either case, for each of that many bytes as there
 /// are in `bytes`, which then become these.
 pub fn read_digits(word: &[u8], bytes: &mut [u8]) -> bool {
     if word.len() % 2 != 0 || word.len() / 2 != bytes.len() {

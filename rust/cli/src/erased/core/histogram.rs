@@ -11,7 +11,7 @@ const MOST: usize = 64;
 /// How many `#` the longest bar has.
 const WIDTH: u128 = 40;
 
-/// For each number of groups from 1 on, how many items are found by reading so many.
+/// For each number of groups from 1 on, how many items are found by reading that many.
 pub struct Histogram {
     counts: Vec<usize>,
     /// The largest number of groups that was counted.
@@ -24,7 +24,7 @@ impl Histogram {
         Ok(Histogram { counts: crate::host::lists::filled(alloc, 0, MOST)?, longest: 0 })
     }
 
-    /// Counts an item that is found by reading so many groups, at least one.
+    /// Counts an item that is found by reading that many groups, at least one.
     pub fn add(&mut self, groups: usize) {
         self.longest = self.longest.max(groups);
         let index = groups.min(MOST) - 1;

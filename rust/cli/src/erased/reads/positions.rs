@@ -70,7 +70,7 @@ fn read_start<S: ReadAt>(source: &S, len: usize, offset: Option<usize>) -> Optio
     Some(Start { header, at: at as u64, len })
 }
 
-// How many bytes the table of this header has, at the front of so many.
+// How many bytes the table of this header has, at the front of that many.
 fn front_len(header: &[u8], found: usize) -> Option<usize> {
     let header = Header::of(header);
     let layout = header.layout();
@@ -86,10 +86,10 @@ fn front_len(header: &[u8], found: usize) -> Option<usize> {
     }
 }
 
-/// `odht get` of a source of so many bytes, for the words of the command line: of the table at the
-/// offset, or of all bytes. None where the source is not read by position: a read failed, or its
-/// bytes are not opened, or too many of them would be read to know the hash function. Nothing was
-/// written then, and reading all bytes gives the answer.
+/// `odht get` of a source of that many bytes, for the words of the command line: of the table at
+/// the offset, or of all bytes. None where the source is not read by position: a read failed, or
+/// its bytes are not opened, or too many of them would be read to know the hash function. Nothing
+/// was written then, and reading all bytes gives the answer.
 ///
 /// Over any source, for any list of bytes that it gives in each read: what is written is what
 /// [`get_file_words`](crate::erased::reads::commands::get::get_file_words) writes of the table in this list, with

@@ -7,7 +7,7 @@ use super::IndexSet;
 ///
 /// In a contract it is the list of the indices that are left, rising.
 // A mask of sixteen lanes is sixteen bits in a register. In a word of 64 bits the compiler cuts it
-// to sixteen once more, with each group that has a match.
+// to sixteen again, with each group that has a match.
 pub(super) struct LaneSet {
     bits: u16,
 }

@@ -1,5 +1,5 @@
 // Made by `make rust` of crates/odht_raw/src/raw_table/bound.rt.
-//! How many groups a search may read, told from control bytes alone.
+//! How many groups a search may read, computed only from control bytes.
 
 use super::{slot_count_of, EntryMetadata, GroupProbe, Parts, RawTable};
 use crate::proved::raw::bytes::ByteArray;
@@ -18,7 +18,7 @@ impl<'a, L: Lengths, H: HashFn> Parts<'a, L, H> {
 impl<'a, K: ByteArray, V: ByteArray, H: HashFn> RawTable<'a, K, V, H> {
     /// Whether each home has, among the first `groups` groups of its probe order, a control byte
     /// that counts as free. Then no search in a placed table, of a present or an absent key, reads
-    /// more. It reads control bytes alone.
+    /// more. It reads only control bytes.
     pub fn searches_within(&self, groups: usize) -> bool {
         self.parts().searches_within(groups)
     }
@@ -52,7 +52,7 @@ fn first_longer(control: &[EntryMetadata], groups: usize) -> Option<usize> {
     None
 }
 
-// From this home and those after it, so many in all, no search reads more than `groups` groups.
+// From this home and those after it, that many in all, no search reads more than `groups` groups.
 // None where one from this home may.
 //
 // The groups that these searches read begin one slot after the other. So where one has a free

@@ -1,5 +1,5 @@
 // Made by `make rust` of crates/odht/src/dynamic/growth.rt.
-//! Growth of a table whose lengths are known at run time alone, into larger bytes.
+//! Growth of a dynamic table, into larger bytes.
 
 use super::DynTable;
 use crate::proved::tables::bytes::ByteStore;
@@ -32,9 +32,9 @@ impl<H: HashFn, D: ByteStore> DynTable<H, D> {
         self.move_into(slot_count, out);
     }
 
-    /// Writes the pairs of this table, placed in slot order into so many slots, to `out`, whatever
-    /// its bytes were. `out` has the length for them. The new header has the item count and the
-    /// load factor of this table.
+    /// Writes the pairs of this table, placed in slot order into that many slots, to `out`,
+    /// whatever its bytes were. `out` has the length for them. The new header has the item count
+    /// and the load factor of this table.
     pub(super) fn move_into(&self, slot_count: usize, out: &mut [u8]) {
         let layout = self.layout();
         let header = Header::of(self.raw_bytes());
@@ -44,7 +44,7 @@ impl<H: HashFn, D: ByteStore> DynTable<H, D> {
     }
 }
 
-// Writes the table of so many slots with the pairs of the walk. The new header gets `item_count`,
+// Writes the table of that many slots with the pairs of the walk. The new header gets `item_count`,
 // whatever the walk gives.
 fn write_walked<H: HashFn>(
     bytes: &mut [u8],

@@ -1,5 +1,5 @@
 // Made by `make rust` of crates/odht/src/dynamic/insert_order.rt.
-//! An order of inserts that makes a table whose lengths are known at run time alone.
+//! An order of inserts that makes a dynamic table.
 
 use super::DynTable;
 use crate::proved::tables::bytes::ByteStore;

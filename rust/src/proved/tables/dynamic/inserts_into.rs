@@ -1,5 +1,5 @@
 // Made by `make rust` of crates/odht/src/dynamic/inserts_into.rt.
-//! Inserts into a table whose lengths are known at run time alone, which write the former value into
+//! Inserts into a dynamic table, which write the former value into
 //! bytes of the caller.
 
 use super::{DynError, DynTable};

@@ -1,5 +1,5 @@
 // Made by `make rust` of crates/odht/src/dynamic/lists.rt.
-//! Lists of inserts into a table whose lengths are known at run time alone.
+//! Lists of inserts into a dynamic table.
 
 use super::{DynError, DynTable};
 use crate::proved::tables::bytes::ByteStoreMut;

@@ -1,5 +1,5 @@
 // Made by `make rust` of crates/odht/src/dynamic/lookups.rt.
-//! Lookups of many keys in a table whose lengths are known at run time alone.
+//! Lookups of many keys in a dynamic table.
 
 use super::DynTable;
 use crate::proved::tables::bytes::ByteStore;

@@ -1,5 +1,5 @@
 // Made by `make rust` of crates/odht/src/dynamic/new_tables.rt.
-//! New tables whose lengths are known at run time alone.
+//! New dynamic tables.
 
 use super::{DynError, DynTable};
 use crate::proved::tables::bytes::{ByteStore, ByteStoreMut};

@@ -1,6 +1,6 @@
 // Made by `make rust` of crates/odht/src/dynamic/owned.rt.
-//! The table that owns its bytes, and grows, of keys and values of lengths that are known at run
-//! time alone.
+//! The table that owns its bytes, and grows, of keys and values of lengths that are known only at
+//! run time.
 
 use super::{DynError, DynTable};
 use crate::proved::tables::bytes::OwnedBytes;

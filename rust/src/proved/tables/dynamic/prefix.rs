@@ -1,5 +1,5 @@
 // Made by `make rust` of crates/odht/src/dynamic/prefix.rt.
-//! A table at the front of longer bytes, of lengths that are known at run time alone.
+//! A table at the front of longer bytes, of lengths that are known only at run time.
 
 use super::{stated_layout, DynError, DynTable};
 use crate::proved::tables::bytes::Borrowed;
@@ -48,7 +48,7 @@ impl<'a, H: HashFn> DynTable<H, Borrowed<'a>> {
         }
     }
 
-    // Opens the table of so many bytes at the front, and returns it with the bytes behind it.
+    // Opens the table of that many bytes at the front, and returns it with the bytes behind it.
     fn open_front(
         layout: Layout,
         bytes: &'a [u8],

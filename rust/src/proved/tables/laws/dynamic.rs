@@ -1,5 +1,5 @@
 // Made by `make rust` of crates/odht/src/laws/dynamic.rt.
-//! A typed table and one whose lengths are known at run time alone, over the same bytes, agree.
+//! A typed table and one whose lengths are known only at run time, over the same bytes, agree.
 
 use crate::proved::tables::bytes::{ByteArray, ByteStore};
 use crate::proved::tables::config::Config;

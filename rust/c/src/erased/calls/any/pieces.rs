@@ -3,7 +3,7 @@
 
 use crate::proved::tables::layout::Layout;
 
-// Whether the bytes are so many keys, and so many values.
+// Whether the bytes are that many keys, and that many values.
 pub(crate) fn are_pieces(layout: Layout, count: usize, keys: &[u8], values: &[u8]) -> bool {
     has_pieces(keys, layout.key_len, count) && has_pieces(values, layout.value_len, count)
 }

@@ -52,7 +52,7 @@ pub unsafe extern "C" fn odht_any_view_contains(
 
 /// Looks up `count` keys, which lie in `keys` one after the other, in an opened table: status 0,
 /// and at each index `found` is 1 and the value is written, or `found` is 0 and the value is
-/// unchanged. `BAD_LENGTHS` where `keys`, `values` or `found` have another length than so many
+/// unchanged. `BAD_LENGTHS` where `keys`, `values` or `found` have another length than that many
 /// keys, values and flags; then nothing is written.
 #[unsafe(no_mangle)]
 pub unsafe extern "C" fn odht_any_view_get_all(

@@ -14,7 +14,7 @@ use crate::proved::tables::bytes::BorrowedMut;
 use crate::proved::tables::configs::Bytes20Set as Shape;
 use crate::shim::Global;
 
-/// Writes to `len` how many bytes a new table for so many items has: status 0. `BAD_PERCENT` where
+/// Writes to `len` how many bytes a new table for that many items has: status 0. `BAD_PERCENT` where
 /// the load factor is not from 1 to 100 percent, `CAPACITY` where no slot count is enough or the
 /// length does not fit `usize`; then `len` is unchanged.
 #[unsafe(no_mangle)]
@@ -26,7 +26,7 @@ pub unsafe extern "C" fn odht_b20_bytes_needed(
     write::bytes_needed::<Shape>(max_item_count, max_load_factor_percent, len)
 }
 
-/// Makes an empty table for so many items in the bytes, whatever they hold: status 0.
+/// Makes an empty table for that many items in the bytes, whatever they hold: status 0.
 /// `BAD_PERCENT`, `CAPACITY`, or `INIT_LENGTH` where the bytes are more or fewer than it needs;
 /// then they are unchanged. One pass over the bytes.
 #[unsafe(no_mangle)]

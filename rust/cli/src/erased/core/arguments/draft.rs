@@ -253,7 +253,7 @@ impl Draft {
     fn reading(&self) -> Reading {
         let (hash, kinds, bound) = (self.hash, self.kinds, bound_of(self.is_whole));
         match self.topic {
-            // begin readings: made of commands.txt by tools/commands; `make manual` makes it anew
+            // begin readings: made of commands.txt by tools/commands; `make manual` makes it again
             Topic::Info => Reading::Info { bound, is_json: self.is_json },
             Topic::Check => Reading::Check { hash, bound, is_json: self.is_json },
             Topic::Count => Reading::Count { hash, bound },

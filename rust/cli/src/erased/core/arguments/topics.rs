@@ -1,5 +1,6 @@
 // Made by `make rust` of crates/odht_tool_core/src/arguments/topics.rt.
-//! The commands and their options: made of commands.txt by tools/commands; `make manual` makes it anew.
+//! The commands and their options: made of commands.txt by tools/commands; `make manual` makes it
+//! again.
 
 use crate::erased::core::near::is_near;
 use crate::host::prelude::*;

@@ -1,5 +1,5 @@
 // Made by `make rust` of crates/odht_tool_reads/src/lookups/tables.rt.
-//! Lookups in the tables of configurations, and of lengths that are known at run time alone.
+//! Lookups in the tables of configurations, and of lengths that are known only at run time.
 
 use super::Lookups;
 use crate::erased::core::answers::absent_values;

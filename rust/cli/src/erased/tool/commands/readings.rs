@@ -1,5 +1,5 @@
 // Made by `make rust` of crates/odht_tool/src/commands/readings.rt.
-//! The commands that read their file alone, over the bytes of the file.
+//! The commands that only read their file, over the bytes of the file.
 use crate::erased::core::arguments::{Keys, Reading};
 use crate::erased::core::failure::Failure;
 use crate::erased::core::forms::Kinds;
@@ -12,7 +12,7 @@ use crate::host::prelude::*;
 use crate::shim::Global;
 use std::io::{BufRead, Write};
 
-/// Runs a command that reads its file alone, which has these bytes, from `at` on where that is
+/// Runs a command that only reads its file, which has these bytes, from `at` on where that is
 /// told, and may be the only one.
 pub fn run_reading<I: BufRead, O: Write, E: Write>(
     alloc: Global,

@@ -1,5 +1,5 @@
 // Made by `make rust` of crates/odht_tool_writes/src/commands/rebuild.rt.
-//! `odht rebuild`: a table file anew, of another load factor or hash function.
+//! `odht rebuild`: a table file from scratch, of another load factor or hash function.
 
 use crate::erased::core::any::{named_any, AnyShape};
 use crate::erased::core::arguments::RebuildOptions;
@@ -182,7 +182,7 @@ pub fn counted_pair<R: Clock, E: Write>(
     count
 }
 
-/// Reports that all pairs are copied, which are so many.
+/// Reports that all pairs are copied, which are that many.
 pub fn end_pairs<R: Clock, E: Write>(rt: &R, count: u64, progress: Progress, errors: &mut E) {
     // A progress line that cannot be written is no failure.
     let _ = progress.end_pairs(rt, count, errors);

@@ -1,5 +1,5 @@
 // Made by `make rust` of crates/odht_tool_writes/src/inserts/tables.rt.
-//! Inserts into the tables of configurations, and of lengths that are known at run time alone.
+//! Inserts into the tables of configurations, and of lengths that are known only at run time.
 
 use super::Inserts;
 use crate::erased::core::failure::Failure;
@@ -98,7 +98,7 @@ fn insert_each<H: HashFn>(
     Ok(())
 }
 
-// The same of a table of lengths that are known at run time alone, which those of the key and the
+// The same of a table of lengths that are known only at run time, which those of the key and the
 // value are.
 fn insert_absent_bytes<H: HashFn>(
     table: &mut DynTableOwned<H>,

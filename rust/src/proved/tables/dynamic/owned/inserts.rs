@@ -1,5 +1,5 @@
 // Made by `make rust` of crates/odht/src/dynamic/owned/inserts.rt.
-//! Inserts into the owned table whose lengths are known at run time alone, and its growth.
+//! Inserts into the owned dynamic table, and its growth.
 
 use super::DynTableOwned;
 use crate::proved::tables::bytes::OwnedBytes;
@@ -19,7 +19,7 @@ impl<H: HashFn> DynTableOwned<H> {
     /// grown table would need more than 2^63 slots, or more bytes than a `usize` counts; that it
     /// comes for no other reason, no clause says. On an error nothing changes.
     ///
-    /// The key is hashed once, and once more at a growth, which hashes and places each item again.
+    /// The key is hashed once, and again at a growth, which hashes and places each item again.
     pub fn insert(&mut self, key: &[u8], value: &[u8]) -> Result<Option<ShortBytes>, DynError> {
         match self.table.insert(key, value) {
             Ok(former) => Ok(former),

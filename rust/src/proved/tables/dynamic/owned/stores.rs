@@ -1,5 +1,5 @@
 // Made by `make rust` of crates/odht/src/dynamic/owned/stores.rt.
-//! The bytes of new owned tables whose lengths are known at run time alone.
+//! The bytes of new owned dynamic tables.
 
 use crate::proved::tables::error::Error;
 use crate::proved::tables::hash::HashFn;
@@ -9,7 +9,7 @@ use crate::proved::tables::memory_layout::{check_dynamic, check_opening, init_pa
 use crate::shim::Global;
 use alloc::vec::Vec;
 
-// The bytes of an empty table of these lengths with the slots for so many items.
+// The bytes of an empty table of these lengths with the slots for that many items.
 pub(super) fn empty<H: HashFn>(
     alloc: Global,
     layout: Layout,
