@@ -38,18 +38,18 @@ pub use short_bytes::ShortBytes;
 
 use crate::config::{Config, Hash, HashFn};
 use crate::opened::Opened;
-use crate::proved::base::bytes::{Borrowed, ByteArray};
-use crate::proved::header::error::Error;
-use crate::proved::header::layout;
-use crate::proved::raw::memory_layout::{check_dynamic, check_dynamic_within, dynamic_parts, Header};
-use crate::proved::raw::raw_table::DynRawTable;
-use crate::proved::tables::dynamic;
+use crate::generated::base::bytes::{Borrowed, ByteArray};
+use crate::generated::header::error::Error;
+use crate::generated::header::layout;
+use crate::generated::raw::memory_layout::{check_dynamic, check_dynamic_within, dynamic_parts, Header};
+use crate::generated::raw::raw_table::DynRawTable;
+use crate::generated::tables::dynamic;
 use std::borrow::Borrow;
 use std::fmt;
 use std::iter::FusedIterator;
 use std::marker::PhantomData;
 
-pub use crate::proved::tables::dynamic::DynError;
+pub use crate::generated::tables::dynamic::DynError;
 
 impl fmt::Display for DynError {
     fn fmt(&self, f: &mut fmt::Formatter<'_>) -> fmt::Result {

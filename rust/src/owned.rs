@@ -5,10 +5,10 @@
 
 use crate::config::{Config, Proved};
 use crate::iter::{occupied, Iter, Keys, Slots, Values};
-use crate::proved::base::load::max_item_count_for;
-use crate::proved::header::error::Error;
-use crate::proved::raw::memory_layout::Header;
-use crate::proved::tables;
+use crate::generated::base::load::max_item_count_for;
+use crate::generated::header::error::Error;
+use crate::generated::raw::memory_layout::Header;
+use crate::generated::tables;
 use crate::shim::Global;
 use crate::sizes::{percent_of, refused};
 use alloc::vec::Vec;

@@ -1,8 +1,8 @@
 //! How long tables are, the whole check of their bytes, and what comes of an error where a call returns none.
 
 use crate::config::{Config, Proved};
-use crate::proved::header::error::Error;
-use crate::proved::{raw, tables};
+use crate::generated::header::error::Error;
+use crate::generated::{raw, tables};
 use alloc::alloc::{handle_alloc_error, Layout};
 
 /// The length in bytes of a new table for that many items, to be given to
@@ -98,11 +98,11 @@ pub fn table_len<C: Config>(bytes: &[u8]) -> Result<usize, Error> {
 ///
 /// # Errors
 ///
-// order: made of errors.txt by make exports
+// begin order: generated from lists/errors.txt by make generate
 /// The first of the errors that [`HashTable::try_from_raw_bytes`] returns, then of `LoadFactorTooSmall`,
 /// `NonZeroPadding`, `NonZeroEmpty`, `BadFreeControl`, `ControlMismatch`, `MirrorMismatch`, `WrongItemCount`,
 /// `TooManyItems` and `Unreachable`.
-// order: up to here
+// end order
 ///
 /// [`HashTable::try_from_raw_bytes`]: crate::HashTable::try_from_raw_bytes
 pub fn check_all<C: Config>(bytes: &[u8]) -> Result<(), Error> {

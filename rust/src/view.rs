@@ -5,12 +5,12 @@
 
 use crate::config::{Config, Proved};
 use crate::opened::Opened;
-use crate::proved::base::bytes::Borrowed;
-use crate::proved::base::load::max_item_count_for;
-use crate::proved::header::error::Error;
-use crate::proved::header::layout::Layout;
-use crate::proved::raw::memory_layout::Header;
-use crate::proved::tables;
+use crate::generated::base::bytes::Borrowed;
+use crate::generated::base::load::max_item_count_for;
+use crate::generated::header::error::Error;
+use crate::generated::header::layout::Layout;
+use crate::generated::raw::memory_layout::Header;
+use crate::generated::tables;
 use alloc::boxed::Box;
 use std::borrow::Borrow;
 use std::error::Error as AnyError;

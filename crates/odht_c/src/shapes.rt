@@ -1,4 +1,4 @@
-//! The exports of each shape of table: this list and each file are written by tools/shapes.
+//! The exports of each shape of table. Generated from lists/shapes.txt by make generate.
 
 pub(crate) mod b16;
 pub(crate) mod b16_b16;

@@ -159,7 +159,7 @@ impl Command {
 /// `--whole`.
 #[derive(Drop)]
 pub enum Reading {
-    // begin readings: made of commands.txt by tools/commands; `make manual` makes it again
+    // begin readings: generated from lists/commands.txt by make generate
     Info {
         bound: Option<usize>,
         is_json: bool,

@@ -35,7 +35,7 @@ pub unsafe fn list_mut<'a, T>(items: *mut T, len: usize) -> &'a mut [T] {
 #[cfg(test)]
 mod tests {
     use super::*;
-    use crate::erased::calls::view::View;
+    use crate::generated::calls::view::View;
 
     // `odht_view` of the header is a pointer and a length. Rust promises no order of the two, so it is looked at.
     #[test]

@@ -3,8 +3,8 @@
 use super::DynTable;
 use crate::config::{Hash, HashFn};
 use crate::iter::occupied_in;
-use crate::proved::base::bytes::Borrowed;
-use crate::proved::tables::dynamic;
+use crate::generated::base::bytes::Borrowed;
+use crate::generated::tables::dynamic;
 use std::borrow::Borrow;
 
 impl<H: HashFn, D: Borrow<[u8]>> DynTable<H, D> {

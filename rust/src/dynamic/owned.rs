@@ -3,7 +3,7 @@
 use super::{DynTable, Layout, ShortBytes};
 use crate::config::{Hash, HashFn};
 use crate::opened::Opened;
-use crate::proved::tables::dynamic::{self, DynError};
+use crate::generated::tables::dynamic::{self, DynError};
 use crate::shim::Global;
 use crate::sizes::percent;
 use alloc::vec::Vec;

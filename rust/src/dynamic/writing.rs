@@ -3,8 +3,8 @@
 use super::{DynError, DynTable, Layout, ShortBytes};
 use crate::config::{Hash, HashFn};
 use crate::opened::Opened;
-use crate::proved::base::bytes::{Borrowed, BorrowedMut};
-use crate::proved::tables::dynamic;
+use crate::generated::base::bytes::{Borrowed, BorrowedMut};
+use crate::generated::tables::dynamic;
 use crate::sizes::percent;
 use std::borrow::{Borrow, BorrowMut};
 use std::marker::PhantomData;

@@ -2,8 +2,8 @@
 
 use super::{refused, tables, Config, Error, Global, HashTableOwned, Proved};
 use crate::encoded::{stored, Stored};
-use crate::proved::base::bytes::OwnedBytes;
-use crate::proved::raw::memory_layout::{allocate, layout_for, Header};
+use crate::generated::base::bytes::OwnedBytes;
+use crate::generated::raw::memory_layout::{allocate, layout_for, Header};
 
 impl<C: Config> HashTableOwned<C> {
     /// Makes room for that many more items: with that many new keys the table does not grow. Where

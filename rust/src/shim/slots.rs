@@ -6,7 +6,7 @@
 //! by: whatever the header says by then, each index that follows from this number is within the
 //! bytes. `tools/erase` writes the call, in the functions that its plan lists.
 
-use crate::proved::header::layout::Layout;
+use crate::generated::header::layout::Layout;
 
 /// Panics unless a table of `slots` slots and of these lengths has `len` bytes, in a store `M`. A store that owns
 /// them is not looked at: only the proved library writes to them. Nor is any with the feature `checked`, since each

@@ -2,7 +2,7 @@
 //! much: reads of sixteen control bytes where the shim takes them, compares of keys where an array of bytes does.
 
 use super::forged::{few_free_slots, one_hash, one_home, up_to, Forged};
-use crate::proved::base::bytes;
+use crate::generated::base::bytes;
 use crate::shim::lanes::loads;
 use crate::{
     check_all, check_all_within, ByteArray, Config, Error, HashTable, HashTableOwned, UnHashFn,

@@ -1,6 +1,6 @@
 //! The original's test of probe sequences: whatever the group size, the slots come in the order of docs/FORMAT.md.
 
-use crate::proved::raw::raw_table::{probe_order, ProbeSeq};
+use crate::generated::raw::raw_table::{probe_order, ProbeSeq};
 use crate::shim::Global;
 
 // The probe order of a home among that many slots, by its formula.

@@ -3,10 +3,10 @@
 use super::HashTable;
 use crate::config::{Config, Proved};
 use crate::opened::{count_again, Opened};
-use crate::proved::base::bytes::BorrowedMut;
-use crate::proved::header::error::Error;
-use crate::proved::header::layout::Layout;
-use crate::proved::tables;
+use crate::generated::base::bytes::BorrowedMut;
+use crate::generated::header::error::Error;
+use crate::generated::header::layout::Layout;
+use crate::generated::tables;
 use crate::sizes::{percent_of, refused};
 use alloc::boxed::Box;
 use std::borrow::{Borrow, BorrowMut};

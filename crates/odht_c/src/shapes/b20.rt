@@ -4,7 +4,7 @@
 //! docs/FORMAT.md; docs/PROOFS.md, "Calls for C", lists what is proved. Load factors are in
 //! percent of slots. An error of the header or length has a number from 1 to 7.
 //!
-//! Written by tools/shapes from exports/shape.rt.in: edit that one.
+//! Generated from lists/shapes.txt and crates/odht_c/exports/shape.rt.in by make generate.
 ghost use Rattle.std.specs.Prelude.{◌≡◌, Some};
 ghost use Rattle.odht_raw.specs.Frame.{IsAccepted};
 ghost use Rattle.odht_header.specs.Refusals.{view_refusal, check_refusal, check_refusal_by};
