@@ -31,7 +31,7 @@ CODE = (".rt", ".rs", ".py", ".c", ".h", ".hpp", ".sh")
 # what is generated, or no part of the library and its tests
 LEFT_OUT = (
     "rust/src/generated/", "rust/src/configs/list.rs", "rust/c/src/generated/", "rust/cli/src/generated/",
-    "rust/table/src/generated/", "rust/examples/", "bindings/rust/src/shapes.rs", "crates/odht_c/src/shapes/",
+    "rust/table/src/generated/", "rust/examples/", "bindings/rust/src/shapes.rs", "crates/odht_c/src/generated/",
     "crates/odht_c/exports/", "examples/", "include/",
 )
 BUILT = {"build", "out", "target", "__pycache__"}

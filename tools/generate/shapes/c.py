@@ -11,7 +11,7 @@ sys.path.append(str(shape_list.ROOT / "tools/generate/errors"))
 import error_list
 import header_marks
 
-FOLDERS = ["crates/odht_c/src/shapes"]
+FOLDERS = ["crates/odht_c/src/generated"]
 EXPORTS = shape_list.ROOT / "crates/odht_c/exports"
 PARTS = ["head", "calls", "kinds", "table", "map", "set", "any"]
 HASHES = {"fx": "FxHashFn", "unhash": "UnHashFn"}

@@ -2,5 +2,5 @@
 //! The table for programs in C, and in any language that calls C.
 
 mod any;
-mod shapes;
+mod generated;
 mod version;

@@ -1,4 +1,4 @@
-// Generated from crates/odht_c/src/shapes.rt by make generate.
+// Generated from crates/odht_c/src/generated.rt by make generate.
 //! The exports of each shape of table. Generated from lists/shapes.txt by make generate.
 
 pub(crate) mod b16;

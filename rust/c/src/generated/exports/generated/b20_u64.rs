@@ -1,5 +1,5 @@
-// Generated from crates/odht_c/src/shapes/u32_u32.rt by make generate.
-//! The exports of tables from 32-bit numbers to 32-bit numbers, FxHashFn.
+// Generated from crates/odht_c/src/generated/b20_u64.rt by make generate.
+//! The exports of tables from hashes of 20 bytes to 64-bit numbers, UnHashFn.
 //!
 //! Statuses have the names of include/odht.h without `ODHT_`. The bytes and rules are those of
 //! docs/FORMAT.md; docs/PROOFS.md, "Calls for C", lists what is proved. Load factors are in
@@ -11,14 +11,14 @@ use crate::generated::calls::status::BAD_LENGTHS;
 use crate::generated::calls::view::{self, View};
 use crate::generated::calls::{build, grow, order, places, read, walk, write};
 use crate::generated::tables::bytes::BorrowedMut;
-use crate::generated::tables::configs::U32ToU32 as Shape;
+use crate::generated::tables::configs::Bytes20ToU64 as Shape;
 use crate::shim::Global;
 
 /// Writes to `len` how many bytes a new table for that many items has: status 0. `BAD_PERCENT` where
 /// the load factor is not from 1 to 100 percent, `CAPACITY` where no slot count is enough or the
 /// length does not fit `usize`; then `len` is unchanged.
 #[unsafe(no_mangle)]
-pub unsafe extern "C" fn odht_u32_u32_bytes_needed(
+pub unsafe extern "C" fn odht_b20_u64_bytes_needed(
     max_item_count: usize,
     max_load_factor_percent: u8,
     len: &mut usize,
@@ -30,7 +30,7 @@ pub unsafe extern "C" fn odht_u32_u32_bytes_needed(
 /// `BAD_PERCENT`, `CAPACITY`, or `INIT_LENGTH` where the bytes are more or fewer than it needs;
 /// then they are unchanged. One pass over the bytes.
 #[unsafe(no_mangle)]
-pub unsafe extern "C" fn odht_u32_u32_init(
+pub unsafe extern "C" fn odht_b20_u64_init(
     bytes: *mut u8,
     bytes_len: usize,
     max_item_count: usize,
@@ -45,7 +45,7 @@ pub unsafe extern "C" fn odht_u32_u32_init(
 /// of the header, of the length, of the first ten slots. The cost does not depend on the number of
 /// slots.
 #[unsafe(no_mangle)]
-pub unsafe extern "C" fn odht_u32_u32_open(bytes: *const u8, bytes_len: usize) -> u32 {
+pub unsafe extern "C" fn odht_b20_u64_open(bytes: *const u8, bytes_len: usize) -> u32 {
     let bytes = unsafe { crate::lists::list(bytes, bytes_len) };
     read::open::<Shape>(bytes)
 }
@@ -54,7 +54,7 @@ pub unsafe extern "C" fn odht_u32_u32_open(bytes: *const u8, bytes_len: usize) -
 /// 1 to 16. One pass over the slots, and for each occupied one a read of the control bytes of its
 /// key's probe order up to it.
 #[unsafe(no_mangle)]
-pub unsafe extern "C" fn odht_u32_u32_check(bytes: *const u8, bytes_len: usize) -> u32 {
+pub unsafe extern "C" fn odht_b20_u64_check(bytes: *const u8, bytes_len: usize) -> u32 {
     let bytes = unsafe { crate::lists::list(bytes, bytes_len) };
     read::check::<Shape>(bytes)
 }
@@ -64,7 +64,7 @@ pub unsafe extern "C" fn odht_u32_u32_check(bytes: *const u8, bytes_len: usize) 
 /// first error of the whole check, or `SEARCH_TOO_LONG`, which comes before `UNREACHABLE`. At most
 /// `groups` reads of sixteen control bytes a slot for the bound, and as many for the searches.
 #[unsafe(no_mangle)]
-pub unsafe extern "C" fn odht_u32_u32_check_within(
+pub unsafe extern "C" fn odht_b20_u64_check_within(
     bytes: *const u8,
     bytes_len: usize,
     groups: usize,
@@ -77,7 +77,7 @@ pub unsafe extern "C" fn odht_u32_u32_check_within(
 /// number, of an error of the header or length and with status 0. The cost does not depend on the
 /// number of slots.
 #[unsafe(no_mangle)]
-pub unsafe extern "C" fn odht_u32_u32_open_at(
+pub unsafe extern "C" fn odht_b20_u64_open_at(
     bytes: *const u8,
     bytes_len: usize,
     slot: &mut usize,
@@ -91,7 +91,7 @@ pub unsafe extern "C" fn odht_u32_u32_open_at(
 /// byte; or `NO_SLOT`, the largest number, of any other error and with status 0. The cost is that
 /// of `check`.
 #[unsafe(no_mangle)]
-pub unsafe extern "C" fn odht_u32_u32_check_at(
+pub unsafe extern "C" fn odht_b20_u64_check_at(
     bytes: *const u8,
     bytes_len: usize,
     slot: &mut usize,
@@ -103,7 +103,7 @@ pub unsafe extern "C" fn odht_u32_u32_check_at(
 /// `check_within`, and writes to `slot` where the first error is, as `check_at` does; of
 /// `SEARCH_TOO_LONG` the slot where the searches begin. The cost is that of `check_within`.
 #[unsafe(no_mangle)]
-pub unsafe extern "C" fn odht_u32_u32_check_within_at(
+pub unsafe extern "C" fn odht_b20_u64_check_within_at(
     bytes: *const u8,
     bytes_len: usize,
     groups: usize,
@@ -118,16 +118,16 @@ pub unsafe extern "C" fn odht_u32_u32_check_within_at(
 /// header or length; then nothing changes. A view of the bytes remains usable, whatever the
 /// status.
 #[unsafe(no_mangle)]
-pub unsafe extern "C" fn odht_u32_u32_insert(
+pub unsafe extern "C" fn odht_b20_u64_insert(
     bytes: *mut u8,
     bytes_len: usize,
-    key: u32,
-    value: u32,
-    former: &mut u32,
+    key: &[u8; 20],
+    value: u64,
+    former: &mut u64,
 ) -> u32 {
     let bytes = unsafe { crate::lists::list_mut(bytes, bytes_len) };
     let mut store = BorrowedMut::new(bytes);
-    write::insert::<Shape, BorrowedMut<'_>>(&mut store, &key, &value, former)
+    write::insert::<Shape, BorrowedMut<'_>>(&mut store, key, &value, former)
 }
 
 /// Inserts pairs, the key and the value at each index, in order: status 0, or `FULL` at the first
@@ -135,12 +135,12 @@ pub unsafe extern "C" fn odht_u32_u32_insert(
 /// are not as many keys as values, or an error of the header or length; then nothing changes. A
 /// view of the bytes remains usable, whatever the status.
 #[unsafe(no_mangle)]
-pub unsafe extern "C" fn odht_u32_u32_insert_all(
+pub unsafe extern "C" fn odht_b20_u64_insert_all(
     bytes: *mut u8,
     bytes_len: usize,
-    keys: *const u32,
+    keys: *const [u8; 20],
     keys_len: usize,
-    values: *const u32,
+    values: *const u64,
     values_len: usize,
     accepted: &mut usize,
 ) -> u32 {
@@ -157,26 +157,26 @@ pub unsafe extern "C" fn odht_u32_u32_insert_all(
 /// Writes the value of a key to `value`: status 0. `ABSENT` where there is none, or an error of
 /// the header or length; then `value` is unchanged.
 #[unsafe(no_mangle)]
-pub unsafe extern "C" fn odht_u32_u32_get(
+pub unsafe extern "C" fn odht_b20_u64_get(
     bytes: *const u8,
     bytes_len: usize,
-    key: u32,
-    value: &mut u32,
+    key: &[u8; 20],
+    value: &mut u64,
 ) -> u32 {
     let bytes = unsafe { crate::lists::list(bytes, bytes_len) };
-    read::get::<Shape>(bytes, &key, value)
+    read::get::<Shape>(bytes, key, value)
 }
 
 /// Looks up many keys: status 0, and at each index `found` is 1 and the value is written, or
 /// `found` is 0 and the value is unchanged. `BAD_LENGTHS` where the arrays are not equally long,
 /// or an error of the header or length; then nothing is written.
 #[unsafe(no_mangle)]
-pub unsafe extern "C" fn odht_u32_u32_get_all(
+pub unsafe extern "C" fn odht_b20_u64_get_all(
     bytes: *const u8,
     bytes_len: usize,
-    keys: *const u32,
+    keys: *const [u8; 20],
     keys_len: usize,
-    values: *mut u32,
+    values: *mut u64,
     values_len: usize,
     found: *mut u8,
     found_len: usize,
@@ -194,7 +194,7 @@ pub unsafe extern "C" fn odht_u32_u32_get_all(
 /// Writes the header's item count to `item_count`: status 0. Or an error of the header or length;
 /// then `item_count` is unchanged.
 #[unsafe(no_mangle)]
-pub unsafe extern "C" fn odht_u32_u32_len(
+pub unsafe extern "C" fn odht_b20_u64_len(
     bytes: *const u8,
     bytes_len: usize,
     item_count: &mut usize,
@@ -207,7 +207,7 @@ pub unsafe extern "C" fn odht_u32_u32_len(
 /// factor in percent, rounded down: status 0. Or an error of the header or length; then nothing is
 /// written.
 #[unsafe(no_mangle)]
-pub unsafe extern "C" fn odht_u32_u32_sizes(
+pub unsafe extern "C" fn odht_b20_u64_sizes(
     bytes: *const u8,
     bytes_len: usize,
     slot_count: &mut usize,
@@ -222,7 +222,7 @@ pub unsafe extern "C" fn odht_u32_u32_sizes(
 /// status 0. What follows the table is not looked at, nor is any slot. Or an error of the header,
 /// or `WRONG_LENGTH` where there are fewer bytes than the table has; then `len` is unchanged.
 #[unsafe(no_mangle)]
-pub unsafe extern "C" fn odht_u32_u32_table_len(
+pub unsafe extern "C" fn odht_b20_u64_table_len(
     bytes: *const u8,
     bytes_len: usize,
     len: &mut usize,
@@ -237,13 +237,13 @@ pub unsafe extern "C" fn odht_u32_u32_table_len(
 /// pairs from there on are those that are left. `BAD_LENGTHS` where the arrays are not equally
 /// long, or an error of the header or length; then nothing is written.
 #[unsafe(no_mangle)]
-pub unsafe extern "C" fn odht_u32_u32_walk(
+pub unsafe extern "C" fn odht_b20_u64_walk(
     bytes: *const u8,
     bytes_len: usize,
     cursor: &mut usize,
-    keys: *mut u32,
+    keys: *mut [u8; 20],
     keys_len: usize,
-    values: *mut u32,
+    values: *mut u64,
     values_len: usize,
     item_count: &mut usize,
 ) -> u32 {
@@ -259,7 +259,7 @@ pub unsafe extern "C" fn odht_u32_u32_walk(
 /// Opens the bytes as `open` does: status 0, and `view` is a view of them. Or an error of the
 /// header, the length or the first ten slots, 1 to 9; then `view` is unchanged.
 #[unsafe(no_mangle)]
-pub unsafe extern "C" fn odht_u32_u32_open_view<'a>(
+pub unsafe extern "C" fn odht_b20_u64_open_view<'a>(
     bytes: *const u8,
     bytes_len: usize,
     view: &mut View<'a>,
@@ -272,8 +272,12 @@ pub unsafe extern "C" fn odht_u32_u32_open_view<'a>(
 /// none; then `value` is unchanged. The header is not checked: the caller ensures that the view's
 /// bytes are accepted, as after `open_view`.
 #[unsafe(no_mangle)]
-pub unsafe extern "C" fn odht_u32_u32_view_get(view: &View<'_>, key: u32, value: &mut u32) -> u32 {
-    view::get(&view::table::<Shape>(view), &key, value)
+pub unsafe extern "C" fn odht_b20_u64_view_get(
+    view: &View<'_>,
+    key: &[u8; 20],
+    value: &mut u64,
+) -> u32 {
+    view::get(&view::table::<Shape>(view), key, value)
 }
 
 /// Looks up many keys in an opened table: status 0, and at each index `found` is 1 and the value
@@ -281,11 +285,11 @@ pub unsafe extern "C" fn odht_u32_u32_view_get(view: &View<'_>, key: u32, value:
 /// equally long; then nothing is written. The header is not checked: the caller ensures that the
 /// view's bytes are accepted, as after `open_view`.
 #[unsafe(no_mangle)]
-pub unsafe extern "C" fn odht_u32_u32_view_get_all(
+pub unsafe extern "C" fn odht_b20_u64_view_get_all(
     view: &View<'_>,
-    keys: *const u32,
+    keys: *const [u8; 20],
     keys_len: usize,
-    values: *mut u32,
+    values: *mut u64,
     values_len: usize,
     found: *mut u8,
     found_len: usize,
@@ -303,7 +307,7 @@ pub unsafe extern "C" fn odht_u32_u32_view_get_all(
 /// are. Nothing is checked: the caller ensures that the view's bytes are accepted, as after
 /// `open_view`.
 #[unsafe(no_mangle)]
-pub unsafe extern "C" fn odht_u32_u32_view_len(view: &View<'_>) -> usize {
+pub unsafe extern "C" fn odht_b20_u64_view_len(view: &View<'_>) -> usize {
     view::table::<Shape>(view).len()
 }
 
@@ -318,7 +322,7 @@ pub unsafe extern "C" fn odht_u32_u32_view_len(view: &View<'_>) -> usize {
 /// than there are items whose insert has to wait for that of an item in a later slot. Each pass
 /// ends by sorting the items that are left.
 #[unsafe(no_mangle)]
-pub unsafe extern "C" fn odht_u32_u32_insert_order(
+pub unsafe extern "C" fn odht_b20_u64_insert_order(
     bytes: *const u8,
     bytes_len: usize,
     out: *mut usize,
@@ -338,7 +342,7 @@ pub unsafe extern "C" fn odht_u32_u32_insert_order(
 /// written. After the table `out` is unchanged. Allocates nothing. One pass over both tables; each
 /// item is hashed once.
 #[unsafe(no_mangle)]
-pub unsafe extern "C" fn odht_u32_u32_grow(
+pub unsafe extern "C" fn odht_b20_u64_grow(
     bytes: *const u8,
     bytes_len: usize,
     out: *mut u8,
@@ -359,10 +363,10 @@ pub unsafe extern "C" fn odht_u32_u32_grow(
 /// After the table `out` is unchanged. Allocates nothing. One pass over the bytes, then one insert
 /// for each pair.
 #[unsafe(no_mangle)]
-pub unsafe extern "C" fn odht_u32_u32_build(
-    keys: *const u32,
+pub unsafe extern "C" fn odht_b20_u64_build(
+    keys: *const [u8; 20],
     keys_len: usize,
-    values: *const u32,
+    values: *const u64,
     values_len: usize,
     max_load_factor_percent: u8,
     out: *mut u8,
@@ -386,10 +390,10 @@ pub unsafe extern "C" fn odht_u32_u32_build(
 /// no table is large enough; then nothing is written. After the table `out` is unchanged. One
 /// insert for each pair, the growths, and one copy of the table.
 #[unsafe(no_mangle)]
-pub unsafe extern "C" fn odht_u32_u32_build_growing(
-    keys: *const u32,
+pub unsafe extern "C" fn odht_b20_u64_build_growing(
+    keys: *const [u8; 20],
     keys_len: usize,
-    values: *const u32,
+    values: *const u64,
     values_len: usize,
     out: *mut u8,
     out_len: usize,

@@ -1,4 +1,4 @@
-// Generated from crates/odht_c/src/shapes/b8_u64.rt by make generate.
+// Generated from crates/odht_c/src/generated/b8_u64.rt by make generate.
 //! The exports of tables from hashes of 8 bytes to 64-bit numbers, UnHashFn.
 //!
 //! Statuses have the names of include/odht.h without `ODHT_`. The bytes and rules are those of
