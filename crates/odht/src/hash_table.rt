@@ -26,7 +26,6 @@ use crate::swisstable_group_query::GroupQuery;
 use std::marker::Model;
 
 mod bounds;
-mod by_search;
 mod lists;
 mod prefix;
 mod walks;
@@ -114,7 +113,12 @@ impl<C: Config, D: ByteStore> HashTable<C, D> {
     pub fn get(&self, key: &C::Key) -> Option<C::Value>
         ensures { IsGet ⟦<C as Coded>⟧.coding (D.bytes self.now) key.now result }
     {
-        self.get_by::<GroupQuery>(key)
+        let table = self.as_raw();
+        let key = C::encode_key(key);
+        match table.find_counted_by::<GroupQuery>(&key) {
+            (Some(value), _) => Some(C::decode_value(&value)),
+            (None, _) => None,
+        }
     }
 
     /// `get` of many keys: the value of each key is written to its index. The loads of eight keys
@@ -137,7 +141,12 @@ impl<C: Config, D: ByteStore> HashTable<C, D> {
     pub fn get_counted(&self, key: &C::Key) -> (Option<C::Value>, usize)
         ensures { IsCountedGet ⟦<C as Coded>⟧.coding (D.bytes self.now) key.now result }
     {
-        self.get_counted_by::<GroupQuery>(key)
+        let table = self.as_raw();
+        let key = C::encode_key(key);
+        match table.find_counted_by::<GroupQuery>(&key) {
+            (Some(value), groups) => (Some(C::decode_value(&value)), groups),
+            (None, groups) => (None, groups),
+        }
     }
 
     /// Whether the key has a value. On any bytes it is true only where the entry of some slot
@@ -146,7 +155,10 @@ impl<C: Config, D: ByteStore> HashTable<C, D> {
     pub fn contains_key(&self, key: &C::Key) -> bool
         ensures { IsKnown ⟦<C as Coded>⟧.coding (D.bytes self.now) key.now result }
     {
-        self.contains_key_by::<GroupQuery>(key)
+        let table = self.as_raw();
+        let key = C::encode_key(key);
+        let (value, _) = table.find_counted_by::<GroupQuery>(&key);
+        value.is_some()
     }
 
     /// The keys and values of the slots whose own control byte is below 128, in slot order: on
@@ -302,6 +314,6 @@ impl<C: Config, D: ByteStoreMut> HashTable<C, D> {
         ensures same_store { self.new ≡ D.holding self.old (D.bytes self.new) }
         ensures accepted { IsAccepted ⟦<C as Coded>⟧.coding.format (D.bytes self.new) }
     {
-        self.insert_by::<GroupQuery>(key, value)
+        self.allocation.insert_by::<GroupQuery>(key, value)
     }
 }

@@ -12,7 +12,6 @@ use crate::generated::tables::raw_table::{RawIter, RawTable};
 use crate::generated::tables::swisstable_group_query::GroupQuery;
 
 mod bounds;
-mod by_search;
 mod lists;
 mod prefix;
 mod walks;
@@ -77,7 +76,12 @@ impl<C: Config, D: ByteStore> HashTable<C, D> {
     /// the groups of such a search.
     #[inline(always)]
     pub fn get(&self, key: &C::Key) -> Option<C::Value> {
-        self.get_by::<GroupQuery>(key)
+        let table = self.as_raw();
+        let key = C::encode_key(key);
+        match table.find_counted_by::<GroupQuery>(&key) {
+            (Some(value), _) => Some(C::decode_value(&value)),
+            (None, _) => None,
+        }
     }
 
     /// `get` of many keys: the value of each key is written to its index. The loads of eight keys
@@ -95,14 +99,22 @@ impl<C: Config, D: ByteStore> HashTable<C, D> {
     /// for sixteen slots. docs/FORMAT.md, "Search", counts them.
     #[inline]
     pub fn get_counted(&self, key: &C::Key) -> (Option<C::Value>, usize) {
-        self.get_counted_by::<GroupQuery>(key)
+        let table = self.as_raw();
+        let key = C::encode_key(key);
+        match table.find_counted_by::<GroupQuery>(&key) {
+            (Some(value), groups) => (Some(C::decode_value(&value)), groups),
+            (None, groups) => (None, groups),
+        }
     }
 
     /// Whether the key has a value. On any bytes it is true only where the entry of some slot
     /// holds this very key.
     #[inline]
     pub fn contains_key(&self, key: &C::Key) -> bool {
-        self.contains_key_by::<GroupQuery>(key)
+        let table = self.as_raw();
+        let key = C::encode_key(key);
+        let (value, _) = table.find_counted_by::<GroupQuery>(&key);
+        value.is_some()
     }
 
     /// The keys and values of the slots whose own control byte is below 128, in slot order: on
@@ -210,6 +222,6 @@ impl<C: Config, D: ByteStoreMut> HashTable<C, D> {
     /// The key is hashed once. [`HashTable::get_counted`] counts the groups of such a search.
     #[inline(always)]
     pub fn insert(&mut self, key: &C::Key, value: &C::Value) -> Result<Option<C::Value>, Error> {
-        self.insert_by::<GroupQuery>(key, value)
+        self.allocation.insert_by::<GroupQuery>(key, value)
     }
 }

@@ -5,7 +5,7 @@ use Rattle.odht_base.specs.Format.{format_of}
 use Rattle.odht_base.specs.Map.{map_of}
 use Rattle.odht_base.specs.Search.{groups_read}
 use Rattle.odht.proofs.lemmas.Lookups.{decoded_value, decoded_none, decoded_stored}
-use Rattle.odht.proofs.hash_table.HashTable.get_counted_by.Goals as goal
+use Rattle.odht.proofs.hash_table.HashTable.get_counted.Goals as goal
 
 pub returns-in-Some-default : goal.returns-in-Some-default
 returns-in-Some-default g c =

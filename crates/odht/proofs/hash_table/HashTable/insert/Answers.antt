@@ -9,9 +9,9 @@ use Rattle.odht_header.proofs.lemmas.Formats.{IsFormat-format_of}
 use Rattle.odht_raw.specs.Frame.{IsFramed}
 use Rattle.odht_raw.specs.Runs.{IsOnePlaced}
 use Rattle.odht.proofs.lemmas.ViewInserts.{if_inserted, if_former, framed-full, full-framed, framed-only_full, framed-refused, held_same_bytes}
-use Rattle.odht.proofs.hash_table.HashTable.insert_by.Given.{Over}
-use Rattle.odht.proofs.hash_table.HashTable.insert_by.Goals as goal
-use Rattle.odht.proofs.hash_table.HashTable.insert_by.Goals.{After-insert_by}
+use Rattle.odht.proofs.hash_table.HashTable.insert.Given.{Over}
+use Rattle.odht.proofs.hash_table.HashTable.insert.Goals as goal
+use Rattle.odht.proofs.hash_table.HashTable.insert.Goals.{After-insert_by}
 
 -- the coding of the configuration
 abbrev coding : (g : Over) → Coding g.row.C-Key.Denot g.row.C-Value.Denot

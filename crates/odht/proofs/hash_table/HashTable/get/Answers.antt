@@ -4,7 +4,7 @@ use Rattle.odht_raw.specs.Parts.{TableParts}
 use Rattle.odht_base.specs.Format.{format_of}
 use Rattle.odht_base.specs.Map.{map_of}
 use Rattle.odht.proofs.lemmas.Lookups.{decoded_value, decoded_none, decoded_stored}
-use Rattle.odht.proofs.hash_table.HashTable.get_by.Goals as goal
+use Rattle.odht.proofs.hash_table.HashTable.get.Goals as goal
 
 pub returns-in-Some-default : goal.returns-in-Some-default
 returns-in-Some-default g c =

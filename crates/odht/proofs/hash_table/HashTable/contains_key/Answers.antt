@@ -7,7 +7,7 @@ use Rattle.odht_base.specs.Map.{map_of}
 use Rattle.odht_base.specs.Decoded.{header_slots, entries_of, slot_key, HoldsKey}
 use Rattle.odht_raw.specs.Parts.{EntryBytes}
 use Rattle.odht_raw.specs.SearchEnds.{IsBesideKey}
-use Rattle.odht.proofs.hash_table.HashTable.contains_key_by.Goals as goal
+use Rattle.odht.proofs.hash_table.HashTable.contains_key.Goals as goal
 
 -- a mapped option is Some exactly where the option is
 there : {V : Type 0} (f : List ℕ → V) (m : Option (List ℕ)) → IsTrue (is_some (option_map f m)) ↔ IsSome m
