@@ -6,6 +6,7 @@ ghost use Rattle.odht_base.specs.Decoded.{controls_of, entries_of};
 ghost use Rattle.odht_base.specs.Format.{format_of};
 ghost use Rattle.odht_header.specs.Refusals.{checked, late_refusal, check_refusal};
 ghost use Rattle.odht_header.specs.Refusals.{late_refusal_by, check_refusal_by};
+ghost use Rattle.odht_raw.specs.DynParts.{parts_format};
 ghost use Rattle.odht_raw.specs.Frame.{IsAccepted};
 ghost use Rattle.odht_raw.specs.PartLengths.{ArePairLengths};
 
@@ -16,7 +17,7 @@ use crate::config::{Coded, Config};
 use crate::error::Error;
 use crate::hash::HashFn;
 use crate::layout::{Fixed, Layout, Lengths};
-use crate::raw_table::{TableSlots, check_mirror, check_slots, longer_refusal};
+use crate::raw_table::{Parts, check_mirror, check_slots, longer_refusal};
 
 /// A bound of searches, in groups, that tables of hashes that vary keep: about twice the longest
 /// search that was seen in random tables of up to 2^24 slots at 95 percent (docs/FORMAT.md, "How
@@ -159,19 +160,19 @@ pub fn check_parts<L: Lengths, H: HashFn>(
 
 /// What the whole check adds to opening, of a header and the parts behind it, with a bound of
 /// searches where there is one: only the first error.
-pub(super) fn check_late<S: TableSlots>(
+pub(super) fn check_late<L: Lengths, H: HashFn>(
     header: &Header<'_>,
-    table: &S,
+    table: &Parts<'_, L, H>,
     groups: Option<usize>,
 ) -> Result<(), Error>
-    requires entries { (S.parts table.now).entries.bytes
-        ≡ entries_of (S.format table.now) header.now }
-    requires control { (S.parts table.now).control ≡ controls_of (S.format table.now) header.now }
-    ensures { result ≡ checked (late_refusal_by (S.format table.now) groups header.now) }
+    requires entries { table.now.parts.entries.bytes
+        ≡ entries_of (parts_format table.now H.hash) header.now }
+    requires control { table.now.parts.control ≡ controls_of (parts_format table.now H.hash) header.now }
+    ensures { result ≡ checked (late_refusal_by (parts_format table.now H.hash) groups header.now) }
 {
     header.check_load_factor()?;
     header.check_padding()?;
-    let control = table.control_bytes();
+    let control = table.controls();
     // Only from control bytes, before anything is searched for.
     let longer = longer_refusal(control, groups);
     let summary = check_slots(table, longer.is_none())?;

@@ -10,15 +10,16 @@ ghost use Rattle.odht_base.specs.Decoded.{slot_key};
 ghost use Rattle.odht_base.specs.Load.{IsSlotCount};
 ghost use Rattle.odht_raw.specs.Checks.{decoded_count, IsFitting, ArePassed, IsGroupSearch};
 ghost use Rattle.odht_raw.specs.Checks.{IsHashAt, IsReachAnswer};
+ghost use Rattle.odht_raw.specs.DynParts.{parts_format};
 ghost use Rattle.odht_raw.specs.Summaries.{IsSummaryOf, IsFirstError, HaveNoError, AreFree, AreRight};
 ghost use Rattle.odht_header.specs.Refusals.{checked, bad_free_control, slots_refusal};
 ghost use Rattle.odht_header.specs.Refusals.{mirror_refusal, reach_refusal};
 
 use super::slot_checks::{check_key, check_slot};
-use super::{
-    EntryMetadata, FREE, GroupProbe, TableSlots, is_empty_or_deleted, slot_count_of, tag_of,
-};
+use super::{EntryMetadata, FREE, GroupProbe, Parts, is_empty_or_deleted, slot_count_of, tag_of};
 use crate::error::Error;
+use crate::hash::HashFn;
+use crate::layout::Lengths;
 use crate::swisstable_group_query::lanes::GroupQuery;
 use crate::swisstable_group_query::{Group, IndexSet, REFERENCE_GROUP_SIZE, free_and_occupied};
 
@@ -42,18 +43,21 @@ pub(crate) struct SlotSummary {
 //
 // Inlined next to an opening, it would keep the first ten control bytes in registers.
 #[inline(never)]
-pub(crate) fn check_slots<S: TableSlots>(table: &S, searches: bool) -> Result<SlotSummary, Error>
-    ensures err { let T = S.parts table.now
-        in result_err result ≡ slots_refusal (S.format table.now) T.entries.bytes T.control }
-    ensures occupied { let count = decoded_count (S.format table.now) (S.parts table.now)
+pub(crate) fn check_slots<L: Lengths, H: HashFn>(
+    table: &Parts<'_, L, H>,
+    searches: bool,
+) -> Result<SlotSummary, Error>
+    ensures err { let T = table.now.parts
+        in result_err result ≡ slots_refusal (parts_format table.now H.hash) T.entries.bytes T.control }
+    ensures occupied { let count = decoded_count (parts_format table.now H.hash) table.now.parts
         in IfOk result (λ summary. summary.occupied ≡ count) }
-    ensures reached { let T = S.parts table.now
-        in let reach = reach_refusal (S.format table.now) T.entries.bytes T.control
+    ensures reached { let T = table.now.parts
+        in let reach = reach_refusal (parts_format table.now H.hash) T.entries.bytes T.control
         in IsTrue searches
         → mirror_refusal T.control ≡ None
         → IfOk result (λ summary. option_map Error.Unreachable summary.unreachable ≡ reach) }
 {
-    let slots = table.slots();
+    let slots = table.len();
     let mut summary = SlotSummary {
         occupied: 0,
         unreachable: None,
@@ -61,7 +65,7 @@ pub(crate) fn check_slots<S: TableSlots>(table: &S, searches: bool) -> Result<Sl
     let mut start = 0;
     'spans: while start < slots {
         let size = (slots - start).min(IndexSet::CAPACITY);
-        let control = table.control_bytes();
+        let control = table.controls();
         let (free, others) = free_and_occupied(&control[start..start + size]);
         if !are_free(table, start, free) {
             check_in_order(table, start, size)?;
@@ -75,15 +79,19 @@ pub(crate) fn check_slots<S: TableSlots>(table: &S, searches: bool) -> Result<Sl
 // The first error of the `size` slots from `start` on, each looked at in its order. Those before
 // have none.
 #[inline(never)]
-fn check_in_order<S: TableSlots>(table: &S, start: usize, size: usize) -> Result<(), Error>
-    requires size { start + size ≤ (S.parts table.now).entries.slots }
-    requires before { HaveNoError (S.format table.now) (S.parts table.now) start }
-    ensures err { IsFirstError (S.format table.now) (S.parts table.now) result }
-    ensures ok { let F = S.format table.now
-        in IfOk result (λ _. HaveNoError F (S.parts table.now) (start + size)) }
+fn check_in_order<L: Lengths, H: HashFn>(
+    table: &Parts<'_, L, H>,
+    start: usize,
+    size: usize,
+) -> Result<(), Error>
+    requires size { start + size ≤ table.now.parts.entries.slots }
+    requires before { HaveNoError (parts_format table.now H.hash) table.now.parts start }
+    ensures err { IsFirstError (parts_format table.now H.hash) table.now.parts result }
+    ensures ok { let F = parts_format table.now H.hash
+        in IfOk result (λ _. HaveNoError F table.now.parts (start + size)) }
 {
     // A slice has at most as many bytes as a `usize` counts, so that `start + size` fits.
-    let control = table.control_bytes();
+    let control = table.controls();
     for slot in start..start + size {
         check_slot(table, slot)?;
         check_free_control(control, slot)?;
@@ -94,25 +102,25 @@ fn check_in_order<S: TableSlots>(table: &S, start: usize, size: usize) -> Result
 // What is known after a span of `size` slots from `start` on, of which the free ones have no
 // error, from what is known before it. The others are taken in their order.
 #[inline(always)]
-fn check_occupied<S: TableSlots>(
-    table: &S,
+fn check_occupied<L: Lengths, H: HashFn>(
+    table: &Parts<'_, L, H>,
     start: usize,
     size: usize,
     others: IndexSet,
     searches: bool,
     before: SlotSummary,
 ) -> Result<SlotSummary, Error>
-    requires size { start + size ≤ (S.parts table.now).entries.slots }
-    requires others { others ≡ occupied (bytes_at (S.parts table.now).control start size) }
-    requires free { AreRight (S.format table.now) (S.parts table.now) start
-        (free_in (bytes_at (S.parts table.now).control start size)) }
-    requires known { IsSummaryOf (S.format table.now) (S.parts table.now) searches start before }
-    ensures err { IsFirstError (S.format table.now) (S.parts table.now) result }
-    ensures ok { let F = S.format table.now
-        in IfOk result (IsSummaryOf F (S.parts table.now) searches (start + size)) }
+    requires size { start + size ≤ table.now.parts.entries.slots }
+    requires others { others ≡ occupied (bytes_at table.now.parts.control start size) }
+    requires free { AreRight (parts_format table.now H.hash) table.now.parts start
+        (free_in (bytes_at table.now.parts.control start size)) }
+    requires known { IsSummaryOf (parts_format table.now H.hash) table.now.parts searches start before }
+    ensures err { IsFirstError (parts_format table.now H.hash) table.now.parts result }
+    ensures ok { let F = parts_format table.now H.hash
+        in IfOk result (IsSummaryOf F table.now.parts searches (start + size)) }
 {
     // A slice has at most as many bytes as a `usize` counts, so that `start + index` fits.
-    let _ = table.control_bytes();
+    let _ = table.controls();
     let mut others = others;
     let mut occupied = before.occupied;
     let mut unreachable = before.unreachable;
@@ -134,11 +142,11 @@ fn check_occupied<S: TableSlots>(
 
 // Whether the slots whose indices from `start` on are marked are free, with no error.
 #[inline(always)]
-fn are_free<S: TableSlots>(table: &S, start: usize, free: IndexSet) -> bool
-    requires within { (i : ℕ) → Contains free i → start + i < (S.parts table.now).entries.slots }
-    ensures { IsTrue result ↔ AreFree (S.format table.now) (S.parts table.now) start free }
+fn are_free<L: Lengths, H: HashFn>(table: &Parts<'_, L, H>, start: usize, free: IndexSet) -> bool
+    requires within { (i : ℕ) → Contains free i → start + i < table.now.parts.entries.slots }
+    ensures { IsTrue result ↔ AreFree (parts_format table.now H.hash) table.now.parts start free }
 {
-    let control = table.control_bytes();
+    let control = table.controls();
     let mut free = free;
     'slots: while let Some(index) = free.take() {
         let slot = start + index;
@@ -172,13 +180,13 @@ fn check_free_control(control: &[EntryMetadata], slot: usize) -> Result<(), Erro
 // Most keys are in the group of their home, with no free byte and no match before them: then this
 // is all.
 #[inline]
-fn is_reached<S: TableSlots>(table: &S, slot: usize, hash: u32) -> bool
-    requires slot { slot < (S.parts table.now).entries.slots }
-    requires hash { IsHashAt (S.format table.now) (S.parts table.now) slot hash }
-    ensures { IsReachAnswer (S.format table.now) (S.parts table.now) slot result }
+fn is_reached<L: Lengths, H: HashFn>(table: &Parts<'_, L, H>, slot: usize, hash: u32) -> bool
+    requires slot { slot < table.now.parts.entries.slots }
+    requires hash { IsHashAt (parts_format table.now H.hash) table.now.parts slot hash }
+    ensures { IsReachAnswer (parts_format table.now H.hash) table.now.parts slot result }
 {
-    let slots = table.slots();
-    let mut probe = GroupProbe::new(table.control_bytes(), slots, hash as usize);
+    let slots = table.len();
+    let mut probe = GroupProbe::new(table.controls(), slots, hash as usize);
     let before = slot.wrapping_sub(probe.start()) & (slots - 1);
     let group = GroupQuery::of(probe.read(), tag_of(hash));
     // A match lies in the group, and so does a slot that is not behind it.
@@ -194,17 +202,22 @@ fn is_reached<S: TableSlots>(table: &S, slot: usize, hash: u32) -> bool
 //
 // Inlined, it would take registers from the look at the first group.
 #[inline(never)]
-fn is_reached_by_groups<S: TableSlots>(table: &S, slot: usize, hash: u32, first: GroupQuery) -> bool
-    requires slot { slot < (S.parts table.now).entries.slots }
-    requires hash { IsHashAt (S.format table.now) (S.parts table.now) slot hash }
-    requires group { let T = S.parts table.now
+fn is_reached_by_groups<L: Lengths, H: HashFn>(
+    table: &Parts<'_, L, H>,
+    slot: usize,
+    hash: u32,
+    first: GroupQuery,
+) -> bool
+    requires slot { slot < table.now.parts.entries.slots }
+    requires hash { IsHashAt (parts_format table.now H.hash) table.now.parts slot hash }
+    requires group { let T = table.now.parts
         in IsGroupSearch (bytes_at T.control (hash % T.entries.slots) 16) (hash / 2 ^ 25) first }
-    ensures { IsReachAnswer (S.format table.now) (S.parts table.now) slot result }
+    ensures { IsReachAnswer (parts_format table.now H.hash) table.now.parts slot result }
 {
-    let slots = table.slots();
+    let slots = table.len();
     let mask = slots - 1;
     let tag = tag_of(hash);
-    let mut probe = GroupProbe::new(table.control_bytes(), slots, hash as usize);
+    let mut probe = GroupProbe::new(table.controls(), slots, hash as usize);
     let mut group = first;
     'groups: loop {
         let start = probe.start();
@@ -223,24 +236,24 @@ fn is_reached_by_groups<S: TableSlots>(table: &S, slot: usize, hash: u32, first:
 // Whether each of the `count` slots from `start` on, modulo the slot count, is occupied by another
 // key than that of `slot`. The group is that of these slots, searched for the tag of this key.
 #[inline]
-fn hold_other_keys<S: TableSlots>(
-    table: &S,
+fn hold_other_keys<L: Lengths, H: HashFn>(
+    table: &Parts<'_, L, H>,
     group: GroupQuery,
     start: usize,
     count: usize,
     slot: usize,
 ) -> bool
-    requires start { start < (S.parts table.now).entries.slots }
+    requires start { start < table.now.parts.entries.slots }
     requires count { count ≤ 16 }
-    requires slot { slot < (S.parts table.now).entries.slots }
-    requires group { let F = S.format table.now in let T = S.parts table.now
+    requires slot { slot < table.now.parts.entries.slots }
+    requires group { let F = parts_format table.now H.hash in let T = table.now.parts
         in IsGroupSearch (bytes_at T.control start 16)
         (key_tag F (slot_key F T.entries.bytes slot)) group }
-    ensures { let F = S.format table.now in let T = S.parts table.now
+    ensures { let F = parts_format table.now H.hash in let T = table.now.parts
         in IsFitting F T
         → IsTrue result ↔ ArePassed F T (slot_key F T.entries.bytes slot) start count }
 {
-    let mask = table.slots() - 1;
+    let mask = table.len() - 1;
     let mut group = group;
     if group.first_empty().unwrap_or(REFERENCE_GROUP_SIZE) < count {
         return false;

@@ -6,15 +6,17 @@ ghost use Rattle.odht_base.specs.Load.{IsSlotCount};
 ghost use Rattle.odht_base.specs.Ready.{IsReady};
 ghost use Rattle.odht_base.specs.Table.{Table, Pair};
 ghost use Rattle.odht_base.specs.Valid.{HoldsPair, IsPartsOf};
+ghost use Rattle.odht_raw.specs.DynParts.{parts_format};
 ghost use Rattle.odht_raw.specs.Homes.{HasHomes};
 ghost use Rattle.odht_raw.specs.Frontiers.{AreFrontiers};
 ghost use Rattle.odht_raw.specs.Waiting.{placed_of, IsWaiting, AreRising, IsPending};
 ghost use Rattle.odht_raw.specs.Waiting.{IsWhole, IsOrderAnswer, AreListed, IsBegun, IsFar, IsPass};
 ghost use Rattle.odht_raw.specs.Waiting.{IsLeft, IsNext, IsFrontier, IsUnblocked, WaitsWithin, WaitsBehind};
 
-use super::TableSlots;
-use super::table_slots::home_of;
+use super::Parts;
 use super::waiting::{WAITING, list_occupied};
+use crate::hash::HashFn;
+use crate::layout::Lengths;
 use crate::swisstable_group_query::REFERENCE_GROUP_SIZE;
 
 // How many frontiers are kept from one search to the next. Few homes have long searches at a time,
@@ -37,13 +39,13 @@ struct Frontier {
 ///
 /// It goes through the slots once, up to the first that is not near its home, and then pass by
 /// pass.
-pub(super) fn find_order<S: TableSlots>(table: &S, out: &mut [usize]) -> bool
-    requires homes { HasHomes (S.format table.now) (S.parts table.now) }
-    requires whole { IsWhole (S.format table.now) (S.parts table.now) (length out.old) }
-    ensures { let F = S.format table.now
-        in IsOrderAnswer F (S.parts table.now) (length out.old) out.new result }
+pub(super) fn find_order<L: Lengths, H: HashFn>(table: &Parts<'_, L, H>, out: &mut [usize]) -> bool
+    requires homes { HasHomes (parts_format table.now H.hash) table.now.parts }
+    requires whole { IsWhole (parts_format table.now H.hash) table.now.parts (length out.old) }
+    ensures { let F = parts_format table.now H.hash
+        in IsOrderAnswer F table.now.parts (length out.old) out.new result }
 {
-    list_occupied(table.control_bytes(), table.slots(), out);
+    list_occupied(table.controls(), table.len(), out);
     let near = place_near(table, out);
     if near == out.len() {
         return true;
@@ -53,17 +55,17 @@ pub(super) fn find_order<S: TableSlots>(table: &S, out: &mut [usize]) -> bool
 
 // Places slots in their order, as long as each is near its home. None that waits is before it in
 // the probe order of its key then, so that it is ready. Returns how many were placed.
-fn place_near<S: TableSlots>(table: &S, slots: &mut [usize]) -> usize
-    requires homes { HasHomes (S.format table.now) (S.parts table.now) }
-    requires whole { IsWhole (S.format table.now) (S.parts table.now) (length slots.old) }
-    requires begun { IsBegun (S.format table.now) (S.parts table.now) slots.old 0 }
-    ensures begun { IsBegun (S.format table.now) (S.parts table.now) slots.new result }
+fn place_near<L: Lengths, H: HashFn>(table: &Parts<'_, L, H>, slots: &mut [usize]) -> usize
+    requires homes { HasHomes (parts_format table.now H.hash) table.now.parts }
+    requires whole { IsWhole (parts_format table.now H.hash) table.now.parts (length slots.old) }
+    requires begun { IsBegun (parts_format table.now H.hash) table.now.parts slots.old 0 }
+    ensures begun { IsBegun (parts_format table.now H.hash) table.now.parts slots.new result }
     ensures far { result < length slots.new
-        → IsFar (S.format table.now) (S.parts table.now) (slice_index slots.new result) }
+        → IsFar (parts_format table.now H.hash) table.now.parts (slice_index slots.new result) }
 {
     for at in 0..slots.len() {
         let slot = slots[at] - WAITING;
-        if !is_near(slot, home_of(table, slot)) {
+        if !is_near(slot, table.home_of(slot)) {
             return at;
         }
         slots[at] = slot;
@@ -76,12 +78,16 @@ fn place_near<S: TableSlots>(table: &S, slots: &mut [usize]) -> usize
 // It is a call of its own, since it sets the frontiers up, and most tables with few pairs need
 // none.
 #[inline(never)]
-fn place_others<S: TableSlots>(table: &S, out: &mut [usize], placed: usize) -> bool
-    requires homes { HasHomes (S.format table.now) (S.parts table.now) }
-    requires whole { IsWhole (S.format table.now) (S.parts table.now) (length out.old) }
-    requires begun { IsBegun (S.format table.now) (S.parts table.now) out.old placed }
-    ensures { let F = S.format table.now
-        in IsOrderAnswer F (S.parts table.now) (length out.old) out.new result }
+fn place_others<L: Lengths, H: HashFn>(
+    table: &Parts<'_, L, H>,
+    out: &mut [usize],
+    placed: usize,
+) -> bool
+    requires homes { HasHomes (parts_format table.now H.hash) table.now.parts }
+    requires whole { IsWhole (parts_format table.now H.hash) table.now.parts (length out.old) }
+    requires begun { IsBegun (parts_format table.now H.hash) table.now.parts out.old placed }
+    ensures { let F = parts_format table.now H.hash
+        in IsOrderAnswer F table.now.parts (length out.old) out.new result }
 {
     let mut frontiers = [Frontier::at(0); FRONTIERS];
     let mut placed = placed;
@@ -97,22 +103,22 @@ fn place_others<S: TableSlots>(table: &S, out: &mut [usize], placed: usize) -> b
 
 // Goes once through the slots that wait, and places each that is ready by then. At the end the
 // placed slots come first, in slot order, and after them the others. Returns how many were placed.
-fn place_ready<S: TableSlots>(
-    table: &S,
+fn place_ready<L: Lengths, H: HashFn>(
+    table: &Parts<'_, L, H>,
     slots: &mut [usize],
     frontiers: &mut [Frontier; FRONTIERS],
 ) -> usize
-    requires homes { HasHomes (S.format table.now) (S.parts table.now) }
-    requires listed { AreListed (S.format table.now) (S.parts table.now) slots.old }
-    requires frontiers { AreFrontiers slots.old (S.parts table.now).entries.slots frontiers.old }
+    requires homes { HasHomes (parts_format table.now H.hash) table.now.parts }
+    requires listed { AreListed (parts_format table.now H.hash) table.now.parts slots.old }
+    requires frontiers { AreFrontiers slots.old table.now.parts.entries.slots frontiers.old }
     ensures few { result ≤ length slots.new }
-    ensures waiting { All (IsWaiting (S.parts table.now).entries.slots) (drop result slots.new) }
-    ensures pass { let F = S.format table.now
+    ensures waiting { All (IsWaiting table.now.parts.entries.slots) (drop result slots.new) }
+    ensures pass { let F = parts_format table.now H.hash
         in (P : Table) (done : List ℕ)
-        → IsPartsOf F P (S.parts table.now).entries.bytes (S.parts table.now).control
+        → IsPartsOf F P table.now.parts.entries.bytes table.now.parts.control
         → IsPending F P done slots.old
         → IsPass F P done slots.new result }
-    ensures frontiers { AreFrontiers (drop result slots.new) (S.parts table.now).entries.slots
+    ensures frontiers { AreFrontiers (drop result slots.new) table.now.parts.entries.slots
         frontiers.new }
 {
     let mut placed = 0;
@@ -135,30 +141,30 @@ fn place_ready<S: TableSlots>(
 // before it begin at its home and end next to it, so that all of them were looked at before in the
 // pass.
 #[inline]
-fn is_ready<S: TableSlots>(
-    table: &S,
+fn is_ready<L: Lengths, H: HashFn>(
+    table: &Parts<'_, L, H>,
     slot: usize,
     left: usize,
     slots: &[usize],
     frontiers: &mut [Frontier; FRONTIERS],
 ) -> bool
-    requires homes { HasHomes (S.format table.now) (S.parts table.now) }
-    requires slot { slot < (S.parts table.now).entries.slots }
+    requires homes { HasHomes (parts_format table.now H.hash) table.now.parts }
+    requires slot { slot < table.now.parts.entries.slots }
     requires next { IsNext slots.now slot left }
-    requires frontiers { AreFrontiers slots.now (S.parts table.now).entries.slots frontiers.old }
-    ensures frontiers { AreFrontiers slots.now (S.parts table.now).entries.slots frontiers.new }
-    ensures ready { let F = S.format table.now
+    requires frontiers { AreFrontiers slots.now table.now.parts.entries.slots frontiers.old }
+    ensures frontiers { AreFrontiers slots.now table.now.parts.entries.slots frontiers.new }
+    ensures ready { let F = parts_format table.now H.hash
         in (P : Table) (done : List ℕ) (p : Pair)
-        → IsPartsOf F P (S.parts table.now).entries.bytes (S.parts table.now).control
+        → IsPartsOf F P table.now.parts.entries.bytes table.now.parts.control
         → IsPending F P done slots.now
         → HoldsPair P slot p
         → (IsTrue result ↔ IsReady F P (done ++ placed_of slots.now) slot) }
 {
-    let home = home_of(table, slot);
+    let home = table.home_of(slot);
     if is_near(slot, home) {
         left <= home
     } else {
-        is_unblocked_from(home, slot, table.slots() - 1, left, slots, frontiers)
+        is_unblocked_from(home, slot, table.len() - 1, left, slots, frontiers)
     }
 }
 

@@ -1,4 +1,4 @@
-//! Lists that are inserted into a table of so many slots that keys are looked up ahead.
+//! Lists that are inserted into a table of that many slots that keys are looked up ahead.
 use crate::tests::checks::{same, same_bytes};
 use crate::tests::random::Random;
 use odht::HashTableOwned;

@@ -37,9 +37,9 @@ mod scan;
 mod search_result;
 mod short_bytes;
 mod slot_checks;
+mod slot_reads;
 mod stored;
 mod table_mut;
-mod table_slots;
 mod waiting;
 mod walk;
 mod writes;
@@ -63,8 +63,8 @@ pub use search_result::Search;
 pub use short_bytes::ShortBytes;
 pub use stored::Stored;
 pub use table_mut::RawTableMut;
-pub(crate) use table_slots::TableSlots;
 pub use walk::{RawIter, RawSlots};
+pub use writes::write_new;
 pub(crate) use writes::{is_found, write_at_end};
 
 /// A control byte: the tag of an occupied slot, which is below 128, or `FREE`.

@@ -8,7 +8,7 @@ use crate::generated::raw::config::Config;
 use crate::generated::raw::error::Error;
 use crate::generated::raw::hash::HashFn;
 use crate::generated::raw::layout::{Fixed, Layout, Lengths};
-use crate::generated::raw::raw_table::{check_mirror, check_slots, longer_refusal, TableSlots};
+use crate::generated::raw::raw_table::{check_mirror, check_slots, longer_refusal, Parts};
 
 /// A bound of searches, in groups, that tables of hashes that vary keep: about twice the longest
 /// search that was seen in random tables of up to 2^24 slots at 95 percent (docs/FORMAT.md, "How
@@ -107,14 +107,14 @@ pub fn check_parts<L: Lengths, H: HashFn>(
 
 /// What the whole check adds to opening, of a header and the parts behind it, with a bound of
 /// searches where there is one: only the first error.
-pub(super) fn check_late<S: TableSlots>(
+pub(super) fn check_late<L: Lengths, H: HashFn>(
     header: &Header<'_>,
-    table: &S,
+    table: &Parts<'_, L, H>,
     groups: Option<usize>,
 ) -> Result<(), Error> {
     header.check_load_factor()?;
     header.check_padding()?;
-    let control = table.control_bytes();
+    let control = table.controls();
     // Only from control bytes, before anything is searched for.
     let longer = longer_refusal(control, groups);
     let summary = check_slots(table, longer.is_none())?;

@@ -3,10 +3,10 @@
 //! key ends at its slot.
 
 use super::slot_checks::{check_key, check_slot};
-use super::{
-    is_empty_or_deleted, slot_count_of, tag_of, EntryMetadata, GroupProbe, TableSlots, FREE,
-};
+use super::{is_empty_or_deleted, slot_count_of, tag_of, EntryMetadata, GroupProbe, Parts, FREE};
 use crate::generated::raw::error::Error;
+use crate::generated::raw::hash::HashFn;
+use crate::generated::raw::layout::Lengths;
 use crate::generated::raw::swisstable_group_query::lanes::GroupQuery;
 use crate::generated::raw::swisstable_group_query::{
     free_and_occupied, Group, IndexSet, REFERENCE_GROUP_SIZE,
@@ -32,13 +32,16 @@ pub(crate) struct SlotSummary {
 //
 // Inlined next to an opening, it would keep the first ten control bytes in registers.
 #[inline(never)]
-pub(crate) fn check_slots<S: TableSlots>(table: &S, searches: bool) -> Result<SlotSummary, Error> {
-    let slots = table.slots();
+pub(crate) fn check_slots<L: Lengths, H: HashFn>(
+    table: &Parts<'_, L, H>,
+    searches: bool,
+) -> Result<SlotSummary, Error> {
+    let slots = table.len();
     let mut summary = SlotSummary { occupied: 0, unreachable: None };
     let mut start = 0;
     while start < slots {
         let size = (slots - start).min(IndexSet::CAPACITY);
-        let control = table.control_bytes();
+        let control = table.controls();
         let (free, others) = free_and_occupied(&control[start..start + size]);
         if !are_free(table, start, free) {
             check_in_order(table, start, size)?;
@@ -52,9 +55,13 @@ pub(crate) fn check_slots<S: TableSlots>(table: &S, searches: bool) -> Result<Sl
 // The first error of the `size` slots from `start` on, each looked at in its order. Those before
 // have none.
 #[inline(never)]
-fn check_in_order<S: TableSlots>(table: &S, start: usize, size: usize) -> Result<(), Error> {
+fn check_in_order<L: Lengths, H: HashFn>(
+    table: &Parts<'_, L, H>,
+    start: usize,
+    size: usize,
+) -> Result<(), Error> {
     // A slice has at most as many bytes as a `usize` counts, so that `start + size` fits.
-    let control = table.control_bytes();
+    let control = table.controls();
     for slot in start..start + size {
         check_slot(table, slot)?;
         check_free_control(control, slot)?;
@@ -65,8 +72,8 @@ fn check_in_order<S: TableSlots>(table: &S, start: usize, size: usize) -> Result
 // What is known after a span of `size` slots from `start` on, of which the free ones have no
 // error, from what is known before it. The others are taken in their order.
 #[inline(always)]
-fn check_occupied<S: TableSlots>(
-    table: &S,
+fn check_occupied<L: Lengths, H: HashFn>(
+    table: &Parts<'_, L, H>,
     start: usize,
     size: usize,
     others: IndexSet,
@@ -74,7 +81,7 @@ fn check_occupied<S: TableSlots>(
     before: SlotSummary,
 ) -> Result<SlotSummary, Error> {
     // A slice has at most as many bytes as a `usize` counts, so that `start + index` fits.
-    let _ = table.control_bytes();
+    let _ = table.controls();
     let mut others = others;
     let mut occupied = before.occupied;
     let mut unreachable = before.unreachable;
@@ -93,8 +100,8 @@ fn check_occupied<S: TableSlots>(
 
 // Whether the slots whose indices from `start` on are marked are free, with no error.
 #[inline(always)]
-fn are_free<S: TableSlots>(table: &S, start: usize, free: IndexSet) -> bool {
-    let control = table.control_bytes();
+fn are_free<L: Lengths, H: HashFn>(table: &Parts<'_, L, H>, start: usize, free: IndexSet) -> bool {
+    let control = table.controls();
     let mut free = free;
     while let Some(index) = free.take() {
         let slot = start + index;
@@ -125,9 +132,9 @@ fn check_free_control(control: &[EntryMetadata], slot: usize) -> Result<(), Erro
 // Most keys are in the group of their home, with no free byte and no match before them: then this
 // is all.
 #[inline]
-fn is_reached<S: TableSlots>(table: &S, slot: usize, hash: u32) -> bool {
-    let slots = table.slots();
-    let mut probe = GroupProbe::new(table.control_bytes(), slots, hash as usize);
+fn is_reached<L: Lengths, H: HashFn>(table: &Parts<'_, L, H>, slot: usize, hash: u32) -> bool {
+    let slots = table.len();
+    let mut probe = GroupProbe::new(table.controls(), slots, hash as usize);
     let before = slot.wrapping_sub(probe.start()) & (slots - 1);
     let group = GroupQuery::of(probe.read(), tag_of(hash));
     // A match lies in the group, and so does a slot that is not behind it.
@@ -143,16 +150,16 @@ fn is_reached<S: TableSlots>(table: &S, slot: usize, hash: u32) -> bool {
 //
 // Inlined, it would take registers from the look at the first group.
 #[inline(never)]
-fn is_reached_by_groups<S: TableSlots>(
-    table: &S,
+fn is_reached_by_groups<L: Lengths, H: HashFn>(
+    table: &Parts<'_, L, H>,
     slot: usize,
     hash: u32,
     first: GroupQuery,
 ) -> bool {
-    let slots = table.slots();
+    let slots = table.len();
     let mask = slots - 1;
     let tag = tag_of(hash);
-    let mut probe = GroupProbe::new(table.control_bytes(), slots, hash as usize);
+    let mut probe = GroupProbe::new(table.controls(), slots, hash as usize);
     let mut group = first;
     loop {
         let start = probe.start();
@@ -171,14 +178,14 @@ fn is_reached_by_groups<S: TableSlots>(
 // Whether each of the `count` slots from `start` on, modulo the slot count, is occupied by another
 // key than that of `slot`. The group is that of these slots, searched for the tag of this key.
 #[inline]
-fn hold_other_keys<S: TableSlots>(
-    table: &S,
+fn hold_other_keys<L: Lengths, H: HashFn>(
+    table: &Parts<'_, L, H>,
     group: GroupQuery,
     start: usize,
     count: usize,
     slot: usize,
 ) -> bool {
-    let mask = table.slots() - 1;
+    let mask = table.len() - 1;
     let mut group = group;
     if group.first_empty().unwrap_or(REFERENCE_GROUP_SIZE) < count {
         return false;

@@ -1,9 +1,10 @@
 // Generated from crates/odht_raw/src/raw_table/insert_order.rt by make generate.
 //! An order of inserts that makes a table, found within the buffer that it is written to.
 
-use super::table_slots::home_of;
 use super::waiting::{list_occupied, WAITING};
-use super::TableSlots;
+use super::Parts;
+use crate::generated::raw::hash::HashFn;
+use crate::generated::raw::layout::Lengths;
 use crate::generated::raw::swisstable_group_query::REFERENCE_GROUP_SIZE;
 
 // How many frontiers are kept from one search to the next. Few homes have long searches at a time,
@@ -26,8 +27,11 @@ struct Frontier {
 ///
 /// It goes through the slots once, up to the first that is not near its home, and then pass by
 /// pass.
-pub(super) fn find_order<S: TableSlots>(table: &S, out: &mut [usize]) -> bool {
-    list_occupied(table.control_bytes(), table.slots(), out);
+pub(super) fn find_order<L: Lengths, H: HashFn>(
+    table: &Parts<'_, L, H>,
+    out: &mut [usize],
+) -> bool {
+    list_occupied(table.controls(), table.len(), out);
     let near = place_near(table, out);
     if near == out.len() {
         return true;
@@ -37,10 +41,10 @@ pub(super) fn find_order<S: TableSlots>(table: &S, out: &mut [usize]) -> bool {
 
 // Places slots in their order, as long as each is near its home. None that waits is before it in
 // the probe order of its key then, so that it is ready. Returns how many were placed.
-fn place_near<S: TableSlots>(table: &S, slots: &mut [usize]) -> usize {
+fn place_near<L: Lengths, H: HashFn>(table: &Parts<'_, L, H>, slots: &mut [usize]) -> usize {
     for at in 0..slots.len() {
         let slot = slots[at] - WAITING;
-        if !is_near(slot, home_of(table, slot)) {
+        if !is_near(slot, table.home_of(slot)) {
             return at;
         }
         slots[at] = slot;
@@ -53,7 +57,11 @@ fn place_near<S: TableSlots>(table: &S, slots: &mut [usize]) -> usize {
 // It is a call of its own, since it sets the frontiers up, and most tables with few pairs need
 // none.
 #[inline(never)]
-fn place_others<S: TableSlots>(table: &S, out: &mut [usize], placed: usize) -> bool {
+fn place_others<L: Lengths, H: HashFn>(
+    table: &Parts<'_, L, H>,
+    out: &mut [usize],
+    placed: usize,
+) -> bool {
     let mut frontiers = [Frontier::at(0); FRONTIERS];
     let mut placed = placed;
     while placed < out.len() {
@@ -68,8 +76,8 @@ fn place_others<S: TableSlots>(table: &S, out: &mut [usize], placed: usize) -> b
 
 // Goes once through the slots that wait, and places each that is ready by then. At the end the
 // placed slots come first, in slot order, and after them the others. Returns how many were placed.
-fn place_ready<S: TableSlots>(
-    table: &S,
+fn place_ready<L: Lengths, H: HashFn>(
+    table: &Parts<'_, L, H>,
     slots: &mut [usize],
     frontiers: &mut [Frontier; FRONTIERS],
 ) -> usize {
@@ -93,18 +101,18 @@ fn place_ready<S: TableSlots>(
 // before it begin at its home and end next to it, so that all of them were looked at before in the
 // pass.
 #[inline]
-fn is_ready<S: TableSlots>(
-    table: &S,
+fn is_ready<L: Lengths, H: HashFn>(
+    table: &Parts<'_, L, H>,
     slot: usize,
     left: usize,
     slots: &[usize],
     frontiers: &mut [Frontier; FRONTIERS],
 ) -> bool {
-    let home = home_of(table, slot);
+    let home = table.home_of(slot);
     if is_near(slot, home) {
         left <= home
     } else {
-        is_unblocked_from(home, slot, table.slots() - 1, left, slots, frontiers)
+        is_unblocked_from(home, slot, table.len() - 1, left, slots, frontiers)
     }
 }
 

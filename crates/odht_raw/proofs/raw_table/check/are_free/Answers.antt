@@ -6,11 +6,11 @@ use Rattle.odht_raw.proofs.raw_table.check.are_free.Goals as goal
 
 -- the slot that is looked at is one of the table
 module _ (g : Over) (c : In-Some g) where
-  within : c.args.start + c.in-Some.index < (g.S.TableSlots.parts c.args.table.now).entries.slots
+  within : c.args.start + c.in-Some.index < c.args.table.now.parts.entries.slots
   within = c.requires.within c.in-Some.index (taken-first _ _ _ c.in-Some.index c.slots.invariant c.in-Some.ensures.next)
 
-  inside : c.args.start + c.in-Some.index < length c.control_bytes-control.result.now
-  inside = omega (arith, within, c.control_bytes-control.ensures.len)
+  inside : c.args.start + c.in-Some.index < length c.controls-control.result.now
+  inside = omega (arith, within, c.controls-control.ensures.len)
 
 pub overflow_add-slot : goal.overflow_add-slot
 overflow_add-slot g c =
@@ -27,7 +27,7 @@ has_zeros-requires g c = within g (goal.at.has_zeros-requires g c).In-Some
 pub slots-preserved : goal.slots-preserved
 slots-preserved g c =
     taken-next _ _ _ _ c.in-Some.index c.slots.invariant c.in-Some.ensures.next c.in-Some.ensures.rest
-    (ap (λ b. slice_index b (c.args.start + c.in-Some.index)) (sym c.control_bytes-control.ensures.value) ∙ c.if-control-slot.false, c.has_zeros.ensures.zeros.0 c.if-not-has_zeros.false)
+    (ap (λ b. slice_index b (c.args.start + c.in-Some.index)) (sym c.controls-control.ensures.value) ∙ c.if-control-slot.false, c.has_zeros.ensures.zeros.0 c.if-not-has_zeros.false)
 
 pub returns-then-control-slot : goal.returns-then-control-slot
 returns-then-control-slot g c = (
@@ -35,7 +35,7 @@ returns-then-control-slot g c = (
   λ all.
       let free = all c.in-Some.index (taken-first _ _ _ c.in-Some.index c.slots.invariant c.in-Some.ensures.next) in
       elim c.then-control-slot.branch [
-        | then-control-slot-via-then-control-slot w ↦ absurd (w.if-control-slot.true (ap (λ b. slice_index b (c.args.start + c.in-Some.index)) c.control_bytes-control.ensures.value ∙ free.0))
+        | then-control-slot-via-then-control-slot w ↦ absurd (w.if-control-slot.true (ap (λ b. slice_index b (c.args.start + c.in-Some.index)) c.controls-control.ensures.value ∙ free.0))
         | then-control-slot-via-else-control-slot+then-not-has_zeros w ↦ absurd (true≢false (sym (w.has_zeros.ensures.zeros.1 free.1) ∙ w.if-not-has_zeros.true))
       ],
 )

@@ -3,6 +3,7 @@ use Rattle.std.specs.Option.{unwrap_or}
 use Rattle.odht_base.specs.Format.{Format}
 use Rattle.odht_base.specs.Decoded.{slot_key}
 use Rattle.odht_base.proofs.lemmas.SlotCounts.{bit_and-slots}
+use Rattle.odht_raw.specs.DynParts.{parts_format}
 use Rattle.odht_raw.specs.Parts.{TableParts}
 use Rattle.odht_raw.proofs.lemmas.GroupLooks.{taken-next, taken-all, rising-first, rising-rest}
 use Rattle.odht_raw.proofs.lemmas.PartLooks.{hold_other_keys, not_passed_free, not_passed_key}
@@ -13,30 +14,30 @@ use Rattle.odht_raw.proofs.raw_table.check.hold_other_keys.Goals as goal
 -- what is known of the parts, and of the look at the group
 module _ (g : Over) (c : After-unwrap_or g) where
   abbrev F : Format
-  F = g.S.TableSlots.format c.args.table.now
+  F = parts_format c.args.table.now g.H.HashFn.hash
 
   abbrev T : TableParts
-  T = g.S.TableSlots.parts c.args.table.now
+  T = c.args.table.now.parts
 
   abbrev key : List ℕ
   key = slot_key F T.entries.bytes c.args.slot
 
   mirrored : length T.control ≡ T.entries.slots + 16
-  mirrored = c.slots-mask.ensures.homes.mirrored
+  mirrored = c.len-mask.ensures.whole.mirrored
 
   least : 16 ≤ T.entries.slots
-  least = c.slots-mask.ensures.homes.slots.least
+  least = c.len-mask.ensures.whole.slots.least
 
-  masked : (x : ℕ) → bit_and x (c.slots-mask.result - 1) ≡ x % T.entries.slots
-  masked x = ap (λ n. bit_and x (n - 1)) c.slots-mask.ensures.value ∙ bit_and-slots x T.entries.slots c.slots-mask.ensures.homes.slots
+  masked : (x : ℕ) → bit_and x (c.len-mask.result - 1) ≡ x % T.entries.slots
+  masked x = ap (λ n. bit_and x (n - 1)) c.len-mask.ensures.value ∙ bit_and-slots x T.entries.slots c.len-mask.ensures.whole.slots
 
   first : c.unwrap_or.result ≡ unwrap_or c.args.group.free 16
   first = c.unwrap_or.ensures ∙ ap (λ o. unwrap_or o 16) c.first_empty.ensures
 
 pub overflow_add-start : goal.overflow_add-start
 overflow_add-start g c =
-    let few = c.slots-mask.ensures.few in
-    let mirrored = c.slots-mask.ensures.homes.mirrored in
+    let few = c.len-mask.ensures.few in
+    let mirrored = c.len-mask.ensures.whole.mirrored in
     let start = c.requires.start in
     let low = c.if-index-count.false in
     let within = c.requires.count in

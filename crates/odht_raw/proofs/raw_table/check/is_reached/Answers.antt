@@ -7,8 +7,10 @@ use Rattle.odht_base.specs.Bytes.{bytes_at}
 use Rattle.odht_base.specs.Format.{Format}
 use Rattle.odht_base.specs.Probe.{probe_slot}
 use Rattle.odht_raw.specs.Checks.{cells_of, IsGroupSearch}
+use Rattle.odht_raw.specs.DynParts.{parts_format}
 use Rattle.odht_raw.specs.Homes.{HasHomes}
 use Rattle.odht_raw.specs.Parts.{TableParts}
+use Rattle.odht_raw.proofs.lemmas.Homes.{parts_homes}
 use Rattle.odht_raw.proofs.lemmas.KeyPasses.{slots_decoded, stops_key}
 use Rattle.odht_raw.proofs.lemmas.KeyPositions.{home_position, ends_here, distance}
 use Rattle.odht_raw.proofs.lemmas.PartLooks.{are_clear}
@@ -19,10 +21,10 @@ use Rattle.odht_raw.proofs.raw_table.check.is_reached.Goals as goal
 -- what is known once the first group was looked at
 module _ (g : Over) (c : After-of-group g) where
   abbrev F : Format
-  F = g.S.TableSlots.format c.args.table.now
+  F = parts_format c.args.table.now g.H.HashFn.hash
 
   abbrev T : TableParts
-  T = (g.S.TableSlots.parts c.args.table.now)
+  T = c.args.table.now.parts
 
   abbrev s : ℕ
   s = T.entries.slots
@@ -35,16 +37,16 @@ module _ (g : Over) (c : After-of-group g) where
   home = c.args.hash % s
 
   parts : HasHomes F T
-  parts = c.slots-slots.ensures.homes
+  parts = parts_homes _ _ _ _ _ c.len-slots.ensures.whole g.met.H.HashFn.fits
 
-  slots : c.slots-slots.result ≡ s
-  slots = c.slots-slots.ensures.value
+  slots : c.len-slots.result ≡ s
+  slots = c.len-slots.ensures.value
 
   home_low : home < s
   home_low = let least = parts.slots.least in omega (arith, least)
 
   control : c.new-probe.result.control ≡ T.control
-  control = ap (λ q. q.control) c.new-probe.ensures ∙ c.control_bytes.ensures.value
+  control = ap (λ q. q.control) c.new-probe.ensures ∙ c.controls.ensures.value
 
   -- the first group begins there
   home_is : c.start.result ≡ home
@@ -55,7 +57,7 @@ module _ (g : Over) (c : After-of-group g) where
       c.start.ensures.slot ∙ (λ i. probe_slot (is i) (probed i) (first i)) ∙ home_position home s home_low
 
   -- how far the slot is behind it
-  behind_is : bit_and ((c.args.slot + (2 ^ 64 - c.start.result)) % 2 ^ 64) (c.slots-slots.result - 1) ≡ (c.args.slot + s - home) % s
+  behind_is : bit_and ((c.args.slot + (2 ^ 64 - c.start.result)) % 2 ^ 64) (c.len-slots.result - 1) ≡ (c.args.slot + s - home) % s
   behind_is = (λ i. bit_and ((c.args.slot + (2 ^ 64 - home_is i)) % 2 ^ 64) (slots i - 1)) ∙ distance c.args.slot home s parts.slots home_low
 
   look : IsGroupSearch (bytes_at T.control home 16) (c.args.hash / 2 ^ 25) c.of-group.result

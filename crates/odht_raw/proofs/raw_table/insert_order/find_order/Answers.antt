@@ -5,6 +5,7 @@ use Rattle.odht_base.specs.Decoded.{counts_as_free}
 use Rattle.odht_base.specs.Table.{Table, slot_count, is_free}
 use Rattle.odht_base.proofs.lemmas.MadeTables.{IsMade-IsInsertOrder}
 use Rattle.odht_base.proofs.lemmas.SlotCounts.{few_slots}
+use Rattle.odht_raw.specs.DynParts.{parts_format}
 use Rattle.odht_raw.specs.Parts.{TableParts}
 use Rattle.odht_raw.specs.Waiting.{waiting, IsWaiting, IsPending, AreWholeParts, IsOrderAnswer}
 use Rattle.odht_raw.proofs.lemmas.PartCells.{slots_are, byte_is}
@@ -16,10 +17,10 @@ use Rattle.odht_raw.proofs.raw_table.insert_order.find_order.Goals as goal
 -- what the list of occupied slots is
 module _ (g : Over) (c : After-list_occupied g) where
   abbrev F : Format
-  F = g.S.TableSlots.format c.args.table.now
+  F = parts_format c.args.table.now g.H.HashFn.hash
 
   abbrev T : TableParts
-  T = g.S.TableSlots.parts c.args.table.now
+  T = c.args.table.now.parts
 
   module _ (P : Table) (whole : AreWholeParts F P T (length c.args.out.now)) where
     as_many : T.entries.slots ≡ slot_count P
@@ -29,9 +30,9 @@ module _ (g : Over) (c : After-list_occupied g) where
     small = few_slots (slot_count P) whole.valid.placed.slots
 
     list : c.list_occupied.new.out ≡ map waiting (occupied P)
-    list = c.list_occupied.ensures P (sym as_many ∙ sym c.slots.ensures.value)
-        (subst (λ (bs : List ℕ). (i : ℕ) → i < c.slots.result → counts_as_free (slice_index bs i) ≡ is_free P.cells i) (sym c.control_bytes.ensures.value)
-        (λ i l. byte_is F c.requires.homes.format P _ _ whole.parts i (omega (arith, l, c.slots.ensures.value, as_many))))
+    list = c.list_occupied.ensures P (sym as_many ∙ sym c.len.ensures.value)
+        (subst (λ (bs : List ℕ). (i : ℕ) → i < c.len.result → counts_as_free (slice_index bs i) ≡ is_free P.cells i) (sym c.controls.ensures.value)
+        (λ i l. byte_is F c.requires.homes.format P _ _ whole.parts i (omega (arith, l, c.len.ensures.value, as_many))))
         whole.counted
 
 -- none of them is placed yet
@@ -45,27 +46,27 @@ place_near-near-requires-clause-begun g c =
       within = omega arith;
       waiting = subst (λ s. All (IsWaiting s) c.list_occupied.new.out) (sym (as_many g at P whole)) waits;
       pending = λ Q is.
-          let same = subst (AreWholeParts (g.S.TableSlots.format c.args.table.now) Q (g.S.TableSlots.parts c.args.table.now)) c.list_occupied.auto.out is in
-          subst (IsPending (g.S.TableSlots.format c.args.table.now) Q []) (sym (list g at Q same)) (all_pending Q (small g at Q same) (g.S.TableSlots.format c.args.table.now));
+          let same = subst (AreWholeParts (parts_format c.args.table.now g.H.HashFn.hash) Q c.args.table.now.parts) c.list_occupied.auto.out is in
+          subst (IsPending (parts_format c.args.table.now g.H.HashFn.hash) Q []) (sym (list g at Q same)) (all_pending Q (small g at Q same) (parts_format c.args.table.now g.H.HashFn.hash));
     }
 
 -- where all are placed by then, that is an order
-module _ (g : Over) (c : Then-near-out g) (P : Table) (whole : AreWholeParts (g.S.TableSlots.format c.args.table.now) P (g.S.TableSlots.parts c.args.table.now) (length c.args.out.now)) where
+module _ (g : Over) (c : Then-near-out g) (P : Table) (whole : AreWholeParts (parts_format c.args.table.now g.H.HashFn.hash) P c.args.table.now.parts (length c.args.out.now)) where
   same : length c.place_near-near.new.slots ≡ length c.args.out.now
   same = c.place_near-near.auto.slots ∙ c.list_occupied.auto.out
 
-  order : IsInsertOrder (g.S.TableSlots.format c.args.table.now) P c.place_near-near.new.slots
+  order : IsInsertOrder (parts_format c.args.table.now g.H.HashFn.hash) P c.place_near-near.new.slots
   order =
-      order_found (g.S.TableSlots.format c.args.table.now) P (g.S.TableSlots.parts c.args.table.now) c.place_near-near.new.slots _ same whole c.place_near-near.result (omega (arith, c.if-near-out.true))
-      (c.place_near-near.ensures.begun.pending P (subst (AreWholeParts (g.S.TableSlots.format c.args.table.now) P (g.S.TableSlots.parts c.args.table.now)) (sym same) whole))
+      order_found (parts_format c.args.table.now g.H.HashFn.hash) P c.args.table.now.parts c.place_near-near.new.slots _ same whole c.place_near-near.result (omega (arith, c.if-near-out.true))
+      (c.place_near-near.ensures.begun.pending P (subst (AreWholeParts (parts_format c.args.table.now g.H.HashFn.hash) P c.args.table.now.parts) (sym same) whole))
 
 pub returns-then-near-out : goal.returns-then-near-out
 returns-then-near-out g c = record {
   order = λ P whole t. order g c P whole;
-  made = λ P whole. (λ t. (IsMade-IsInsertOrder (g.S.TableSlots.format c.args.table.now) P whole.valid).1 (c.place_near-near.new.slots, order g c P whole), λ made. refl);
+  made = λ P whole. (λ t. (IsMade-IsInsertOrder (parts_format c.args.table.now g.H.HashFn.hash) P whole.valid).1 (c.place_near-near.new.slots, order g c P whole), λ made. refl);
 }
 
 -- what the others give
 pub returns : goal.returns
 returns g c =
-    subst (λ n. IsOrderAnswer (g.S.TableSlots.format c.args.table.now) (g.S.TableSlots.parts c.args.table.now) n c.place_others.new.out c.place_others.result) (c.place_near-near.auto.slots ∙ c.list_occupied.auto.out) c.place_others.ensures
+    subst (λ n. IsOrderAnswer (parts_format c.args.table.now g.H.HashFn.hash) c.args.table.now.parts n c.place_others.new.out c.place_others.result) (c.place_near-near.auto.slots ∙ c.list_occupied.auto.out) c.place_others.ensures

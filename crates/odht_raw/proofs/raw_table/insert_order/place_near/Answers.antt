@@ -2,6 +2,7 @@ use Rattle.std.proofs.Common.{◌≡◌, ◌∙◌, ◌⊎◌, inl, inr, true≢
 use Rattle.std.proofs.lemmas.Bool.{cases_lt}
 use Rattle.odht_base.specs.Format.{Format}
 use Rattle.odht_base.specs.Table.{Table}
+use Rattle.odht_raw.specs.DynParts.{parts_format}
 use Rattle.odht_raw.specs.Parts.{TableParts}
 use Rattle.odht_raw.specs.Waiting.{AreRising, AreWholeParts, IsBegun}
 use Rattle.odht_raw.proofs.lemmas.LeftSlots.{IsLeftBefore, left_none, left_placed, left_below, next_listed}
@@ -51,7 +52,7 @@ home_of-requires g c =
 pub loop-at-preserved : goal.loop-at-preserved
 loop-at-preserved g c =
     let at = (goal.at.loop-at-preserved g c).In-loop-at in
-    let T = (g.S.TableSlots.parts c.args.table.now) in
+    let T = c.args.table.now.parts in
     let v = c.requires.homes in
     let l = inside g at in
     let gone = c.loop-at.invariant.gone in
@@ -69,19 +70,19 @@ loop-at-preserved g c =
           let passed = c.loop-at.invariant.passed P whole in
           let held = next_holds gone l passed.pending in
           passed_placed gone l passed
-          (near_ready (g.S.TableSlots.format c.args.table.now) v.format T v.slots v.mirrored c.loop-at.slots gone.fit slot waits P [] held.0 whole.parts passed.pending held.1 0 left (next_waits gone l).1 after below (omega arith));
+          (near_ready (parts_format c.args.table.now g.H.HashFn.hash) v.format T v.slots v.mirrored c.loop-at.slots gone.fit slot waits P [] held.0 whole.parts passed.pending held.1 0 left (next_waits gone l).1 after below (omega arith));
     }
 
 pub returns-then-not-is_near-clause-begun : goal.returns-then-not-is_near-clause-begun
 returns-then-not-is_near-clause-begun g c =
     let at = (goal.at.returns-then-not-is_near-clause-begun g c).In-loop-at in
-    taken (g.S.TableSlots.format c.args.table.now) (g.S.TableSlots.parts c.args.table.now) c.args.slots.now c.loop-at.slots c.loop-at.at (omega (arith, inside g at)) c.loop-at.auto.slots c.loop-at.invariant.gone c.loop-at.invariant.left c.loop-at.invariant.passed
+    taken (parts_format c.args.table.now g.H.HashFn.hash) c.args.table.now.parts c.args.slots.now c.loop-at.slots c.loop-at.at (omega (arith, inside g at)) c.loop-at.auto.slots c.loop-at.invariant.gone c.loop-at.invariant.left c.loop-at.invariant.passed
 
 pub returns-clause-begun : goal.returns-clause-begun
 returns-clause-begun g c =
     let all : c.loop-at.at ≡ length c.loop-at.slots = omega (arith, c.loop-at-test.false, c.loop-at.auto.slots, c.loop-at.auto.at-end) in
-    subst (IsBegun (g.S.TableSlots.format c.args.table.now) (g.S.TableSlots.parts c.args.table.now) c.loop-at.slots) all
-    (taken (g.S.TableSlots.format c.args.table.now) (g.S.TableSlots.parts c.args.table.now) c.args.slots.now c.loop-at.slots c.loop-at.at (omega (arith, all)) c.loop-at.auto.slots c.loop-at.invariant.gone c.loop-at.invariant.left c.loop-at.invariant.passed)
+    subst (IsBegun (parts_format c.args.table.now g.H.HashFn.hash) c.args.table.now.parts c.loop-at.slots) all
+    (taken (parts_format c.args.table.now g.H.HashFn.hash) c.args.table.now.parts c.args.slots.now c.loop-at.slots c.loop-at.at (omega (arith, all)) c.loop-at.auto.slots c.loop-at.invariant.gone c.loop-at.invariant.left c.loop-at.invariant.passed)
 
 -- the slot that is not near
 pub returns-then-not-is_near-clause-far : goal.returns-then-not-is_near-clause-far

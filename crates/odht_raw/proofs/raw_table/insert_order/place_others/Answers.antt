@@ -4,6 +4,7 @@ use borrow.Rule.Slice.PartMut.{put_mid}
 use Rattle.odht_base.specs.Made.{IsInsertOrder}
 use Rattle.odht_base.specs.Table.{Table}
 use Rattle.odht_base.proofs.lemmas.MadeTables.{IsMade-IsInsertOrder}
+use Rattle.odht_raw.specs.DynParts.{parts_format}
 use Rattle.odht_raw.specs.Frontiers.{AreFrontiers}
 use Rattle.odht_raw.specs.Waiting.{IsWaiting, IsPending, AreWholeParts}
 use Rattle.odht_raw.proofs.lemmas.KeptFrontiers.{first_frontiers}
@@ -13,7 +14,7 @@ use Rattle.odht_raw.proofs.raw_table.insert_order.place_others.Goals as goal
 pub loop-placed-init : goal.loop-placed-init
 loop-placed-init g c = record {
   begun = c.requires.begun;
-  frontiers = first_frontiers (drop c.args.placed c.args.out.now) (g.S.TableSlots.parts c.args.table.now).entries.slots 64 c.at-frontiers.result
+  frontiers = first_frontiers (drop c.args.placed c.args.out.now) c.args.table.now.parts.entries.slots 64 c.at-frontiers.result
       c.requires.homes.slots c.at-frontiers.ensures;
 }
 
@@ -23,7 +24,7 @@ rest xs n = take_all (length xs - n) (drop n xs) (omega (arith, length-drop n xs
 
 pub place_ready-ready-requires-clause-frontiers : goal.place_ready-ready-requires-clause-frontiers
 place_ready-ready-requires-clause-frontiers g c =
-    subst (λ ns. AreFrontiers ns (g.S.TableSlots.parts c.args.table.now).entries.slots c.loop-placed.frontiers) (sym (rest c.loop-placed.out c.loop-placed.placed)) c.loop-placed.invariant.frontiers
+    subst (λ ns. AreFrontiers ns c.args.table.now.parts.entries.slots c.loop-placed.frontiers) (sym (rest c.loop-placed.out c.loop-placed.placed)) c.loop-placed.invariant.frontiers
 
 pub place_ready-ready-requires-clause-listed : goal.place_ready-ready-requires-clause-listed
 place_ready-ready-requires-clause-listed g c =
@@ -32,12 +33,12 @@ place_ready-ready-requires-clause-listed g c =
     let out = c.loop-placed.out in
     let n = c.loop-placed.placed in
     record {
-      waiting = subst (All (IsWaiting (g.S.TableSlots.parts c.args.table.now).entries.slots)) (sym (rest out n)) c.loop-placed.invariant.begun.waiting;
+      waiting = subst (All (IsWaiting c.args.table.now.parts.entries.slots)) (sym (rest out n)) c.loop-placed.invariant.begun.waiting;
       table = P;
       parts = whole.parts;
       done = take n out;
-      pending = subst (IsPending (g.S.TableSlots.format c.args.table.now) P (take n out)) (sym (rest out n))
-          (c.loop-placed.invariant.begun.pending P (subst (AreWholeParts (g.S.TableSlots.format c.args.table.now) P (g.S.TableSlots.parts c.args.table.now)) (sym c.loop-placed.auto.out) whole));
+      pending = subst (IsPending (parts_format c.args.table.now g.H.HashFn.hash) P (take n out)) (sym (rest out n))
+          (c.loop-placed.invariant.begun.pending P (subst (AreWholeParts (parts_format c.args.table.now g.H.HashFn.hash) P c.args.table.now.parts) (sym c.loop-placed.auto.out) whole));
     }
 
 pub returns-then-ready-eq0 : goal.returns-then-ready-eq0
@@ -46,11 +47,11 @@ returns-then-ready-eq0 g c = record {
   made = λ P whole.
       let out = c.loop-placed.out in
       let n = c.loop-placed.placed in
-      let pending = subst (IsPending (g.S.TableSlots.format c.args.table.now) P (take n out)) (sym (rest out n))
-      (c.loop-placed.invariant.begun.pending P (subst (AreWholeParts (g.S.TableSlots.format c.args.table.now) P (g.S.TableSlots.parts c.args.table.now)) (sym c.loop-placed.auto.out) whole)) in
+      let pending = subst (IsPending (parts_format c.args.table.now g.H.HashFn.hash) P (take n out)) (sym (rest out n))
+      (c.loop-placed.invariant.begun.pending P (subst (AreWholeParts (parts_format c.args.table.now g.H.HashFn.hash) P c.args.table.now.parts) (sym c.loop-placed.auto.out) whole)) in
       let stuck = (c.place_ready-ready.ensures.pass P (take n out) whole.parts pending).stuck c.if-ready-eq0.true in (
         λ t. absurd (true≢false (sym t)),
-        λ made. absurd (order_missing (g.S.TableSlots.format c.args.table.now) P (g.S.TableSlots.parts c.args.table.now) out _ c.loop-placed.auto.out whole n c.loop-placed-test.true stuck made),
+        λ made. absurd (order_missing (parts_format c.args.table.now g.H.HashFn.hash) P c.args.table.now.parts out _ c.loop-placed.auto.out whole n c.loop-placed-test.true stuck made),
       );
 }
 
@@ -65,22 +66,22 @@ loop-placed-preserved g c =
     record {
       begun = record {
         within = omega (arith, ended-length out left n v.begun.within, e.few);
-        waiting = subst (All (IsWaiting (g.S.TableSlots.parts c.args.table.now).entries.slots)) (sym (ended-drop out left n v.begun.within ready e.few)) e.waiting;
+        waiting = subst (All (IsWaiting c.args.table.now.parts.entries.slots)) (sym (ended-drop out left n v.begun.within ready e.few)) e.waiting;
         pending = λ P whole.
             let same : length (put_mid n (length out - n) out left) ≡ length out =
             omega (arith, ended-length out left n v.begun.within, c.place_ready-ready.auto.slots, ap length (rest out n), length-drop n out, v.begun.within) in
-            subst (λ done. IsPending (g.S.TableSlots.format c.args.table.now) P done (drop (n + ready) (put_mid n (length out - n) out left))) (sym (ended-take out left n v.begun.within ready e.few))
-            (subst (IsPending (g.S.TableSlots.format c.args.table.now) P (take n out ++ take ready left)) (sym (ended-drop out left n v.begun.within ready e.few))
-            (e.pass P (take n out) whole.parts (subst (IsPending (g.S.TableSlots.format c.args.table.now) P (take n out)) (sym (rest out n))
-            (v.begun.pending P (subst (AreWholeParts (g.S.TableSlots.format c.args.table.now) P (g.S.TableSlots.parts c.args.table.now)) same whole)))).pending);
+            subst (λ done. IsPending (parts_format c.args.table.now g.H.HashFn.hash) P done (drop (n + ready) (put_mid n (length out - n) out left))) (sym (ended-take out left n v.begun.within ready e.few))
+            (subst (IsPending (parts_format c.args.table.now g.H.HashFn.hash) P (take n out ++ take ready left)) (sym (ended-drop out left n v.begun.within ready e.few))
+            (e.pass P (take n out) whole.parts (subst (IsPending (parts_format c.args.table.now g.H.HashFn.hash) P (take n out)) (sym (rest out n))
+            (v.begun.pending P (subst (AreWholeParts (parts_format c.args.table.now g.H.HashFn.hash) P c.args.table.now.parts) same whole)))).pending);
       };
-      frontiers = subst (λ ns. AreFrontiers ns (g.S.TableSlots.parts c.args.table.now).entries.slots c.place_ready-ready.new.frontiers) (sym (ended-drop out left n v.begun.within ready e.few)) e.frontiers;
+      frontiers = subst (λ ns. AreFrontiers ns c.args.table.now.parts.entries.slots c.place_ready-ready.new.frontiers) (sym (ended-drop out left n v.begun.within ready e.few)) e.frontiers;
     }
 
 pub returns : goal.returns
-returns g c = record { order = λ P whole t. order P whole; made = λ P whole. (λ t. (IsMade-IsInsertOrder (g.S.TableSlots.format c.args.table.now) P whole.valid).1 (c.loop-placed.out, order P whole), λ made. refl) }
+returns g c = record { order = λ P whole t. order P whole; made = λ P whole. (λ t. (IsMade-IsInsertOrder (parts_format c.args.table.now g.H.HashFn.hash) P whole.valid).1 (c.loop-placed.out, order P whole), λ made. refl) }
   where
-    order : (P : Table) → AreWholeParts (g.S.TableSlots.format c.args.table.now) P (g.S.TableSlots.parts c.args.table.now) (length c.args.out.now) → IsInsertOrder (g.S.TableSlots.format c.args.table.now) P c.loop-placed.out
+    order : (P : Table) → AreWholeParts (parts_format c.args.table.now g.H.HashFn.hash) P c.args.table.now.parts (length c.args.out.now) → IsInsertOrder (parts_format c.args.table.now g.H.HashFn.hash) P c.loop-placed.out
     order P whole =
-        order_found (g.S.TableSlots.format c.args.table.now) P (g.S.TableSlots.parts c.args.table.now) c.loop-placed.out _ c.loop-placed.auto.out whole c.loop-placed.placed
-        (omega (arith, c.loop-placed-test.false)) (c.loop-placed.invariant.begun.pending P (subst (AreWholeParts (g.S.TableSlots.format c.args.table.now) P (g.S.TableSlots.parts c.args.table.now)) (sym c.loop-placed.auto.out) whole))
+        order_found (parts_format c.args.table.now g.H.HashFn.hash) P c.args.table.now.parts c.loop-placed.out _ c.loop-placed.auto.out whole c.loop-placed.placed
+        (omega (arith, c.loop-placed-test.false)) (c.loop-placed.invariant.begun.pending P (subst (AreWholeParts (parts_format c.args.table.now g.H.HashFn.hash) P c.args.table.now.parts) (sym c.loop-placed.auto.out) whole))
