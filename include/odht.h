@@ -177,12 +177,12 @@ enum odht_status {
        the first bad slot gives 8 or 9. The next comment describes the rest of odht_*_check. */
     ODHT_TOO_SHORT = 1,                   /* Error::TooShort: fewer than 32 bytes */
     ODHT_WRONG_TAG = 2,                   /* Error::WrongTag: the first four bytes are not ODHT */
-    ODHT_WRONG_VERSION = 3,               /* Error::WrongVersion: not version 2 of the format */
-    ODHT_WRONG_SIZE = 4,                  /* Error::WrongSizeOf: other lengths of control bytes,
-                                             keys, values or header */
+    ODHT_WRONG_VERSION = 3,               /* Error::WrongVersion: the format version is not 2 */
+    ODHT_WRONG_SIZE = 4,                  /* Error::WrongSizeOf: the header states other lengths of
+                                             control bytes, keys, values or header */
     ODHT_SLOT_COUNT_NOT_POWER_OF_TWO = 5, /* Error::SlotCountNotPowerOfTwo */
     ODHT_SLOT_COUNT_TOO_SMALL = 6,        /* Error::SlotCountTooSmall: fewer than 16 slots */
-    ODHT_WRONG_LENGTH = 7,                /* Error::WrongLength: not as many bytes as the slots need */
+    ODHT_WRONG_LENGTH = 7,                /* Error::WrongLength: not the length that the slot count needs */
     ODHT_NON_ZERO_EMPTY = 8,              /* Error::NonZeroEmpty: a free slot's entry is not zero */
     ODHT_CONTROL_MISMATCH = 9,            /* Error::ControlMismatch: a control byte is not its key's tag */
 
@@ -194,28 +194,29 @@ enum odht_status {
     ODHT_BAD_FREE_CONTROL = 12,           /* Error::BadFreeControl: a free slot's control byte is not 255 */
     ODHT_MIRROR_MISMATCH = 13,            /* Error::MirrorMismatch: the last 16 bytes do not repeat the first
                                              control bytes */
-    ODHT_WRONG_ITEM_COUNT = 14,           /* Error::WrongItemCount: not as many items as the header says */
-    ODHT_TOO_MANY_ITEMS = 15,             /* Error::TooManyItems: more than the load factor allows */
-    ODHT_UNREACHABLE = 16,                /* Error::Unreachable: a key after a free slot of its probe order,
-                                             or stored a second time */
+    ODHT_WRONG_ITEM_COUNT = 14,           /* Error::WrongItemCount: the header's item count is not the number
+                                             of occupied slots */
+    ODHT_TOO_MANY_ITEMS = 15,             /* Error::TooManyItems: more items than the load factor allows */
+    ODHT_UNREACHABLE = 16,                /* Error::Unreachable: a key comes after a free slot of its probe
+                                             order, or is stored a second time */
 
     /* Errors of calls that make a table or insert. */
     ODHT_INIT_LENGTH = 17,                /* Error::InitLength: not the length that the table needs */
     ODHT_FULL = 18,                       /* Error::Full: the table is at its maximum, and the key is new */
-    ODHT_MEMORY = 19,                     /* Error::Memory: malloc has failed */
-    ODHT_CAPACITY = 20,                   /* Error::Capacity: more items than any table takes */
+    ODHT_MEMORY = 19,                     /* Error::Memory: malloc failed, or a growing table cannot be larger */
+    ODHT_CAPACITY = 20,                   /* Error::Capacity: too many items for any table */
 
     /* The error of odht_*_check_within, after 1 to 15 and before 16. */
     ODHT_SEARCH_TOO_LONG = 21,            /* Error::SearchTooLong: a search may read more groups than the bound */
 
     /* Statuses that are not errors of the library in Rattle. */
     ODHT_ABSENT = 32,                     /* the key is not in the table */
-    ODHT_REPLACED = 33,                   /* the key was there with a value */
+    ODHT_REPLACED = 33,                   /* the key was present, and its value is replaced */
     ODHT_BAD_PERCENT = 34,                /* 0 percent, or more than 100 */
-    ODHT_BAD_LENGTHS = 35,                /* arrays of different lengths, or not of one element for each item */
+    ODHT_BAD_LENGTHS = 35,                /* lengths of arrays, keys or values that do not match each other or the items */
     ODHT_TOO_SMALL = 36,                  /* an output buffer is too short for the result */
     ODHT_UNMADE = 37,                     /* no list of inserts makes the table */
-    ODHT_BAD_LAYOUT = 38                  /* no hash function of this number, or keys that are too short for it */
+    ODHT_BAD_LAYOUT = 38                  /* no hash function has this number, or the keys are too short for it */
 };
 
 /* Returns a short text for a status, such as "wrong length". */

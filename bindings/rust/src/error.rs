@@ -59,15 +59,15 @@ errors! {
     TooShort = 1 "too short",
     /// The first four bytes are not `ODHT`.
     WrongTag = 2 "wrong tag",
-    /// The bytes are not of version 2 of the format.
+    /// The format version is not 2.
     WrongVersion = 3 "wrong version",
-    /// Control bytes, keys, values or the header have other lengths: it is a table of another shape.
+    /// The header states other lengths of control bytes, keys, values or header: the table has another shape.
     WrongSize = 4 "wrong size",
     /// The slot count is not a power of two.
     SlotCountNotPowerOfTwo = 5 "slot count not a power of two",
     /// There are fewer than 16 slots.
     SlotCountTooSmall = 6 "slot count too small",
-    /// There are not as many bytes as the slots need.
+    /// The number of bytes is not the one that the slot count needs.
     WrongLength = 7 "wrong length",
     /// The entry of a free slot is not zero.
     NonZeroEmpty = 8 "non-zero empty slot",
@@ -81,29 +81,29 @@ errors! {
     BadFreeControl = 12 "bad free control",
     /// The last 16 bytes do not repeat the first control bytes.
     MirrorMismatch = 13 "mirror mismatch",
-    /// There are not as many items as the header says.
+    /// The header's item count is not the number of occupied slots.
     WrongItemCount = 14 "wrong item count",
     /// There are more items than the load factor allows.
     TooManyItems = 15 "too many items",
-    /// A key is after a free slot of its probe order, or is stored a second time.
+    /// A key comes after a free slot of its probe order, or is stored a second time.
     Unreachable = 16 "unreachable",
-    /// The bytes to initialize are not as many as the table needs.
+    /// The bytes to initialize do not have the length that the table needs.
     InitLength = 17 "wrong length to initialize",
     /// The key is new, and the table is at its maximum.
     Full = 18 "full",
-    /// An allocation failed.
+    /// An allocation failed, or a growing table cannot be larger.
     Memory = 19 "no memory",
-    /// No table takes so many items.
+    /// There are too many items for any table.
     Capacity = 20 "capacity",
     /// A search may read more groups of control bytes than the bound.
     SearchTooLong = 21 "search too long",
     /// The load factor is 0 percent, or more than 100.
     BadPercent = 34 "bad percent",
-    /// Slices have different lengths, or not one element for each item.
+    /// Slices have different lengths, or a slice does not have one element for each item.
     BadLengths = 35 "bad lengths",
     /// An output buffer is too short for the result.
     TooSmall = 36 "too small",
-    /// No hash function has this number, or keys are too short for it.
+    /// No hash function has this number, or the keys are too short for it.
     BadLayout = 38 "bad layout",
     // end errors
 }
