@@ -213,7 +213,8 @@ enum odht_status {
     ODHT_ABSENT = 32,                     /* the key is not in the table */
     ODHT_REPLACED = 33,                   /* the key was present, and its value is replaced */
     ODHT_BAD_PERCENT = 34,                /* 0 percent, or more than 100 */
-    ODHT_BAD_LENGTHS = 35,                /* lengths of arrays, keys or values that do not match each other or the items */
+    ODHT_BAD_LENGTHS = 35,                /* lengths of arrays, keys or values that do not
+                                             match each other or the items */
     ODHT_TOO_SMALL = 36,                  /* an output buffer is too short for the result */
     ODHT_UNMADE = 37,                     /* no list of inserts makes the table */
     ODHT_BAD_LAYOUT = 38                  /* no hash function has this number, or the keys are too short for it */
