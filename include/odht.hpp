@@ -307,8 +307,8 @@ public:
         return as_status(calls::check_within(static_cast<const std::uint8_t *>(data), len, groups));
     }
 
-    /* The same, and slot is the slot of the first error. It is ODHT_NO_SLOT if there is no error, or if the first one is
-       not in a slot. */
+    /* The same, and slot is the slot of the first error. It is ODHT_NO_SLOT if there is no error, or if the first one
+       is not in a slot. */
     [[nodiscard]] static status open_at(const void *data, std::size_t len, std::size_t &slot) noexcept
     {
         return as_status(calls::open_at(static_cast<const std::uint8_t *>(data), len, &slot));
