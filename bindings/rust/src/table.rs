@@ -86,9 +86,9 @@ impl<'a, S: Shape> Table<'a, S> {
         Error::unless_ok(status, Table { view, bytes, shape: PhantomData })
     }
 
-    /// Opens bytes after the whole check, which reads every byte and accepts only valid ones. If the keys vary, it takes
-    /// about the time of looking up each key. If many keys have one hash, the time grows with the square of the number
-    /// of slots. For untrusted bytes use [`Table::checked_within`].
+    /// Opens bytes after the whole check, which reads every byte and accepts only valid ones. If the keys vary, it
+    /// takes about the time of looking up each key. If many keys have one hash, the time grows with the square of the
+    /// number of slots. For untrusted bytes use [`Table::checked_within`].
     ///
     /// # Errors
     ///
