@@ -1,9 +1,9 @@
 /*
- * odht.h: hash tables that are used in the very bytes in which they are stored.
+ * odht.h: hash tables that you use directly in the bytes of a file or a buffer, without parsing or copying them.
  *
  * Generated from lists/shapes.txt, lists/errors.txt and crates/odht_c/exports/header_*.h by make generate.
  *
- * docs/FORMAT.md describes the bytes and all rules. The header has calls for these shapes of tables:
+ * A shape fixes the types of keys and values, and the hash function. This header declares calls for these shapes:
  *
  *   odht_u32_u32_*  from 32-bit numbers to 32-bit numbers, FxHashFn
  *   odht_u64_u32_*  from 64-bit numbers to 32-bit numbers, FxHashFn
@@ -22,9 +22,10 @@
  *   odht_b20_*      of hashes of 20 bytes, a set, UnHashFn
  *   odht_b32_*      of hashes of 32 bytes, a set, UnHashFn
  *
- * Each shape has the calls below. Their names here leave out odht_S_. "The calls" has a comment for each.
+ * docs/FORMAT.md describes the bytes. Each shape S has these calls, here without the prefix odht_S_. "The calls" below
+ * describes each one.
  *
- *   to make a table    bytes_needed, init          its length; an empty table in bytes
+ *   to make a table    bytes_needed, init          the length of a new table; an empty table
  *                      build, build_growing        a table from arrays of keys and values
  *   to open bytes      open, open_at               check header, length and ten slots
  *                      open_view                   the same, for many lookups
@@ -37,70 +38,71 @@
  *   to insert          insert, insert_all          one pair; many pairs
  *                      grow                        a larger copy of the table: "Grow on FULL"
  *   to read all        walk                        the pairs, in the order of the slots
- *                      len, view_len, sizes        the numbers of the header
- *                      insert_order                an order of inserts that makes the table
+ *                      len, view_len               the number of items
+ *                      sizes                       the slot count, the maximum and the load factor
+ *                      insert_order                an order of inserts that makes the same bytes
  *
- * odht_any_* are the same calls for dynamic tables, whose keys and values have lengths chosen at run time ("Dynamic
- * tables"). odht_any_layout_of reads these lengths from bytes. odht_version and odht_status_name need no table.
+ * odht_any_* are the same calls for dynamic tables: you choose the lengths of keys and values at run time ("Dynamic
+ * tables"). odht_any_layout_of reads these lengths from a table's header. odht_version and odht_status_name need no
+ * table.
  *
  * Which hash function for which keys:
  *
- *   numbers that count up                                     FxHashFn, as the shapes of numbers have
- *   addresses and offsets                                     FxHashFn, shifted right by the bits that are always zero
- *   hashes, evenly spread in their last four bytes            UnHashFn, as the shapes of hashes have
+ *   numbers that count up                                     FxHashFn, used by the shapes with number keys
+ *   addresses and offsets                                     FxHashFn, after you shift out bits that are always zero
+ *   hashes, evenly spread in their last four bytes            UnHashFn, used by the shapes with hash keys
  *   text, tuples, floats, big-endian numbers                  Xxh64HashFn: odht_any_* with ODHT_HASH_XXH64
  *   anything else, or if you do not know                      Xxh64HashFn
  *
- * FxHashFn uses the low 32 bits of each eight bytes of a key. UnHashFn takes the last four bytes of a key as its
- * hash. Xxh64HashFn uses all bits. If many keys share few hashes, searches take a hundred times as long, and
- * odht_*_check_within may reject the table. Text does that under FxHashFn, and so do multiples of 4096 that are not
- * shifted.
+ * Of a 64-bit number, FxHashFn uses only the low 32 bits. UnHashFn takes the last four bytes of a key as its hash.
+ * Xxh64HashFn uses all bits. If many keys share few hashes, searches can take a hundred times as long, and
+ * odht_*_check_within may reject the table. This happens under FxHashFn with text, and with multiples of 4096 that you
+ * do not shift.
  *
- * Numbers are stored in little-endian order. A table is a slice of bytes that the caller owns: the contents of a
- * file, a mapping, a part of either, or allocated memory. It may begin at any address. There is nothing to close or
- * to free.
+ * A table is a range of bytes that you own: the contents of a file, a mapping, a part of either, or allocated memory.
+ * It may begin at any address. There is nothing to close or to free. Numbers in it are stored in little-endian order.
  *
  * Rules for callers:
  *
- * - A pointer and the length after it are a slice. The caller may read it, and may write it unless the pointer is to
- *   const. Lengths of arrays count items (keys, values, flags); lengths of bytes count bytes. An array of keys or
- *   values of N bytes holds them one after the other, and its length counts keys or values.
+ * - A pointer and the length after it are a slice. All of it must be readable, and also writable unless the pointer is
+ *   to const. The length of an array counts items: keys, values, flags or slots. Items of N bytes follow each other
+ *   without gaps, and the length counts these items, not their bytes. The lengths bytes_len and out_len count bytes.
  * - A slice or out-parameter that a call writes must not overlap another one of that call, nor its layout. Slices
  *   that are only read may overlap.
- * - While a call reads the bytes of a table, nobody writes them. While a call writes them, nobody reads them. The
- *   library keeps nothing between calls, so any number of threads may read one table.
- * - Every call returns a uint32_t, one of the numbers of enum odht_status, except odht_*_view_len, odht_version and
- *   odht_status_name. C++ needs a cast to the enum. Compilers warn if you ignore a status. A call writes an
- *   out-parameter only where its comment says so.
- * - If arrays that must have equal lengths do not, the status is ODHT_BAD_LENGTHS, and nothing else is checked.
- * - size_t has 64 bits. Arrays of numbers and out-parameters are aligned as C requires. Only the bytes of a table may
- *   begin at any address.
+ * - While a call reads the bytes of a table, nothing may write them. While a call writes them, nothing else may read or
+ *   write them. The library keeps nothing between calls, so any number of threads may read one table.
+ * - Every call returns a uint32_t with a number of enum odht_status, except odht_*_view_len, odht_version and
+ *   odht_status_name. In C++, cast it to the enum. Compilers warn if you ignore a status.
+ * - If arrays that must have equal lengths do not, the call returns ODHT_BAD_LENGTHS and checks nothing else.
+ * - The bytes of a table may begin at any address. All other pointers are aligned for their types, as C requires.
+ *   size_t has 64 bits.
  * - With GCC and Clang for ELF, ODHT_TAKES_NULL is 1. Then you may pass NULL for a slice of length 0. You may also
- *   pass NULL for an out-parameter of a single number or value that you do not need, which is then not written:
- *   former, value, accepted, count, len, slot, and the three of odht_*_sizes. A key of a shape, a view, a layout and
- *   cursor are never NULL.
- * - With other compilers ODHT_TAKES_NULL is 0. Then no pointer is NULL, even if its length is 0, and the sets have no
- *   calls with keys.
+ *   pass NULL for an out-parameter of a single number or value that you do not need: former, value, accepted, count,
+ *   len, slot, and the three of odht_*_sizes. Never pass NULL for a key of a shape, a view, a layout or cursor.
+ * - With other compilers ODHT_TAKES_NULL is 0. Then never pass NULL, not even with length 0. The calls of a set that
+ *   take keys do not exist there.
  *
  * The comments on results are true for valid bytes: those that these calls made, and all others that odht_*_check
- * accepts. odht_*_check reads every byte. odht_*_open reads ten slots, so it cannot know whether bytes are valid.
+ * accepts. odht_*_check reads every byte. odht_*_open reads only ten slots, so it can accept bytes that are not valid.
  *
- * On other bytes without the errors 1 to 7 no call reads or writes outside the slices and out-parameters that it
- * was given. But the results may be wrong:
+ * If damaged or forged bytes have one of the errors 1 to 7, a call returns it. Otherwise a call still reads and
+ * writes only the slices and out-parameters that you pass, but its results may be wrong:
  *
- * - get and get_all may miss a key. They may also find an equal key, with its value, in a slot whose control byte is
- *   free.
- * - len returns the number in the header.
- * - An insert changes one value next to an equal key, or adds one entry if the header's number is below the maximum.
- *   It returns FULL only if a search slot by slot can miss the key. Then the table is at that maximum, or each slot
- *   is occupied by its control byte or by the copy of it in the mirror.
- * - A growth makes bytes without the errors 1 to 7, with the header's number of items and load factor.
+ * - get and get_all may miss a key. They may also find a key in a slot that its control byte marks as free, and return
+ *   the value stored there.
+ * - len returns the item count in the header.
+ * - An insert changes one value that is stored with an equal key, or adds one entry if the item count is below the
+ *   maximum. It returns FULL only if a search slot by slot can miss the key, and only if the item count is at or above
+ *   the maximum, or no slot is free. Here a slot is free if its control byte, and its mirror byte if it has one, are
+ *   above 127.
+ * - grow writes bytes without the errors 1 to 7. They have the same item count and load factor; their pairs are
+ *   unspecified.
  *
- * docs/FORMAT.md has the details.
+ * docs/FORMAT.md has the details under "Accepted but invalid bytes".
  *
  * Only odht_*_build_growing allocates memory. It uses malloc, and frees the memory before it returns. The libraries
- * that the kit makes need only the C library; those that cargo makes need libgcc_s too. This header needs C99 or
- * later, or C++11 or later.
+ * of make lib need only the C library; those that cargo builds also need libgcc_s. This header needs C99 or later, or
+ * C++11 or later.
  */
 #ifndef ODHT_H
 #define ODHT_H
@@ -140,12 +142,12 @@
 #endif
 
 /*
- * How the calls below are declared. With GCC and Clang for ELF each call is a small inline function. It calls the
- * symbol of the library. For a pointer that may be NULL it passes a variable of its own. Both have the same name in
- * C, so the inline function has another name in the object file.
+ * How the calls below are declared. With GCC and Clang for ELF, each call is a small inline function around the symbol
+ * of the library. Where you may pass NULL, it passes a pointer to a variable instead. In C the two share one name, so
+ * the inline function has a different name in the object file.
  *
- * Other compilers call the symbols themselves. So do dlsym, bindings of other languages, and tools that read this
- * header with ODHT_PLAIN defined. The symbols take no NULL.
+ * Other compilers call the symbols directly. So do users of dlsym, bindings for other languages, and tools that define
+ * ODHT_PLAIN before they read this header. The symbols do not accept NULL.
  */
 #if defined(__GNUC__) && defined(__ELF__) && !defined(ODHT_PLAIN)
 #define ODHT_TAKES_NULL 1
@@ -157,12 +159,12 @@
 extern "C" {
 #endif
 
-/* A bound for odht_*_check_within, in groups of sixteen control bytes. Tables of keys whose hashes vary keep it, at
+/* A bound for odht_*_check_within, in groups of sixteen control bytes. Tables of keys whose hashes vary stay within it,
    up to 95 percent and 2^24 slots. */
 #define ODHT_DEFAULT_GROUPS 128
 
-/* The *slot of odht_*_open_at, odht_*_check_at and odht_*_check_within_at if the first error is in no slot, and with
-   ODHT_OK. No table has that many slots. */
+/* The value of *slot after odht_*_open_at, odht_*_check_at and odht_*_check_within_at if there is no error, or if the
+   first error is not in a slot. No slot has this number. */
 #define ODHT_NO_SLOT SIZE_MAX
 
 /* The result of a call. Error::Name is the library's error in Rattle; the rest of the comment is its cause.
@@ -170,50 +172,52 @@ extern "C" {
 enum odht_status {
     ODHT_OK = 0,                          /* success */
 
-    /* Bytes that are not a table of this shape. A call checks for 1 to 7 in this order and returns the first error;
-       nothing is changed then. odht_*_open and odht_*_check then check slots 0 to 9 in turn, and the first bad slot
-       gives 8 or 9. odht_*_check goes on as the next comment describes. */
+    /* Errors of bytes that are not a table of this shape. Calls check for 1 to 7 in this order. They return the first
+       error, and then nothing is changed. After these, odht_*_open and odht_*_check read slots 0 to 9 in order, and
+       the first bad slot gives 8 or 9. The next comment describes the rest of odht_*_check. */
     ODHT_TOO_SHORT = 1,                   /* Error::TooShort: fewer than 32 bytes */
     ODHT_WRONG_TAG = 2,                   /* Error::WrongTag: the first four bytes are not ODHT */
-    ODHT_WRONG_VERSION = 3,               /* Error::WrongVersion: not version 2 of the format */
-    ODHT_WRONG_SIZE = 4,                  /* Error::WrongSizeOf: other lengths of control bytes,
-                                             keys, values or header */
+    ODHT_WRONG_VERSION = 3,               /* Error::WrongVersion: the format version is not 2 */
+    ODHT_WRONG_SIZE = 4,                  /* Error::WrongSizeOf: the header states other lengths of
+                                             control bytes, keys, values or header */
     ODHT_SLOT_COUNT_NOT_POWER_OF_TWO = 5, /* Error::SlotCountNotPowerOfTwo */
     ODHT_SLOT_COUNT_TOO_SMALL = 6,        /* Error::SlotCountTooSmall: fewer than 16 slots */
-    ODHT_WRONG_LENGTH = 7,                /* Error::WrongLength: not as many bytes as the slots need */
+    ODHT_WRONG_LENGTH = 7,                /* Error::WrongLength: not the length that the slot count needs */
     ODHT_NON_ZERO_EMPTY = 8,              /* Error::NonZeroEmpty: a free slot's entry is not zero */
     ODHT_CONTROL_MISMATCH = 9,            /* Error::ControlMismatch: a control byte is not its key's tag */
 
-    /* Errors of odht_*_check, and of odht_*_insert_order, which makes this check first. After 1 to 9 it checks the
-       load factor and the padding. Then it checks all slots in turn: the first bad slot gives 8, 12 or 9. Last come
-       13 to 16. odht_*_grow returns 10, too. */
+    /* Errors of odht_*_check, and of odht_*_insert_order, which begins with this check. After 1 to 9 the check looks
+       at the load factor and the padding. Then it reads all slots in order, and the first bad slot gives 8, 12 or 9.
+       Last it looks for 13 to 16. odht_*_grow also returns 10. */
     ODHT_LOAD_FACTOR_TOO_SMALL = 10,      /* Error::LoadFactorTooSmall: below 1 percent */
     ODHT_NON_ZERO_PADDING = 11,           /* Error::NonZeroPadding: bytes 30 and 31 are not zero */
     ODHT_BAD_FREE_CONTROL = 12,           /* Error::BadFreeControl: a free slot's control byte is not 255 */
     ODHT_MIRROR_MISMATCH = 13,            /* Error::MirrorMismatch: the last 16 bytes do not repeat the first
                                              control bytes */
-    ODHT_WRONG_ITEM_COUNT = 14,           /* Error::WrongItemCount: not as many items as the header says */
-    ODHT_TOO_MANY_ITEMS = 15,             /* Error::TooManyItems: more than the load factor allows */
-    ODHT_UNREACHABLE = 16,                /* Error::Unreachable: a key after a free slot of its probe order,
-                                             or stored a second time */
+    ODHT_WRONG_ITEM_COUNT = 14,           /* Error::WrongItemCount: the header's item count is not the number
+                                             of occupied slots */
+    ODHT_TOO_MANY_ITEMS = 15,             /* Error::TooManyItems: more items than the load factor allows */
+    ODHT_UNREACHABLE = 16,                /* Error::Unreachable: a key comes after a free slot of its probe
+                                             order, or is stored a second time */
 
-    /* Errors of making tables and of inserts. */
+    /* Errors of calls that make a table or insert. */
     ODHT_INIT_LENGTH = 17,                /* Error::InitLength: not the length that the table needs */
     ODHT_FULL = 18,                       /* Error::Full: the table is at its maximum, and the key is new */
-    ODHT_MEMORY = 19,                     /* Error::Memory: malloc has failed */
-    ODHT_CAPACITY = 20,                   /* Error::Capacity: more items than any table takes */
+    ODHT_MEMORY = 19,                     /* Error::Memory: malloc failed, or a growing table cannot be larger */
+    ODHT_CAPACITY = 20,                   /* Error::Capacity: too many items for any table */
 
     /* The error of odht_*_check_within, after 1 to 15 and before 16. */
     ODHT_SEARCH_TOO_LONG = 21,            /* Error::SearchTooLong: a search may read more groups than the bound */
 
-    /* Statuses that are not errors of the library. */
+    /* Statuses that are not errors of the library in Rattle. */
     ODHT_ABSENT = 32,                     /* the key is not in the table */
-    ODHT_REPLACED = 33,                   /* the key was there with a value */
+    ODHT_REPLACED = 33,                   /* the key was present, and its value is replaced */
     ODHT_BAD_PERCENT = 34,                /* 0 percent, or more than 100 */
-    ODHT_BAD_LENGTHS = 35,                /* arrays of different lengths, or not of one element for each item */
+    ODHT_BAD_LENGTHS = 35,                /* lengths of arrays, keys or values that do not
+                                             match each other or the items */
     ODHT_TOO_SMALL = 36,                  /* an output buffer is too short for the result */
     ODHT_UNMADE = 37,                     /* no list of inserts makes the table */
-    ODHT_BAD_LAYOUT = 38                  /* no hash function of this number, or keys that are too short for it */
+    ODHT_BAD_LAYOUT = 38                  /* no hash function has this number, or the keys are too short for it */
 };
 
 /* Returns a short text for a status, such as "wrong length". */
@@ -255,9 +259,9 @@ static inline const char *odht_status_name(uint32_t status)
 
 /* ---- Opened tables ----
  *
- * Other calls check the header and the length of a table each time. For many lookups open the bytes once and keep the
- * view. odht_*_view_get, odht_*_view_get_all and odht_*_view_len do not check the header, and return none of the
- * errors 1 to 16.
+ * A view is a table that you open once, for many lookups. Other calls check the header and the length each time.
+ * odht_*_view_get, odht_*_view_get_all and odht_*_view_len do not check the header, and return none of the errors
+ * 1 to 16.
  *
  * A view holds the pointer and the length of the bytes, and you may read both. It copies nothing, and there is
  * nothing to close. You may copy it, and any number of threads may look up in it. Initialize a variable like this:
@@ -267,18 +271,23 @@ static inline const char *odht_status_name(uint32_t status)
  * The library does not check a view. When you pass one to a lookup, all of these must be true:
  *
  * - odht_*_open_view of the same shape has written the view and returned ODHT_OK. For odht_any_* the lengths of keys
- *   and values must be the same. You may also set the members by hand, to bytes for which odht_*_open or odht_*_check
- *   has returned ODHT_OK.
+ *   and values must be the same. You may also set the members yourself, to bytes for which odht_*_open or
+ *   odht_*_check has returned ODHT_OK.
  * - The bytes are still at the same address.
- * - Since then only odht_*_insert, odht_*_insert_all and odht_*_init of the same shape have written the header of
- *   these bytes, called with exactly these bytes. After these calls the view stays usable, whatever they return, and
- *   finds what they inserted. A build or a growth into these bytes ends it. So does another program that writes a
- *   mapped file. If something else has written slots, results are as for bytes that are not valid.
+ * - Since then nothing has written the header of these bytes, except odht_*_insert, odht_*_insert_all and odht_*_init
+ *   of the same shape, called with exactly these bytes.
  *
  * Otherwise a lookup has undefined behaviour, as with any wrong pointer in C.
  *
- * odht_*_open_view writes its view and does not read it. If ODHT_TAKES_NULL is 0 you must initialize it all the same:
- * with ODHT_NO_VIEW, or with a view whose bytes are still there.
+ * Which writes end a view:
+ *
+ * - odht_*_insert, odht_*_insert_all and odht_*_init do not, whatever they return. The view finds what they inserted.
+ * - odht_*_build, odht_*_build_growing and odht_*_grow do, if these bytes are their out. So does another program that
+ *   writes a mapped file.
+ * - Anything else that writes only slots does not, but then results are as for bytes that are not valid.
+ *
+ * odht_*_open_view writes its view and does not read it. Still, if ODHT_TAKES_NULL is 0, you must initialize the view
+ * first: with ODHT_NO_VIEW, or with a view whose bytes are still there.
  */
 typedef struct odht_view {
     const uint8_t *bytes;
@@ -323,8 +332,8 @@ typedef struct odht_view {
  *         return status;
  *     }
  *
- * With a status other than OK and REPLACED the old table is unchanged. A growth ends the views of the old bytes. In
- * C++ odht::table of odht.hpp does the same.
+ * With a status other than OK and REPLACED the old table is unchanged. This function frees the old bytes when it grows
+ * the table, which ends their views. In C++, use odht::table of odht.hpp, which does the same.
  */
 /* ---- The calls ----
  *
@@ -332,7 +341,7 @@ typedef struct odht_view {
  * passed as a pointer to them. *value and *former are a number or N bytes. A call writes an out-parameter only with the
  * statuses that name it below.
  *
- * The prototypes of odht_u64_u32_*, as ODHT_PLAIN leaves them:
+ * The prototypes of odht_u64_u32_*, as they are with ODHT_PLAIN defined:
  *
  *     uint32_t odht_u64_u32_bytes_needed(size_t max_item_count, uint8_t percent, size_t *len);
  *     uint32_t odht_u64_u32_init(uint8_t *bytes, size_t bytes_len, size_t max_item_count, uint8_t percent);
@@ -369,79 +378,82 @@ typedef struct odht_view {
  * Other shapes have other types of keys and values. The end of this comment lists what differs for a set.
  *
  * odht_S_bytes_needed(max_item_count, percent, *len)
- *     Computes the length of a table for max_item_count items. At most percent (1 to 100) of its slots may be
- *     occupied.
+ *     Computes the length of a table for max_item_count items. percent is the highest percentage of its slots that may
+ *     be occupied, 1 to 100.
  *     OK: *len is the length in bytes. BAD_PERCENT. CAPACITY: no slot count is large enough, or the length does not
  *     fit size_t.
  *
  * odht_S_init(bytes, bytes_len, max_item_count, percent)
  *     Writes an empty table over the bytes. bytes_len must be the length that odht_S_bytes_needed returns for the same
  *     count and percentage.
- *     OK: the bytes are the empty table. BAD_PERCENT. CAPACITY. INIT_LENGTH: bytes_len is another length. With all
- *     statuses except OK the bytes are unchanged.
+ *     OK: the bytes are the empty table. BAD_PERCENT. CAPACITY. INIT_LENGTH: bytes_len is not that length. With
+ *     all statuses except OK the bytes are unchanged.
  *     Cost: one pass over the bytes.
  *
  * odht_S_open(bytes, bytes_len)
- *     Checks the header, the length and the first ten slots, in constant time. You need not open bytes: each call
- *     below checks the header and the length itself, except lookups in a view.
- *     OK: calls can be made on the bytes. The slots from the eleventh on were not checked.
+ *     Checks the header, the length and the first ten slots, in constant time. This call is optional: each call below
+ *     checks the header and the length itself, except lookups in a view.
+ *     OK: the other calls accept the bytes. The slots after the first ten were not checked.
  *     An error, 1 to 9.
  *
  * odht_S_check(bytes, bytes_len)
- *     Checks every byte. If it accepts them, all comments here are true for these bytes.
+ *     Checks every byte. If it accepts the bytes, all comments here are true for them.
  *     OK: the bytes are valid. An error, 1 to 16: the first in the order that enum odht_status describes.
- *     odht_S_check_at returns its slot, too.
+ *     odht_S_check_at also returns its slot.
  *     Cost: one pass over the slots. For each occupied slot it reads the control bytes of the key's probe order up to
- *     that slot, sixteen at a time. It compares the key with earlier keys of that order that have the same tag. It
- *     allocates nothing. If the hashes of the keys vary, the check takes up to three times as long as one lookup of
- *     each key (up to 1.4 times at 87 percent). If many keys have one hash, by chance or by forgery, the time grows
- *     with the square of the number of slots: up to one comparison for each pair of keys. bench/README.md has times.
- *     Use odht_S_check_within for untrusted bytes.
+ *     that slot, sixteen at a time. It compares the key with each earlier key of that order that has the same tag. It
+ *     allocates nothing.
+ *     If the hashes of the keys vary, the check takes up to three times as long as one lookup of each key, and up to
+ *     1.4 times at 87 percent. If many keys have one hash, by chance or by forgery, it compares up to every pair of
+ *     keys: the time grows with the square of the number of slots. bench/README.md lists times. Use
+ *     odht_S_check_within for untrusted bytes.
  *
  * odht_S_check_within(bytes, bytes_len, groups)
- *     odht_S_check in bounded time, for untrusted bytes. It also checks that the probe order from each slot has a free
- *     slot within the given number of groups of sixteen control bytes. Then no search reads more groups, for present
- *     and for absent keys. Tables of keys whose hashes vary keep the bound ODHT_DEFAULT_GROUPS. A bound of 0 groups
- *     rejects every table.
+ *     Makes the check of odht_S_check in bounded time, for untrusted bytes. It also checks that the probe order from
+ *     each slot has a free slot within the given number of groups of sixteen control bytes. So no search, for a present
+ *     or an absent key, reads more groups. Tables of keys whose hashes vary stay within ODHT_DEFAULT_GROUPS. A bound of
+ *     0 rejects every table.
  *     OK: the bytes are valid, and no search reads more groups. An error, 1 to 16, as for odht_S_check.
- *     SEARCH_TOO_LONG comes after 1 to 15 and before 16. It may come even if the search for each key
- *     of the table reads no more groups.
- *     Cost for s slots: at most 2 * s * groups groups are read, and at most 16 * s * groups keys are compared. It
- *     allocates nothing. With s / 16 groups or more the status is that of odht_S_check (no contract states this).
+ *     SEARCH_TOO_LONG: from some slot, a search may read more groups. The searches for all keys in the table can still
+ *     be within the bound. This is checked after 1 to 15 and before 16.
+ *     Cost for s slots: it reads at most 2 * s * groups groups, and compares at most 16 * s * groups keys. It allocates
+ *     nothing. With s / 16 groups or more it returns the status of odht_S_check (the contract does not state this).
  *
  * odht_S_open_at(bytes, bytes_len, *slot)
- *     odht_S_open, which also writes the slot of the error. Slots count from 0.
+ *     Works like odht_S_open, and writes the slot of the error. Slots are numbered from 0.
  *     NON_ZERO_EMPTY, CONTROL_MISMATCH: *slot is the slot. OK, and all other errors: *slot is ODHT_NO_SLOT.
  *
  * odht_S_check_at(bytes, bytes_len, *slot)
- *     odht_S_check, which also writes the slot of the first error. Slots count from 0.
+ *     Works like odht_S_check, and writes the slot of the first error. Slots are numbered from 0.
  *     NON_ZERO_EMPTY, CONTROL_MISMATCH, BAD_FREE_CONTROL, UNREACHABLE: *slot is the slot. MIRROR_MISMATCH: *slot is the
  *     slot, 0 to 15, whose control byte the mirror does not repeat. OK, and all other errors: *slot is ODHT_NO_SLOT.
  *
  * odht_S_check_within_at(bytes, bytes_len, groups, *slot)
- *     odht_S_check_within, which also writes the slot of the first error, as odht_S_check_at does. SEARCH_TOO_LONG:
- *     *slot is the slot where such searches begin.
+ *     Works like odht_S_check_within, and writes the slot of the first error, as odht_S_check_at does.
+ *     SEARCH_TOO_LONG: *slot is the slot where such searches begin.
  *
  * odht_S_len(bytes, bytes_len, *count)
- *     Reads the number of items from the header. Before odht_S_check has accepted the bytes the number may be wrong:
- *     do not allocate by it. No table holds more items than bytes.
+ *     Reads the number of items from the header. It may be wrong unless odht_S_check has accepted the bytes, so compare
+ *     it with bytes_len before you allocate: no table holds more items than bytes.
  *     OK: *count is the number. An error, 1 to 7. Constant time.
  *
  * odht_S_sizes(bytes, bytes_len, *slots, *max_item_count, *percent)
- *     Reads the header's slot count, the maximum number of items for that many slots, and the load factor in percent.
- *     The percentage is rounded down, so it may be one below the one that the table was made with.
+ *     Reads the slot count and the load factor from the header, and computes the maximum number of items from both.
+ *     The load factor is in percent, rounded down. So it may be one less than the percentage that the table
+ *     was made with.
  *     OK: all three are written. An error, 1 to 7. Constant time.
  *
  * odht_S_table_len(bytes, bytes_len, *len)
- *     Computes, from the header, the length of the table at the start of longer bytes. Use it to read a table inside
- *     a file, then pass exactly *len bytes to the other calls. It reads no slots.
+ *     Computes the length of the table at the start of longer bytes from its header. Use it to find a table inside a
+ *     file, and then pass exactly *len bytes to the other calls. It reads no slots.
  *     OK: *len is the length in bytes, at most bytes_len. An error, 1 to 7. WRONG_LENGTH: bytes_len is below the
  *     length of the table. Constant time.
  *
  * odht_S_get(bytes, bytes_len, key, *value)
  *     Looks up a key.
  *     OK: the key is present, and *value is its value. ABSENT. An error, 1 to 7.
- *     Cost: most searches read one group of sixteen control bytes if hashes vary. None reads more than slots / 16.
+ *     Cost: if hashes vary, most searches read one group of sixteen control bytes. No search reads more than
+ *     slots / 16 groups.
  *
  * odht_S_get_all(bytes, bytes_len, keys, keys_len, values, values_len, found, found_len)
  *     Looks up many keys, and checks the header and the length only once.
@@ -451,17 +463,18 @@ typedef struct odht_view {
  * odht_S_insert(bytes, bytes_len, key, value, *former)
  *     Inserts a key with its value, or replaces the value of a present key.
  *     OK: the key was new. REPLACED: the key was present, and *former is the value that it had. FULL: the key is new,
- *     and the table is at its maximum. An error, 1 to 7. With FULL and the errors nothing changes.
- *     Cost: it reads as many groups as odht_S_get.
+ *     and the table is at its maximum. An error, 1 to 7. After FULL and the errors nothing is changed.
+ *     Cost: it reads the same number of groups as odht_S_get.
  *
  * odht_S_insert_all(bytes, bytes_len, keys, keys_len, values, values_len, *accepted)
- *     Inserts keys[i] with values[i] for each i in turn, as odht_S_insert does, and stops at the first FULL.
+ *     Inserts keys[i] with values[i] for each i in order, as odht_S_insert does, and stops at the first FULL.
  *     OK: all pairs are inserted, and *accepted is keys_len. FULL: the first *accepted pairs are inserted, and the next
- *     key is new. BAD_LENGTHS: keys_len is not values_len. An error, 1 to 7. With the last two nothing changes.
+ *     key is new. BAD_LENGTHS: keys_len is not values_len. An error, 1 to 7. After BAD_LENGTHS and the errors nothing
+ *     is changed.
  *
  * odht_S_walk(bytes, bytes_len, *cursor, keys, keys_len, values, values_len, *count)
- *     Writes the pairs of the table to two arrays, in the order of the slots, one batch a call. Set *cursor to 0
- *     first. Each call continues at slot *cursor and moves it. Arrays of any length except 0 are enough:
+ *     Writes the pairs of the table to two arrays in the order of the slots, one batch in each call. Set *cursor to 0
+ *     first. Each call continues at slot *cursor and moves it. The arrays may have any length except 0:
  *
  *         do {
  *             status = odht_S_walk(bytes, len, &cursor, keys, 64, values, 64, &count);
@@ -470,50 +483,51 @@ typedef struct odht_view {
  *             use the first count pairs
  *         } while (status == ODHT_TOO_SMALL);
  *
- *     OK: these *count pairs are the last, and *cursor is the slot count. A *cursor at or above the slot count gives
- *     no pairs. TOO_SMALL: the arrays are full, and there are more pairs. BAD_LENGTHS: keys_len is not values_len. An
- *     error, 1 to 7. With the last two the arrays, *cursor and *count are unchanged. No call writes an array after
- *     its first *count items.
- *     The header's number of items plays no part. On any bytes without the errors 1 to 7 a walk writes at most one
- *     pair for each slot, so all pairs take less than bytes_len bytes.
- *     Cost: the control bytes from the old *cursor to the new one, and the entries of the pairs.
+ *     OK: these *count pairs are the last, and *cursor is the slot count. There are none if *cursor was the slot count
+ *     or above. TOO_SMALL: the arrays are full, and there are more pairs. BAD_LENGTHS: keys_len is not values_len. An
+ *     error, 1 to 7. After BAD_LENGTHS and the errors the arrays, *cursor and *count are unchanged. A call writes
+ *     only the first *count items of each array.
+ *     A walk does not use the header's item count. For any bytes without the errors 1 to 7 it writes at most one pair
+ *     for each slot. So all pairs together take less than bytes_len bytes.
+ *     Cost: it reads the control bytes from the old *cursor to the new one, and the entries of the pairs.
  *
  * odht_S_insert_order(bytes, bytes_len, slots, slots_len)
- *     Finds an order of inserts that makes the table. Take an empty table of the same slot count and load factor.
- *     Inserting the pairs of these slots in this order makes exactly these bytes. Some valid tables have no such order.
- *     OK: slots holds the occupied slots, each once, in such an order. Slots count from 0. UNMADE: no list of inserts
- *     makes the table, with growths or without, and the content of slots is unspecified. An error of the whole check,
- *     1 to 16. BAD_LENGTHS: the bytes are valid, and slots_len is not the number of items.
- *     Cost: the whole check, then passes over the items. There is at most one pass more than there are items that wait
- *     for the insert of an item in a later slot. In a pass an item whose slot is in the first group of its probe order,
- *     at or after the order's first slot, takes one step. Another item takes one or two binary searches among the
- *     waiting items for each group up to its own. Groups that were searched before from the same slot are left out, for
- *     64 such slots. After each pass the waiting items are sorted. It allocates nothing. For untrusted tables use
- *     odht_any_insert_order with scratch memory.
+ *     Finds an order of inserts that makes exactly these bytes: insert the pairs of these slots, in this order, into an
+ *     empty table of the same slot count and load factor. Some valid tables have no such order.
+ *     OK: slots holds the occupied slots, each once, in such an order. Slots are numbered from 0. UNMADE: no list of
+ *     inserts makes the table, with growths or without, and the content of slots is unspecified. An error of the whole
+ *     check, 1 to 16. BAD_LENGTHS: the bytes are valid, and slots_len is not the number of items.
+ *     Cost: the whole check, then passes over the items that are not in the order yet. Each pass ends with a sort of
+ *     those that are left. The call allocates nothing.
+ *     - The number of passes is at most one more than the number of items that wait for an item in a later slot.
+ *     - In a pass, an item takes one step if its slot is in the first group of its probe order and not before its home.
+ *     - Each other item takes one or two binary searches for each group up to its own, among the items that are left.
+ *       For 64 homes the call remembers which groups it has searched, and does not search these again.
+ *     For untrusted tables use odht_any_insert_order with scratch memory.
  *
  * odht_S_grow(bytes, bytes_len, out, out_len, *len)
- *     Writes a larger copy of the table to out, with the same load factor and room for twice as many items (at least
- *     one). Call it if an insert returns FULL, and insert into the copy ("Grow on FULL"). For a valid table one growth
- *     is enough. With an out_len of 0 it reports the memory that it needs.
+ *     Writes a larger copy of the table to out, with the same load factor and room for twice the number of items (at
+ *     least one). Call it if an insert returns FULL, and insert into the copy ("Grow on FULL"). For a valid table one
+ *     growth is enough. With an out_len of 0 it only computes *len. bytes and out must not overlap.
  *     OK: the first *len bytes of out are the copy, and the rest of out is unchanged. TOO_SMALL: out_len is below *len,
- *     the length of the copy, and out is unchanged. An error, 1 to 7. LOAD_FACTOR_TOO_SMALL: the header has less than
- *     1 percent, which no valid table has. CAPACITY: no slot count is large enough, or the length does not fit size_t.
- *     At its maximum a table grows to the bytes that a table has which grows by itself. If it is below its maximum,
- *     *len may be bytes_len or less. Check untrusted bytes first: if odht_S_check rejects them, *len follows the
- *     header's number of items, however large it is, and inserts into the copy may return FULL again and again.
- *     Cost: it reads each slot once, hashes each key once, and compares no keys. It allocates nothing. bytes and out
- *     must not overlap.
+ *     the length of the copy, and out is unchanged. An error, 1 to 7. LOAD_FACTOR_TOO_SMALL: the load factor in the
+ *     header is below 1 percent, so the bytes are not valid. CAPACITY: no slot count is large enough, or the length
+ *     does not fit size_t.
+ *     If the table is at its maximum, the copy has the same bytes as a table that grows by itself (docs/FORMAT.md,
+ *     "Growth"). If the table is below its maximum, *len may be bytes_len or less.
+ *     Check untrusted bytes first. If odht_S_check rejects them, *len depends on the header's item count, however large
+ *     that is. Inserts into the copy may then return FULL again and again.
+ *     Cost: it reads each slot once, hashes each key once, and compares no keys. It allocates nothing.
  *
  * odht_S_build(keys, keys_len, values, values_len, percent, out, out_len, *len)
- *     Makes a table for keys_len items in out, and inserts the pairs in turn. Of equal keys the last value counts.
+ *     Makes a table for keys_len items in out, and inserts the pairs in order. Of equal keys the last value counts.
  *     OK: the first *len bytes of out are the table. TOO_SMALL: out_len is below *len, the length of the table.
  *     CAPACITY. BAD_PERCENT. BAD_LENGTHS: keys_len is not values_len. Only OK writes to out.
  *     Cost: it hashes and inserts each pair once. It allocates nothing.
  *
  * odht_S_build_growing(keys, keys_len, values, values_len, out, out_len, *len)
- *     Builds the table as if the number of pairs were unknown. It inserts them in turn into a table that starts with 16
- *     slots at 87 percent and doubles if it is full and a key is new. Then it copies the table to out. The order of the
- *     slots can differ from that of odht_S_build.
+ *     Makes a table as if the number of pairs were unknown, and copies it to out. The table starts with 16 slots at 87
+ *     percent. It grows when it is full and a key is new. The order of the slots can differ from that of odht_S_build.
  *     OK, TOO_SMALL and BAD_LENGTHS as for odht_S_build. MEMORY: an allocation for the growing table failed, or no
  *     table is large enough.
  *
@@ -522,16 +536,17 @@ typedef struct odht_view {
  *     OK: *view is the view of the bytes. An error, 1 to 9.
  *
  * odht_S_view_get(view, key, *value)
- *     odht_S_get in an opened table: OK or ABSENT.
+ *     Works like odht_S_get, in an opened table. Returns OK or ABSENT.
  *
  * odht_S_view_get_all(view, keys, keys_len, values, values_len, found, found_len)
- *     odht_S_get_all in an opened table: OK or BAD_LENGTHS.
+ *     Works like odht_S_get_all, in an opened table. Returns OK or BAD_LENGTHS.
  *
  * odht_S_view_len(view)
- *     Returns the header's number of items of an opened table. It is the only call of a shape that returns no status.
+ *     Returns the number of items in the header of an opened table. It is the only call of a shape that returns no
+ *     status.
  *
- * A set has no values. It has contains and contains_all instead of get and get_all, also in a view. Its other calls
- * have no parameters for values. The calls with keys of the set odht_u64_* take uint64_t key and const uint64_t *keys:
+ * A set stores keys without values. Instead of get and get_all there are contains and contains_all, also for views. The
+ * other calls take no values. In the set odht_u64_*, key is a uint64_t and keys is a const uint64_t *:
  *
  *     odht_u64_contains(bytes, bytes_len, key)
  *         OK: the key is present. ABSENT. An error, 1 to 7.
@@ -543,13 +558,13 @@ typedef struct odht_view {
  *     odht_u64_build(keys, keys_len, percent, out, out_len, *len)
  *     odht_u64_build_growing(keys, keys_len, out, out_len, *len)
  *     odht_u64_view_contains(view, key)
- *         odht_u64_contains in an opened table: OK or ABSENT.
+ *         Works like odht_u64_contains, in an opened table. Returns OK or ABSENT.
  *     odht_u64_view_contains_all(view, keys, keys_len, found, found_len)
- *         odht_u64_contains_all in an opened table: OK or BAD_LENGTHS.
+ *         Works like odht_u64_contains_all, in an opened table. Returns OK or BAD_LENGTHS.
  */
 
 #if ODHT_TAKES_NULL
-/* The pointer that is passed for a slice of length 0, if the caller's is NULL. Nothing is read or written there. */
+/* The pointer to pass for a slice. For length 0 it is not NULL, and nothing is read or written there. */
 #define ODHT_SLICES(type) \
     static inline const type *odht_read_##type(const type *items, size_t len) \
     { \
@@ -568,18 +583,18 @@ ODHT_SLICES(size_t)
 #undef ODHT_SLICES
 #endif
 
-/* Returns the version of the linked library, in the form of ODHT_VERSION. If they differ, this header belongs to
+/* Returns the version of the linked library, in the form of ODHT_VERSION. If the two differ, this header belongs to
    another version of the library. */
 ODHT_NODISCARD extern uint32_t odht_version(void);
 
 /* ---- How the calls are declared ----
  *
- * ODHT_DECLARE_MAP and ODHT_DECLARE_SET declare the calls of a shape S, and the lines at the end of this file use
- * them for each shape. Each call is written once in one of them: its result, its name, its parameters, and the body
- * of its inline function.
+ * ODHT_DECLARE_MAP and ODHT_DECLARE_SET declare all calls of a shape S. The lines at the end of this file use them,
+ * once for each shape. For each call they list the result, the name, the parameters and the body of its inline
+ * function.
  */
 #if ODHT_TAKES_NULL
-/* The symbol of the library, then the inline function around it. */
+/* Declares the symbol of the library, and defines the inline function around it. */
 #define ODHT_CALL(result, name, parameters, body) \
     result odht_symbol_##name parameters __asm__("odht_" #name); \
     ODHT_NODISCARD static inline result odht_##name parameters __asm__("odht_inline_" #name); \
@@ -588,7 +603,7 @@ ODHT_NODISCARD extern uint32_t odht_version(void);
         body \
     }
 
-/* Only a symbol, and only an inline function, where their parameters differ. */
+/* The same in two parts, for calls whose inline function has other parameters than the symbol. */
 #define ODHT_SYMBOL(result, name, parameters) \
     result odht_symbol_##name parameters __asm__("odht_" #name);
 #define ODHT_FUNCTION(result, name, parameters, body) \
@@ -604,8 +619,8 @@ ODHT_NODISCARD extern uint32_t odht_version(void);
 #define ODHT_FUNCTION(result, name, parameters, body)
 #endif
 
-/* Keys and values that are numbers of that many bits: the type of array items, a parameter, an out-parameter (a
-   pointer, which may be NULL), a place for a result that the caller does not need, and arrays whose pointer may be
+/* For keys and values that are numbers of `bits` bits: the type of an array item, a parameter, an out-parameter (a
+   pointer that may be NULL), a variable for a result that the caller does not need, and arrays whose pointer may be
    NULL. */
 #define ODHT_NUMBER_ITEM(bits) uint##bits##_t
 #define ODHT_NUMBER_GIVEN(bits, name) uint##bits##_t name
@@ -614,7 +629,7 @@ ODHT_NODISCARD extern uint32_t odht_version(void);
 #define ODHT_NUMBER_READ(bits, items, len) odht_read_uint##bits##_t(items, len)
 #define ODHT_NUMBER_WRITE(bits, items, len) odht_write_uint##bits##_t(items, len)
 
-/* The same for keys and values of that many bytes. */
+/* The same for keys and values of `count` bytes. */
 #define ODHT_BYTES_ITEM(count) uint8_t
 #define ODHT_BYTES_GIVEN(count, name) const uint8_t name[count]
 #define ODHT_BYTES_WANTED(count, name) uint8_t name[count]
@@ -622,7 +637,7 @@ ODHT_NODISCARD extern uint32_t odht_version(void);
 #define ODHT_BYTES_READ(count, items, len) odht_read_uint8_t(items, len)
 #define ODHT_BYTES_WRITE(count, items, len) odht_write_uint8_t(items, len)
 
-/* The calls of every shape, each of which has its comment above. P is the name of the shape with a _ behind it. */
+/* The calls of every shape, described above under "The calls". P is the name of the shape, followed by _. */
 #define ODHT_TABLE_CALLS(P) \
     ODHT_CALL(uint32_t, P##bytes_needed, (size_t max_item_count, uint8_t percent, size_t *len), \
         size_t unwanted = 0; \
@@ -774,8 +789,9 @@ ODHT_NODISCARD extern uint32_t odht_version(void);
             K##_READ(k, keys, keys_len), keys_len, V##_READ(v, values, values_len), values_len, \
             odht_write_uint8_t(out, out_len), out_len, len ? len : &unwanted);)
 
-/* The calls of a set: K is ODHT_NUMBER or ODHT_BYTES, k the number of bits or bytes. Those with keys are inline
-   functions around the calls of a map without values. If ODHT_TAKES_NULL is 0 they do not exist. */
+/* The calls of a set: K is ODHT_NUMBER or ODHT_BYTES, k the number of bits or bytes of a key. The calls that take keys
+   are inline functions around the symbols, which are those of a map whose values have no bytes. If ODHT_TAKES_NULL is 0
+   these calls do not exist. */
 #define ODHT_DECLARE_SET(S, K, k) \
     ODHT_TABLE_CALLS(S##_) \
 \
@@ -872,23 +888,25 @@ ODHT_NODISCARD extern uint32_t odht_version(void);
 
 /* ---- Dynamic tables ----
  *
- * odht_any_* take the lengths of keys and values, and the hash function, as a layout. Keys and values are pointers to
- * bytes with a length. These calls read and write the same bytes as the calls of a shape with the same lengths, and
- * return the same. The comment on odht_S_NAME above is also the comment on odht_any_NAME. A view from one can be used
- * by the other if the lengths are the same. For many lookups the calls of a shape are faster.
+ * odht_any_* are for tables whose lengths of keys and values you choose at run time. You pass these lengths, and the
+ * hash function, as a layout. Each key and value is a pointer to bytes, with a length.
+ *
+ * The comment on odht_S_NAME above is also the comment on odht_any_NAME. With the lengths and the hash function of a
+ * shape, these calls read and write the same bytes as the calls of the shape, and return the same. A view from one can
+ * be used by the other if the lengths are the same. For many lookups the calls of a shape are faster.
+ *
+ * All lengths of keys and values are in bytes here. This includes the lengths of arrays, in which items follow each
+ * other without gaps. A layout is never NULL. In a set, values have no bytes: pass any pointer and 0 for them, or NULL
+ * if ODHT_TAKES_NULL is 1.
  *
  * Two statuses come before all others, and with both nothing is written. odht_any_layout_of and odht_any_view_len
  * take no layout and do not return them.
  *
  * - BAD_LAYOUT: no hash function has the number in the layout, or the keys are shorter than it needs. ODHT_HASH_UN
  *   needs four bytes.
- * - BAD_LENGTHS: a key or a value has another length than the layout. In arrays, keys_len is not count times the
- *   length of a key, values_len is not count times that of a value, or found_len is not count. In a walk, room takes
- *   the place of count.
- *
- * All lengths of keys and values are in bytes here, also those of arrays, which hold items one after the other. A
- * layout is never NULL. In a set, values have no bytes: pass any pointer and 0 for them, or NULL if ODHT_TAKES_NULL
- * is 1.
+ * - BAD_LENGTHS: the length of a key or a value is not the one in the layout. For arrays: keys_len is not count times
+ *   the length of a key, values_len is not count times the length of a value, or found_len is not count. odht_any_walk
+ *   compares with room instead of count.
  */
 typedef struct odht_layout {
     uint8_t key_len;   /* of each key, in bytes */
@@ -897,7 +915,7 @@ typedef struct odht_layout {
 } odht_layout;
 
 /* The hash functions: FxHasher of rustc-hash; the last four bytes of a key; the low 32 bits of XXH64 with seed 0.
-   "Which hash function for which keys", above, helps to choose. The bytes of a table do not name it. */
+   "Which hash function for which keys" above helps to choose. A table does not store which one it uses. */
 #define ODHT_HASH_FX 0
 #define ODHT_HASH_UN 1
 #define ODHT_HASH_XXH64 2
@@ -914,7 +932,7 @@ ODHT_CALL(uint32_t, any_init,
     return odht_symbol_any_init(
         layout, odht_write_uint8_t(bytes, bytes_len), bytes_len, max_item_count, percent);)
 
-/* OK: calls can be made on the bytes. An error, 1 to 9. Constant time. */
+/* OK: the other calls accept the bytes. An error, 1 to 9. Constant time. */
 ODHT_CALL(uint32_t, any_open, (const odht_layout *layout, const uint8_t *bytes, size_t bytes_len),
     return odht_symbol_any_open(layout, odht_read_uint8_t(bytes, bytes_len), bytes_len);)
 
@@ -928,8 +946,8 @@ ODHT_CALL(uint32_t, any_check_within,
     return odht_symbol_any_check_within(
         layout, odht_read_uint8_t(bytes, bytes_len), bytes_len, groups);)
 
-/* Like open, check and check_within, and *slot is the slot of the first error. If it is in no slot, and with OK,
-   *slot is ODHT_NO_SLOT. BAD_LAYOUT: *slot is unchanged. */
+/* Work like open, check and check_within, and write the slot of the first error to *slot. If there is no error, or the
+   first one is not in a slot, *slot is ODHT_NO_SLOT. BAD_LAYOUT: *slot is unchanged. */
 ODHT_CALL(uint32_t, any_open_at,
     (const odht_layout *layout, const uint8_t *bytes, size_t bytes_len, size_t *slot),
     size_t unwanted = 0;
@@ -947,7 +965,7 @@ ODHT_CALL(uint32_t, any_check_within_at,
     return odht_symbol_any_check_within_at(
         layout, odht_read_uint8_t(bytes, bytes_len), bytes_len, groups, slot ? slot : &unwanted);)
 
-/* OK: *count is the number of items in the header. An error, 1 to 7: it is unchanged. */
+/* OK: *count is the number of items in the header. An error, 1 to 7: *count is unchanged. */
 ODHT_CALL(uint32_t, any_len,
     (const odht_layout *layout, const uint8_t *bytes, size_t bytes_len, size_t *count),
     size_t unwanted = 0;
@@ -966,21 +984,22 @@ ODHT_CALL(uint32_t, any_sizes,
         slots ? slots : &unwanted_slots, max_item_count ? max_item_count : &unwanted_count,
         percent ? percent : &unwanted_percent);)
 
-/* OK: *len is the length of the table at the start of the bytes. An error, 1 to 7: it is unchanged. */
+/* OK: *len is the length of the table at the start of the bytes. An error, 1 to 7: *len is unchanged. */
 ODHT_CALL(uint32_t, any_table_len,
     (const odht_layout *layout, const uint8_t *bytes, size_t bytes_len, size_t *len),
     size_t unwanted = 0;
     return odht_symbol_any_table_len(
         layout, odht_read_uint8_t(bytes, bytes_len), bytes_len, len ? len : &unwanted);)
 
-/* OK: the lengths of the layout are those in the header. Its hash function is unchanged, since no header names one.
-   Other calls may still return BAD_LAYOUT for it. An error, 1 to 7: the layout is unchanged. */
+/* Writes the lengths of keys and values in the header to the layout. OK: both lengths are written, and the hash
+   function is unchanged, because a table does not store it. Other calls may still return BAD_LAYOUT for this layout. An
+   error, 1 to 7: the layout is unchanged. */
 ODHT_CALL(uint32_t, any_layout_of,
     (const uint8_t *bytes, size_t bytes_len, odht_layout *layout),
     return odht_symbol_any_layout_of(odht_read_uint8_t(bytes, bytes_len), bytes_len, layout);)
 
-/* OK: the value is written. ABSENT, or an error, 1 to 7: it is unchanged. If value is NULL (ODHT_TAKES_NULL), no
-   value is written, and value_len is ignored. */
+/* OK: the value is written. ABSENT, or an error, 1 to 7: it is unchanged. If ODHT_TAKES_NULL is 1, value may be NULL:
+   then no value is written, and value_len is ignored. */
 ODHT_CALL(uint32_t, any_get,
     (const odht_layout *layout, const uint8_t *bytes, size_t bytes_len, const uint8_t *key, size_t key_len,
         uint8_t *value, size_t value_len),
@@ -1018,14 +1037,18 @@ ODHT_CALL(uint32_t, any_walk,
         room, odht_write_uint8_t(keys, keys_len), keys_len, odht_write_uint8_t(values, values_len),
         values_len, count ? count : &unwanted);)
 
-/* OK: slots holds the occupied slots, in an order of inserts that makes the table. UNMADE: no inserts make it, and
-   the content of slots is unspecified. An error, 1 to 16: slots and scratch are unchanged. BAD_LENGTHS, which comes
-   last: slots_len is not the number of items, and both are unchanged. Scratch is memory for the search. Its content
-   does not matter, and is unspecified after OK and UNMADE. With three numbers for each slot (odht_any_sizes returns
-   the slot count) or more, the time is proportional to the slots, and to the groups that the longest search from each
-   slot reads. With fewer, or none, the search takes the time of odht_S_insert_order; the status is the same. For
-   none, pass any pointer and 0, or NULL if ODHT_TAKES_NULL is 1. The whole check comes first. For untrusted bytes
-   call odht_any_check_within before, which bounds the time of both. */
+/* OK: slots holds the occupied slots, in an order of inserts that makes the table. UNMADE: no inserts make it, and the
+   content of slots is unspecified. An error, 1 to 16: slots and scratch are unchanged. BAD_LENGTHS, checked last:
+   slots_len is not the number of items, and both arrays are unchanged.
+
+   scratch is memory for the search. Its content before the call does not matter, and after OK and UNMADE it is
+   unspecified. With at least three numbers for each slot, the time is proportional to the slots, and to the groups that
+   the longest search from each slot reads. odht_any_sizes returns the slot count. With less scratch memory, or none,
+   the status is the same, but the search takes the time of odht_S_insert_order. For none, pass any pointer and 0, or
+   NULL if ODHT_TAKES_NULL is 1.
+
+   The call makes the whole check first. For untrusted bytes call odht_any_check_within before: it bounds the time of
+   the check and of the search. */
 ODHT_CALL(uint32_t, any_insert_order,
     (const odht_layout *layout, const uint8_t *bytes, size_t bytes_len, size_t *slots, size_t slots_len,
         size_t *scratch, size_t scratch_len),
@@ -1033,8 +1056,8 @@ ODHT_CALL(uint32_t, any_insert_order,
         odht_write_size_t(slots, slots_len), slots_len, odht_write_size_t(scratch, scratch_len),
         scratch_len);)
 
-/* OK: the key was new. REPLACED: the former value is written. FULL, or an error, 1 to 7: nothing changes. If former
-   is NULL (ODHT_TAKES_NULL), no former value is written, and former_len is ignored. */
+/* OK: the key was new. REPLACED: the former value is written. FULL, or an error, 1 to 7: nothing is changed. If
+   ODHT_TAKES_NULL is 1, former may be NULL: then no former value is written, and former_len is ignored. */
 ODHT_CALL(uint32_t, any_insert,
     (const odht_layout *layout, uint8_t *bytes, size_t bytes_len, const uint8_t *key, size_t key_len,
         const uint8_t *value, size_t value_len, uint8_t *former, size_t former_len),
@@ -1048,7 +1071,7 @@ ODHT_CALL(uint32_t, any_insert,
         odht_read_uint8_t(key, key_len), key_len, odht_read_uint8_t(value, value_len), value_len,
         former, former_len);)
 
-/* OK or FULL: the first *accepted pairs are inserted. An error, 1 to 7: nothing changes. */
+/* OK or FULL: the first *accepted pairs are inserted. An error, 1 to 7: nothing is changed. */
 ODHT_CALL(uint32_t, any_insert_all,
     (const odht_layout *layout, uint8_t *bytes, size_t bytes_len, size_t count, const uint8_t *keys,
         size_t keys_len, const uint8_t *values, size_t values_len, size_t *accepted),
@@ -1058,7 +1081,7 @@ ODHT_CALL(uint32_t, any_insert_all,
         values_len, accepted ? accepted : &unwanted);)
 
 /* OK: the first *len bytes of out are the larger copy. TOO_SMALL: out_len is below *len, and out is unchanged. An
-   error, 1 to 7, LOAD_FACTOR_TOO_SMALL, CAPACITY: *len is unchanged, too. */
+   error, 1 to 7, LOAD_FACTOR_TOO_SMALL, CAPACITY: out and *len are unchanged. */
 ODHT_CALL(uint32_t, any_grow,
     (const odht_layout *layout, const uint8_t *bytes, size_t bytes_len, uint8_t *out, size_t out_len,
         size_t *len),
@@ -1086,8 +1109,8 @@ ODHT_CALL(uint32_t, any_build_growing,
         odht_read_uint8_t(values, values_len), values_len, odht_write_uint8_t(out, out_len),
         out_len, len ? len : &unwanted);)
 
-/* OK: *view is the view of the bytes. An error, 1 to 9: it is unchanged. "Opened tables" above lists what a
-   view needs. Each lookup in it takes a layout with the same lengths. */
+/* OK: *view is the view of the bytes. An error, 1 to 9: *view is unchanged. "Opened tables" above lists
+   what a view needs. Each lookup in it takes a layout with the same lengths. */
 ODHT_CALL(uint32_t, any_open_view,
     (const odht_layout *layout, const uint8_t *bytes, size_t bytes_len, odht_view *view),
     odht_view opened = ODHT_NO_VIEW;
@@ -1097,7 +1120,7 @@ ODHT_CALL(uint32_t, any_open_view,
         *view = opened;
     return status;)
 
-/* OK: the value is written. ABSENT: it is unchanged. If value is NULL, no value is written, as in any_get. */
+/* OK: the value is written. ABSENT: it is unchanged. As in any_get, value may be NULL if ODHT_TAKES_NULL is 1. */
 ODHT_CALL(uint32_t, any_view_get,
     (const odht_layout *layout, const odht_view *view, const uint8_t *key, size_t key_len,
         uint8_t *value, size_t value_len),

@@ -1,6 +1,6 @@
 /*
- * odht.hpp: the tables of odht.h for C++17 and later. odht::view is opened once, for lookups and walks. odht::table
- * owns its bytes and grows.
+ * odht.hpp: hash tables for C++17 and later, over the calls of odht.h. odht::view reads a table in bytes that you own.
+ * odht::table owns its bytes and grows.
  *
  * Generated from lists/shapes.txt and crates/odht_c/exports/header.hpp.in by make generate.
  *
@@ -11,18 +11,18 @@
  *             ...
  *     }
  *
- * A key or a value is std::uint32_t, std::uint64_t or odht::bytes<N>. A set has no Value. The shapes are those of
- * odht.h. Another pair of types does not compile, and the compiler's message lists the shapes.
+ * Keys and values are std::uint32_t, std::uint64_t or odht::bytes<N>. For a set leave out the value. The shapes are
+ * those of odht.h. Other pairs of types do not compile, and the compiler's message lists the shapes.
  *
  * The rules of odht.h apply:
  *
- * - A view copies nothing, and the bytes must stay at their address. "Opened tables" in odht.h lists the calls that
- *   may write them. During a walk no call may.
+ * - A view copies nothing, so its bytes must remain at their address. "Opened tables" in odht.h lists the calls that
+ *   may write them. During a walk no call may write them.
  * - Any number of threads may read a view.
  * - Sets need GCC or Clang.
  *
- * Only open_or_throw throws odht::error. build and odht::table throw what std::vector throws. With C++20 the same
- * calls take std::span.
+ * Only open_or_throw throws odht::error. build and odht::table throw what std::vector throws.
+ * With C++20, open, check, find_all and contains_all also take std::span.
  */
 #ifndef ODHT_HPP
 #define ODHT_HPP
@@ -72,7 +72,7 @@ private:
 
 namespace detail {
 
-/* A key or value, an out-parameter, and arrays, as the calls for C take them. */
+/* These convert a key or value, an out-parameter and an array to what the calls for C take. */
 template <class T> T given(const T &item) noexcept { return item; }
 template <class T> T *wanted(T &item) noexcept { return &item; }
 template <class T> T *items(T *first) noexcept { return first; }
@@ -260,7 +260,7 @@ public:
     /* An item of a walk: a pair, or the key of a set. */
     using value_type = std::conditional_t<is_set, Key, std::pair<Key, stored>>;
 
-    /* Opens bytes, in constant time. Returns no view with an error, 1 to 9, and *why is the status. */
+    /* Opens bytes, in constant time. With an error, 1 to 9, it returns std::nullopt. *why is the status. */
     [[nodiscard]] static std::optional<view> open(const void *data, std::size_t len, status *why = nullptr) noexcept
     {
         view opened;
@@ -270,7 +270,7 @@ public:
         return answer == ODHT_OK ? std::optional<view>(opened) : std::nullopt;
     }
 
-    /* Opens the table at the start of longer bytes. size_bytes() returns its length. */
+    /* Opens the table at the start of longer bytes. Then size_bytes() is the length of the table. */
     [[nodiscard]] static std::optional<view> open_prefix(
         const void *data, std::size_t len, status *why = nullptr) noexcept
     {
@@ -295,8 +295,8 @@ public:
     }
 #endif
 
-    /* Checks every byte. check_within also checks that from each slot a free slot comes within the given number of
-       groups, so that no search reads more: use it for untrusted bytes. Both return ODHT_OK or an error. */
+    /* check checks every byte. check_within also checks that from each slot a free slot comes within the given number
+       of groups. Then no search reads more. Use it for untrusted bytes. Both return ODHT_OK or an error. */
     [[nodiscard]] static status check(const void *data, std::size_t len) noexcept
     {
         return as_status(calls::check(static_cast<const std::uint8_t *>(data), len));
@@ -307,7 +307,8 @@ public:
         return as_status(calls::check_within(static_cast<const std::uint8_t *>(data), len, groups));
     }
 
-    /* The same, and slot is the slot of the first error. If it is in no slot, and with ODHT_OK, it is ODHT_NO_SLOT. */
+    /* The same, and slot is the slot of the first error. It is ODHT_NO_SLOT if there is no error, or if the first one
+       is not in a slot. */
     [[nodiscard]] static status open_at(const void *data, std::size_t len, std::size_t &slot) noexcept
     {
         return as_status(calls::open_at(static_cast<const std::uint8_t *>(data), len, &slot));
@@ -322,7 +323,7 @@ public:
         return as_status(calls::check_within_at(static_cast<const std::uint8_t *>(data), len, groups, &slot));
     }
 
-    /* Returns the value of a key. A set has only contains. */
+    /* Returns the value of a key, or std::nullopt if the key is absent. For a set, use contains. */
     template <class Found = stored, class = std::enable_if_t<!is_set && std::is_same_v<Found, stored>>>
     [[nodiscard]] std::optional<Found> find(const Key &key) const noexcept
     {
@@ -336,7 +337,7 @@ public:
     }
 
     /* Looks up many keys. For a present key, found[i] is 1 and values[i] is its value. For an absent key, found[i] is 0
-       and values[i] is unchanged. A set has contains_all instead. */
+       and values[i] is unchanged. For a set, use contains_all. */
     template <class Found, class = std::enable_if_t<!is_set && std::is_same_v<Found, stored>>>
     void find_all(const Key *keys, Found *values, std::uint8_t *found, std::size_t len) const noexcept
     {
@@ -374,7 +375,7 @@ public:
     }
     [[nodiscard]] std::span<const std::uint8_t> as_bytes() const noexcept { return {in_.bytes, in_.len}; }
 
-    /* ODHT_OK; or ODHT_BAD_LENGTHS if the numbers of keys, values and flags differ, and nothing is written. */
+    /* Returns ODHT_OK. If the numbers of keys, values and flags differ, returns ODHT_BAD_LENGTHS and writes nothing. */
     [[nodiscard]] status find_all(
         std::span<const Key> keys, std::span<stored> values, std::span<std::uint8_t> found) const noexcept
         requires(!is_set)
@@ -390,7 +391,7 @@ public:
     }
 #endif
 
-    /* A walk in slot order, which reads sixteen pairs at a time. It ends for all opened bytes. */
+    /* Walks over the pairs in slot order, and reads sixteen at a time. The walk ends, whatever the bytes contain. */
     class iterator {
     public:
         using iterator_category = std::input_iterator_tag;
@@ -421,7 +422,7 @@ public:
             ++*this;
             return before;
         }
-        /* Two walks of one table are equal if they are at the same pair, or both at the end. */
+        /* Two iterators of one table are equal if they are at the same pair, or both at the end. */
         friend bool operator==(const iterator &a, const iterator &b) noexcept
         {
             bool a_ends = a.count_ == 0, b_ends = b.count_ == 0;
@@ -464,9 +465,9 @@ private:
            ...
        file.write(reinterpret_cast<const char *>(numbers.data()), numbers.size_bytes());
 
-   It may be copied and moved. After a move the source is empty and has no bytes; an insert makes it a new table. If an
-   allocation fails, it throws as std::vector does, and the table is unchanged. Any number of threads may read a table
-   while nobody writes it. An insert ends its iterators and views. */
+   You can copy and move a table. After a move the source is empty and owns no bytes, and an insert starts a new table
+   in it. If an allocation fails, a call throws as std::vector does, and the table is unchanged. Any number of threads
+   may read a table while no thread writes it. An insert ends its iterators and views. */
 template <class Key, class Value = void> class table {
     static_assert(detail::calls<Key, Value>::is_shape, ODHT_HPP_NO_SHAPE);
     using calls = detail::calls<Key, Value>;
@@ -483,8 +484,8 @@ public:
     /* Makes an empty table for twelve items at 87 percent. It has sixteen slots. */
     table() { (void)make(12, 87); }
 
-    /* Makes an empty table for `items` items, with at most `percent` (1 to 100) of the slots occupied. Returns no table
-       with ODHT_BAD_PERCENT or ODHT_CAPACITY, and *why is the status. */
+    /* Makes an empty table for `items` items, with at most `percent` (1 to 100) of the slots occupied. With
+       ODHT_BAD_PERCENT or ODHT_CAPACITY it returns std::nullopt. *why is the status. */
     [[nodiscard]] static std::optional<table> with_capacity(
         std::size_t items, std::uint8_t percent = 87, status *why = nullptr)
     {
@@ -492,7 +493,7 @@ public:
         return if_made(made, made.make(items, percent), why);
     }
 
-    /* Copies bytes after view::check has accepted them. Returns no table with an error, and *why is the status. */
+    /* Checks bytes as view::check does, and copies them. With an error it returns std::nullopt. *why is the status. */
     [[nodiscard]] static std::optional<table> from_bytes(const void *data, std::size_t len, status *why = nullptr)
     {
         table made{no_bytes()};
@@ -520,7 +521,7 @@ public:
         return put(key, none, none);
     }
 
-    /* Returns the value of a key. A set has only contains. */
+    /* Returns the value of a key, or std::nullopt if the key is absent. For a set, use contains. */
     template <class Found = stored, class = std::enable_if_t<!is_set && std::is_same_v<Found, stored>>>
     [[nodiscard]] std::optional<Found> find(const Key &key) const noexcept
     {
@@ -540,16 +541,16 @@ public:
     }
     [[nodiscard]] bool empty() const noexcept { return size() == 0; }
 
-    /* A walk in slot order. */
+    /* Walks over the pairs in slot order. */
     [[nodiscard]] iterator begin() const noexcept { return iterator(c_view()); }
     [[nodiscard]] iterator end() const noexcept { return iterator(); }
 
-    /* Returns the bytes, ready to be stored. take_bytes leaves the table without bytes, as a move does. */
+    /* Return the bytes, for example to write them to a file. After take_bytes the table owns none. */
     [[nodiscard]] const std::uint8_t *data() const noexcept { return bytes_.data(); }
     [[nodiscard]] std::size_t size_bytes() const noexcept { return bytes_.size(); }
     [[nodiscard]] std::vector<std::uint8_t> take_bytes() noexcept { return std::exchange(bytes_, {}); }
 
-    /* Returns a view of the table, or none if the table was moved from. */
+    /* Returns a view of the table, or std::nullopt if the table owns no bytes, after a move or take_bytes. */
     [[nodiscard]] std::optional<view<Key, Value>> open_view() const noexcept
     {
         odht_view in = c_view();
@@ -621,8 +622,8 @@ private:
     std::vector<std::uint8_t> bytes_;
 };
 
-/* Makes a table of these pairs, with room for exactly that many, and stores it in out. Of equal keys the last value
-   counts. With an error, ODHT_BAD_PERCENT or ODHT_CAPACITY, out is unchanged. */
+/* Makes a table for that number of pairs, inserts them in order, and stores the bytes in out. Of equal keys the last
+   value counts. With an error, ODHT_BAD_PERCENT or ODHT_CAPACITY, out is unchanged. */
 template <class Key, class Value>
 [[nodiscard]] status build(const Key *keys, const Value *values, std::size_t pairs, std::uint8_t percent,
     std::vector<std::uint8_t> &out)

@@ -1,4 +1,4 @@
-//! Tables that are built from pairs.
+//! Building a table from pairs.
 
 use crate::calls::Calls;
 use crate::error::Error;
@@ -26,7 +26,7 @@ pub struct Builder<S: Shape> {
 }
 
 impl<S: Shape> Builder<S> {
-    /// A builder without pairs, of tables with at most that many percent of their slots occupied, 1 to 100.
+    /// Makes a builder without pairs. In its tables, at most `percent` percent of the slots are occupied, 1 to 100.
     pub fn new(percent: u8) -> Self {
         Builder { keys: Vec::new(), values: Vec::new(), percent }
     }
@@ -37,57 +37,58 @@ impl<S: Shape> Builder<S> {
         self.values.push(value);
     }
 
-    /// How many pairs there are. Pairs with equal keys count each.
+    /// Returns the number of pairs added. Pairs with equal keys are counted separately.
     pub fn len(&self) -> usize {
         self.keys.len()
     }
 
-    /// Whether there are no pairs.
+    /// Returns whether no pair was added.
     pub fn is_empty(&self) -> bool {
         self.keys.is_empty()
     }
 
-    /// The length in bytes of the table of [`Builder::build`], which has slots for as many items as there are pairs.
+    /// Returns the length in bytes of the table that [`Builder::build`] makes.
     ///
     /// # Errors
     ///
-    /// [`Error::BadPercent`]; [`Error::Capacity`].
+    /// [`Error::BadPercent`] or [`Error::Capacity`].
     pub fn bytes_needed(&self) -> Result<usize, Error> {
         bytes_needed::<S>(self.len(), self.percent)
     }
 
-    /// The bytes of a table with slots for as many items as there are pairs, which are inserted one after the other.
+    /// Builds a table with slots for [`Builder::len`] items, inserts the pairs in order, and returns its bytes.
     ///
     /// # Errors
     ///
-    /// As of [`Builder::bytes_needed`]; [`Error::Memory`].
+    /// The errors of [`Builder::bytes_needed`], or [`Error::Memory`].
     pub fn build(&self) -> Result<Vec<u8>, Error> {
         let mut bytes = zeros(self.bytes_needed()?)?;
         self.build_into(&mut bytes)?;
         Ok(bytes)
     }
 
-    /// Builds the table at the front of `out`, the rest of which is unchanged, and returns its length in bytes.
-    /// Allocates nothing.
+    /// Builds the table at the start of `out`, and returns its length in bytes. The rest of `out` is unchanged. It
+    /// allocates nothing.
     ///
     /// # Errors
     ///
-    /// As of [`Builder::bytes_needed`]; [`Error::TooSmall`] where `out` is shorter than that. Then `out` is unchanged.
+    /// The errors of [`Builder::bytes_needed`], or [`Error::TooSmall`] if `out` is shorter than the table. Then `out`
+    /// is unchanged.
     pub fn build_into(&self, out: &mut [u8]) -> Result<usize, Error> {
         let mut len = 0;
         let status = S::Calls::build(&self.keys, &self.values, self.percent, out, &mut len);
         Error::unless_ok(status, len)
     }
 
-    /// The bytes of the table that results where the number of pairs is not known before: it has 16 slots at 87 percent
-    /// at first, whatever percentage was given here, and grows whenever it is full. The order of the slots can differ
-    /// from that of [`Builder::build`].
+    /// Builds the table as if the number of pairs were unknown, and returns its bytes. The table starts with 16 slots
+    /// at 87 percent, and grows when it is full. The percentage of the builder is not used. The order of the slots can
+    /// differ from that of [`Builder::build`].
     ///
     /// # Errors
     ///
-    /// [`Error::Memory`], also where no table is large enough.
+    /// [`Error::Memory`], also if no table is large enough.
     pub fn build_growing(&self) -> Result<Vec<u8>, Error> {
-        // Where the keys differ the table has exactly this length, and otherwise no more.
+        // If all keys differ, the table has exactly this length. Otherwise it may be shorter.
         let most = bytes_needed::<S>(self.len(), DEFAULT_PERCENT).map_err(|_| Error::Memory)?;
         let mut bytes = zeros(most)?;
         let len = self.build_growing_into(&mut bytes)?;
@@ -96,12 +97,12 @@ impl<S: Shape> Builder<S> {
         Ok(bytes)
     }
 
-    /// As [`Builder::build_growing`], at the front of `out`, the rest of which is unchanged. Returns the table's length
-    /// in bytes. It allocates memory for the table while that grows.
+    /// Works like [`Builder::build_growing`], but writes the table to the start of `out`, and returns its length in
+    /// bytes. The rest of `out` is unchanged. The table grows in allocated memory, and is then copied.
     ///
     /// # Errors
     ///
-    /// [`Error::Memory`]; [`Error::TooSmall`] where `out` is shorter than the table. Then `out` is unchanged.
+    /// [`Error::Memory`], or [`Error::TooSmall`] if `out` is shorter than the table. Then `out` is unchanged.
     pub fn build_growing_into(&self, out: &mut [u8]) -> Result<usize, Error> {
         let mut len = 0;
         let status = S::Calls::build_growing(&self.keys, &self.values, out, &mut len);
@@ -110,7 +111,7 @@ impl<S: Shape> Builder<S> {
 }
 
 impl<S: Shape> Default for Builder<S> {
-    /// A builder without pairs, at 87 percent.
+    /// Makes a builder without pairs, at 87 percent.
     fn default() -> Self {
         Builder::new(DEFAULT_PERCENT)
     }
@@ -125,7 +126,7 @@ impl<S: Shape> Extend<(S::Key, S::Value)> for Builder<S> {
 }
 
 impl<S: Shape> FromIterator<(S::Key, S::Value)> for Builder<S> {
-    /// A builder with these pairs, at 87 percent.
+    /// Makes a builder with these pairs, at 87 percent.
     fn from_iter<I: IntoIterator<Item = (S::Key, S::Value)>>(pairs: I) -> Self {
         let mut builder = Builder::default();
         builder.extend(pairs);

@@ -1,11 +1,14 @@
-//! The calls of the archive with slices and references instead of pointers, the same for every shape. The comments on
-//! them in include/odht.h hold here too; each returns a status.
+//! The calls of the archive with slices and references instead of pointers, the same for every shape. Each returns a
+//! status. include/odht.h describes them.
 //!
-//! All calls but three are safe functions here, since [`crate::sys`] requires no more than slices and references
-//! guarantee by themselves. Their pointers are aligned and not null, also those of empty slices. They may
-//! be read for their whole length, and written where they are `mut`. What is borrowed for writing overlaps nothing
-//! else, and nobody else reads or writes it meanwhile; what is borrowed for reading nobody writes. The archive keeps
-//! no pointer, but for a view in the out-parameter that it is given.
+//! All calls except three are safe functions here, because slices and references guarantee what [`crate::sys`]
+//! requires:
+//!
+//! - Their pointers are aligned and not null, even those of empty slices. All of a slice can be read, and written if it
+//!   is `mut`.
+//! - A mutable borrow overlaps no other borrow, and nothing else reads or writes it meanwhile. Nothing writes what is
+//!   borrowed for reading.
+//! - The archive keeps no pointer, except that it writes one to the view of `open_view`.
 
 use crate::shape::*;
 use crate::sys::{self, View};
@@ -39,31 +42,31 @@ pub trait Calls {
     fn build(keys: &[Self::Key], values: &[Self::Value], percent: u8, out: &mut [u8], len: &mut usize) -> u32;
     fn build_growing(keys: &[Self::Key], values: &[Self::Value], out: &mut [u8], len: &mut usize) -> u32;
 
-    /// The status, and the view: of the bytes where the status is `OK`, otherwise of none.
+    /// Returns the status and a view. If the status is `OK`, it is a view of the bytes, and otherwise of no bytes.
     fn open_view(bytes: &[u8]) -> (u32, View);
 
     /// # Safety
     ///
-    /// The view is that of a [`Calls::open_view`] of this shape which returned `OK`, or the pointer and the length of
-    /// bytes for which [`Calls::open`] or [`Calls::init`] of this shape returned `OK`. Nobody writes the bytes until
-    /// this call returns, and since that status nothing but [`Calls::insert`] and [`Calls::insert_all`] of this shape
-    /// has written them.
+    /// - The view comes from a [`Calls::open_view`] of this shape that returned `OK`. Or it is the pointer and the
+    ///   length of bytes for which [`Calls::open`] or [`Calls::init`] of this shape returned `OK`.
+    /// - Since then only [`Calls::insert`] and [`Calls::insert_all`] of this shape have written the bytes.
+    /// - Nothing writes the bytes until this call returns.
     unsafe fn view_get(view: &View, key: &Self::Key, value: &mut Self::Value) -> u32;
 
     /// # Safety
     ///
-    /// As of [`Calls::view_get`].
+    /// As for [`Calls::view_get`].
     unsafe fn view_get_all(view: &View, keys: &[Self::Key], values: &mut [Self::Value], found: &mut [u8]) -> u32;
 
     /// # Safety
     ///
-    /// As of [`Calls::view_get`].
+    /// As for [`Calls::view_get`].
     unsafe fn view_len(view: &View) -> usize;
 }
 
 include!("shapes.rs");
 
-// How the key or value of a reference is passed.
+// How a key or value is passed to the archive, from a reference to it.
 macro_rules! by {
     (number $reference:expr) => {
         *$reference
@@ -112,31 +115,31 @@ macro_rules! calls {
             }
 
             fn open_at(bytes: &[u8], slot: &mut usize) -> u32 {
-                // SAFETY: of a slice, and a reference that is apart.
+                // SAFETY: the pointers are those of a slice and of a reference that does not overlap it.
                 unsafe { sys::$module::open_at(bytes.as_ptr(), bytes.len(), slot) }
             }
 
             fn check_at(bytes: &[u8], slot: &mut usize) -> u32 {
-                // SAFETY: of a slice, and a reference that is apart.
+                // SAFETY: the pointers are those of a slice and of a reference that does not overlap it.
                 unsafe { sys::$module::check_at(bytes.as_ptr(), bytes.len(), slot) }
             }
 
             fn check_within_at(bytes: &[u8], groups: usize, slot: &mut usize) -> u32 {
-                // SAFETY: of a slice, and a reference that is apart.
+                // SAFETY: the pointers are those of a slice and of a reference that does not overlap it.
                 unsafe { sys::$module::check_within_at(bytes.as_ptr(), bytes.len(), groups, slot) }
             }
 
             #[inline]
             fn sizes(bytes: &[u8], slots: &mut usize, max_items: &mut usize, percent: &mut u8) -> u32 {
-                // SAFETY: of a slice, and of references that are apart.
+                // SAFETY: the pointers are those of a slice and of references that do not overlap it.
                 unsafe { sys::$module::sizes(bytes.as_ptr(), bytes.len(), slots, max_items, percent) }
             }
 
-            // The value of a set is not passed.
+            // the value of a set is not passed
             #[allow(unused_variables)]
             #[inline]
             fn table_len(bytes: &[u8], len: &mut usize) -> u32 {
-                // SAFETY: of a slice, and a reference that is apart.
+                // SAFETY: the pointers are those of a slice and of a reference that does not overlap it.
                 unsafe { sys::$module::table_len(bytes.as_ptr(), bytes.len(), len) }
             }
 
@@ -150,7 +153,8 @@ macro_rules! calls {
                 former: &mut $value,
             ) -> u32 {
                 let (pointer, length) = (bytes.as_mut_ptr(), bytes.len());
-                // SAFETY: of a slice and a reference that are borrowed for writing, so apart from the key too.
+                // SAFETY: the pointers are those of a slice and a reference. Both are mutable borrows, so they overlap
+                // neither each other nor the key.
                 unsafe {
                     sys::$module::insert(pointer, length, by!($key_kind key), $(by!($value_kind &value),)? former)
                 }
@@ -163,7 +167,7 @@ macro_rules! calls {
                 values: &[$value],
                 accepted: &mut usize,
             ) -> u32 {
-                // SAFETY: of slices and a reference; those that are borrowed for writing are apart from all others.
+                // SAFETY: the pointers are those of slices and a reference. The mutable borrows overlap no other.
                 unsafe {
                     sys::$module::insert_all(
                         bytes.as_mut_ptr(), bytes.len(), keys.as_ptr(), keys.len(),
@@ -180,8 +184,8 @@ macro_rules! calls {
                 values: &mut [$value],
                 count: &mut usize,
             ) -> u32 {
-                // SAFETY: of slices and references; those that are borrowed for writing are apart from all others.
-                // Any bytes that the call writes are a valid key or value.
+                // SAFETY: the pointers are those of slices and references. The mutable borrows overlap no other. Any
+                // bytes that the call writes are a valid key or value.
                 unsafe {
                     sys::$module::walk(
                         bytes.as_ptr(), bytes.len(), cursor, keys.as_mut_ptr(), keys.len(),
@@ -192,7 +196,7 @@ macro_rules! calls {
 
             #[inline]
             fn insert_order(bytes: &[u8], out: &mut [usize]) -> u32 {
-                // SAFETY: of slices, of which the one for writing is apart from the other.
+                // SAFETY: the pointers are those of slices. The mutable one does not overlap the other.
                 unsafe {
                     sys::$module::insert_order(bytes.as_ptr(), bytes.len(), out.as_mut_ptr(), out.len())
                 }
@@ -200,7 +204,7 @@ macro_rules! calls {
 
             #[inline]
             fn grow(bytes: &[u8], out: &mut [u8], len: &mut usize) -> u32 {
-                // SAFETY: of slices and a reference; those that are borrowed for writing are apart from all others.
+                // SAFETY: the pointers are those of slices and a reference. The mutable borrows overlap no other.
                 unsafe {
                     sys::$module::grow(bytes.as_ptr(), bytes.len(), out.as_mut_ptr(), out.len(), len)
                 }
@@ -214,7 +218,7 @@ macro_rules! calls {
                 out: &mut [u8],
                 len: &mut usize,
             ) -> u32 {
-                // SAFETY: of slices and a reference; those that are borrowed for writing are apart from all others.
+                // SAFETY: the pointers are those of slices and a reference. The mutable borrows overlap no other.
                 unsafe {
                     sys::$module::build(
                         keys.as_ptr(), keys.len(), values.as_ptr(), values.len(), percent,
@@ -230,7 +234,7 @@ macro_rules! calls {
                 out: &mut [u8],
                 len: &mut usize,
             ) -> u32 {
-                // SAFETY: of slices and a reference; those that are borrowed for writing are apart from all others.
+                // SAFETY: the pointers are those of slices and a reference. The mutable borrows overlap no other.
                 unsafe {
                     sys::$module::build_growing(
                         keys.as_ptr(), keys.len(), values.as_ptr(), values.len(),
@@ -242,14 +246,14 @@ macro_rules! calls {
             #[inline]
             fn open_view(bytes: &[u8]) -> (u32, View) {
                 let mut view = View { bytes: bytes.as_ptr(), len: 0 };
-                // SAFETY: of a slice, and of a view that is apart from it.
+                // SAFETY: the pointers are those of a slice and of a view that does not overlap it.
                 let status = unsafe { sys::$module::open_view(bytes.as_ptr(), bytes.len(), &mut view) };
                 (status, view)
             }
 
             #[inline]
             unsafe fn view_get(view: &View, key: &$key, value: &mut $value) -> u32 {
-                // SAFETY: the safety section of this function is what the call requires; the rest are references.
+                // SAFETY: the caller ensures what the call requires of the view. The rest are references.
                 unsafe { sys::$module::view_get(view, by!($key_kind key), value) }
             }
 
@@ -260,8 +264,8 @@ macro_rules! calls {
                 values: &mut [$value],
                 found: &mut [u8],
             ) -> u32 {
-                // SAFETY: the safety section of this function is what the call requires; the rest are slices, and those
-                // for writing are apart from all others.
+                // SAFETY: the caller ensures what the call requires of the view. The rest are slices, and the mutable
+                // ones overlap no other.
                 unsafe {
                     sys::$module::view_get_all(
                         view, keys.as_ptr(), keys.len(), values.as_mut_ptr(), values.len(),
@@ -272,7 +276,7 @@ macro_rules! calls {
 
             #[inline]
             unsafe fn view_len(view: &View) -> usize {
-                // SAFETY: the safety section of this function is what the call requires.
+                // SAFETY: the caller ensures what the call requires of the view.
                 unsafe { sys::$module::view_len(view) }
             }
         }

@@ -1,4 +1,4 @@
-//! The pairs of a table, one after the other.
+//! Iteration over the pairs of a table.
 
 use std::fmt;
 use std::iter::FusedIterator;
@@ -8,28 +8,28 @@ use crate::error::{Error, OK};
 use crate::shape::Shape;
 use crate::table::Table;
 
-/// How many pairs are read at once.
+/// The number of pairs that are read at once.
 const BLOCK: usize = 64;
 
-/// The pairs of a table in slot order. It reads them in blocks, allocates nothing, and ends after the last slot,
-/// whatever the header's count.
+/// Iterates over the pairs of a table in slot order. It reads them in blocks, and allocates nothing. It ends after the
+/// last slot, and does not use the header's item count.
 #[derive(Clone)]
 pub struct Iter<'a, S: Shape> {
     bytes: &'a [u8],
     slots: usize,
     /// The slot to continue at.
     cursor: usize,
-    /// Whether there may be pairs from there on.
+    /// Whether there may be pairs from that slot on.
     more: bool,
     keys: [S::Key; BLOCK],
     values: [S::Value; BLOCK],
-    /// The indices of the block's pairs that were not returned yet.
+    /// The indices of the pairs in the block that were not returned yet.
     next: usize,
     end: usize,
 }
 
 impl<'a, S: Shape> Iter<'a, S> {
-    /// The pairs in the bytes of an opened table, which has so many slots.
+    /// Iterates over the pairs in the bytes of an opened table with `slots` slots.
     pub(crate) fn new(bytes: &'a [u8], slots: usize) -> Self {
         Iter {
             bytes,
@@ -43,7 +43,7 @@ impl<'a, S: Shape> Iter<'a, S> {
         }
     }
 
-    /// Reads the next block, once all pairs of this one were returned.
+    /// Reads the next block, after all pairs of this one were returned.
     #[cold]
     fn read(&mut self) {
         let mut count = 0;
@@ -73,8 +73,8 @@ impl<S: Shape> Iterator for Iter<'_, S> {
         Some((self.keys[place], self.values[place]))
     }
 
-    /// At least the rest of the block, at most that and one for each slot after it. It does not use the header's item
-    /// count, which need not be true.
+    /// The lower bound is the rest of the block. The upper bound adds one pair for each slot after the block. The
+    /// header's item count is not used, because it may be wrong.
     fn size_hint(&self) -> (usize, Option<usize>) {
         let read = self.end - self.next;
         let unread = if self.more { self.slots.saturating_sub(self.cursor) } else { 0 };

@@ -19,12 +19,12 @@ pub use shape::*;
 pub use table::{Sizes, Table, Walked, DEFAULT_GROUPS};
 pub use table_mut::{bytes_needed, empty_table, insert_growing, TableMut};
 
-/// The version of the archive that is linked: 10000 times the major number, 100 times the minor one, and the patch.
+/// Returns the version of the linked archive as one number: 1.2.3 is 10203.
 pub fn version() -> u32 {
     sys::odht_version()
 }
 
-/// So many zeros, or [`Error::Memory`] where the allocation fails.
+/// Returns `count` zeros, or [`Error::Memory`] if the allocation fails.
 fn zeros<T: Copy + Default>(count: usize) -> Result<Vec<T>, Error> {
     let mut all = Vec::new();
     all.try_reserve_exact(count).map_err(|_| Error::Memory)?;

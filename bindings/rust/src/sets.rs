@@ -1,4 +1,4 @@
-//! Shorter calls for tables without values.
+//! Shorter calls for sets, which have no values.
 
 use crate::builder::Builder;
 use crate::error::Error;
@@ -6,11 +6,11 @@ use crate::shape::Shape;
 use crate::table_mut::TableMut;
 
 impl<S: Shape<Value = ()>> TableMut<'_, S> {
-    /// Inserts a key into the set, and returns whether it is new there.
+    /// Inserts a key into the set, and returns whether it was new.
     ///
     /// # Errors
     ///
-    /// As of [`TableMut::insert`].
+    /// The errors of [`TableMut::insert`].
     ///
     /// ```
     /// # fn main() -> Result<(), odht_ffi::Error> {
@@ -27,12 +27,12 @@ impl<S: Shape<Value = ()>> TableMut<'_, S> {
         self.insert(key, ()).map(|former| former.is_none())
     }
 
-    /// Inserts keys into the set, in order, up to the first that does not fit. Returns how many were inserted, and
-    /// whether all were.
+    /// Inserts keys into the set in order, and stops at the first that does not fit. Returns the number of inserted
+    /// keys, and whether all were inserted.
     ///
     /// # Errors
     ///
-    /// [`Error::Full`] as of an insert: the keys before that one are in the set.
+    /// [`Error::Full`] if a key does not fit. The keys before it are in the set.
     pub fn add_all(&mut self, keys: &[S::Key]) -> (usize, Result<(), Error>) {
         // Values of no bytes need no allocation.
         self.insert_all(keys, &vec![(); keys.len()])

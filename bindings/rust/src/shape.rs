@@ -1,14 +1,14 @@
-//! The shapes of tables: what their keys and values are.
+//! The shapes of tables: their types of keys and values.
 
 use std::fmt::Debug;
 use std::hash::Hash;
 
 use crate::calls::Calls;
 
-/// What a table's keys and values are. Only types of this crate implement it.
+/// The types of a table's keys and values. Only types of this crate implement it.
 ///
-/// Numbers are stored in little-endian order, and hashed by `FxHashFn`. Keys of bytes are hashes already, as of
-/// contents: their last four bytes should vary, since these alone determine the probe order (`UnHashFn`).
+/// Numbers are stored in little-endian order, and hashed by `FxHashFn`. Keys of bytes are already hashes, for example
+/// of file contents. Their last four bytes must vary, because only these determine the probe order (`UnHashFn`).
 pub trait Shape: sealed::Sealed + Copy + Debug + Default + Eq + Hash + Send + Sync + 'static {
     /// The type of the keys.
     type Key: Copy + Debug + Default + Eq + Ord + Hash + Send + Sync + 'static;

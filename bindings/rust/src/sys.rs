@@ -1,21 +1,22 @@
-//! The calls of the archive by their symbols, one module for each shape of table, and `any` for dynamic tables.
-//! include/odht.h says what each does.
+//! The calls of the archive by their symbols: one module for each shape of table, and `any` for dynamic tables.
+//! include/odht.h describes each call.
 //!
-//! A slice is a pointer and, after it, a length: of bytes in bytes, of arrays in items. Each call returns a status, but
-//! `view_len` and `odht_version`.
+//! A slice is passed as a pointer and a length. The length of bytes is in bytes, and that of an array in items. Each
+//! call returns a status, except `view_len` and `odht_version`.
 //!
 //! # Safety
 //!
-//! What a caller of these functions ensures:
+//! The caller of these functions ensures:
 //!
-//! - No pointer is null, also where the length beside it is 0. Pointers to numbers are aligned; keys that are bytes,
-//!   and a table's bytes, may begin at any address.
-//! - A pointer and its length are a slice that may be read, and may be written where the pointer is `*mut`; a slice or
-//!   out-parameter that a call writes overlaps no other of that call.
-//! - Nobody writes the bytes while a call reads them, and nobody reads or writes them while a call writes them.
-//! - A view that is looked up in was written by `open_view` of the same shape or the same lengths, or by hand with bytes
-//!   that `open` of these has accepted. Its bytes are still there, and nothing has written their header since but
-//!   `insert`, `insert_all` and `init` of these, on exactly these bytes.
+//! - No pointer is null, not even with a length of 0. Pointers to numbers are aligned. Keys that are bytes, and the
+//!   bytes of a table, may begin at any address.
+//! - All of a slice can be read, and also written if its pointer is `*mut`. A slice or out-parameter that a call writes
+//!   overlaps no other of that call.
+//! - Nothing writes the bytes while a call reads them. Nothing else reads or writes them while a call writes them.
+//! - A view that is passed to a lookup was written by `open_view` of the same shape or the same lengths. Or the caller
+//!   made it from bytes that `open` of these has accepted.
+//! - The bytes of such a view are still there. Since then nothing has written their header except `insert`,
+//!   `insert_all` and `init` of the same shape or lengths, called with exactly these bytes.
 
 const _: () = assert!(size_of::<usize>() == 8, "the library is built for 64 bits");
 
@@ -25,13 +26,12 @@ const _: () = assert!(size_of::<usize>() == 8, "the library is built for 64 bits
 pub struct View {
     /// All bytes of the table.
     pub bytes: *const u8,
-    /// The number of these bytes.
+    /// The number of bytes.
     pub len: usize,
 }
 
 unsafe extern "C" {
-    /// The version of the archive: 10000 times the major number, 100 times the minor one, and the patch. It requires
-    /// nothing of its caller.
+    /// Returns the version of the archive as one number: 1.2.3 is 10203. It requires nothing of its caller.
     pub safe fn odht_version() -> u32;
 }
 
@@ -41,10 +41,13 @@ unsafe extern "C" {
 pub struct Layout {
     /// The length of each key, in bytes.
     pub key_len: u8,
-    /// The length of each value, in bytes; 0 of a set.
+    /// The length of each value, in bytes. For a set it is 0.
     pub value_len: u8,
-    /// 0 for the hash function of rustc-hash, for numbers that count up; 1 for that of keys that are hashes already, which
-    /// needs four bytes; 2 for XXH64, for all other keys, such as text.
+    /// The hash function:
+    ///
+    /// - 0 is that of rustc-hash, for numbers that count up.
+    /// - 1 is for keys that are already hashes, of at least four bytes.
+    /// - 2 is XXH64, for all other keys, such as text.
     pub hash: u8,
 }
 
@@ -52,7 +55,7 @@ pub mod any;
 
 include!("shapes.rs");
 
-// How a single key or value is passed.
+// The type of the parameter for a single key or value.
 macro_rules! passed {
     (number $type:ty) => { $type };
     (bytes $type:ty) => { *const $type };
@@ -67,10 +70,10 @@ macro_rules! declare {
         pub mod $module {
             use super::View;
 
-            // A set's values are `()`: the calls take pointers to these, and never read or write through them.
+            // The values of a set are `()`. The calls take pointers to them, and never read or write through these.
             #[allow(improper_ctypes)]
             unsafe extern "C" {
-                /// How many bytes a new table has.
+                /// Computes the length in bytes of a new table.
                 #[link_name = concat!("odht_", stringify!($module), "_bytes_needed")]
                 pub fn bytes_needed(max_items: usize, percent: u8, len: *mut usize) -> u32;
 
@@ -78,31 +81,32 @@ macro_rules! declare {
                 #[link_name = concat!("odht_", stringify!($module), "_init")]
                 pub fn init(bytes: *mut u8, bytes_len: usize, max_items: usize, percent: u8) -> u32;
 
-                /// Whether bytes can be used as a table.
+                /// Checks the header, the length and the first ten slots.
                 #[link_name = concat!("odht_", stringify!($module), "_open")]
                 pub fn open(bytes: *const u8, bytes_len: usize) -> u32;
 
-                /// Whether bytes are valid, to the last one.
+                /// Checks every byte.
                 #[link_name = concat!("odht_", stringify!($module), "_check")]
                 pub fn check(bytes: *const u8, bytes_len: usize) -> u32;
 
-                /// The same, and whether from each slot a free one comes within that many groups: no search reads more.
+                /// Checks every byte, and that from each slot a free slot comes within `groups` groups. No search reads
+                /// more.
                 #[link_name = concat!("odht_", stringify!($module), "_check_within")]
                 pub fn check_within(bytes: *const u8, bytes_len: usize, groups: usize) -> u32;
 
-                /// Whether bytes can be used as a table, and where the first error is.
+                /// Works like `open`, and writes the slot of the first error.
                 #[link_name = concat!("odht_", stringify!($module), "_open_at")]
                 pub fn open_at(bytes: *const u8, bytes_len: usize, slot: *mut usize) -> u32;
 
-                /// Whether bytes are valid, and where the first error is.
+                /// Works like `check`, and writes the slot of the first error.
                 #[link_name = concat!("odht_", stringify!($module), "_check_at")]
                 pub fn check_at(bytes: *const u8, bytes_len: usize, slot: *mut usize) -> u32;
 
-                /// The same with a bound of searches.
+                /// Works like `check_within`, and writes the slot of the first error.
                 #[link_name = concat!("odht_", stringify!($module), "_check_within_at")]
                 pub fn check_within_at(bytes: *const u8, bytes_len: usize, groups: usize, slot: *mut usize) -> u32;
 
-                /// What the header says of the slots.
+                /// Reads the slot count, the maximum number of items and the load factor in percent.
                 #[link_name = concat!("odht_", stringify!($module), "_sizes")]
                 pub fn sizes(
                     bytes: *const u8,
@@ -112,19 +116,19 @@ macro_rules! declare {
                     percent: *mut u8,
                 ) -> u32;
 
-                /// How many bytes the table at the front of the bytes has.
+                /// Computes the length in bytes of the table at the start of longer bytes.
                 #[link_name = concat!("odht_", stringify!($module), "_table_len")]
                 pub fn table_len(bytes: *const u8, bytes_len: usize, len: *mut usize) -> u32;
 
-                /// The header's item count.
+                /// Reads the item count in the header.
                 #[link_name = concat!("odht_", stringify!($module), "_len")]
                 pub fn len(bytes: *const u8, bytes_len: usize, count: *mut usize) -> u32;
 
-                /// The value of a key.
+                /// Looks up a key.
                 #[link_name = concat!("odht_", stringify!($module), "_get")]
                 pub fn get(bytes: *const u8, bytes_len: usize, key: passed!($key_kind $key), value: *mut $value) -> u32;
 
-                /// The values of many keys.
+                /// Looks up many keys.
                 #[link_name = concat!("odht_", stringify!($module), "_get_all")]
                 pub fn get_all(
                     bytes: *const u8,
@@ -137,7 +141,7 @@ macro_rules! declare {
                     found_len: usize,
                 ) -> u32;
 
-                /// Inserts a key with its value, or gives a key that is there another value.
+                /// Inserts a key with its value, or replaces the value of a present key.
                 #[link_name = concat!("odht_", stringify!($module), "_insert")]
                 pub fn insert(
                     bytes: *mut u8,
@@ -147,7 +151,7 @@ macro_rules! declare {
                     former: *mut $value,
                 ) -> u32;
 
-                /// Inserts keys with their values, up to the first that does not fit.
+                /// Inserts keys with their values in order, up to the first that does not fit.
                 #[link_name = concat!("odht_", stringify!($module), "_insert_all")]
                 pub fn insert_all(
                     bytes: *mut u8,
@@ -159,7 +163,7 @@ macro_rules! declare {
                     accepted: *mut usize,
                 ) -> u32;
 
-                /// The pairs from a slot on, in slot order.
+                /// Writes the pairs from a slot on, in slot order.
                 #[link_name = concat!("odht_", stringify!($module), "_walk")]
                 pub fn walk(
                     bytes: *const u8,
@@ -172,7 +176,7 @@ macro_rules! declare {
                     count: *mut usize,
                 ) -> u32;
 
-                /// The occupied slots in an order of inserts that makes the table.
+                /// Finds an order of inserts that makes the table.
                 #[link_name = concat!("odht_", stringify!($module), "_insert_order")]
                 pub fn insert_order(
                     bytes: *const u8,
@@ -181,7 +185,7 @@ macro_rules! declare {
                     out_len: usize,
                 ) -> u32;
 
-                /// The table that this one grows into at its maximum.
+                /// Writes a larger copy of the table.
                 #[link_name = concat!("odht_", stringify!($module), "_grow")]
                 pub fn grow(
                     bytes: *const u8,
@@ -191,7 +195,7 @@ macro_rules! declare {
                     len: *mut usize,
                 ) -> u32;
 
-                /// A table with slots for as many items as there are pairs.
+                /// Makes a table of these pairs, with slots for their number.
                 #[link_name = concat!("odht_", stringify!($module), "_build")]
                 pub fn build(
                     keys: *const $key,
@@ -204,7 +208,7 @@ macro_rules! declare {
                     len: *mut usize,
                 ) -> u32;
 
-                /// A table that grows as these pairs are inserted.
+                /// Makes a table that grows as these pairs are inserted.
                 #[link_name = concat!("odht_", stringify!($module), "_build_growing")]
                 pub fn build_growing(
                     keys: *const $key,
@@ -216,15 +220,15 @@ macro_rules! declare {
                     len: *mut usize,
                 ) -> u32;
 
-                /// Opens bytes, to look up in them often.
+                /// Opens bytes for many lookups.
                 #[link_name = concat!("odht_", stringify!($module), "_open_view")]
                 pub fn open_view(bytes: *const u8, bytes_len: usize, view: *mut View) -> u32;
 
-                /// The value of a key of an opened table.
+                /// Looks up a key in an opened table.
                 #[link_name = concat!("odht_", stringify!($module), "_view_get")]
                 pub fn view_get(view: *const View, key: passed!($key_kind $key), value: *mut $value) -> u32;
 
-                /// The values of many keys of an opened table.
+                /// Looks up many keys in an opened table.
                 #[link_name = concat!("odht_", stringify!($module), "_view_get_all")]
                 pub fn view_get_all(
                     view: *const View,
@@ -236,7 +240,7 @@ macro_rules! declare {
                     found_len: usize,
                 ) -> u32;
 
-                /// The item count in the header of an opened table.
+                /// Returns the item count in the header of an opened table.
                 #[link_name = concat!("odht_", stringify!($module), "_view_len")]
                 pub fn view_len(view: *const View) -> usize;
             }

@@ -1,4 +1,4 @@
-//! Tables that are read.
+//! Tables to look up in.
 
 use std::fmt;
 use std::marker::PhantomData;
@@ -10,22 +10,22 @@ use crate::shape::Shape;
 use crate::sys::View;
 use crate::zeros;
 
-/// A bound of searches, in groups of sixteen control bytes, that tables of keys whose hashes vary keep.
+/// A bound for searches, in groups of sixteen control bytes. Tables of keys whose hashes vary stay within it.
 pub const DEFAULT_GROUPS: usize = 128;
 
-/// A table in borrowed bytes, to look up in: its header and its length are checked once.
+/// A table in borrowed bytes, to look up in. Its header and its length are checked once, when it is opened.
 ///
-/// It copies nothing and has nothing to free. The bytes may begin at any address, as those of a mapped file or of a
-/// part of one. (Whoever maps a file as a slice ensures that no program writes the file meanwhile.) Any number of
+/// It copies nothing, and there is nothing to free. The bytes may begin at any address, such as those of a mapped file
+/// or of a part of one. If you map a file as a slice, ensure that no program writes the file meanwhile. Any number of
 /// threads may read one table.
 ///
-/// The comments on results hold for valid bytes: those that this library has made, and all others that the whole check
-/// accepts ([`Table::checked`]). [`Table::open`] does not find out whether bytes are valid, since it reads ten slots.
-/// On other bytes that it accepts every call is safe, and ends, but [`Table::get`] may miss a key or find a value that
-/// is stored beside it in a free slot, and [`Table::len`] is the header's count. docs/FORMAT.md of the repository has
-/// the details.
+/// The comments on results are true for valid bytes: those that this library made, and all others that the whole check
+/// accepts ([`Table::checked`]). [`Table::open`] reads only ten slots, so it can accept bytes that are not valid. On
+/// these bytes every call is safe and returns. But [`Table::get`] may miss a key, or return a value that is stored with
+/// the key in a free slot, and [`Table::len`] may return any number. docs/FORMAT.md of the repository has the details
+/// under "Accepted but invalid bytes".
 ///
-/// While a table exists nobody can write its bytes:
+/// While a table exists, the borrow checker rejects writes to its bytes:
 ///
 /// ```compile_fail,E0506
 /// # let mut bytes = odht_ffi::Builder::<odht_ffi::U64U32>::new(87).build().unwrap();
@@ -40,8 +40,8 @@ pub struct Table<'a, S: Shape> {
     shape: PhantomData<S>,
 }
 
-// SAFETY: the pointer of the view is that of `bytes`, which nobody writes while the table exists. So a table is no more
-// than the slice, which may be sent to other threads and used by many.
+// SAFETY: the pointer of the view is that of `bytes`, which nothing writes while the table exists. So a table is like
+// the slice, which may be sent to other threads and used by many.
 unsafe impl<S: Shape> Send for Table<'_, S> {}
 // SAFETY: as above.
 unsafe impl<S: Shape> Sync for Table<'_, S> {}
@@ -54,28 +54,28 @@ impl<S: Shape> Clone for Table<'_, S> {
 
 impl<S: Shape> Copy for Table<'_, S> {}
 
-/// The numbers in the header of a table that are about its slots.
+/// The slot count, the maximum and the load factor of a table.
 #[derive(Clone, Copy, Debug, PartialEq, Eq)]
 pub struct Sizes {
-    /// How many slots there are.
+    /// The number of slots.
     pub slots: usize,
-    /// How many items the slots take at this load factor.
+    /// The maximum number of items for this slot count and load factor.
     pub max_items: usize,
-    /// The load factor in percent, rounded down: it may be one below what the table was made with.
+    /// The load factor in percent, rounded down. It may be one less than the percentage that the table was made with.
     pub percent: u8,
 }
 
-/// What a step of [`Table::walk`] has written.
+/// The result of one call of [`Table::walk`].
 #[derive(Clone, Copy, Debug, PartialEq, Eq)]
 pub struct Walked {
-    /// How many pairs, at the front of the slices.
+    /// The number of pairs written, at the start of the slices.
     pub count: usize,
-    /// Whether the slices are full and there are more pairs.
+    /// Whether there are more pairs, because the slices were full.
     pub more: bool,
 }
 
 impl<'a, S: Shape> Table<'a, S> {
-    /// Opens bytes: checks the header, the length and the first ten slots. The cost is the same for every table.
+    /// Opens bytes: checks the header, the length and the first ten slots, in constant time.
     ///
     /// # Errors
     ///
@@ -86,9 +86,9 @@ impl<'a, S: Shape> Table<'a, S> {
         Error::unless_ok(status, Table { view, bytes, shape: PhantomData })
     }
 
-    /// Opens bytes that are valid, to the last one: makes the whole check, which goes over all slots. It is for bytes
-    /// of unknown origin. For tables whose keys vary it takes about as long as looking each key up; where many keys
-    /// have one hash the time grows as the square of the number of slots, so bound the length of untrusted bytes.
+    /// Opens bytes after the whole check, which reads every byte and accepts only valid ones. If the keys vary, it
+    /// takes about the time of looking up each key. If many keys have one hash, the time grows with the square of the
+    /// number of slots. For untrusted bytes use [`Table::checked_within`].
     ///
     /// # Errors
     ///
@@ -98,14 +98,15 @@ impl<'a, S: Shape> Table<'a, S> {
         Table::open(bytes)
     }
 
-    /// [`Table::checked`] for untrusted bytes, whose time nobody can make long: also checks that in the probe order
-    /// from each slot a free one comes within `groups` groups of sixteen control bytes. Then no search, of a present or
-    /// an absent key, reads more. [`DEFAULT_GROUPS`] is a bound that tables of keys whose hashes vary keep. For `s`
-    /// slots it reads at most `2 * s * groups` groups.
+    /// Works like [`Table::checked`] in bounded time, for untrusted bytes.
+    ///
+    /// It also checks that in the probe order from each slot a free slot comes within `groups` groups of sixteen
+    /// control bytes. Then no search, for a present or an absent key, reads more groups. Tables of keys whose hashes
+    /// vary stay within [`DEFAULT_GROUPS`]. For `s` slots the check reads at most `2 * s * groups` groups.
     ///
     /// # Errors
     ///
-    /// As of [`Table::checked`], or [`Error::SearchTooLong`], which comes before [`Error::Unreachable`] alone.
+    /// The errors of [`Table::checked`], or [`Error::SearchTooLong`], which comes right before [`Error::Unreachable`].
     ///
     /// [`DEFAULT_GROUPS`]: crate::DEFAULT_GROUPS
     pub fn checked_within(bytes: &'a [u8], groups: usize) -> Result<Self, Error> {
@@ -113,7 +114,7 @@ impl<'a, S: Shape> Table<'a, S> {
         Table::open(bytes)
     }
 
-    /// Whether [`Table::open`] opens the bytes, and where the first error is.
+    /// Checks what [`Table::open`] checks, and returns the first error with its slot.
     ///
     /// # Errors
     ///
@@ -124,7 +125,7 @@ impl<'a, S: Shape> Table<'a, S> {
         ErrorAt::unless_ok(status, slot)
     }
 
-    /// Whether bytes are valid, and where the first error is. The cost is that of [`Table::checked`].
+    /// Makes the whole check, and returns the first error with its slot. The cost is that of [`Table::checked`].
     ///
     /// ```
     /// # use odht_ffi::{Builder, Error, ErrorAt, Table, U64U32};
@@ -144,7 +145,7 @@ impl<'a, S: Shape> Table<'a, S> {
         ErrorAt::unless_ok(status, slot)
     }
 
-    /// [`Table::check_at`] with a bound of searches, in groups: of untrusted bytes, as [`Table::checked_within`].
+    /// Works like [`Table::check_at`] with the bound of [`Table::checked_within`], for untrusted bytes.
     ///
     /// # Errors
     ///
@@ -155,21 +156,22 @@ impl<'a, S: Shape> Table<'a, S> {
         ErrorAt::unless_ok(status, slot)
     }
 
-    /// How many bytes the table at the front of `bytes` has, by its header. What follows the table is not looked at, nor
-    /// is any slot, so `bytes` may be the rest of a file. [`Table::open`] takes exactly these bytes.
+    /// Returns the length in bytes of the table at the start of `bytes`, which its header determines. `bytes` may be
+    /// the rest of a file: the call reads no slot, and nothing after the table. Pass exactly these bytes to
+    /// [`Table::open`].
     ///
     /// # Errors
     ///
-    /// The first of [`Error::TooShort`] to [`Error::WrongLength`] (1 to 7) that applies; `WrongLength` only where there
-    /// are fewer bytes than the table has.
+    /// The first of [`Error::TooShort`] to [`Error::WrongLength`] (1 to 7) that applies. `WrongLength` only if there
+    /// are fewer bytes than the table needs.
     pub fn table_len(bytes: &[u8]) -> Result<usize, Error> {
         let mut len = 0;
         Error::unless_ok(S::Calls::table_len(bytes, &mut len), ())?;
         Ok(len)
     }
 
-    /// Opens the table at the front of longer bytes, such as the rest of a file, as [`Table::open`] does: also returns
-    /// the bytes behind it, which are not looked at. The cost is the same for every table.
+    /// Opens the table at the start of longer bytes, such as the rest of a file, as [`Table::open`] does. It also
+    /// returns the bytes after the table, which it does not read. It takes constant time.
     ///
     /// ```
     /// # use odht_ffi::{Builder, Table, U64U32};
@@ -182,7 +184,7 @@ impl<'a, S: Shape> Table<'a, S> {
     ///
     /// # Errors
     ///
-    /// As of [`Table::open`], but [`Error::WrongLength`] only where there are fewer bytes than the table has.
+    /// The errors of [`Table::open`], but [`Error::WrongLength`] only if there are fewer bytes than the table needs.
     #[inline]
     pub fn open_prefix(bytes: &'a [u8]) -> Result<(Self, &'a [u8]), Error> {
         let (table, rest) = bytes.split_at(Table::<S>::table_len(bytes)?);
@@ -191,8 +193,8 @@ impl<'a, S: Shape> Table<'a, S> {
 
     /// # Safety
     ///
-    /// `open` or `init` of this shape has returned `OK` for the bytes, and nothing but inserts of this shape has
-    /// written them since.
+    /// `open` or `init` of this shape has returned `OK` for the bytes. Since then only inserts of this shape have
+    /// written them.
     pub(crate) unsafe fn of_accepted(bytes: &'a [u8]) -> Self {
         let view = View { bytes: bytes.as_ptr(), len: bytes.len() };
         Table { view, bytes, shape: PhantomData }
@@ -202,30 +204,30 @@ impl<'a, S: Shape> Table<'a, S> {
     ///
     /// # Errors
     ///
-    /// As of [`Table::checked`].
+    /// The errors of [`Table::checked`].
     pub fn check(&self) -> Result<(), Error> {
         Error::unless_ok(S::Calls::check(self.bytes), ())
     }
 
-    /// Makes the whole check of the opened bytes with a bound of searches, in groups.
+    /// Makes the whole check of the opened bytes with a bound for searches, in groups.
     ///
     /// # Errors
     ///
-    /// As of [`Table::checked_within`].
+    /// The errors of [`Table::checked_within`].
     pub fn check_within(&self, groups: usize) -> Result<(), Error> {
         Error::unless_ok(S::Calls::check_within(self.bytes, groups), ())
     }
 
-    /// The bytes of the table.
+    /// Returns the bytes of the table.
     pub fn bytes(&self) -> &'a [u8] {
         self.bytes
     }
 
-    /// The value of a key where the key is there.
+    /// Returns the value of a key, or `None` if the key is absent.
     #[inline]
     pub fn get(&self, key: &S::Key) -> Option<S::Value> {
         let mut value = S::Value::default();
-        // SAFETY: the view was opened, and `bytes` is borrowed since, so that nobody has written or writes them.
+        // SAFETY: the view was opened. `bytes` is borrowed since then, so nothing writes them.
         match unsafe { S::Calls::view_get(&self.view, key, &mut value) } {
             OK => Some(value),
             status => {
@@ -235,14 +237,14 @@ impl<'a, S: Shape> Table<'a, S> {
         }
     }
 
-    /// Whether a key is there.
+    /// Returns whether a key is present.
     #[inline]
     pub fn contains(&self, key: &S::Key) -> bool {
         self.get(key).is_some()
     }
 
-    /// The value of each key, in their order. It is faster than as many calls of [`Table::get`], and allocates the
-    /// result.
+    /// Returns the value of each key, in the order of the keys. It is faster than a call of [`Table::get`] for each
+    /// key. It allocates the result.
     pub fn get_all(&self, keys: &[S::Key]) -> Vec<Option<S::Value>> {
         let mut values = vec![S::Value::default(); keys.len()];
         let mut found = vec![0; keys.len()];
@@ -252,35 +254,35 @@ impl<'a, S: Shape> Table<'a, S> {
         pairs.map(|(found, value)| (*found == 1).then_some(value)).collect()
     }
 
-    /// Whether each key is there, in their order.
+    /// Returns whether each key is present, in the order of the keys.
     pub fn contains_all(&self, keys: &[S::Key]) -> Vec<bool> {
         self.get_all(keys).iter().map(Option::is_some).collect()
     }
 
-    /// As [`Table::get_all`], and allocates nothing: at each index `found` becomes 1 and `values` the value, or `found`
-    /// becomes 0 and `values` is unchanged.
+    /// Works like [`Table::get_all`], but allocates nothing. For a present key, `found` becomes 1 and `values` the
+    /// value at the key's index. For an absent key, `found` becomes 0 and `values` is unchanged there.
     ///
     /// # Errors
     ///
-    /// [`Error::BadLengths`] where the slices are not equally long; then both are unchanged.
+    /// [`Error::BadLengths`] if the slices have different lengths. Then `values` and `found` are unchanged.
     pub fn get_all_into(&self, keys: &[S::Key], values: &mut [S::Value], found: &mut [u8]) -> Result<(), Error> {
-        // SAFETY: the view was opened, and `bytes` is borrowed since, so that nobody has written or writes them.
+        // SAFETY: the view was opened. `bytes` is borrowed since then, so nothing writes them.
         Error::unless_ok(unsafe { S::Calls::view_get_all(&self.view, keys, values, found) }, ())
     }
 
-    /// The header's item count. For bytes that are not valid it may be any number: do not allocate by it.
+    /// Returns the item count in the header. If the bytes are not valid it may be any number: do not allocate by it.
     #[inline]
     pub fn len(&self) -> usize {
-        // SAFETY: the view was opened, and `bytes` is borrowed since, so that nobody has written or writes them.
+        // SAFETY: the view was opened. `bytes` is borrowed since then, so nothing writes them.
         unsafe { S::Calls::view_len(&self.view) }
     }
 
-    /// Whether the header's item count is 0.
+    /// Returns whether the item count in the header is 0.
     pub fn is_empty(&self) -> bool {
         self.len() == 0
     }
 
-    /// The numbers in the header that are about the slots.
+    /// Returns the slot count, the maximum number of items, and the load factor in percent.
     pub fn sizes(&self) -> Sizes {
         let mut sizes = Sizes { slots: 0, max_items: 0, percent: 0 };
         let Sizes { slots, max_items, percent } = &mut sizes;
@@ -289,22 +291,22 @@ impl<'a, S: Shape> Table<'a, S> {
         sizes
     }
 
-    /// The pairs in slot order: one for each occupied slot, whatever the header's count.
+    /// Iterates over the pairs in slot order, one for each occupied slot. It does not use the header's item count.
     pub fn iter(&self) -> Iter<'a, S> {
         Iter::new(self.bytes, self.sizes().slots)
     }
 
-    /// The keys in slot order, as of [`Table::iter`].
+    /// Iterates over the keys in slot order, as [`Table::iter`] does over the pairs.
     pub fn keys(&self) -> impl Iterator<Item = S::Key> + 'a {
         self.iter().map(|(key, _)| key)
     }
 
-    /// Writes the pairs from slot `cursor` on, in slot order, to the front of the slices, and moves `cursor` to the
-    /// slot to continue at. It is 0 at first. The rest of the slices is unchanged.
+    /// Writes the pairs from slot `cursor` on, in slot order, to the start of the slices. Moves `cursor` to the slot to
+    /// continue at. Start with a `cursor` of 0. The rest of the slices is unchanged.
     ///
     /// # Errors
     ///
-    /// [`Error::BadLengths`] where the slices are not equally long; then nothing is written.
+    /// [`Error::BadLengths`] if the slices have different lengths. Then nothing is written.
     pub fn walk(&self, cursor: &mut usize, keys: &mut [S::Key], values: &mut [S::Value]) -> Result<Walked, Error> {
         let mut count = 0;
         let status = S::Calls::walk(self.bytes, cursor, keys, values, &mut count);
@@ -315,28 +317,28 @@ impl<'a, S: Shape> Table<'a, S> {
         }
     }
 
-    /// An order of inserts that makes exactly these bytes, from an empty table of as many slots and the same load
-    /// factor: the occupied slots, each once. `None` where no list of inserts makes them. It makes the whole check
-    /// first.
+    /// Finds an order of inserts that makes exactly these bytes, from an empty table of the same slot count and load
+    /// factor. Returns the occupied slots, each once, in such an order, or `None` if no list of inserts makes the
+    /// bytes. It makes the whole check first.
     ///
     /// # Errors
     ///
-    /// As of [`Table::checked`]; [`Error::Memory`].
+    /// The errors of [`Table::checked`], or [`Error::Memory`].
     pub fn insert_order(&self) -> Result<Option<Vec<usize>>, Error> {
-        // Where the header's count exceeds the slots the check returns an error: nothing is allocated by that count.
+        // If the header's count exceeds the slots, the check returns an error, and nothing of that size is allocated.
         let count = self.len();
         let places = if count <= self.sizes().slots { count } else { 0 };
         let mut order = zeros(places)?;
         Ok(self.insert_order_into(&mut order)?.then_some(order))
     }
 
-    /// As [`Table::insert_order`], and allocates nothing: whether there is an order, which is then in `out`. Where
-    /// there is none, what `out` holds is unspecified.
+    /// Works like [`Table::insert_order`], but allocates nothing. Writes the order to `out`, and returns whether there
+    /// is one. If there is none, the content of `out` is unspecified.
     ///
     /// # Errors
     ///
-    /// As of [`Table::checked`]; [`Error::BadLengths`] where the bytes are valid and the length of `out` is not the
-    /// number of items. Then `out` is unchanged.
+    /// The errors of [`Table::checked`], or [`Error::BadLengths`] if the bytes are valid and the length of `out` is not
+    /// the number of items. Then `out` is unchanged.
     pub fn insert_order_into(&self, out: &mut [usize]) -> Result<bool, Error> {
         match S::Calls::insert_order(self.bytes, out) {
             UNMADE => Ok(false),
@@ -344,27 +346,28 @@ impl<'a, S: Shape> Table<'a, S> {
         }
     }
 
-    /// The table that this one grows into at its maximum: its pairs, placed in slot order in a table for twice as many
-    /// items, and for one at least, at the same load factor.
+    /// Returns the bytes of a larger copy of the table, for twice the number of items and at least one. The load factor
+    /// is the same, and the pairs are placed in slot order.
     ///
     /// # Errors
     ///
-    /// [`Error::LoadFactorTooSmall`]; [`Error::TooManyItems`] where the header's count exceeds its maximum;
-    /// [`Error::Capacity`], [`Error::Memory`].
+    /// [`Error::LoadFactorTooSmall`], [`Error::Capacity`] or [`Error::Memory`]. [`Error::TooManyItems`] if the header's
+    /// item count exceeds the maximum.
     pub fn grown(&self) -> Result<Vec<u8>, Error> {
         let mut larger = zeros(self.grown_len()?)?;
         self.grow_into(&mut larger)?;
         Ok(larger)
     }
 
-    /// The length in bytes of the grown table: about twice that of this one, where its maximum is at least one.
+    /// Returns the length in bytes of the grown table. For a table at its maximum this is about twice its own length,
+    /// if the maximum is at least one.
     ///
     /// # Errors
     ///
-    /// As of [`Table::grown`], but [`Error::Memory`].
+    /// The errors of [`Table::grown`], except [`Error::Memory`].
     pub fn grown_len(&self) -> Result<usize, Error> {
         if self.len() > self.sizes().max_items {
-            // So nothing is allocated by a number that is not true.
+            // Otherwise a wrong number would decide how much is allocated.
             return Err(Error::TooManyItems);
         }
         let mut len = 0;
@@ -374,11 +377,11 @@ impl<'a, S: Shape> Table<'a, S> {
         }
     }
 
-    /// Writes the grown table to the front of `out`, the rest of which is unchanged, and returns its length in bytes.
+    /// Writes the grown table to the start of `out`, and returns its length in bytes. The rest of `out` is unchanged.
     ///
     /// # Errors
     ///
-    /// [`Error::TooSmall`] where `out` is shorter than [`Table::grown_len`]; [`Error::LoadFactorTooSmall`],
+    /// [`Error::TooSmall`] if `out` is shorter than the grown table, [`Error::LoadFactorTooSmall`] or
     /// [`Error::Capacity`]. Then `out` is unchanged.
     pub fn grow_into(&self, out: &mut [u8]) -> Result<usize, Error> {
         let mut len = 0;

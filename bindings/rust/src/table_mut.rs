@@ -1,4 +1,4 @@
-//! Tables that are written.
+//! Tables to insert into.
 
 use std::fmt;
 use std::marker::PhantomData;
@@ -11,8 +11,8 @@ use crate::zeros;
 
 /// A table in borrowed bytes, to insert into. It cannot grow there: [`TableMut::grow_into`] makes a larger one.
 ///
-/// What [`Table`] says of bytes that are not valid holds here too: an insert into them is safe, and changes one value
-/// beside an equal key, or adds one entry below the header's maximum, or returns [`Error::Full`].
+/// As for [`Table`], the bytes need not be valid. An insert into invalid bytes is safe. It changes one value that is
+/// stored with an equal key, or adds one entry if the item count is below the maximum, or returns [`Error::Full`].
 pub struct TableMut<'a, S: Shape> {
     /// Bytes that `open` has accepted or `init` has written, and that only inserts have written since.
     bytes: &'a mut [u8],
@@ -20,12 +20,12 @@ pub struct TableMut<'a, S: Shape> {
 }
 
 impl<'a, S: Shape> TableMut<'a, S> {
-    /// Makes an empty table in the bytes, whatever they hold. They have to be as many as [`crate::bytes_needed`]
-    /// returns for the same numbers.
+    /// Makes an empty table in the bytes. Their length must be what [`crate::bytes_needed`] returns for the same
+    /// arguments. Their former content does not matter.
     ///
     /// # Errors
     ///
-    /// [`Error::BadPercent`]; [`Error::Capacity`]; [`Error::InitLength`] where there are more bytes or fewer. Then they
+    /// [`Error::BadPercent`], [`Error::Capacity`], or [`Error::InitLength`] if the bytes have another length. Then they
     /// are unchanged.
     pub fn init(bytes: &'a mut [u8], max_items: usize, percent: u8) -> Result<Self, Error> {
         let status = S::Calls::init(bytes, max_items, percent);
@@ -42,7 +42,7 @@ impl<'a, S: Shape> TableMut<'a, S> {
         Error::unless_ok(status, TableMut { bytes, shape: PhantomData })
     }
 
-    /// Opens bytes that are valid, to the last one, as [`Table::checked`] does.
+    /// Opens bytes after the whole check, as [`Table::checked`] does.
     ///
     /// # Errors
     ///
@@ -52,22 +52,23 @@ impl<'a, S: Shape> TableMut<'a, S> {
         TableMut::open(bytes)
     }
 
-    /// [`TableMut::checked`] with a bound of searches, in groups, as [`Table::checked_within`] does. Inserts may
-    /// lengthen searches: [`Table::check_within`] tells whether the bound still holds.
+    /// Opens untrusted bytes after the whole check in bounded time, as [`Table::checked_within`] does. Inserts may
+    /// lengthen searches: [`Table::check_within`] checks the bound again.
     ///
     /// # Errors
     ///
-    /// As of [`Table::checked_within`].
+    /// The errors of [`Table::checked_within`].
     pub fn checked_within(bytes: &'a mut [u8], groups: usize) -> Result<Self, Error> {
         Error::unless_ok(S::Calls::check_within(bytes, groups), ())?;
         TableMut::open(bytes)
     }
 
-    /// Gives a key this value, and returns the value that it had, or `None` where it is new.
+    /// Inserts a key with its value, or replaces the value of a present key. Returns the former value, or `None` if the
+    /// key is new.
     ///
     /// # Errors
     ///
-    /// [`Error::Full`] where the key is new and the table is at its maximum. Then nothing changes.
+    /// [`Error::Full`] if the key is new and the table is at its maximum. Then nothing is changed.
     #[inline]
     pub fn insert(&mut self, key: &S::Key, value: S::Value) -> Result<Option<S::Value>, Error> {
         let mut former = S::Value::default();
@@ -77,38 +78,40 @@ impl<'a, S: Shape> TableMut<'a, S> {
         }
     }
 
-    /// Gives each key the value at its index, in order, up to the first pair that does not fit. Returns how many were
-    /// inserted, and whether all were. It is faster than as many calls of [`TableMut::insert`].
+    /// Inserts each key with the value at its index, in order, and stops at the first pair that does not fit. Returns
+    /// the number of inserted pairs, and whether all were inserted. It is faster than a call of [`TableMut::insert`]
+    /// for each pair.
     ///
     /// # Errors
     ///
-    /// [`Error::Full`] as of an insert: the pairs before that one are in the table. [`Error::BadLengths`] where there
-    /// are more keys than values, or fewer; then nothing changes.
+    /// [`Error::Full`] if a pair does not fit. The pairs before it are in the table. [`Error::BadLengths`] if the
+    /// numbers of keys and values differ. Then nothing is changed.
     pub fn insert_all(&mut self, keys: &[S::Key], values: &[S::Value]) -> (usize, Result<(), Error>) {
         let mut accepted = 0;
         let status = S::Calls::insert_all(self.bytes, keys, values, &mut accepted);
         (accepted, Error::unless_ok(status, ()))
     }
 
-    /// The table, to look up in.
+    /// Returns the table, to look up in.
     #[inline]
     pub fn as_table(&self) -> Table<'_, S> {
-        // SAFETY: the bytes were accepted when this was made. They are borrowed for writing since, and only inserts of
-        // this write them.
+        // SAFETY: the bytes were accepted when this was made. Since then this has borrowed them mutably, and only its
+        // inserts write them.
         unsafe { Table::of_accepted(self.bytes) }
     }
 
-    /// The table, to look up in for as long as the bytes are borrowed.
+    /// Returns the table, to look up in while the bytes are borrowed.
     pub fn into_table(self) -> Table<'a, S> {
         // SAFETY: as above.
         unsafe { Table::of_accepted(self.bytes) }
     }
 
-    /// Makes the table that this one grows into, as [`Table::grown`] does, in `larger`, and replaces what that holds.
+    /// Makes a larger copy of the table, as [`Table::grown`] does, and stores its bytes in `larger`. The former content
+    /// of `larger` is dropped.
     ///
     /// # Errors
     ///
-    /// As of [`Table::grown`]; where these bytes are not valid also [`Error::NonZeroEmpty`] or
+    /// The errors of [`Table::grown`]. If the bytes of this table are not valid, also [`Error::NonZeroEmpty`] or
     /// [`Error::ControlMismatch`]. Then `larger` is unchanged.
     pub fn grow_into<'b>(&self, larger: &'b mut Vec<u8>) -> Result<TableMut<'b, S>, Error> {
         let grown = self.as_table().grown()?;
@@ -127,36 +130,38 @@ impl<S: Shape> fmt::Debug for TableMut<'_, S> {
     }
 }
 
-/// The length in bytes of a table for that many items, with at most that many percent of its slots occupied, 1 to 100.
+/// Returns the length in bytes of a table for `max_items` items. At most `percent` percent of its slots may be
+/// occupied, 1 to 100.
 ///
 /// # Errors
 ///
-/// [`Error::BadPercent`]; [`Error::Capacity`] where no slot count is enough, or the length does not fit `usize`.
+/// [`Error::BadPercent`], or [`Error::Capacity`] if no slot count is large enough or the length does not fit `usize`.
 pub fn bytes_needed<S: Shape>(max_items: usize, percent: u8) -> Result<usize, Error> {
     let mut len = 0;
     let status = S::Calls::bytes_needed(max_items, percent, &mut len);
     Error::unless_ok(status, len)
 }
 
-/// The bytes of an empty table for that many items, with at most that many percent of its slots occupied, 1 to 100.
+/// Returns the bytes of an empty table for `max_items` items. At most `percent` percent of its slots may be occupied,
+/// 1 to 100.
 ///
 /// # Errors
 ///
-/// As of [`bytes_needed`]; [`Error::Memory`].
+/// The errors of [`bytes_needed`], or [`Error::Memory`].
 pub fn empty_table<S: Shape>(max_items: usize, percent: u8) -> Result<Vec<u8>, Error> {
     let mut bytes = zeros(bytes_needed::<S>(max_items, percent)?)?;
     TableMut::<S>::init(&mut bytes, max_items, percent)?;
     Ok(bytes)
 }
 
-/// Gives a key this value in a table that grows where it has to: the bytes are then those of a larger table. Returns
-/// the value that the key had.
+/// Inserts a key with its value, or replaces the value of a present key, and grows the table if it is full. After a
+/// growth, `bytes` holds the larger table. Returns the former value, or `None` if the key is new.
 ///
 /// It opens the bytes on each call. For many inserts in a row, keep a [`TableMut`] until [`Error::Full`].
 ///
 /// # Errors
 ///
-/// As of [`TableMut::open`] and [`Table::grown`]; where the bytes are not valid also [`Error::Full`]. Then they
+/// The errors of [`TableMut::open`] and [`Table::grown`]. If the bytes are not valid, also [`Error::Full`]. Then they
 /// are unchanged.
 ///
 /// ```

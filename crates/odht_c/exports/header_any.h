@@ -1,23 +1,25 @@
 
 /* ---- Dynamic tables ----
  *
- * odht_any_* take the lengths of keys and values, and the hash function, as a layout. Keys and values are pointers to
- * bytes with a length. These calls read and write the same bytes as the calls of a shape with the same lengths, and
- * return the same. The comment on odht_S_NAME above is also the comment on odht_any_NAME. A view from one can be used
- * by the other if the lengths are the same. For many lookups the calls of a shape are faster.
+ * odht_any_* are for tables whose lengths of keys and values you choose at run time. You pass these lengths, and the
+ * hash function, as a layout. Each key and value is a pointer to bytes, with a length.
+ *
+ * The comment on odht_S_NAME above is also the comment on odht_any_NAME. With the lengths and the hash function of a
+ * shape, these calls read and write the same bytes as the calls of the shape, and return the same. A view from one can
+ * be used by the other if the lengths are the same. For many lookups the calls of a shape are faster.
+ *
+ * All lengths of keys and values are in bytes here. This includes the lengths of arrays, in which items follow each
+ * other without gaps. A layout is never NULL. In a set, values have no bytes: pass any pointer and 0 for them, or NULL
+ * if ODHT_TAKES_NULL is 1.
  *
  * Two statuses come before all others, and with both nothing is written. odht_any_layout_of and odht_any_view_len
  * take no layout and do not return them.
  *
  * - BAD_LAYOUT: no hash function has the number in the layout, or the keys are shorter than it needs. ODHT_HASH_UN
  *   needs four bytes.
- * - BAD_LENGTHS: a key or a value has another length than the layout. In arrays, keys_len is not count times the
- *   length of a key, values_len is not count times that of a value, or found_len is not count. In a walk, room takes
- *   the place of count.
- *
- * All lengths of keys and values are in bytes here, also those of arrays, which hold items one after the other. A
- * layout is never NULL. In a set, values have no bytes: pass any pointer and 0 for them, or NULL if ODHT_TAKES_NULL
- * is 1.
+ * - BAD_LENGTHS: the length of a key or a value is not the one in the layout. For arrays: keys_len is not count times
+ *   the length of a key, values_len is not count times the length of a value, or found_len is not count. odht_any_walk
+ *   compares with room instead of count.
  */
 typedef struct odht_layout {
     uint8_t key_len;   /* of each key, in bytes */
@@ -26,7 +28,7 @@ typedef struct odht_layout {
 } odht_layout;
 
 /* The hash functions: FxHasher of rustc-hash; the last four bytes of a key; the low 32 bits of XXH64 with seed 0.
-   "Which hash function for which keys", above, helps to choose. The bytes of a table do not name it. */
+   "Which hash function for which keys" above helps to choose. A table does not store which one it uses. */
 #define ODHT_HASH_FX 0
 #define ODHT_HASH_UN 1
 #define ODHT_HASH_XXH64 2
@@ -43,7 +45,7 @@ ODHT_CALL(uint32_t, any_init,
     return odht_symbol_any_init(
         layout, odht_write_uint8_t(bytes, bytes_len), bytes_len, max_item_count, percent);)
 
-/* OK: calls can be made on the bytes. An error, @OPENING@. Constant time. */
+/* OK: the other calls accept the bytes. An error, @OPENING@. Constant time. */
 ODHT_CALL(uint32_t, any_open, (const odht_layout *layout, const uint8_t *bytes, size_t bytes_len),
     return odht_symbol_any_open(layout, odht_read_uint8_t(bytes, bytes_len), bytes_len);)
 
@@ -57,8 +59,8 @@ ODHT_CALL(uint32_t, any_check_within,
     return odht_symbol_any_check_within(
         layout, odht_read_uint8_t(bytes, bytes_len), bytes_len, groups);)
 
-/* Like open, check and check_within, and *slot is the slot of the first error. If it is in no slot, and with OK,
-   *slot is ODHT_NO_SLOT. BAD_LAYOUT: *slot is unchanged. */
+/* Work like open, check and check_within, and write the slot of the first error to *slot. If there is no error, or the
+   first one is not in a slot, *slot is ODHT_NO_SLOT. BAD_LAYOUT: *slot is unchanged. */
 ODHT_CALL(uint32_t, any_open_at,
     (const odht_layout *layout, const uint8_t *bytes, size_t bytes_len, size_t *slot),
     size_t unwanted = 0;
@@ -76,7 +78,7 @@ ODHT_CALL(uint32_t, any_check_within_at,
     return odht_symbol_any_check_within_at(
         layout, odht_read_uint8_t(bytes, bytes_len), bytes_len, groups, slot ? slot : &unwanted);)
 
-/* OK: *count is the number of items in the header. An error, @HEADER@: it is unchanged. */
+/* OK: *count is the number of items in the header. An error, @HEADER@: *count is unchanged. */
 ODHT_CALL(uint32_t, any_len,
     (const odht_layout *layout, const uint8_t *bytes, size_t bytes_len, size_t *count),
     size_t unwanted = 0;
@@ -95,21 +97,22 @@ ODHT_CALL(uint32_t, any_sizes,
         slots ? slots : &unwanted_slots, max_item_count ? max_item_count : &unwanted_count,
         percent ? percent : &unwanted_percent);)
 
-/* OK: *len is the length of the table at the start of the bytes. An error, @HEADER@: it is unchanged. */
+/* OK: *len is the length of the table at the start of the bytes. An error, @HEADER@: *len is unchanged. */
 ODHT_CALL(uint32_t, any_table_len,
     (const odht_layout *layout, const uint8_t *bytes, size_t bytes_len, size_t *len),
     size_t unwanted = 0;
     return odht_symbol_any_table_len(
         layout, odht_read_uint8_t(bytes, bytes_len), bytes_len, len ? len : &unwanted);)
 
-/* OK: the lengths of the layout are those in the header. Its hash function is unchanged, since no header names one.
-   Other calls may still return BAD_LAYOUT for it. An error, @HEADER@: the layout is unchanged. */
+/* Writes the lengths of keys and values in the header to the layout. OK: both lengths are written, and the hash
+   function is unchanged, because a table does not store it. Other calls may still return BAD_LAYOUT for this layout. An
+   error, @HEADER@: the layout is unchanged. */
 ODHT_CALL(uint32_t, any_layout_of,
     (const uint8_t *bytes, size_t bytes_len, odht_layout *layout),
     return odht_symbol_any_layout_of(odht_read_uint8_t(bytes, bytes_len), bytes_len, layout);)
 
-/* OK: the value is written. ABSENT, or an error, @HEADER@: it is unchanged. If value is NULL (ODHT_TAKES_NULL), no
-   value is written, and value_len is ignored. */
+/* OK: the value is written. ABSENT, or an error, @HEADER@: it is unchanged. If ODHT_TAKES_NULL is 1, value may be NULL:
+   then no value is written, and value_len is ignored. */
 ODHT_CALL(uint32_t, any_get,
     (const odht_layout *layout, const uint8_t *bytes, size_t bytes_len, const uint8_t *key, size_t key_len,
         uint8_t *value, size_t value_len),
@@ -147,14 +150,18 @@ ODHT_CALL(uint32_t, any_walk,
         room, odht_write_uint8_t(keys, keys_len), keys_len, odht_write_uint8_t(values, values_len),
         values_len, count ? count : &unwanted);)
 
-/* OK: slots holds the occupied slots, in an order of inserts that makes the table. UNMADE: no inserts make it, and
-   the content of slots is unspecified. An error, @CHECK@: slots and scratch are unchanged. BAD_LENGTHS, which comes
-   last: slots_len is not the number of items, and both are unchanged. Scratch is memory for the search. Its content
-   does not matter, and is unspecified after OK and UNMADE. With three numbers for each slot (odht_any_sizes returns
-   the slot count) or more, the time is proportional to the slots, and to the groups that the longest search from each
-   slot reads. With fewer, or none, the search takes the time of odht_S_insert_order; the status is the same. For
-   none, pass any pointer and 0, or NULL if ODHT_TAKES_NULL is 1. The whole check comes first. For untrusted bytes
-   call odht_any_check_within before, which bounds the time of both. */
+/* OK: slots holds the occupied slots, in an order of inserts that makes the table. UNMADE: no inserts make it, and the
+   content of slots is unspecified. An error, @CHECK@: slots and scratch are unchanged. BAD_LENGTHS, checked last:
+   slots_len is not the number of items, and both arrays are unchanged.
+
+   scratch is memory for the search. Its content before the call does not matter, and after OK and UNMADE it is
+   unspecified. With at least three numbers for each slot, the time is proportional to the slots, and to the groups that
+   the longest search from each slot reads. odht_any_sizes returns the slot count. With less scratch memory, or none,
+   the status is the same, but the search takes the time of odht_S_insert_order. For none, pass any pointer and 0, or
+   NULL if ODHT_TAKES_NULL is 1.
+
+   The call makes the whole check first. For untrusted bytes call odht_any_check_within before: it bounds the time of
+   the check and of the search. */
 ODHT_CALL(uint32_t, any_insert_order,
     (const odht_layout *layout, const uint8_t *bytes, size_t bytes_len, size_t *slots, size_t slots_len,
         size_t *scratch, size_t scratch_len),
@@ -162,8 +169,8 @@ ODHT_CALL(uint32_t, any_insert_order,
         odht_write_size_t(slots, slots_len), slots_len, odht_write_size_t(scratch, scratch_len),
         scratch_len);)
 
-/* OK: the key was new. REPLACED: the former value is written. FULL, or an error, @HEADER@: nothing changes. If former
-   is NULL (ODHT_TAKES_NULL), no former value is written, and former_len is ignored. */
+/* OK: the key was new. REPLACED: the former value is written. FULL, or an error, @HEADER@: nothing is changed. If
+   ODHT_TAKES_NULL is 1, former may be NULL: then no former value is written, and former_len is ignored. */
 ODHT_CALL(uint32_t, any_insert,
     (const odht_layout *layout, uint8_t *bytes, size_t bytes_len, const uint8_t *key, size_t key_len,
         const uint8_t *value, size_t value_len, uint8_t *former, size_t former_len),
@@ -177,7 +184,7 @@ ODHT_CALL(uint32_t, any_insert,
         odht_read_uint8_t(key, key_len), key_len, odht_read_uint8_t(value, value_len), value_len,
         former, former_len);)
 
-/* OK or FULL: the first *accepted pairs are inserted. An error, @HEADER@: nothing changes. */
+/* OK or FULL: the first *accepted pairs are inserted. An error, @HEADER@: nothing is changed. */
 ODHT_CALL(uint32_t, any_insert_all,
     (const odht_layout *layout, uint8_t *bytes, size_t bytes_len, size_t count, const uint8_t *keys,
         size_t keys_len, const uint8_t *values, size_t values_len, size_t *accepted),
@@ -187,7 +194,7 @@ ODHT_CALL(uint32_t, any_insert_all,
         values_len, accepted ? accepted : &unwanted);)
 
 /* OK: the first *len bytes of out are the larger copy. TOO_SMALL: out_len is below *len, and out is unchanged. An
-   error, @HEADER@, LOAD_FACTOR_TOO_SMALL, CAPACITY: *len is unchanged, too. */
+   error, @HEADER@, LOAD_FACTOR_TOO_SMALL, CAPACITY: out and *len are unchanged. */
 ODHT_CALL(uint32_t, any_grow,
     (const odht_layout *layout, const uint8_t *bytes, size_t bytes_len, uint8_t *out, size_t out_len,
         size_t *len),
@@ -215,8 +222,8 @@ ODHT_CALL(uint32_t, any_build_growing,
         odht_read_uint8_t(values, values_len), values_len, odht_write_uint8_t(out, out_len),
         out_len, len ? len : &unwanted);)
 
-/* OK: *view is the view of the bytes. An error, @OPENING@: it is unchanged. "Opened tables" above lists what a
-   view needs. Each lookup in it takes a layout with the same lengths. */
+/* OK: *view is the view of the bytes. An error, @OPENING@: *view is unchanged. "Opened tables" above lists
+   what a view needs. Each lookup in it takes a layout with the same lengths. */
 ODHT_CALL(uint32_t, any_open_view,
     (const odht_layout *layout, const uint8_t *bytes, size_t bytes_len, odht_view *view),
     odht_view opened = ODHT_NO_VIEW;
@@ -226,7 +233,7 @@ ODHT_CALL(uint32_t, any_open_view,
         *view = opened;
     return status;)
 
-/* OK: the value is written. ABSENT: it is unchanged. If value is NULL, no value is written, as in any_get. */
+/* OK: the value is written. ABSENT: it is unchanged. As in any_get, value may be NULL if ODHT_TAKES_NULL is 1. */
 ODHT_CALL(uint32_t, any_view_get,
     (const odht_layout *layout, const odht_view *view, const uint8_t *key, size_t key_len,
         uint8_t *value, size_t value_len),

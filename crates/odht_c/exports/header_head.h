@@ -1,15 +1,16 @@
 /*
- * odht.h: hash tables that are used in the very bytes in which they are stored.
+ * odht.h: hash tables that you use directly in the bytes of a file or a buffer, without parsing or copying them.
  *
  * Generated from lists/shapes.txt, lists/errors.txt and crates/odht_c/exports/header_*.h by make generate.
  *
- * docs/FORMAT.md describes the bytes and all rules. The header has calls for these shapes of tables:
+ * A shape fixes the types of keys and values, and the hash function. This header declares calls for these shapes:
  *
 @SHAPES@
  *
- * Each shape has the calls below. Their names here leave out odht_S_. "The calls" has a comment for each.
+ * docs/FORMAT.md describes the bytes. Each shape S has these calls, here without the prefix odht_S_. "The calls" below
+ * describes each one.
  *
- *   to make a table    bytes_needed, init          its length; an empty table in bytes
+ *   to make a table    bytes_needed, init          the length of a new table; an empty table
  *                      build, build_growing        a table from arrays of keys and values
  *   to open bytes      open, open_at               check header, length and ten slots
  *                      open_view                   the same, for many lookups
@@ -22,70 +23,71 @@
  *   to insert          insert, insert_all          one pair; many pairs
  *                      grow                        a larger copy of the table: "Grow on FULL"
  *   to read all        walk                        the pairs, in the order of the slots
- *                      len, view_len, sizes        the numbers of the header
- *                      insert_order                an order of inserts that makes the table
+ *                      len, view_len               the number of items
+ *                      sizes                       the slot count, the maximum and the load factor
+ *                      insert_order                an order of inserts that makes the same bytes
  *
- * odht_any_* are the same calls for dynamic tables, whose keys and values have lengths chosen at run time ("Dynamic
- * tables"). odht_any_layout_of reads these lengths from bytes. odht_version and odht_status_name need no table.
+ * odht_any_* are the same calls for dynamic tables: you choose the lengths of keys and values at run time ("Dynamic
+ * tables"). odht_any_layout_of reads these lengths from a table's header. odht_version and odht_status_name need no
+ * table.
  *
  * Which hash function for which keys:
  *
- *   numbers that count up                                     FxHashFn, as the shapes of numbers have
- *   addresses and offsets                                     FxHashFn, shifted right by the bits that are always zero
- *   hashes, evenly spread in their last four bytes            UnHashFn, as the shapes of hashes have
+ *   numbers that count up                                     FxHashFn, used by the shapes with number keys
+ *   addresses and offsets                                     FxHashFn, after you shift out bits that are always zero
+ *   hashes, evenly spread in their last four bytes            UnHashFn, used by the shapes with hash keys
  *   text, tuples, floats, big-endian numbers                  Xxh64HashFn: odht_any_* with ODHT_HASH_XXH64
  *   anything else, or if you do not know                      Xxh64HashFn
  *
- * FxHashFn uses the low 32 bits of each eight bytes of a key. UnHashFn takes the last four bytes of a key as its
- * hash. Xxh64HashFn uses all bits. If many keys share few hashes, searches take a hundred times as long, and
- * odht_*_check_within may reject the table. Text does that under FxHashFn, and so do multiples of 4096 that are not
- * shifted.
+ * Of a 64-bit number, FxHashFn uses only the low 32 bits. UnHashFn takes the last four bytes of a key as its hash.
+ * Xxh64HashFn uses all bits. If many keys share few hashes, searches can take a hundred times as long, and
+ * odht_*_check_within may reject the table. This happens under FxHashFn with text, and with multiples of 4096 that you
+ * do not shift.
  *
- * Numbers are stored in little-endian order. A table is a slice of bytes that the caller owns: the contents of a
- * file, a mapping, a part of either, or allocated memory. It may begin at any address. There is nothing to close or
- * to free.
+ * A table is a range of bytes that you own: the contents of a file, a mapping, a part of either, or allocated memory.
+ * It may begin at any address. There is nothing to close or to free. Numbers in it are stored in little-endian order.
  *
  * Rules for callers:
  *
- * - A pointer and the length after it are a slice. The caller may read it, and may write it unless the pointer is to
- *   const. Lengths of arrays count items (keys, values, flags); lengths of bytes count bytes. An array of keys or
- *   values of N bytes holds them one after the other, and its length counts keys or values.
+ * - A pointer and the length after it are a slice. All of it must be readable, and also writable unless the pointer is
+ *   to const. The length of an array counts items: keys, values, flags or slots. Items of N bytes follow each other
+ *   without gaps, and the length counts these items, not their bytes. The lengths bytes_len and out_len count bytes.
  * - A slice or out-parameter that a call writes must not overlap another one of that call, nor its layout. Slices
  *   that are only read may overlap.
- * - While a call reads the bytes of a table, nobody writes them. While a call writes them, nobody reads them. The
- *   library keeps nothing between calls, so any number of threads may read one table.
- * - Every call returns a uint32_t, one of the numbers of enum odht_status, except odht_*_view_len, odht_version and
- *   odht_status_name. C++ needs a cast to the enum. Compilers warn if you ignore a status. A call writes an
- *   out-parameter only where its comment says so.
- * - If arrays that must have equal lengths do not, the status is ODHT_BAD_LENGTHS, and nothing else is checked.
- * - size_t has 64 bits. Arrays of numbers and out-parameters are aligned as C requires. Only the bytes of a table may
- *   begin at any address.
+ * - While a call reads the bytes of a table, nothing may write them. While a call writes them, nothing else may read or
+ *   write them. The library keeps nothing between calls, so any number of threads may read one table.
+ * - Every call returns a uint32_t with a number of enum odht_status, except odht_*_view_len, odht_version and
+ *   odht_status_name. In C++, cast it to the enum. Compilers warn if you ignore a status.
+ * - If arrays that must have equal lengths do not, the call returns ODHT_BAD_LENGTHS and checks nothing else.
+ * - The bytes of a table may begin at any address. All other pointers are aligned for their types, as C requires.
+ *   size_t has 64 bits.
  * - With GCC and Clang for ELF, ODHT_TAKES_NULL is 1. Then you may pass NULL for a slice of length 0. You may also
- *   pass NULL for an out-parameter of a single number or value that you do not need, which is then not written:
- *   former, value, accepted, count, len, slot, and the three of odht_*_sizes. A key of a shape, a view, a layout and
- *   cursor are never NULL.
- * - With other compilers ODHT_TAKES_NULL is 0. Then no pointer is NULL, even if its length is 0, and the sets have no
- *   calls with keys.
+ *   pass NULL for an out-parameter of a single number or value that you do not need: former, value, accepted, count,
+ *   len, slot, and the three of odht_*_sizes. Never pass NULL for a key of a shape, a view, a layout or cursor.
+ * - With other compilers ODHT_TAKES_NULL is 0. Then never pass NULL, not even with length 0. The calls of a set that
+ *   take keys do not exist there.
  *
  * The comments on results are true for valid bytes: those that these calls made, and all others that odht_*_check
- * accepts. odht_*_check reads every byte. odht_*_open reads ten slots, so it cannot know whether bytes are valid.
+ * accepts. odht_*_check reads every byte. odht_*_open reads only ten slots, so it can accept bytes that are not valid.
  *
- * On other bytes without the errors @HEADER@ no call reads or writes outside the slices and out-parameters that it
- * was given. But the results may be wrong:
+ * If damaged or forged bytes have one of the errors @HEADER@, a call returns it. Otherwise a call still reads and
+ * writes only the slices and out-parameters that you pass, but its results may be wrong:
  *
- * - get and get_all may miss a key. They may also find an equal key, with its value, in a slot whose control byte is
- *   free.
- * - len returns the number in the header.
- * - An insert changes one value next to an equal key, or adds one entry if the header's number is below the maximum.
- *   It returns FULL only if a search slot by slot can miss the key. Then the table is at that maximum, or each slot
- *   is occupied by its control byte or by the copy of it in the mirror.
- * - A growth makes bytes without the errors @HEADER@, with the header's number of items and load factor.
+ * - get and get_all may miss a key. They may also find a key in a slot that its control byte marks as free, and return
+ *   the value stored there.
+ * - len returns the item count in the header.
+ * - An insert changes one value that is stored with an equal key, or adds one entry if the item count is below the
+ *   maximum. It returns FULL only if a search slot by slot can miss the key, and only if the item count is at or above
+ *   the maximum, or no slot is free. Here a slot is free if its control byte, and its mirror byte if it has one, are
+ *   above 127.
+ * - grow writes bytes without the errors @HEADER@. They have the same item count and load factor; their pairs are
+ *   unspecified.
  *
- * docs/FORMAT.md has the details.
+ * docs/FORMAT.md has the details under "Accepted but invalid bytes".
  *
  * Only odht_*_build_growing allocates memory. It uses malloc, and frees the memory before it returns. The libraries
- * that the kit makes need only the C library; those that cargo makes need libgcc_s too. This header needs C99 or
- * later, or C++11 or later.
+ * of make lib need only the C library; those that cargo builds also need libgcc_s. This header needs C99 or later, or
+ * C++11 or later.
  */
 #ifndef ODHT_H
 #define ODHT_H
@@ -125,12 +127,12 @@
 #endif
 
 /*
- * How the calls below are declared. With GCC and Clang for ELF each call is a small inline function. It calls the
- * symbol of the library. For a pointer that may be NULL it passes a variable of its own. Both have the same name in
- * C, so the inline function has another name in the object file.
+ * How the calls below are declared. With GCC and Clang for ELF, each call is a small inline function around the symbol
+ * of the library. Where you may pass NULL, it passes a pointer to a variable instead. In C the two share one name, so
+ * the inline function has a different name in the object file.
  *
- * Other compilers call the symbols themselves. So do dlsym, bindings of other languages, and tools that read this
- * header with ODHT_PLAIN defined. The symbols take no NULL.
+ * Other compilers call the symbols directly. So do users of dlsym, bindings for other languages, and tools that define
+ * ODHT_PLAIN before they read this header. The symbols do not accept NULL.
  */
 #if defined(__GNUC__) && defined(__ELF__) && !defined(ODHT_PLAIN)
 #define ODHT_TAKES_NULL 1
@@ -142,12 +144,12 @@
 extern "C" {
 #endif
 
-/* A bound for odht_*_check_within, in groups of sixteen control bytes. Tables of keys whose hashes vary keep it, at
+/* A bound for odht_*_check_within, in groups of sixteen control bytes. Tables of keys whose hashes vary stay within it,
    up to 95 percent and 2^24 slots. */
 #define ODHT_DEFAULT_GROUPS 128
 
-/* The *slot of odht_*_open_at, odht_*_check_at and odht_*_check_within_at if the first error is in no slot, and with
-   ODHT_OK. No table has that many slots. */
+/* The value of *slot after odht_*_open_at, odht_*_check_at and odht_*_check_within_at if there is no error, or if the
+   first error is not in a slot. No slot has this number. */
 #define ODHT_NO_SLOT SIZE_MAX
 
 /* The result of a call. Error::Name is the library's error in Rattle; the rest of the comment is its cause.
@@ -155,23 +157,23 @@ extern "C" {
 enum odht_status {
 @STATUS_OK@
 
-    /* Bytes that are not a table of this shape. A call checks for @HEADER@ in this order and returns the first error;
-       nothing is changed then. odht_*_open and odht_*_check then check slots 0 to 9 in turn, and the first bad slot
-       gives 8 or 9. odht_*_check goes on as the next comment describes. */
+    /* Errors of bytes that are not a table of this shape. Calls check for @HEADER@ in this order. They return the first
+       error, and then nothing is changed. After these, odht_*_open and odht_*_check read slots 0 to 9 in order, and
+       the first bad slot gives 8 or 9. The next comment describes the rest of odht_*_check. */
 @STATUS_OPENING@
 
-    /* Errors of odht_*_check, and of odht_*_insert_order, which makes this check first. After @OPENING@ it checks the
-       load factor and the padding. Then it checks all slots in turn: the first bad slot gives 8, 12 or 9. Last come
-       @BEHIND_SLOTS@. odht_*_grow returns 10, too. */
+    /* Errors of odht_*_check, and of odht_*_insert_order, which begins with this check. After @OPENING@ the check looks
+       at the load factor and the padding. Then it reads all slots in order, and the first bad slot gives 8, 12 or 9.
+       Last it looks for @BEHIND_SLOTS@. odht_*_grow also returns 10. */
 @STATUS_CHECK@
 
-    /* Errors of making tables and of inserts. */
+    /* Errors of calls that make a table or insert. */
 @STATUS_CALL@
 
     /* The error of odht_*_check_within, after @BEFORE_BOUND@ and before @BEHIND_BOUND@. */
 @STATUS_BOUND@
 
-    /* Statuses that are not errors of the library. */
+    /* Statuses that are not errors of the library in Rattle. */
 @STATUS_OTHER@
 };
 
@@ -186,9 +188,9 @@ static inline const char *odht_status_name(uint32_t status)
 
 /* ---- Opened tables ----
  *
- * Other calls check the header and the length of a table each time. For many lookups open the bytes once and keep the
- * view. odht_*_view_get, odht_*_view_get_all and odht_*_view_len do not check the header, and return none of the
- * errors @CHECK@.
+ * A view is a table that you open once, for many lookups. Other calls check the header and the length each time.
+ * odht_*_view_get, odht_*_view_get_all and odht_*_view_len do not check the header, and return none of the errors
+ * @CHECK@.
  *
  * A view holds the pointer and the length of the bytes, and you may read both. It copies nothing, and there is
  * nothing to close. You may copy it, and any number of threads may look up in it. Initialize a variable like this:
@@ -198,18 +200,23 @@ static inline const char *odht_status_name(uint32_t status)
  * The library does not check a view. When you pass one to a lookup, all of these must be true:
  *
  * - odht_*_open_view of the same shape has written the view and returned ODHT_OK. For odht_any_* the lengths of keys
- *   and values must be the same. You may also set the members by hand, to bytes for which odht_*_open or odht_*_check
- *   has returned ODHT_OK.
+ *   and values must be the same. You may also set the members yourself, to bytes for which odht_*_open or
+ *   odht_*_check has returned ODHT_OK.
  * - The bytes are still at the same address.
- * - Since then only odht_*_insert, odht_*_insert_all and odht_*_init of the same shape have written the header of
- *   these bytes, called with exactly these bytes. After these calls the view stays usable, whatever they return, and
- *   finds what they inserted. A build or a growth into these bytes ends it. So does another program that writes a
- *   mapped file. If something else has written slots, results are as for bytes that are not valid.
+ * - Since then nothing has written the header of these bytes, except odht_*_insert, odht_*_insert_all and odht_*_init
+ *   of the same shape, called with exactly these bytes.
  *
  * Otherwise a lookup has undefined behaviour, as with any wrong pointer in C.
  *
- * odht_*_open_view writes its view and does not read it. If ODHT_TAKES_NULL is 0 you must initialize it all the same:
- * with ODHT_NO_VIEW, or with a view whose bytes are still there.
+ * Which writes end a view:
+ *
+ * - odht_*_insert, odht_*_insert_all and odht_*_init do not, whatever they return. The view finds what they inserted.
+ * - odht_*_build, odht_*_build_growing and odht_*_grow do, if these bytes are their out. So does another program that
+ *   writes a mapped file.
+ * - Anything else that writes only slots does not, but then results are as for bytes that are not valid.
+ *
+ * odht_*_open_view writes its view and does not read it. Still, if ODHT_TAKES_NULL is 0, you must initialize the view
+ * first: with ODHT_NO_VIEW, or with a view whose bytes are still there.
  */
 typedef struct odht_view {
     const uint8_t *bytes;
@@ -254,6 +261,6 @@ typedef struct odht_view {
  *         return status;
  *     }
  *
- * With a status other than OK and REPLACED the old table is unchanged. A growth ends the views of the old bytes. In
- * C++ odht::table of odht.hpp does the same.
+ * With a status other than OK and REPLACED the old table is unchanged. This function frees the old bytes when it grows
+ * the table, which ends their views. In C++, use odht::table of odht.hpp, which does the same.
  */

@@ -1,11 +1,11 @@
 /* ---- How the calls are declared ----
  *
- * ODHT_DECLARE_MAP and ODHT_DECLARE_SET declare the calls of a shape S, and the lines at the end of this file use
- * them for each shape. Each call is written once in one of them: its result, its name, its parameters, and the body
- * of its inline function.
+ * ODHT_DECLARE_MAP and ODHT_DECLARE_SET declare all calls of a shape S. The lines at the end of this file use them,
+ * once for each shape. For each call they list the result, the name, the parameters and the body of its inline
+ * function.
  */
 #if ODHT_TAKES_NULL
-/* The symbol of the library, then the inline function around it. */
+/* Declares the symbol of the library, and defines the inline function around it. */
 #define ODHT_CALL(result, name, parameters, body) \
     result odht_symbol_##name parameters __asm__("odht_" #name); \
     ODHT_NODISCARD static inline result odht_##name parameters __asm__("odht_inline_" #name); \
@@ -14,7 +14,7 @@
         body \
     }
 
-/* Only a symbol, and only an inline function, where their parameters differ. */
+/* The same in two parts, for calls whose inline function has other parameters than the symbol. */
 #define ODHT_SYMBOL(result, name, parameters) \
     result odht_symbol_##name parameters __asm__("odht_" #name);
 #define ODHT_FUNCTION(result, name, parameters, body) \
@@ -30,8 +30,8 @@
 #define ODHT_FUNCTION(result, name, parameters, body)
 #endif
 
-/* Keys and values that are numbers of that many bits: the type of array items, a parameter, an out-parameter (a
-   pointer, which may be NULL), a place for a result that the caller does not need, and arrays whose pointer may be
+/* For keys and values that are numbers of `bits` bits: the type of an array item, a parameter, an out-parameter (a
+   pointer that may be NULL), a variable for a result that the caller does not need, and arrays whose pointer may be
    NULL. */
 #define ODHT_NUMBER_ITEM(bits) uint##bits##_t
 #define ODHT_NUMBER_GIVEN(bits, name) uint##bits##_t name
@@ -40,7 +40,7 @@
 #define ODHT_NUMBER_READ(bits, items, len) odht_read_uint##bits##_t(items, len)
 #define ODHT_NUMBER_WRITE(bits, items, len) odht_write_uint##bits##_t(items, len)
 
-/* The same for keys and values of that many bytes. */
+/* The same for keys and values of `count` bytes. */
 #define ODHT_BYTES_ITEM(count) uint8_t
 #define ODHT_BYTES_GIVEN(count, name) const uint8_t name[count]
 #define ODHT_BYTES_WANTED(count, name) uint8_t name[count]

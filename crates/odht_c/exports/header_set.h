@@ -1,6 +1,7 @@
 
-/* The calls of a set: K is ODHT_NUMBER or ODHT_BYTES, k the number of bits or bytes. Those with keys are inline
-   functions around the calls of a map without values. If ODHT_TAKES_NULL is 0 they do not exist. */
+/* The calls of a set: K is ODHT_NUMBER or ODHT_BYTES, k the number of bits or bytes of a key. The calls that take keys
+   are inline functions around the symbols, which are those of a map whose values have no bytes. If ODHT_TAKES_NULL is 0
+   these calls do not exist. */
 #define ODHT_DECLARE_SET(S, K, k) \
     ODHT_TABLE_CALLS(S##_) \
 \

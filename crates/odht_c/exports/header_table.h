@@ -1,5 +1,5 @@
 
-/* The calls of every shape, each of which has its comment above. P is the name of the shape with a _ behind it. */
+/* The calls of every shape, described above under "The calls". P is the name of the shape, followed by _. */
 #define ODHT_TABLE_CALLS(P) \
     ODHT_CALL(uint32_t, P##bytes_needed, (size_t max_item_count, uint8_t percent, size_t *len), \
         size_t unwanted = 0; \

@@ -1,9 +1,10 @@
-//! The exports of dynamic tables: the caller names the lengths of keys and values, and the
-//! hash function.
+//! The exports of dynamic tables. The caller passes the lengths of keys and values, and the hash
+//! function, as a layout. In arrays, keys and values follow each other without gaps.
 //!
-//! Statuses have the names of include/odht.h without `ODHT_`. Each call but `layout_of` answers
-//! `BAD_LAYOUT` where no hash function has the number of the layout, or keys are shorter than it
-//! needs; then nothing is written.
+//! Statuses have the names of include/odht.h without `ODHT_`. Each call except `layout_of` returns
+//! `BAD_LAYOUT` if no hash function has the number in the layout, or if the keys are shorter than
+//! it needs. Then nothing is written. `BAD_PERCENT` rejects load factors that are not from 1 to 100
+//! percent. `CAPACITY`: no slot count is large enough, or the length does not fit `usize`.
 ghost use Rattle.std.specs.Prelude.{◌≡◌, length, Some};
 ghost use Rattle.odht_header.specs.Refusals.{view_refusal, check_refusal, check_refusal_by};
 ghost use Rattle.odht_raw.specs.Frame.{IsAccepted};
@@ -24,9 +25,8 @@ use std::alloc::Global;
 
 pub(crate) mod views;
 
-/// Writes to `len` how many bytes a new table for that many items has: status 0. `BAD_PERCENT`
-/// where the load factor is not from 1 to 100 percent, `CAPACITY` where no slot count is enough or
-/// the length does not fit `usize`; then `len` is unchanged.
+/// Writes the length in bytes of a new table for that number of items to `len`, and returns 0.
+/// With `BAD_PERCENT` and `CAPACITY`, `len` is unchanged.
 #[unsafe(no_mangle)]
 pub extern "C" fn odht_any_bytes_needed(
     layout: &AnyLayout,
@@ -40,9 +40,9 @@ pub extern "C" fn odht_any_bytes_needed(
     write::bytes_needed(*layout, max_item_count, max_load_factor_percent, len)
 }
 
-/// Makes an empty table for that many items in the bytes, whatever they hold: status 0.
-/// `BAD_PERCENT`, `CAPACITY`, or `INIT_LENGTH` where the bytes are more or fewer than it needs;
-/// then they are unchanged. One pass over the bytes.
+/// Makes an empty table for that number of items in the bytes, and returns 0. The former content
+/// of the bytes does not matter. Returns `BAD_PERCENT`, `CAPACITY`, or `INIT_LENGTH` if the table
+/// needs another length. Then the bytes are unchanged. Makes one pass over the bytes.
 #[unsafe(no_mangle)]
 pub extern "C" fn odht_any_init(
     layout: &AnyLayout,
@@ -56,8 +56,8 @@ pub extern "C" fn odht_any_init(
     write::init(*layout, bytes, max_item_count, max_load_factor_percent)
 }
 
-/// 0 where the bytes can be opened, or the number of the first error: of too few bytes, of the
-/// header, of the length, of the first ten slots. The cost does not depend on the number of slots.
+/// Returns 0 if the bytes can be opened. Otherwise returns the number of the first error: too few
+/// bytes, or an error of the header, the length or the first ten slots. Takes constant time.
 #[unsafe(no_mangle)]
 pub extern "C" fn odht_any_open(layout: &AnyLayout, bytes: &[u8]) -> u32
     ensures { AnyAnswers layout.now result (Unit {0})
@@ -66,9 +66,9 @@ pub extern "C" fn odht_any_open(layout: &AnyLayout, bytes: &[u8]) -> u32
     read::open(*layout, bytes)
 }
 
-/// 0 exactly where the bytes are valid, or the number of the first error of the whole check. One
-/// pass over the slots, and for each occupied one a read of the control bytes of its key's probe
-/// order up to it.
+/// Returns 0 exactly if the bytes are valid. Otherwise returns the number of the first error of
+/// the whole check. Makes one pass over the slots. For each occupied slot, reads the control bytes
+/// of its key's probe order up to that slot.
 #[unsafe(no_mangle)]
 pub extern "C" fn odht_any_check(layout: &AnyLayout, bytes: &[u8]) -> u32
     ensures { AnyAnswers layout.now result (Unit {0})
@@ -77,10 +77,11 @@ pub extern "C" fn odht_any_check(layout: &AnyLayout, bytes: &[u8]) -> u32
     read::check(*layout, bytes)
 }
 
-/// `check` with a bound of searches: 0 exactly where the bytes are valid and each home has a free
-/// slot in the first `groups` groups of its probe order, so that no search reads more; else the
-/// first error of the whole check, or `SEARCH_TOO_LONG`, which comes before `UNREACHABLE`. At most
-/// `groups` reads of sixteen control bytes a slot for the bound, and as many for the searches.
+/// Works like `check`, with a bound for searches. Returns 0 exactly if the bytes are valid and
+/// each home has a free slot in the first `groups` groups of its probe order. Then no search reads
+/// more groups. Otherwise returns the first error of the whole check, or `SEARCH_TOO_LONG`, which
+/// comes before `UNREACHABLE`. For each slot, reads at most `groups` groups of sixteen control
+/// bytes for the bound, and at most `groups` for the search.
 #[unsafe(no_mangle)]
 pub extern "C" fn odht_any_check_within(layout: &AnyLayout, bytes: &[u8], groups: usize) -> u32
     ensures { AnyAnswers layout.now result (Unit {0})
@@ -89,9 +90,9 @@ pub extern "C" fn odht_any_check_within(layout: &AnyLayout, bytes: &[u8], groups
     read::check_within(*layout, bytes, groups)
 }
 
-/// `open`, and writes to `slot` where the first error is: the slot, or `NO_SLOT`, the largest
-/// number, of an error of the header or length and with status 0; with `BAD_LAYOUT` it is
-/// unchanged. The cost does not depend on the number of slots.
+/// Works like `open`, and writes the slot of the first error to `slot`. With an error of the
+/// header or length, and with status 0, it writes `NO_SLOT`, the largest number. With `BAD_LAYOUT`,
+/// `slot` is unchanged. Takes constant time.
 #[unsafe(no_mangle)]
 pub extern "C" fn odht_any_open_at(layout: &AnyLayout, bytes: &[u8], slot: &mut usize) -> u32
     ensures { AnyAnswers layout.now result (slot.new ≡ slot.old)
@@ -100,10 +101,10 @@ pub extern "C" fn odht_any_open_at(layout: &AnyLayout, bytes: &[u8], slot: &mut 
     places::open_at(*layout, bytes, slot)
 }
 
-/// `check`, and writes to `slot` where the first error is: the slot of an error of an entry, a
-/// control byte or a key that is not reachable; of `MIRROR_MISMATCH` the index of the mirror's
-/// byte; or `NO_SLOT`, the largest number, of any other error and with status 0; with `BAD_LAYOUT`
-/// it is unchanged. The cost is that of `check`.
+/// Works like `check`, and writes the slot of the first error to `slot`: that of an entry, of a
+/// control byte or of an unreachable key. With `MIRROR_MISMATCH` it writes the index of the
+/// mirror's byte. With any other error, and with status 0, it writes `NO_SLOT`, the largest
+/// number. With `BAD_LAYOUT`, `slot` is unchanged. The cost is that of `check`.
 #[unsafe(no_mangle)]
 pub extern "C" fn odht_any_check_at(layout: &AnyLayout, bytes: &[u8], slot: &mut usize) -> u32
     ensures { AnyAnswers layout.now result (slot.new ≡ slot.old)
@@ -112,8 +113,8 @@ pub extern "C" fn odht_any_check_at(layout: &AnyLayout, bytes: &[u8], slot: &mut
     places::check_at(*layout, bytes, slot)
 }
 
-/// `check_within`, and writes to `slot` where the first error is, as `check_at` does; of
-/// `SEARCH_TOO_LONG` the slot where the searches begin. The cost is that of `check_within`.
+/// Works like `check_within`, and writes the slot of the first error to `slot`, as `check_at`
+/// does. With `SEARCH_TOO_LONG` it writes the slot where the searches begin.
 #[unsafe(no_mangle)]
 pub extern "C" fn odht_any_check_within_at(
     layout: &AnyLayout,
@@ -127,8 +128,8 @@ pub extern "C" fn odht_any_check_within_at(
     places::check_within_at(*layout, bytes, groups, slot)
 }
 
-/// Writes the header's item count to `item_count`: status 0. Or an error of the header or length;
-/// then `item_count` is unchanged.
+/// Writes the header's item count to `item_count`, and returns 0. With an error of the header or
+/// length, `item_count` is unchanged.
 #[unsafe(no_mangle)]
 pub extern "C" fn odht_any_len(layout: &AnyLayout, bytes: &[u8], item_count: &mut usize) -> u32
     ensures { AnyAnswers layout.now result (item_count.new ≡ item_count.old)
@@ -137,8 +138,8 @@ pub extern "C" fn odht_any_len(layout: &AnyLayout, bytes: &[u8], item_count: &mu
     read::len(*layout, bytes, item_count)
 }
 
-/// Writes the header's slot count, how many items these slots take at most, and its load factor in
-/// percent, rounded down: status 0. Or an error of the header or length; then nothing is written.
+/// Writes the header's slot count, the maximum number of items for it, and the header's load factor
+/// in percent, rounded down. Returns 0. With an error of the header or length, nothing is written.
 #[unsafe(no_mangle)]
 pub extern "C" fn odht_any_sizes(
     layout: &AnyLayout,
@@ -163,9 +164,10 @@ pub extern "C" fn odht_any_sizes(
     )
 }
 
-/// Writes to `len` the length in bytes of the table at the front of the bytes, by its header:
-/// status 0. What follows the table is not looked at, nor is any slot. Or an error of the header,
-/// or `WRONG_LENGTH` where there are fewer bytes than the table has; then `len` is unchanged.
+/// Computes the length in bytes of the table at the start of the bytes from its header, writes it
+/// to `len`, and returns 0. Reads no slot, and nothing after the table. Returns an error of the
+/// header, or `WRONG_LENGTH` if there are fewer bytes than the table needs. Then `len` is
+/// unchanged.
 #[unsafe(no_mangle)]
 pub extern "C" fn odht_any_table_len(layout: &AnyLayout, bytes: &[u8], len: &mut usize) -> u32
     ensures { AnyAnswers layout.now result (len.new ≡ len.old)
@@ -174,8 +176,8 @@ pub extern "C" fn odht_any_table_len(layout: &AnyLayout, bytes: &[u8], len: &mut
     read::table_len(*layout, bytes, len)
 }
 
-/// Writes to `layout` the lengths of keys and values that the header states: status 0. The hash
-/// function's number stays. Or an error of the header or length; then `layout` is unchanged.
+/// Writes the lengths of keys and values in the header to `layout`, and returns 0. The number of
+/// the hash function is unchanged. With an error of the header or length, `layout` is unchanged.
 #[unsafe(no_mangle)]
 pub extern "C" fn odht_any_layout_of(bytes: &[u8], layout: &mut AnyLayout) -> u32
     ensures { LayoutAnswers bytes.now layout.old result layout.new }
@@ -183,9 +185,9 @@ pub extern "C" fn odht_any_layout_of(bytes: &[u8], layout: &mut AnyLayout) -> u3
     read::layout_of(bytes, layout)
 }
 
-/// Writes the value of a key to `value`: status 0. `ABSENT` where there is none, `BAD_LENGTHS`
-/// where the key or `value` has another length than the layout says, or an error of the header or
-/// length; then `value` is unchanged.
+/// Writes the value of a key to `value`, and returns 0. Returns `ABSENT` if the key is absent,
+/// `BAD_LENGTHS` if the key or `value` does not have the layout's length, or an error of the header
+/// or length. Then `value` is unchanged.
 #[unsafe(no_mangle)]
 pub extern "C" fn odht_any_get(
     layout: &AnyLayout,
@@ -202,8 +204,8 @@ pub extern "C" fn odht_any_get(
     read::get(*layout, bytes, key, value)
 }
 
-/// 0 where the key has a value, `ABSENT` where it has none; `BAD_LENGTHS` where the key has
-/// another length than the layout says, or an error of the header or length.
+/// Returns 0 if the key is present, and `ABSENT` if it is absent. Returns `BAD_LENGTHS` if the key
+/// does not have the layout's length, or an error of the header or length.
 #[unsafe(no_mangle)]
 pub extern "C" fn odht_any_contains(layout: &AnyLayout, bytes: &[u8], key: &[u8]) -> u32
     ensures { AnyAnswers layout.now result (Unit {0})
@@ -213,10 +215,10 @@ pub extern "C" fn odht_any_contains(layout: &AnyLayout, bytes: &[u8], key: &[u8]
     read::contains(*layout, bytes, key)
 }
 
-/// Looks up `count` keys, which lie in `keys` one after the other: status 0, and at each index
-/// `found` is 1 and the value is written, or `found` is 0 and the value is unchanged.
-/// `BAD_LENGTHS` where `keys`, `values` or `found` have another length than that many keys, values
-/// and flags, or an error of the header or length; then nothing is written.
+/// Looks up `count` keys, and returns 0. If the key at an index is present, writes 1 to `found` and
+/// its value to `values` at that index. If it is absent, writes 0 to `found` and leaves the value
+/// unchanged. Returns `BAD_LENGTHS` if the length of `keys`, `values` or `found` is not that of
+/// `count` items, or an error of the header or length. Then nothing is written.
 #[unsafe(no_mangle)]
 pub extern "C" fn odht_any_get_all(
     layout: &AnyLayout,
@@ -232,11 +234,11 @@ pub extern "C" fn odht_any_get_all(
     lists::get_all(*layout, bytes, count, keys, values, found)
 }
 
-/// Writes the keys and values in the slots from `cursor` on (0 at first), in slot order, as many
-/// as fit, and to `item_count` how many. Status 0 where these are all; `TOO_SMALL` where the
-/// arrays are full and there are more. Either way `cursor` is then the slot to continue at: the
-/// pairs from there on are those that are left. `BAD_LENGTHS` where `keys` or `values` have
-/// another length than `room` of them, or an error of the header or length; then nothing is
+/// Writes keys and values to the arrays, in slot order from the slot `cursor` on, until `room`
+/// pairs are written or no pair is left. Writes their number to `item_count`, and the slot to
+/// continue at to `cursor`. The first call starts with a `cursor` of 0. Returns 0 if no pair is
+/// left, and `TOO_SMALL` if there are more. Returns `BAD_LENGTHS` if the length of `keys` or
+/// `values` is not that of `room` items, or an error of the header or length. Then nothing is
 /// written.
 #[unsafe(no_mangle)]
 pub extern "C" fn odht_any_walk(
@@ -255,18 +257,18 @@ pub extern "C" fn odht_any_walk(
     walk::walk(*layout, bytes, cursor, room, keys, values, item_count)
 }
 
-/// Writes to `out`, whose length is the item count, the occupied slots in an order in which
-/// inserts make the table: status 0. Their pairs, inserted in this order into an empty table of as
-/// many slots and the same load factor, make exactly these bytes. `UNMADE` where no list of
-/// inserts makes the table: what `out` then holds is unspecified. The number of the first error of
-/// the whole check, or `BAD_LENGTHS` where the length of `out` is not the number of items; then
-/// `out` and `scratch` are unchanged.
+/// Writes the occupied slots to `out`, in an order in which inserts make the table, and returns 0.
+/// To make exactly these bytes, insert the pairs of these slots in this order into an empty table
+/// of the same slot count and load factor. Returns `UNMADE` if no list of inserts makes the table.
+/// Then the content of `out` is unspecified. Returns the first error of the whole check, or
+/// `BAD_LENGTHS` if the length of `out` is not the number of items. Then `out` and `scratch` are
+/// unchanged.
 ///
-/// `scratch` is memory for the search, whatever it holds; what it holds after status 0 and
-/// `UNMADE` is unspecified. Allocates nothing. It costs the whole check; and then, with three
-/// numbers of scratch for each slot or more, time in proportion to the slots, and to the groups
-/// that the longest search of each home reads, and with fewer the passes over the items of the
-/// shapes' calls.
+/// `scratch` is memory for the search. Its content before the call does not matter, and after 0 and
+/// `UNMADE` it is unspecified. Makes the whole check. With at least three numbers of scratch for
+/// each slot, the search then takes time proportional to the slots, and to the groups that the
+/// longest search of each home reads. With fewer it makes the passes of the shapes' calls.
+/// Allocates nothing.
 #[unsafe(no_mangle)]
 pub extern "C" fn odht_any_insert_order(
     layout: &AnyLayout,
@@ -280,10 +282,11 @@ pub extern "C" fn odht_any_insert_order(
     order::insert_order(*layout, bytes, out, scratch)
 }
 
-/// Gives the key this value: status 0 where the key was new, `REPLACED` where it had a value,
-/// which is written to `former`. `FULL` at the maximum where the key is absent, `BAD_LENGTHS`
-/// where the key, the value or `former` has another length than the layout says, or an error of
-/// the header or length; then nothing changes. A view of the bytes remains usable in any case.
+/// Inserts a key with its value. Returns 0 if the key was new. If the key was present, replaces
+/// its value, writes the former one to `former` and returns `REPLACED`. Returns `FULL` if the key
+/// is absent and the table is at its maximum, `BAD_LENGTHS` if the key, the value or `former` does
+/// not have the layout's length, or an error of the header or length. Then nothing is changed. A
+/// view of the bytes remains usable, whatever the status.
 #[unsafe(no_mangle)]
 pub extern "C" fn odht_any_insert(
     layout: &AnyLayout,
@@ -304,12 +307,12 @@ pub extern "C" fn odht_any_insert(
     write::insert(*layout, bytes, key, value, former)
 }
 
-/// Inserts `count` pairs, whose keys and values lie one after the other, in order: status 0, or
-/// `FULL` at the first that does not fit; and writes to `accepted` how many were inserted.
-/// `BAD_LENGTHS` where `keys` or `values` have another length than that many of them, or an error
-/// of the header or length; then nothing changes. A view of the bytes remains usable in any case.
-/// One insert for each pair; of pairs whose keys and values have no bytes only the first is
-/// inserted, as all are equal.
+/// Inserts `count` pairs in order, up to the first `FULL`. Writes the number of inserted pairs to
+/// `accepted`. Returns 0 if all are inserted, and `FULL` if not. Returns `BAD_LENGTHS` if the
+/// length of `keys` or `values` is not that of `count` items, or an error of the header or length.
+/// Then nothing is changed. A view of the bytes remains usable, whatever the status. Makes one
+/// insert for each pair. If keys and values have no bytes, all pairs are equal: only the first is
+/// inserted.
 #[unsafe(no_mangle)]
 pub extern "C" fn odht_any_insert_all(
     layout: &AnyLayout,
@@ -327,12 +330,11 @@ pub extern "C" fn odht_any_insert_all(
     lists::insert_all(*layout, bytes, count, keys, values, accepted)
 }
 
-/// Writes the table that the one in `bytes` grows into at its maximum to the front of `out`, and
-/// its length in bytes to `len`: status 0. `TOO_SMALL` where `out` is shorter than the table: then
-/// only `len` is written. An error of the header or length, `LOAD_FACTOR_TOO_SMALL` where the
-/// header has less than one percent, or `CAPACITY` where no slot count is enough or the length
-/// does not fit `usize`; then nothing is written. After the table `out` is unchanged. Allocates
-/// nothing. One pass over both tables; each item is hashed once.
+/// Writes a larger copy of the table to the start of `out`, its length in bytes to `len`, and
+/// returns 0. The rest of `out` is unchanged. Returns `TOO_SMALL` if `out` is shorter than the
+/// copy. Then only `len` is written. Returns an error of the header or length, or `CAPACITY`, or
+/// `LOAD_FACTOR_TOO_SMALL` if the header's load factor is below one percent. Then nothing is
+/// written. Makes one pass over both tables, and hashes each key once. Allocates nothing.
 #[unsafe(no_mangle)]
 pub extern "C" fn odht_any_grow(
     layout: &AnyLayout,
@@ -346,14 +348,12 @@ pub extern "C" fn odht_any_grow(
     write::grow(*layout, bytes, out, len)
 }
 
-/// Builds a table of `count` pairs, whose keys and values lie one after the other, at the front of
-/// `out`, and writes its length in bytes to `len`: status 0. It has slots for as many items as
-/// there are pairs, so it never grows; of equal keys the last value counts. `TOO_SMALL` where
-/// `out` is shorter than the table: then only `len` is written. `BAD_LENGTHS` where `keys` or
-/// `values` have another length than that many of them, `BAD_PERCENT` where the load factor is not
-/// from 1 to 100 percent, `CAPACITY` only where no slot count is enough or the length does not fit
-/// `usize`; then nothing is written. After the table `out` is unchanged. Allocates nothing. One
-/// pass over the bytes, then one insert for each pair.
+/// Makes a table for `count` items at the start of `out`, inserts the pairs in order, writes the
+/// table's length in bytes to `len`, and returns 0. Of equal keys the last value counts. The rest
+/// of `out` is unchanged. Returns `TOO_SMALL` if `out` is shorter than the table. Then only `len`
+/// is written. Returns `BAD_LENGTHS` if the length of `keys` or `values` is not that of `count`
+/// items, `BAD_PERCENT` or `CAPACITY`. Then nothing is written. Makes one pass over the bytes, and
+/// one insert for each pair. Allocates nothing.
 #[unsafe(no_mangle)]
 pub extern "C" fn odht_any_build(
     layout: &AnyLayout,
@@ -378,14 +378,14 @@ pub extern "C" fn odht_any_build(
     )
 }
 
-/// Builds a table of `count` pairs, whose keys and values lie one after the other, in memory of
-/// its own, copies it to the front of `out`, and writes its length in bytes to `len`: status 0. It
-/// begins with sixteen slots at 87 percent, and grows as the pairs are inserted; of equal keys the
-/// last value counts. `TOO_SMALL` where `out` is shorter than the table: then only `len` is
-/// written. `BAD_LENGTHS` where `keys` or `values` have another length than that many of them,
-/// `MEMORY` when an allocation fails or no table is large enough; then nothing is written. After
-/// the table `out` is unchanged. One insert for each pair, the growths, and one copy of the table;
-/// of pairs whose keys and values have no bytes only the first is inserted, as all are equal.
+/// Inserts `count` pairs, in order, into a table in allocated memory, which starts with sixteen
+/// slots at 87 percent and grows. Then copies it to the start of `out`, writes its length in bytes
+/// to `len`, and returns 0. Of equal keys the last value counts. The rest of `out` is unchanged.
+/// Returns `TOO_SMALL` if `out` is shorter than the table. Then only `len` is written. Returns
+/// `BAD_LENGTHS` if the length of `keys` or `values` is not that of `count` items, or `MEMORY` if
+/// an allocation fails or no table is large enough. Then nothing is written. Makes one insert for
+/// each pair, the growths, and one copy of the table. If keys and values have no bytes, all pairs
+/// are equal: only the first is inserted.
 #[unsafe(no_mangle)]
 pub extern "C" fn odht_any_build_growing(
     alloc: Global,

@@ -1,9 +1,9 @@
-//! Dynamic tables: keys and values are that many bytes, also many of them, and their lengths are in bytes.
+//! The calls of dynamic tables. All lengths of keys and values, also of arrays of them, are in bytes.
 
 use super::{Layout, View};
 
 unsafe extern "C" {
-    /// How many bytes a new table has.
+    /// Computes the length in bytes of a new table.
     #[link_name = "odht_any_bytes_needed"]
     pub fn bytes_needed(layout: *const Layout, max_items: usize, percent: u8, len: *mut usize) -> u32;
 
@@ -11,27 +11,27 @@ unsafe extern "C" {
     #[link_name = "odht_any_init"]
     pub fn init(layout: *const Layout, bytes: *mut u8, bytes_len: usize, max_items: usize, percent: u8) -> u32;
 
-    /// Whether bytes can be used as a table.
+    /// Checks the header, the length and the first ten slots.
     #[link_name = "odht_any_open"]
     pub fn open(layout: *const Layout, bytes: *const u8, bytes_len: usize) -> u32;
 
-    /// Whether bytes are valid, to the last one.
+    /// Checks every byte.
     #[link_name = "odht_any_check"]
     pub fn check(layout: *const Layout, bytes: *const u8, bytes_len: usize) -> u32;
 
-    /// The same, and whether from each slot a free one comes within that many groups: no search reads more.
+    /// Checks every byte, and that from each slot a free slot comes within `groups` groups. No search reads more.
     #[link_name = "odht_any_check_within"]
     pub fn check_within(layout: *const Layout, bytes: *const u8, bytes_len: usize, groups: usize) -> u32;
 
-    /// Whether bytes can be used as a table, and where the first error is.
+    /// Works like `open`, and writes the slot of the first error.
     #[link_name = "odht_any_open_at"]
     pub fn open_at(layout: *const Layout, bytes: *const u8, bytes_len: usize, slot: *mut usize) -> u32;
 
-    /// Whether bytes are valid, and where the first error is.
+    /// Works like `check`, and writes the slot of the first error.
     #[link_name = "odht_any_check_at"]
     pub fn check_at(layout: *const Layout, bytes: *const u8, bytes_len: usize, slot: *mut usize) -> u32;
 
-    /// The same with a bound of searches.
+    /// Works like `check_within`, and writes the slot of the first error.
     #[link_name = "odht_any_check_within_at"]
     pub fn check_within_at(
         layout: *const Layout,
@@ -41,11 +41,11 @@ unsafe extern "C" {
         slot: *mut usize,
     ) -> u32;
 
-    /// The header's item count.
+    /// Reads the item count in the header.
     #[link_name = "odht_any_len"]
     pub fn len(layout: *const Layout, bytes: *const u8, bytes_len: usize, count: *mut usize) -> u32;
 
-    /// What the header says of the slots.
+    /// Reads the slot count, the maximum number of items and the load factor in percent.
     #[link_name = "odht_any_sizes"]
     pub fn sizes(
         layout: *const Layout,
@@ -56,15 +56,15 @@ unsafe extern "C" {
         percent: *mut u8,
     ) -> u32;
 
-    /// How many bytes the table at the front of the bytes has.
+    /// Computes the length in bytes of the table at the start of longer bytes.
     #[link_name = "odht_any_table_len"]
     pub fn table_len(layout: *const Layout, bytes: *const u8, bytes_len: usize, len: *mut usize) -> u32;
 
-    /// The lengths that the header states; the hash function stays.
+    /// Reads the lengths of keys and values from the header. The hash function of the layout is unchanged.
     #[link_name = "odht_any_layout_of"]
     pub fn layout_of(bytes: *const u8, bytes_len: usize, layout: *mut Layout) -> u32;
 
-    /// The value of a key.
+    /// Looks up a key.
     #[link_name = "odht_any_get"]
     pub fn get(
         layout: *const Layout,
@@ -76,11 +76,11 @@ unsafe extern "C" {
         value_len: usize,
     ) -> u32;
 
-    /// Whether a key has a value.
+    /// Looks up a key without its value.
     #[link_name = "odht_any_contains"]
     pub fn contains(layout: *const Layout, bytes: *const u8, bytes_len: usize, key: *const u8, key_len: usize) -> u32;
 
-    /// The values of that many keys, which lie one after the other.
+    /// Looks up `count` keys, which follow each other without gaps.
     #[link_name = "odht_any_get_all"]
     pub fn get_all(
         layout: *const Layout,
@@ -95,7 +95,7 @@ unsafe extern "C" {
         found_len: usize,
     ) -> u32;
 
-    /// The pairs from a slot on, in slot order, as many as there is room for.
+    /// Writes at most `room` pairs from a slot on, in slot order.
     #[link_name = "odht_any_walk"]
     pub fn walk(
         layout: *const Layout,
@@ -110,7 +110,7 @@ unsafe extern "C" {
         count: *mut usize,
     ) -> u32;
 
-    /// An order of inserts that makes the table, with an array of scratch: three numbers for each slot, or fewer.
+    /// Finds an order of inserts that makes the table. Three numbers of scratch for each slot bound its time.
     #[link_name = "odht_any_insert_order"]
     pub fn insert_order(
         layout: *const Layout,
@@ -122,7 +122,7 @@ unsafe extern "C" {
         scratch_len: usize,
     ) -> u32;
 
-    /// Inserts a key with its value, or gives a key that is there another value.
+    /// Inserts a key with its value, or replaces the value of a present key.
     #[link_name = "odht_any_insert"]
     pub fn insert(
         layout: *const Layout,
@@ -136,7 +136,7 @@ unsafe extern "C" {
         former_len: usize,
     ) -> u32;
 
-    /// Inserts that many keys with their values, up to the first that does not fit.
+    /// Inserts `count` keys with their values in order, up to the first that does not fit.
     #[link_name = "odht_any_insert_all"]
     pub fn insert_all(
         layout: *const Layout,
@@ -150,7 +150,7 @@ unsafe extern "C" {
         accepted: *mut usize,
     ) -> u32;
 
-    /// A table with slots for as many items as there are pairs.
+    /// Makes a table of `count` pairs, with slots for their number.
     #[link_name = "odht_any_build"]
     pub fn build(
         layout: *const Layout,
@@ -165,7 +165,7 @@ unsafe extern "C" {
         len: *mut usize,
     ) -> u32;
 
-    /// A table that starts with sixteen slots and grows, in memory of its own.
+    /// Makes a table that starts with sixteen slots and grows, in allocated memory.
     #[link_name = "odht_any_build_growing"]
     pub fn build_growing(
         layout: *const Layout,
@@ -179,11 +179,11 @@ unsafe extern "C" {
         len: *mut usize,
     ) -> u32;
 
-    /// Opens bytes, and keeps them as a view, which is also one of a shape of these lengths.
+    /// Opens bytes for many lookups. The view is also one of a shape with the same lengths.
     #[link_name = "odht_any_open_view"]
     pub fn open_view(layout: *const Layout, bytes: *const u8, bytes_len: usize, view: *mut View) -> u32;
 
-    /// The value of a key in a view.
+    /// Looks up a key in an opened table.
     #[link_name = "odht_any_view_get"]
     pub fn view_get(
         layout: *const Layout,
@@ -194,11 +194,11 @@ unsafe extern "C" {
         value_len: usize,
     ) -> u32;
 
-    /// Whether a key is in a view.
+    /// Looks up a key without its value in an opened table.
     #[link_name = "odht_any_view_contains"]
     pub fn view_contains(layout: *const Layout, view: *const View, key: *const u8, key_len: usize) -> u32;
 
-    /// The values of many keys in a view.
+    /// Looks up many keys in an opened table.
     #[link_name = "odht_any_view_get_all"]
     pub fn view_get_all(
         layout: *const Layout,
@@ -212,11 +212,11 @@ unsafe extern "C" {
         found_len: usize,
     ) -> u32;
 
-    /// The header's count of items of a view, whatever its lengths.
+    /// Returns the item count in the header of an opened table. It does not depend on the lengths.
     #[link_name = "odht_any_view_len"]
     pub fn view_len(view: *const View) -> usize;
 
-    /// The table that this one grows into at its maximum.
+    /// Writes a larger copy of the table.
     #[link_name = "odht_any_grow"]
     pub fn grow(
         layout: *const Layout,

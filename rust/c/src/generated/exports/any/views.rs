@@ -1,14 +1,15 @@
 // Generated from crates/odht_c/src/any/views.rt by make generate.
-//! The exports that open a dynamic table, and look up in an opened one.
+//! The exports that open a dynamic table, and that look up in an opened one.
 //!
-//! The header is not checked again: the caller ensures that the bytes of a view are accepted, as
-//! after `open_view` with the same lengths. `BAD_LAYOUT` as of the other exports.
+//! Lookups do not check the header: the caller ensures that the bytes of a view are accepted, as
+//! they are after `open_view` with the same lengths. Calls that take a layout return `BAD_LAYOUT`
+//! as the other exports do.
 
 use crate::generated::calls::any::{view, AnyLayout};
 use crate::generated::calls::view::View;
 
-/// Opens the bytes as `open` does: status 0, and `view` is a view of them. Or an error of the
-/// header, the length or the first ten slots; then `view` is unchanged.
+/// Opens the bytes as `open` does, makes `view` a view of them, and returns 0. Otherwise returns
+/// an error of the header, the length or the first ten slots. Then `view` is unchanged.
 #[unsafe(no_mangle)]
 pub unsafe extern "C" fn odht_any_open_view<'a>(
     layout: &AnyLayout,
@@ -20,8 +21,8 @@ pub unsafe extern "C" fn odht_any_open_view<'a>(
     view::open(*layout, bytes, view)
 }
 
-/// Writes the value of a key of an opened table to `value`: status 0. `ABSENT` where there is
-/// none, `BAD_LENGTHS` where the key or `value` has another length than the layout says; then
+/// Writes the value of a key in an opened table to `value`, and returns 0. Returns `ABSENT` if the
+/// key is absent, and `BAD_LENGTHS` if the key or `value` does not have the layout's length. Then
 /// `value` is unchanged.
 #[unsafe(no_mangle)]
 pub unsafe extern "C" fn odht_any_view_get(
@@ -37,8 +38,8 @@ pub unsafe extern "C" fn odht_any_view_get(
     view::get(*layout, view, key, value)
 }
 
-/// 0 where the key of an opened table has a value, `ABSENT` where it has none; `BAD_LENGTHS` where
-/// the key has another length than the layout says.
+/// Returns 0 if the key is present in an opened table, and `ABSENT` if it is absent. Returns
+/// `BAD_LENGTHS` if the key does not have the layout's length.
 #[unsafe(no_mangle)]
 pub unsafe extern "C" fn odht_any_view_contains(
     layout: &AnyLayout,
@@ -50,10 +51,10 @@ pub unsafe extern "C" fn odht_any_view_contains(
     view::contains(*layout, view, key)
 }
 
-/// Looks up `count` keys, which lie in `keys` one after the other, in an opened table: status 0,
-/// and at each index `found` is 1 and the value is written, or `found` is 0 and the value is
-/// unchanged. `BAD_LENGTHS` where `keys`, `values` or `found` have another length than that many
-/// keys, values and flags; then nothing is written.
+/// Looks up `count` keys in an opened table, and returns 0. If the key at an index is present,
+/// writes 1 to `found` and its value to `values` at that index. If it is absent, writes 0 to
+/// `found` and leaves the value unchanged. Returns `BAD_LENGTHS` if the length of `keys`, `values`
+/// or `found` is not that of `count` items. Then nothing is written.
 #[unsafe(no_mangle)]
 pub unsafe extern "C" fn odht_any_view_get_all(
     layout: &AnyLayout,
@@ -72,9 +73,10 @@ pub unsafe extern "C" fn odht_any_view_get_all(
     view::get_all(*layout, view, count, keys, values, found)
 }
 
-/// The item count in the header of an opened table; for valid bytes that is how many items there
-/// are. Nothing is checked: the caller ensures that the view's bytes begin with a header, as after
-/// `open_view`. It takes no layout, as a header states the count whatever the lengths.
+/// Returns the item count in the header of an opened table. If the bytes are valid, this is the
+/// number of items. Nothing is checked: the caller ensures that the view's bytes begin with a
+/// header, as they do after `open_view`. The call takes no layout, because the count does not
+/// depend on the lengths.
 #[unsafe(no_mangle)]
 pub unsafe extern "C" fn odht_any_view_len(view: &View<'_>) -> usize {
     view::len(view)

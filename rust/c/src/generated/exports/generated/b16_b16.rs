@@ -1,9 +1,9 @@
 // Generated from crates/odht_c/src/generated/b16_b16.rt by make generate.
 //! The exports of tables from hashes of 16 bytes to hashes of 16 bytes, UnHashFn.
 //!
-//! Statuses have the names of include/odht.h without `ODHT_`. The bytes and rules are those of
-//! docs/FORMAT.md; docs/PROOFS.md, "Calls for C", lists what is proved. Load factors are in
-//! percent of slots. An error of the header or length has a number from 1 to 7.
+//! Statuses have the names of include/odht.h without `ODHT_`. An error of the header or length is a
+//! number from 1 to 7. Load factors are in percent of slots. docs/FORMAT.md describes the bytes.
+//! docs/PROOFS.md, "Calls for C", lists what is proved.
 //!
 //! Generated from lists/shapes.txt and crates/odht_c/exports/shape.rt.in by make generate.
 
@@ -14,9 +14,9 @@ use crate::generated::tables::bytes::BorrowedMut;
 use crate::generated::tables::configs::Bytes16ToBytes16 as Shape;
 use crate::shim::Global;
 
-/// Writes to `len` how many bytes a new table for that many items has: status 0. `BAD_PERCENT` where
-/// the load factor is not from 1 to 100 percent, `CAPACITY` where no slot count is enough or the
-/// length does not fit `usize`; then `len` is unchanged.
+/// Writes the length in bytes of a new table for that number of items to `len`, and returns 0.
+/// Returns `BAD_PERCENT` if the load factor is not from 1 to 100 percent. Returns `CAPACITY` if no
+/// slot count is large enough or the length does not fit `usize`. Then `len` is unchanged.
 #[unsafe(no_mangle)]
 pub unsafe extern "C" fn odht_b16_b16_bytes_needed(
     max_item_count: usize,
@@ -26,9 +26,9 @@ pub unsafe extern "C" fn odht_b16_b16_bytes_needed(
     write::bytes_needed::<Shape>(max_item_count, max_load_factor_percent, len)
 }
 
-/// Makes an empty table for that many items in the bytes, whatever they hold: status 0.
-/// `BAD_PERCENT`, `CAPACITY`, or `INIT_LENGTH` where the bytes are more or fewer than it needs;
-/// then they are unchanged. One pass over the bytes.
+/// Makes an empty table for that number of items in the bytes, and returns 0. The former content
+/// of the bytes does not matter. Returns `BAD_PERCENT`, `CAPACITY`, or `INIT_LENGTH` if the table
+/// needs another length. Then the bytes are unchanged. Makes one pass over the bytes.
 #[unsafe(no_mangle)]
 pub unsafe extern "C" fn odht_b16_b16_init(
     bytes: *mut u8,
@@ -41,28 +41,29 @@ pub unsafe extern "C" fn odht_b16_b16_init(
     write::init::<Shape, BorrowedMut<'_>>(&mut store, max_item_count, max_load_factor_percent)
 }
 
-/// 0 where the bytes can be opened, or the number of the first error, 1 to 9: of too few bytes,
-/// of the header, of the length, of the first ten slots. The cost does not depend on the number of
-/// slots.
+/// Returns 0 if the bytes can be opened. Otherwise returns the number of the first error,
+/// 1 to 9: too few bytes, or an error of the header, the length or the first ten slots. Takes
+/// constant time.
 #[unsafe(no_mangle)]
 pub unsafe extern "C" fn odht_b16_b16_open(bytes: *const u8, bytes_len: usize) -> u32 {
     let bytes = unsafe { crate::lists::list(bytes, bytes_len) };
     read::open::<Shape>(bytes)
 }
 
-/// 0 exactly where the bytes are valid, or the number of the first error of the whole check,
-/// 1 to 16. One pass over the slots, and for each occupied one a read of the control bytes of its
-/// key's probe order up to it.
+/// Returns 0 exactly if the bytes are valid. Otherwise returns the number of the first error of
+/// the whole check, 1 to 16. Makes one pass over the slots. For each occupied slot, reads the
+/// control bytes of its key's probe order up to that slot.
 #[unsafe(no_mangle)]
 pub unsafe extern "C" fn odht_b16_b16_check(bytes: *const u8, bytes_len: usize) -> u32 {
     let bytes = unsafe { crate::lists::list(bytes, bytes_len) };
     read::check::<Shape>(bytes)
 }
 
-/// `check` with a bound of searches: 0 exactly where the bytes are valid and each home has a free
-/// slot in the first `groups` groups of its probe order, so that no search reads more; else the
-/// first error of the whole check, or `SEARCH_TOO_LONG`, which comes before `UNREACHABLE`. At most
-/// `groups` reads of sixteen control bytes a slot for the bound, and as many for the searches.
+/// Works like `check`, with a bound for searches. Returns 0 exactly if the bytes are valid and
+/// each home has a free slot in the first `groups` groups of its probe order. Then no search reads
+/// more groups. Otherwise returns the first error of the whole check, or `SEARCH_TOO_LONG`, which
+/// comes before `UNREACHABLE`. For each slot, reads at most `groups` groups of sixteen control
+/// bytes for the bound, and at most `groups` for the search.
 #[unsafe(no_mangle)]
 pub unsafe extern "C" fn odht_b16_b16_check_within(
     bytes: *const u8,
@@ -73,9 +74,9 @@ pub unsafe extern "C" fn odht_b16_b16_check_within(
     read::check_within::<Shape>(bytes, groups)
 }
 
-/// `open`, and writes to `slot` where the first error is: the slot, or `NO_SLOT`, the largest
-/// number, of an error of the header or length and with status 0. The cost does not depend on the
-/// number of slots.
+/// Works like `open`, and writes the slot of the first error to `slot`. With an error of the
+/// header or length, and with status 0, it writes `NO_SLOT`, the largest number. Takes constant
+/// time.
 #[unsafe(no_mangle)]
 pub unsafe extern "C" fn odht_b16_b16_open_at(
     bytes: *const u8,
@@ -86,10 +87,10 @@ pub unsafe extern "C" fn odht_b16_b16_open_at(
     places::open_at::<Shape>(bytes, slot)
 }
 
-/// `check`, and writes to `slot` where the first error is: the slot of an error of an entry, a
-/// control byte or a key that is not reachable; of `MIRROR_MISMATCH` the index of the mirror's
-/// byte; or `NO_SLOT`, the largest number, of any other error and with status 0. The cost is that
-/// of `check`.
+/// Works like `check`, and writes the slot of the first error to `slot`: that of an entry, of a
+/// control byte or of an unreachable key. With `MIRROR_MISMATCH` it writes the index of the
+/// mirror's byte. With any other error, and with status 0, it writes `NO_SLOT`, the largest
+/// number. The cost is that of `check`.
 #[unsafe(no_mangle)]
 pub unsafe extern "C" fn odht_b16_b16_check_at(
     bytes: *const u8,
@@ -100,8 +101,9 @@ pub unsafe extern "C" fn odht_b16_b16_check_at(
     places::check_at::<Shape>(bytes, slot)
 }
 
-/// `check_within`, and writes to `slot` where the first error is, as `check_at` does; of
-/// `SEARCH_TOO_LONG` the slot where the searches begin. The cost is that of `check_within`.
+/// Works like `check_within`, and writes the slot of the first error to `slot`, as `check_at`
+/// does. With `SEARCH_TOO_LONG` it writes the slot where the searches begin. The cost is that of
+/// `check_within`.
 #[unsafe(no_mangle)]
 pub unsafe extern "C" fn odht_b16_b16_check_within_at(
     bytes: *const u8,
@@ -113,10 +115,10 @@ pub unsafe extern "C" fn odht_b16_b16_check_within_at(
     places::check_within_at::<Shape>(bytes, groups, slot)
 }
 
-/// Gives the key this value: status 0 where the key was new, `REPLACED` where it had a value,
-/// which is written to `former`. `FULL` at the maximum where the key is absent, or an error of the
-/// header or length; then nothing changes. A view of the bytes remains usable, whatever the
-/// status.
+/// Inserts a key with its value. Returns 0 if the key was new. If the key was present, replaces
+/// its value, writes the former one to `former` and returns `REPLACED`. Returns `FULL` if the key
+/// is absent and the table is at its maximum, or an error of the header or length. Then nothing is
+/// changed. A view of the bytes remains usable, whatever the status.
 #[unsafe(no_mangle)]
 pub unsafe extern "C" fn odht_b16_b16_insert(
     bytes: *mut u8,
@@ -130,10 +132,10 @@ pub unsafe extern "C" fn odht_b16_b16_insert(
     write::insert::<Shape, BorrowedMut<'_>>(&mut store, key, value, former)
 }
 
-/// Inserts pairs, the key and the value at each index, in order: status 0, or `FULL` at the first
-/// that does not fit; and writes to `accepted` how many were inserted. `BAD_LENGTHS` where there
-/// are not as many keys as values, or an error of the header or length; then nothing changes. A
-/// view of the bytes remains usable, whatever the status.
+/// Inserts the key and the value at each index, in order, up to the first `FULL`. Writes the
+/// number of inserted pairs to `accepted`. Returns 0 if all are inserted, and `FULL` if not.
+/// Returns `BAD_LENGTHS` if the numbers of keys and values differ, or an error of the header or
+/// length. Then nothing is changed. A view of the bytes remains usable, whatever the status.
 #[unsafe(no_mangle)]
 pub unsafe extern "C" fn odht_b16_b16_insert_all(
     bytes: *mut u8,
@@ -154,8 +156,8 @@ pub unsafe extern "C" fn odht_b16_b16_insert_all(
     write::insert_all::<Shape, BorrowedMut<'_>>(&mut store, keys, values, accepted)
 }
 
-/// Writes the value of a key to `value`: status 0. `ABSENT` where there is none, or an error of
-/// the header or length; then `value` is unchanged.
+/// Writes the value of a key to `value`, and returns 0. Returns `ABSENT` if the key is absent, or
+/// an error of the header or length. Then `value` is unchanged.
 #[unsafe(no_mangle)]
 pub unsafe extern "C" fn odht_b16_b16_get(
     bytes: *const u8,
@@ -167,9 +169,10 @@ pub unsafe extern "C" fn odht_b16_b16_get(
     read::get::<Shape>(bytes, key, value)
 }
 
-/// Looks up many keys: status 0, and at each index `found` is 1 and the value is written, or
-/// `found` is 0 and the value is unchanged. `BAD_LENGTHS` where the arrays are not equally long,
-/// or an error of the header or length; then nothing is written.
+/// Looks up many keys, and returns 0. If the key at an index is present, writes 1 to `found` and
+/// its value to `values` at that index. If it is absent, writes 0 to `found` and leaves the value
+/// unchanged. Returns `BAD_LENGTHS` if the arrays have different lengths, or an error of the header
+/// or length. Then nothing is written.
 #[unsafe(no_mangle)]
 pub unsafe extern "C" fn odht_b16_b16_get_all(
     bytes: *const u8,
@@ -191,8 +194,8 @@ pub unsafe extern "C" fn odht_b16_b16_get_all(
     read::get_all::<Shape>(bytes, keys, values, found)
 }
 
-/// Writes the header's item count to `item_count`: status 0. Or an error of the header or length;
-/// then `item_count` is unchanged.
+/// Writes the header's item count to `item_count`, and returns 0. With an error of the header or
+/// length, `item_count` is unchanged.
 #[unsafe(no_mangle)]
 pub unsafe extern "C" fn odht_b16_b16_len(
     bytes: *const u8,
@@ -203,8 +206,8 @@ pub unsafe extern "C" fn odht_b16_b16_len(
     read::len::<Shape>(bytes, item_count)
 }
 
-/// Writes the header's slot count, how many items these slots take at most, and the header's load
-/// factor in percent, rounded down: status 0. Or an error of the header or length; then nothing is
+/// Writes the header's slot count, the maximum number of items for it, and the header's load
+/// factor in percent, rounded down. Returns 0. With an error of the header or length, nothing is
 /// written.
 #[unsafe(no_mangle)]
 pub unsafe extern "C" fn odht_b16_b16_sizes(
@@ -218,9 +221,10 @@ pub unsafe extern "C" fn odht_b16_b16_sizes(
     read::sizes::<Shape>(bytes, slot_count, max_item_count, max_load_factor_percent)
 }
 
-/// Writes to `len` the length in bytes of the table at the front of the bytes, by its header:
-/// status 0. What follows the table is not looked at, nor is any slot. Or an error of the header,
-/// or `WRONG_LENGTH` where there are fewer bytes than the table has; then `len` is unchanged.
+/// Computes the length in bytes of the table at the start of the bytes from its header, writes it
+/// to `len`, and returns 0. Reads no slot, and nothing after the table. Returns an error of the
+/// header, or `WRONG_LENGTH` if there are fewer bytes than the table needs. Then `len` is
+/// unchanged.
 #[unsafe(no_mangle)]
 pub unsafe extern "C" fn odht_b16_b16_table_len(
     bytes: *const u8,
@@ -231,11 +235,11 @@ pub unsafe extern "C" fn odht_b16_b16_table_len(
     read::table_len::<Shape>(bytes, len)
 }
 
-/// Writes the keys and values in the slots from `cursor` on (0 at first), in slot order, as many
-/// as fit, and to `item_count` how many. Status 0 where these are all; `TOO_SMALL` where the
-/// arrays are full and there are more. Either way `cursor` is then the slot to continue at: the
-/// pairs from there on are those that are left. `BAD_LENGTHS` where the arrays are not equally
-/// long, or an error of the header or length; then nothing is written.
+/// Writes keys and values to the arrays, in slot order from the slot `cursor` on, until the arrays
+/// are full or no pair is left. Writes their number to `item_count`, and the slot to continue at
+/// to `cursor`. The first call starts with a `cursor` of 0. Returns 0 if no pair is left, and
+/// `TOO_SMALL` if there are more. Returns `BAD_LENGTHS` if the arrays have different lengths, or an
+/// error of the header or length. Then nothing is written.
 #[unsafe(no_mangle)]
 pub unsafe extern "C" fn odht_b16_b16_walk(
     bytes: *const u8,
@@ -256,8 +260,8 @@ pub unsafe extern "C" fn odht_b16_b16_walk(
     walk::walk::<Shape>(bytes, cursor, keys, values, item_count)
 }
 
-/// Opens the bytes as `open` does: status 0, and `view` is a view of them. Or an error of the
-/// header, the length or the first ten slots, 1 to 9; then `view` is unchanged.
+/// Opens the bytes as `open` does, makes `view` a view of them, and returns 0. Otherwise returns
+/// an error of the header, the length or the first ten slots, 1 to 9. Then `view` is unchanged.
 #[unsafe(no_mangle)]
 pub unsafe extern "C" fn odht_b16_b16_open_view<'a>(
     bytes: *const u8,
@@ -268,9 +272,9 @@ pub unsafe extern "C" fn odht_b16_b16_open_view<'a>(
     view::open::<Shape>(bytes, view)
 }
 
-/// Writes the value of a key of an opened table to `value`: status 0. `ABSENT` where there is
-/// none; then `value` is unchanged. The header is not checked: the caller ensures that the view's
-/// bytes are accepted, as after `open_view`.
+/// Writes the value of a key in an opened table to `value`, and returns 0. Returns `ABSENT` if the
+/// key is absent. Then `value` is unchanged. The header is not checked: the caller ensures that the
+/// view's bytes are accepted, as they are after `open_view`.
 #[unsafe(no_mangle)]
 pub unsafe extern "C" fn odht_b16_b16_view_get(
     view: &View<'_>,
@@ -280,10 +284,10 @@ pub unsafe extern "C" fn odht_b16_b16_view_get(
     view::get(&view::table::<Shape>(view), key, value)
 }
 
-/// Looks up many keys in an opened table: status 0, and at each index `found` is 1 and the value
-/// is written, or `found` is 0 and the value is unchanged. `BAD_LENGTHS` where the arrays are not
-/// equally long; then nothing is written. The header is not checked: the caller ensures that the
-/// view's bytes are accepted, as after `open_view`.
+/// Looks up many keys in an opened table, and returns 0. Writes to `values` and `found` as
+/// `get_all` does. Returns `BAD_LENGTHS` if the arrays have different lengths. Then nothing is
+/// written. The header is not checked: the caller ensures that the view's bytes are accepted, as
+/// they are after `open_view`.
 #[unsafe(no_mangle)]
 pub unsafe extern "C" fn odht_b16_b16_view_get_all(
     view: &View<'_>,
@@ -303,24 +307,23 @@ pub unsafe extern "C" fn odht_b16_b16_view_get_all(
     view::get_all(&view::table::<Shape>(view), keys, values, found)
 }
 
-/// The item count in the header of an opened table; for valid bytes that is how many items there
-/// are. Nothing is checked: the caller ensures that the view's bytes are accepted, as after
-/// `open_view`.
+/// Returns the item count in the header of an opened table. If the bytes are valid, this is the
+/// number of items. Nothing is checked: the caller ensures that the view's bytes are accepted, as
+/// they are after `open_view`.
 #[unsafe(no_mangle)]
 pub unsafe extern "C" fn odht_b16_b16_view_len(view: &View<'_>) -> usize {
     view::table::<Shape>(view).len()
 }
 
-/// Writes to `out`, whose length is the item count, the occupied slots in an order in which
-/// inserts make the table: status 0. Their pairs, inserted in this order into an empty table of as
-/// many slots and the same load factor, make exactly these bytes. `UNMADE` where no list of
-/// inserts makes the table: what `out` then holds is unspecified. The number of the first error of
-/// the whole check, 1 to 16, or `BAD_LENGTHS` where the length of `out` is not the number of
-/// items; then `out` is unchanged.
+/// Writes the occupied slots to `out`, in an order in which inserts make the table, and returns 0.
+/// To make exactly these bytes, insert the pairs of these slots in this order into an empty table
+/// of the same slot count and load factor. Returns `UNMADE` if no list of inserts makes the table.
+/// Then the content of `out` is unspecified. Returns the first error of the whole check, 1 to 16,
+/// or `BAD_LENGTHS` if the length of `out` is not the number of items. Then `out` is unchanged.
 ///
-/// Allocates nothing. It costs the whole check, and then passes over the items: at most one more
-/// than there are items whose insert has to wait for that of an item in a later slot. Each pass
-/// ends by sorting the items that are left.
+/// Makes the whole check, and then passes over the items. There is at most one pass more than there
+/// are items that wait for the insert of an item in a later slot. Each pass ends with a sort of the
+/// items that are left. Allocates nothing.
 #[unsafe(no_mangle)]
 pub unsafe extern "C" fn odht_b16_b16_insert_order(
     bytes: *const u8,
@@ -333,14 +336,14 @@ pub unsafe extern "C" fn odht_b16_b16_insert_order(
     order::insert_order::<Shape>(bytes, out)
 }
 
-/// Writes the table that the one in `bytes` grows into at its maximum to the front of `out`, and
-/// its length in bytes to `len`: status 0. It has slots for twice as many items, and for one at
-/// least, and the same load factor; the pairs are placed in slot order (docs/FORMAT.md, "Growth").
-/// `TOO_SMALL` where `out` is shorter than the table: then only `len` is written. An error of the
-/// header or length, `LOAD_FACTOR_TOO_SMALL` where the header has less than one percent, or
-/// `CAPACITY` where no slot count is enough or the length does not fit `usize`; then nothing is
-/// written. After the table `out` is unchanged. Allocates nothing. One pass over both tables; each
-/// item is hashed once.
+/// Writes a larger copy of the table in `bytes` to the start of `out`, its length in bytes to
+/// `len`, and returns 0. The copy has the same load factor, and slots for twice the number of
+/// items, and for at least one. The pairs are placed in slot order (docs/FORMAT.md, "Growth"). The
+/// rest of `out` is unchanged. Returns `TOO_SMALL` if `out` is shorter than the copy. Then only
+/// `len` is written. Returns an error of the header or length, `LOAD_FACTOR_TOO_SMALL` if the
+/// header's load factor is below one percent, or `CAPACITY` if no slot count is large enough or the
+/// length does not fit `usize`. Then nothing is written. Makes one pass over both tables, and
+/// hashes each key once. Allocates nothing.
 #[unsafe(no_mangle)]
 pub unsafe extern "C" fn odht_b16_b16_grow(
     bytes: *const u8,
@@ -354,14 +357,13 @@ pub unsafe extern "C" fn odht_b16_b16_grow(
     grow::grow::<Shape>(bytes, out, len)
 }
 
-/// Builds a table of the pairs, the key and the value at each index, at the front of `out`, and
-/// writes its length in bytes to `len`: status 0. It has slots for as many items as there are
-/// pairs, so it never grows; of equal keys the last value counts. `TOO_SMALL` where `out` is
-/// shorter than the table: then only `len` is written. `BAD_LENGTHS` where there are not as many
-/// keys as values, `BAD_PERCENT` where the load factor is not from 1 to 100 percent, `CAPACITY`
-/// only where no slot count is enough or the length does not fit `usize`; then nothing is written.
-/// After the table `out` is unchanged. Allocates nothing. One pass over the bytes, then one insert
-/// for each pair.
+/// Makes a table for the number of pairs at the start of `out`, and inserts the key and the value
+/// at each index in order. Writes the table's length in bytes to `len`, and returns 0. Of equal
+/// keys the last value counts. The rest of `out` is unchanged. Returns `TOO_SMALL` if `out` is
+/// shorter than the table. Then only `len` is written. Returns `BAD_LENGTHS` if the numbers of keys
+/// and values differ, `BAD_PERCENT` if the load factor is not from 1 to 100 percent, or `CAPACITY`
+/// only if no slot count is large enough or the length does not fit `usize`. Then nothing is
+/// written. Makes one pass over the bytes, and one insert for each pair. Allocates nothing.
 #[unsafe(no_mangle)]
 pub unsafe extern "C" fn odht_b16_b16_build(
     keys: *const [u8; 16],
@@ -382,13 +384,13 @@ pub unsafe extern "C" fn odht_b16_b16_build(
     build::collected::<Shape>(keys, values, max_load_factor_percent, out, len)
 }
 
-/// Builds a table of the pairs, the key and the value at each index, in memory of its own, copies
-/// it to the front of `out`, and writes its length in bytes to `len`: status 0. It begins with
-/// sixteen slots at 87 percent, and grows as the pairs are inserted; of equal keys the last value
-/// counts. `TOO_SMALL` where `out` is shorter than the table: then only `len` is written.
-/// `BAD_LENGTHS` where there are not as many keys as values, `MEMORY` when an allocation fails or
-/// no table is large enough; then nothing is written. After the table `out` is unchanged. One
-/// insert for each pair, the growths, and one copy of the table.
+/// Inserts the key and the value at each index, in order, into a table in allocated memory. The
+/// table starts with sixteen slots at 87 percent, and grows. Then copies it to the start of `out`,
+/// writes its length in bytes to `len`, and returns 0. Of equal keys the last value counts. The
+/// rest of `out` is unchanged. Returns `TOO_SMALL` if `out` is shorter than the table. Then only
+/// `len` is written. Returns `BAD_LENGTHS` if the numbers of keys and values differ, or `MEMORY` if
+/// an allocation fails or no table is large enough. Then nothing is written. Makes one insert for
+/// each pair, the growths, and one copy of the table.
 #[unsafe(no_mangle)]
 pub unsafe extern "C" fn odht_b16_b16_build_growing(
     keys: *const [u8; 16],
