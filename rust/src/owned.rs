@@ -236,8 +236,8 @@ impl<C: Config> HashTableOwned<C> {
     /// the same slot count and load factor, and you get exactly these bytes. If it returns `false`,
     /// the contents of `out` are unspecified.
     ///
-    /// Allocates nothing. It makes at most `n + 1` passes over the items, where `n` is the number
-    /// of slots that are listed only after a slot with a higher index.
+    /// Allocates nothing. It makes at most `n + 1` passes over the items, if `n` slots must be
+    /// listed after one with a higher index.
     ///
     /// ```
     /// # use odht::{configs::U64ToU32, HashTableOwned};
@@ -273,10 +273,10 @@ impl<C: Config> HashTableOwned<C> {
     /// returns, and may contain any numbers. With a shorter one this call does what `insert_order`
     /// does, in the same time. Allocates nothing.
     ///
-    /// The time is proportional to the number of slots, and to the number of groups that the
-    /// longest search from each home (the slot where a search begins) reads. If searches are
-    /// bounded by `g` groups, it is proportional to `g` times the slots. If most keys are near
-    /// their homes, `insert_order` is faster.
+    /// The time is proportional to the number of slots, and to the groups that the longest search
+    /// from each home (the slot where it begins) reads. If searches are bounded by `g` groups, it
+    /// is proportional to `g` times the slots. If most keys are near their homes, `insert_order` is
+    /// faster.
     ///
     /// ```
     /// # use odht::{configs::U64ToU32, HashTableOwned};

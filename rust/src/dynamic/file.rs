@@ -34,6 +34,35 @@ impl fmt::Display for FileError {
 impl std::error::Error for FileError {}
 
 /// A source of bytes that are read by position, such as a file.
+///
+/// You can implement it for other sources, such as everything that can seek:
+///
+/// ```
+/// use odht::dynamic::{FileTable, ReadAt, ReadError};
+/// use odht::{configs::U64ToU32, FxHashFn, HashTableOwned};
+/// use std::cell::RefCell;
+/// use std::io::{Cursor, ErrorKind, Read, Seek, SeekFrom};
+///
+/// struct Seeking<F>(RefCell<F>);
+///
+/// impl<F: Read + Seek> ReadAt for Seeking<F> {
+///     fn read_at(&self, offset: u64, out: &mut [u8]) -> Result<usize, ReadError> {
+///         let mut file = self.0.borrow_mut();
+///         let read = file.seek(SeekFrom::Start(offset)).and_then(|_| file.read(out));
+///         read.map_err(|error| match error.kind() {
+///             ErrorKind::Interrupted => ReadError::Interrupted,
+///             _ => ReadError::Failed { code: 0 },
+///         })
+///     }
+/// }
+///
+/// let bytes = HashTableOwned::<U64ToU32>::from([(1, 2)]).into_raw_bytes();
+/// let len = bytes.len();
+/// let source = Seeking(RefCell::new(Cursor::new(bytes)));
+/// let table = FileTable::<FxHashFn, _>::open_as_stated(source, len)?;
+/// assert_eq!(table.get(&1_u64.to_le_bytes())?.as_deref(), Some(&[2, 0, 0, 0][..]));
+/// # Ok::<(), odht::dynamic::FileError>(())
+/// ```
 pub trait ReadAt {
     /// Reads bytes from `offset` on into the front of `out`, and returns the number of bytes read.
     /// One read may return fewer bytes than `out` has room for. It returns 0 at the end of the
@@ -96,9 +125,9 @@ impl<S: ReadAt> read_at::ReadAt for Source<S> {
 /// to the end of its search, the keys whose tag matches, and the value.
 ///
 /// If the bytes of the source do not change, each call returns what the same call of a
-/// [`DynTable`](super::DynTable) over these bytes returns, or the error of a read. The only
-/// difference: a key of another length is an error. If the bytes change meanwhile, a lookup may
-/// return an error, or a value that the table had at no single time. It does no other harm.
+/// [`DynTable`](super::DynTable) over them returns, or a read error. The only difference: a key of
+/// another length is an error. If the bytes change meanwhile, a lookup may return an error, or a
+/// value that the table had at no single time. It does no other harm.
 ///
 /// ```
 /// use odht::dynamic::{FileError, FileTable, Layout};
@@ -134,6 +163,17 @@ impl<H: HashFn, S: ReadAt> FileTable<H, S> {
     /// the header, the first 32 control bytes, and the entries of sixteen slots. It does not check
     /// that the source has `len` bytes. If the source ends earlier, a lookup may return `EarlyEnd`.
     ///
+    /// ```
+    /// # use odht::dynamic::{FileError, FileTable, Layout};
+    /// # use odht::{configs::U64ToU32, FxHashFn, HashTableOwned};
+    /// let table = HashTableOwned::<U64ToU32>::from([(1, 2)]);
+    /// let archive = [b"a header", table.raw_bytes()].concat();
+    /// let (layout, len) = (Layout::of::<U64ToU32>(), table.raw_bytes().len());
+    /// let found = FileTable::<FxHashFn, _>::open_at(layout, &archive, 8, len)?;
+    /// assert_eq!(found.get(&1_u64.to_le_bytes())?.as_deref(), Some(&[2, 0, 0, 0][..]));
+    /// # Ok::<(), FileError>(())
+    /// ```
+    ///
     /// # Errors
     ///
     /// Returns the first of these errors that applies:
@@ -150,6 +190,22 @@ impl<H: HashFn, S: ReadAt> FileTable<H, S> {
 
     /// Opens a whole source of `len` bytes as a table:
     /// [`open_at_as_stated`](FileTable::open_at_as_stated) with offset 0.
+    ///
+    /// ```no_run
+    /// # #[cfg(all(feature = "std", unix))]
+    /// # fn main() -> Result<(), Box<dyn std::error::Error>> {
+    /// use odht::{dynamic::FileTable, FxHashFn};
+    /// use std::fs::File;
+    ///
+    /// let file = File::open("table.odht")?;
+    /// let len = usize::try_from(file.metadata()?.len())?;
+    /// let table = FileTable::<FxHashFn, _>::open_as_stated(file, len)?;
+    /// println!("{} items, with keys of {} bytes", table.len(), table.layout().key_len);
+    /// # Ok(())
+    /// # }
+    /// # #[cfg(not(all(feature = "std", unix)))]
+    /// # fn main() {}
+    /// ```
     ///
     /// # Errors
     ///
