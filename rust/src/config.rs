@@ -23,7 +23,7 @@ impl<const N: usize> ByteArray for [u8; N] {}
 /// Any bytes must decode to a key or a value, since a table may come from an untrusted source.
 ///
 /// [`configs`](crate::configs) contains ready configurations, and [`config!`](crate::config!)
-/// writes one in a line. Written by hand, one looks like this:
+/// writes one in a line. By hand, it is written like this:
 ///
 /// ```
 /// use odht::{Config, HashTableOwned, Xxh64HashFn};
@@ -70,8 +70,7 @@ pub trait Config {
     /// The type of encoded values: at most 255 bytes.
     type EncodedValue: ByteArray;
 
-    /// The hash function of encoded keys. The bytes of a table do not record which function that
-    /// is.
+    /// The hash function of encoded keys. The bytes of a table do not record it.
     type H: HashFn;
 
     /// Encodes a key.

@@ -269,9 +269,10 @@ impl<C: Config> HashTableOwned<C> {
 
     /// Like [`insert_order`](HashTableOwned::insert_order), for untrusted tables: it uses `scratch`
     /// as working memory, returns the same result, and writes the same order to `out`. `scratch`
-    /// needs the length that [`insert_order_scratch`](HashTableOwned::insert_order_scratch)
-    /// returns, and may contain any numbers. With a shorter one this call does what `insert_order`
-    /// does, in the same time. Allocates nothing.
+    /// needs at least the length that
+    /// [`insert_order_scratch`](HashTableOwned::insert_order_scratch) returns, and may contain any
+    /// numbers. With a shorter one this call does what `insert_order` does, in the same time.
+    /// Allocates nothing.
     ///
     /// The time is proportional to the number of slots, and to the groups that the longest search
     /// from each home (the slot where it begins) reads. If searches are bounded by `g` groups, it

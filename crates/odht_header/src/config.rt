@@ -23,8 +23,7 @@ pub trait Config {
     /// The type of encoded values: at most 255 bytes.
     type EncodedValue: ByteArray;
 
-    /// The hash function of encoded keys. The bytes of a table do not record which function that
-    /// is.
+    /// The hash function of encoded keys. The bytes of a table do not record it.
     type H: HashFn;
 
     ghost encode_key: { Self.Key → Self.EncodedKey };

@@ -51,9 +51,9 @@ impl<H: HashFn, D: Borrow<[u8]>> DynTable<H, D> {
 
     /// Like [`insert_order`](DynTable::insert_order), for untrusted tables: it uses `scratch` as
     /// working memory, returns the same result, and writes the same order to `out`. `scratch` needs
-    /// the length that [`insert_order_scratch`](DynTable::insert_order_scratch) returns, and may
-    /// contain any numbers. With a shorter one this call does what `insert_order` does, in the same
-    /// time.
+    /// at least the length that [`insert_order_scratch`](DynTable::insert_order_scratch) returns,
+    /// and may contain any numbers. With a shorter one this call does what `insert_order` does, in
+    /// the same time.
     ///
     /// Check the bytes with [`verify`](DynTable::verify) first, unless you know that they are those
     /// of a valid table. For other bytes the result and `out` are unspecified.
