@@ -230,12 +230,10 @@ impl<C: Config, D: Borrow<[u8]>> HashTable<C, D> {
     /// the key.
     ///
     /// ```
-    /// # use odht::{configs::U64ToU32, HashTable, HashTableOwned};
-    /// # let mut table = HashTableOwned::<U64ToU32>::default();
-    /// # table.insert(&1, &2);
-    /// # let view = HashTable::<U64ToU32, _>::try_from_raw_bytes(table.raw_bytes())?;
+    /// # use odht::{configs::U64ToU32, HashTableOwned};
+    /// # let table = HashTableOwned::<U64ToU32>::from([(1, 2)]);
+    /// # let view = table.as_view();
     /// assert_eq!(view.get_counted(&1), (Some(2), 1));
-    /// # Ok::<(), odht::Error>(())
     /// ```
     #[inline]
     #[must_use]
@@ -246,12 +244,10 @@ impl<C: Config, D: Borrow<[u8]>> HashTable<C, D> {
     /// Returns `true` if the key has a value.
     ///
     /// ```
-    /// # use odht::{configs::U64ToU32, HashTable, HashTableOwned};
-    /// # let mut table = HashTableOwned::<U64ToU32>::default();
-    /// # table.insert(&1, &2);
-    /// # let view = HashTable::<U64ToU32, _>::try_from_raw_bytes(table.raw_bytes())?;
+    /// # use odht::{configs::U64ToU32, HashTableOwned};
+    /// # let table = HashTableOwned::<U64ToU32>::from([(1, 2)]);
+    /// # let view = table.as_view();
     /// assert!(view.contains_key(&1) && !view.contains_key(&3));
-    /// # Ok::<(), odht::Error>(())
     /// ```
     #[inline]
     #[must_use]
@@ -262,12 +258,10 @@ impl<C: Config, D: Borrow<[u8]>> HashTable<C, D> {
     /// Returns the number of items, as the header states it.
     ///
     /// ```
-    /// # use odht::{configs::U64ToU32, HashTable, HashTableOwned};
-    /// # let mut table = HashTableOwned::<U64ToU32>::default();
-    /// # table.insert(&1, &2);
-    /// # let view = HashTable::<U64ToU32, _>::try_from_raw_bytes(table.raw_bytes())?;
+    /// # use odht::{configs::U64ToU32, HashTableOwned};
+    /// # let table = HashTableOwned::<U64ToU32>::from([(1, 2)]);
+    /// # let view = table.as_view();
     /// assert_eq!(view.len(), 1);
-    /// # Ok::<(), odht::Error>(())
     /// ```
     #[inline]
     #[must_use]
@@ -278,12 +272,10 @@ impl<C: Config, D: Borrow<[u8]>> HashTable<C, D> {
     /// Returns `true` if the table has no items, according to the header.
     ///
     /// ```
-    /// # use odht::{configs::U64ToU32, HashTable, HashTableOwned};
-    /// # let mut table = HashTableOwned::<U64ToU32>::default();
-    /// # table.insert(&1, &2);
-    /// # let view = HashTable::<U64ToU32, _>::try_from_raw_bytes(table.raw_bytes())?;
+    /// # use odht::{configs::U64ToU32, HashTableOwned};
+    /// # let table = HashTableOwned::<U64ToU32>::from([(1, 2)]);
+    /// # let view = table.as_view();
     /// assert!(!view.is_empty());
-    /// # Ok::<(), odht::Error>(())
     /// ```
     #[inline]
     #[must_use]
@@ -294,11 +286,10 @@ impl<C: Config, D: Borrow<[u8]>> HashTable<C, D> {
     /// Returns the maximum number of items, by the slot count and load factor in the header.
     ///
     /// ```
-    /// # use odht::{configs::U64ToU32, HashTable, HashTableOwned};
-    /// # let table = HashTableOwned::<U64ToU32>::default();
-    /// # let view = HashTable::<U64ToU32, _>::try_from_raw_bytes(table.raw_bytes())?;
+    /// # use odht::{configs::U64ToU32, HashTableOwned};
+    /// # let table = HashTableOwned::<U64ToU32>::from([(1, 2)]);
+    /// # let view = table.as_view();
     /// assert_eq!(view.capacity(), 13); // of 16 slots 87 percent
-    /// # Ok::<(), odht::Error>(())
     /// ```
     #[inline]
     #[must_use]
@@ -310,12 +301,10 @@ impl<C: Config, D: Borrow<[u8]>> HashTable<C, D> {
     /// Checks all of the bytes, like [`check_all`](crate::check_all), at the same cost.
     ///
     /// ```
-    /// # use odht::{configs::U64ToU32, HashTable, HashTableOwned};
-    /// # let mut table = HashTableOwned::<U64ToU32>::default();
-    /// # table.insert(&1, &2);
-    /// # let view = HashTable::<U64ToU32, _>::try_from_raw_bytes(table.raw_bytes())?;
+    /// # use odht::{configs::U64ToU32, HashTableOwned};
+    /// # let table = HashTableOwned::<U64ToU32>::from([(1, 2)]);
+    /// # let view = table.as_view();
     /// assert_eq!(view.check_all(), Ok(()));
-    /// # Ok::<(), odht::Error>(())
     /// ```
     ///
     /// # Errors
@@ -329,12 +318,10 @@ impl<C: Config, D: Borrow<[u8]>> HashTable<C, D> {
     /// [`check_all`](HashTable::check_all) returns no error.
     ///
     /// ```
-    /// # use odht::{configs::U64ToU32, HashTable, HashTableOwned};
-    /// # let mut table = HashTableOwned::<U64ToU32>::default();
-    /// # table.insert(&1, &2);
-    /// # let view = HashTable::<U64ToU32, _>::try_from_raw_bytes(table.raw_bytes())?;
+    /// # use odht::{configs::U64ToU32, HashTableOwned};
+    /// # let table = HashTableOwned::<U64ToU32>::from([(1, 2)]);
+    /// # let view = table.as_view();
     /// assert!(view.verify());
-    /// # Ok::<(), odht::Error>(())
     /// ```
     #[must_use]
     pub fn verify(&self) -> bool {
@@ -347,12 +334,10 @@ impl<C: Config, D: Borrow<[u8]>> HashTable<C, D> {
     /// the key is present or absent.
     ///
     /// ```
-    /// # use odht::{configs::U64ToU32, HashTable, HashTableOwned, DEFAULT_GROUPS};
-    /// # let mut table = HashTableOwned::<U64ToU32>::default();
-    /// # table.insert(&1, &2);
-    /// # let view = HashTable::<U64ToU32, _>::try_from_raw_bytes(table.raw_bytes())?;
+    /// # use odht::{configs::U64ToU32, HashTableOwned, DEFAULT_GROUPS};
+    /// # let table = HashTableOwned::<U64ToU32>::from([(1, 2)]);
+    /// # let view = table.as_view();
     /// assert!(view.verify_within(DEFAULT_GROUPS));
-    /// # Ok::<(), odht::Error>(())
     /// ```
     #[must_use]
     pub fn verify_within(&self, groups: usize) -> bool {
@@ -366,12 +351,10 @@ impl<C: Config, D: Borrow<[u8]>> HashTable<C, D> {
     /// Reads only control bytes.
     ///
     /// ```
-    /// # use odht::{configs::U64ToU32, HashTable, HashTableOwned};
-    /// # let mut table = HashTableOwned::<U64ToU32>::default();
-    /// # table.insert(&1, &2);
-    /// # let view = HashTable::<U64ToU32, _>::try_from_raw_bytes(table.raw_bytes())?;
+    /// # use odht::{configs::U64ToU32, HashTableOwned};
+    /// # let table = HashTableOwned::<U64ToU32>::from([(1, 2)]);
+    /// # let view = table.as_view();
     /// assert!(view.searches_within(1));
-    /// # Ok::<(), odht::Error>(())
     /// ```
     #[must_use]
     pub fn searches_within(&self, groups: usize) -> bool {
