@@ -1,5 +1,5 @@
-//! A table at the end of another file, as of a program or an archive: behind what was there stand the table, and in the
-//! last eight bytes where it begins. The table may begin at any byte.
+//! A table at the end of another file, such as a program or an archive. The table is appended, and
+//! after it eight bytes with the offset of its first byte. This offset may be any number.
 //!
 //!     cargo run --example appended
 
@@ -16,7 +16,8 @@ fn append(file: &mut Vec<u8>, table: &HashTableOwned<Offsets>) {
     file.extend_from_slice(&begin.to_le_bytes());
 }
 
-/// The table at the end of a file, and what stands before it. `None` where there is no table.
+/// Opens the table at the end of a file. Returns it with the bytes before it, or `None` if there is
+/// no table.
 fn open(file: &[u8]) -> Option<(View<'_>, &[u8])> {
     let (rest, begin) = file.split_last_chunk::<8>()?;
     let begin = usize::try_from(u64::from_le_bytes(*begin)).ok()?;
@@ -37,8 +38,8 @@ fn main() {
         table.get(b"exit\0\0\0\0")
     );
 
-    // Where the place is known from elsewhere, as from a header of the file, no length is needed: the table's own
-    // header says where it ends, and what follows it is handed back.
+    // If you know the offset, for example from a header of the file, you need no length. The
+    // table's own header states where it ends, and `open_prefix` returns the bytes that follow.
     let (table, rest) = View::open_prefix(&file[before..]).expect("a table");
     println!("{} items, and {} bytes behind the table", table.len(), rest.len());
     println!("without a table: {}", open(b"what a linker has written").is_none());

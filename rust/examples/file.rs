@@ -1,9 +1,10 @@
-//! A table in a file: made, written whole beside its place and renamed to it, read and searched, and added to.
+//! A table in a file. Creates a table, writes it to a new file, and renames this file to its place.
+//! Then reads and searches it, and adds a pair.
 //!
 //!     cargo run --example file [FOLDER]
 //!
-//! The file is read, and then it is mapped: `Mmap` stands for that of the crate `memmap2`, and has its traits. Nobody may
-//! write to a file while it is mapped.
+//! The file is first read, and then mapped. `Mmap` replaces the type of the crate `memmap2`, and
+//! has the same traits. Nobody may write to a file while it is mapped.
 
 use odht::{BytesOf, HashTable, HashTableOwned};
 use std::error::Error;
@@ -12,7 +13,7 @@ use std::{env, fs};
 
 odht::config! { Squares: u32 => u64, by Fx }
 
-// What was in the file stays whole until all that is new is written.
+// The old file stays complete until all new bytes are written.
 fn store(bytes: &[u8], file: &Path) -> std::io::Result<()> {
     let beside = file.with_extension("new");
     fs::write(&beside, bytes)?;
@@ -28,7 +29,7 @@ fn square(file: &Path, number: u32) -> Result<Option<u64>, Box<dyn Error + Send 
 struct Mmap(Vec<u8>);
 
 impl Mmap {
-    // That of `memmap2` is unsafe: another process can change what is mapped.
+    // In `memmap2` this function is unsafe, since another process can change the mapped file.
     fn map(file: &Path) -> std::io::Result<Mmap> {
         fs::read(file).map(Mmap)
     }
@@ -40,7 +41,7 @@ impl AsRef<[u8]> for Mmap {
     }
 }
 
-/// A table that owns the mapping that it is in.
+/// A table that owns its mapping.
 type Mapped = HashTable<Squares, BytesOf<Mmap>>;
 
 fn open(file: &Path) -> Result<Mapped, Box<dyn Error + Send + Sync>> {

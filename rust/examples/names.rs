@@ -1,13 +1,16 @@
-//! Keys that are longer than a table's are: names of any length, by a hash of 128 bits, as compilers keep the paths of
-//! definitions. The value says where the name stands among all texts; so the name can be listed, and one that has the
-//! hash of another is told from it. And short words, whose key is a `String`: they are looked up by `&str`, and no
-//! `String` is made for that.
+//! Keys that are too long for a table: names of any length, stored by a hash of 128 bits, as
+//! compilers store the paths of definitions. The value contains the position of the name in a
+//! string of all names. So names can be listed, and a name is not mistaken for another with the
+//! same hash.
+//!
+//! The example also stores short words, with a `String` as key. It looks them up by `&str`, without
+//! creating a `String`.
 //!
 //!     cargo run --example names
 
 use odht::{Config, FxHashFn, HashTable, HashTableOwned};
 
-/// Where a text stands, and what the name is a name of.
+/// The position of a name among all texts, and the address that it names.
 pub(crate) struct Named {
     begin: u64,
     length: u32,
@@ -15,24 +18,26 @@ pub(crate) struct Named {
 }
 
 odht::fields! { Named { begin: u64, length: u32, address: u64 } }
-// The hash is a hash already: its last four bytes are taken.
+// The key is a hash already, so the table uses its last four bytes as the hash.
 odht::config! { pub(crate) Names: u128 => Named, by UnHash }
 
-// FNV-1a of 128 bits: no two names have one hash by chance. Somebody who wants to can make two; where names are a
-// stranger's take a hash that is made for this, such as SipHash with a key of your own, or the first half of SHA-256.
+// FNV-1a of 128 bits: no two names have the same hash by chance, but an attacker can find two. For
+// untrusted names, use a hash that resists this, such as SipHash with a secret key, or the first
+// half of SHA-256.
 pub(crate) fn hash_of(name: &str) -> u128 {
     mixed(name.bytes().fold(0x6c62_272e_07bb_0142_62b8_2175_6295_c58d, |hash: u128, byte| {
         (hash ^ u128::from(byte)).wrapping_mul(0x0000_0000_0100_0000_0000_0000_0000_013b)
     }))
 }
 
-// The last byte of a name does not reach the last four bytes of its FNV-1a, which the table takes as the hash. This
-// brings all bits there. Both steps can be undone, so different hashes stay different.
+// The last byte of a name does not affect the last four bytes of its FNV-1a, which the table uses
+// as the hash. This function mixes all bits into them. Both steps can be undone, so different
+// hashes stay different.
 fn mixed(hash: u128) -> u128 {
     (hash ^ (hash >> 64)).wrapping_mul(0x9e37_79b9_7f4a_7c15_f39c_c060_5ced_c835)
 }
 
-/// The bytes of the table, and the texts, which are stored beside it.
+/// Returns the bytes of the table, and the texts, which are stored separately.
 pub(crate) fn store(symbols: &[(&str, u64)]) -> (Vec<u8>, String) {
     let mut table = HashTableOwned::<Names>::with_capacity(symbols.len(), 87);
     let mut texts = String::new();
@@ -45,13 +50,13 @@ pub(crate) fn store(symbols: &[(&str, u64)]) -> (Vec<u8>, String) {
     (table.into_raw_bytes(), texts)
 }
 
-// The text of a value, which in untrusted bytes may say anything.
+// The text of a value. A value from untrusted bytes may contain any position.
 fn text_of<'t>(texts: &'t str, named: &Named) -> Option<&'t str> {
     let begin = usize::try_from(named.begin).ok()?;
     texts.get(begin..begin.checked_add(named.length as usize)?)
 }
 
-/// The address of a name.
+/// Returns the address of a name.
 fn address(table: &HashTable<Names, &[u8]>, texts: &str, name: &str) -> Option<u64> {
     let named = table.get(&hash_of(name))?;
     (text_of(texts, &named)? == name).then_some(named.address)
@@ -60,7 +65,7 @@ fn address(table: &HashTable<Names, &[u8]>, texts: &str, name: &str) -> Option<u
 /// From short words to numbers.
 pub(crate) struct Words;
 
-// The bytes of a word of at most sixteen, filled up with zeros. `None` for another text.
+// The bytes of a word of at most sixteen bytes, filled up with zeros. `None` for any other text.
 fn word_bytes(word: &str) -> Option<[u8; 16]> {
     let mut bytes = [0; 16];
     bytes.get_mut(..word.len())?.copy_from_slice(word.as_bytes());
@@ -80,7 +85,7 @@ impl Config for Words {
     fn encode_value(v: &u32) -> [u8; 4] {
         v.to_le_bytes()
     }
-    // any bytes are read, since a table may come from anywhere
+    // must accept any bytes, since a table may come from an untrusted source
     fn decode_key(k: &[u8; 16]) -> String {
         String::from_utf8_lossy(k).trim_end_matches('\0').to_string()
     }
@@ -94,7 +99,7 @@ impl Config for Words {
 pub(crate) struct Dictionary(HashTableOwned<Words>);
 
 impl Dictionary {
-    /// Counts a word. `false` where it is too long, or has a zero.
+    /// Counts a word. Returns `false` if it is too long or contains a zero.
     pub(crate) fn count(&mut self, word: &str) -> bool {
         let Some(key) = word_bytes(word) else { return false };
         let seen = self.0.get_encoded(&key).unwrap_or_default();
@@ -102,7 +107,7 @@ impl Dictionary {
         true
     }
 
-    /// How often a word was seen.
+    /// Returns how often a word was seen.
     pub(crate) fn get(&self, word: &str) -> Option<u32> {
         self.0.get_encoded(&word_bytes(word)?)
     }

@@ -1,4 +1,5 @@
-//! Threads that read one table. Nothing is locked: nobody writes it. A table that is shared for good is in an `Arc`.
+//! Threads that read one table. There is no lock, since nobody writes to it. A table that several
+//! threads own is in an `Arc`.
 //!
 //!     cargo run --example threads
 
@@ -11,7 +12,7 @@ odht::config! { Doubled: u64 => u64, by Fx }
 fn main() -> Result<(), Box<dyn std::error::Error + Send + Sync>> {
     let table: HashTableOwned<Doubled> = (0..100_000).map(|n| (n, 2 * n)).collect();
 
-    // Views of borrowed bytes are copied into threads that end before the table does.
+    // Views of borrowed bytes are copied into threads that end before the table is dropped.
     let view = HashTable::<Doubled, &[u8]>::try_from_raw_bytes(table.raw_bytes())?;
     let sum: u64 = thread::scope(|scope| {
         let parts: Vec<_> = (0..4)

@@ -1,24 +1,29 @@
-//! Configurations, and how the proved library sees one.
+//! Configurations, and their adapters to the traits of the proved library.
 
 use crate::generated::base::{bytes, hash};
 use crate::generated::header::config;
 use std::marker::PhantomData;
 
-/// An array of a fixed number of bytes, which a key or a value is encoded to: `[u8; N]`. No other type can be one.
+/// A type that keys and values are encoded to: `[u8; N]`. The trait is sealed, so no other type can
+/// implement it.
 pub trait ByteArray: bytes::ByteArray {}
 
 impl<const N: usize> ByteArray for [u8; N] {}
 
-/// The types of a table, how they are encoded, and the hash function of encoded keys.
+/// Describes a table: the types of its keys and values, their encodings, and the hash function of
+/// encoded keys.
 ///
-/// Keys are all encoded to one number of bytes, at most 255, and values too. The bytes depend on the key or the value
-/// alone: each call gives the same, on every platform. What the proofs say of a table rests on that; where a
-/// configuration does not keep it, lookups may miss what was inserted, and its bytes may be rejected when they are
-/// opened; nothing worse comes of it. Where one of its functions panics, the table has what was inserted before.
+/// All encoded keys have the same length, at most 255 bytes, and so have all encoded values. An
+/// encoding must depend only on the key or the value: every call must return the same bytes, on
+/// every platform. The proofs rely on that. If a configuration violates it, lookups may miss keys
+/// that were inserted, and opening the table's bytes may return an error. Nothing worse happens.
 ///
-/// Any bytes have to decode, since a table may come from anywhere.
+/// If one of the functions panics, the table keeps what was inserted before.
 ///
-/// [`configs`](crate::configs) has some that are ready.
+/// Any bytes must decode to a key or a value, since a table may come from an untrusted source.
+///
+/// [`configs`](crate::configs) contains ready configurations, and [`config!`](crate::config!)
+/// writes one in a line. By hand, it is written like this:
 ///
 /// ```
 /// use odht::{Config, HashTableOwned, Xxh64HashFn};
@@ -53,39 +58,39 @@ impl<const N: usize> ByteArray for [u8; N] {}
 /// assert_eq!(table.get(&(7, 9)), Some([255, 128, 0]));
 /// ```
 pub trait Config {
-    /// A key, as a user of the table has it.
+    /// The type of keys, before they are encoded.
     type Key;
 
-    /// A value, as a user of the table has it.
+    /// The type of values, before they are encoded.
     type Value;
 
-    /// The bytes of a key: at most 255, and at least as many as the hash function needs.
+    /// The type of encoded keys: at most 255 bytes, and at least [`HashFn::MIN_LEN`] bytes.
     type EncodedKey: ByteArray;
 
-    /// The bytes of a value: at most 255.
+    /// The type of encoded values: at most 255 bytes.
     type EncodedValue: ByteArray;
 
-    /// The hash function of encoded keys. The bytes of a table do not name it.
+    /// The hash function of encoded keys. The bytes of a table do not record it.
     type H: HashFn;
 
-    /// The bytes of a key.
+    /// Encodes a key.
     fn encode_key(k: &Self::Key) -> Self::EncodedKey;
 
-    /// The bytes of a value.
+    /// Encodes a value.
     fn encode_value(v: &Self::Value) -> Self::EncodedValue;
 
-    /// The key of the bytes.
+    /// Decodes a key. The function must return a key for any bytes.
     fn decode_key(k: &Self::EncodedKey) -> Self::Key;
 
-    /// The value of the bytes.
+    /// Decodes a value. The function must return a value for any bytes.
     fn decode_value(v: &Self::EncodedValue) -> Self::Value;
 }
 
 /// A hash function of encoded keys: [`FxHashFn`](crate::FxHashFn), [`UnHashFn`](crate::UnHashFn),
 /// [`Xxh64HashFn`](crate::Xxh64HashFn), or one of your own. [`config!`](crate::config!) lists which one fits which keys.
 ///
-/// The seven highest bits of a hash are the slot's tag, and its lowest bits say where the search begins; so all of them
-/// should vary.
+/// The seven highest bits of a hash become the tag of the slot, and the lowest bits select the slot
+/// where a search begins. All of these bits should vary between keys.
 ///
 /// ```
 /// use odht::HashFn;
@@ -103,10 +108,11 @@ pub trait Config {
 /// assert_eq!(Fnv::hash(b"a"), 0xe40c_292c);
 /// ```
 pub trait HashFn: Eq {
-    /// How many bytes the function needs at least. A configuration with shorter keys does not compile once it is used.
+    /// The minimum number of bytes that the function needs. A program that uses a configuration
+    /// with shorter encoded keys does not compile.
     const MIN_LEN: usize = 0;
 
-    /// The hash of the bytes, which are at least [`MIN_LEN`](HashFn::MIN_LEN).
+    /// Hashes `bytes`, whose length is at least [`MIN_LEN`](HashFn::MIN_LEN).
     fn hash(bytes: &[u8]) -> u32;
 }
 
@@ -120,11 +126,11 @@ impl HashFn for hash::FxHashFn {
 impl HashFn for hash::UnHashFn {
     const MIN_LEN: usize = <Self as hash::HashFn>::MIN_LEN;
 
-    /// The last four bytes.
+    /// Returns the last four bytes.
     ///
     /// # Panics
     ///
-    /// Where there are fewer than four.
+    /// Panics if there are fewer than four bytes.
     #[inline]
     #[track_caller]
     fn hash(bytes: &[u8]) -> u32 {
@@ -140,17 +146,18 @@ impl HashFn for hash::Xxh64HashFn {
     }
 }
 
-/// A hash function, as the proved library takes it.
+/// Adapts a hash function to the trait of the proved library.
 #[derive(PartialEq, Eq)]
 pub struct Hash<H>(PhantomData<H>);
 
 impl<H: HashFn> hash::HashFn for Hash<H> {
     const MIN_LEN: usize = H::MIN_LEN;
 
-    // What a dump writes is `hash_name`.
+    // A dump writes `hash_name` instead.
     const NAME: &'static str = "";
 
-    // The path of a type as its users write it: the hash functions of the crate are declared in private modules.
+    // The path by which users name the type. The hash functions of this crate are declared in
+    // private modules.
     fn hash_name() -> &'static str {
         let name = std::any::type_name::<H>();
         if name == std::any::type_name::<hash::FxHashFn>() {
@@ -171,11 +178,13 @@ impl<H: HashFn> hash::HashFn for Hash<H> {
     }
 }
 
-/// A configuration, as the proved library takes it. It is of no type's size and of every thread.
+/// Adapts a configuration to the trait of the proved library. It has size 0, and is `Send` and
+/// `Sync` for every `C`.
 pub struct Proved<C>(PhantomData<fn() -> C>);
 
 impl<C: Config> Proved<C> {
-    /// The laws of lengths that the proofs ask of a configuration. They are tested where a table of it is compiled.
+    /// The conditions on lengths that the proofs require of a configuration. They are checked when
+    /// a table of it is compiled.
     pub const FITS: () = {
         let key = <C::EncodedKey as bytes::ByteArray>::LEN;
         let value = <C::EncodedValue as bytes::ByteArray>::LEN;

@@ -1,8 +1,12 @@
-//! Ready configurations: from numbers and hashes to numbers, hashes or nothing. Numbers are stored little-endian. Keys
-//! that are hashed by [`UnHashFn`] are hashes already: their last four bytes are the hash, and should vary. For text,
-//! tuples, floats and other keys write one line with [`config!`](crate::config!), `by Xxh64`.
+//! Ready configurations. Their keys are numbers or hashes, and their values are numbers, hashes or
+//! empty.
 //!
-//! They are those of the proved library, where it is proved that their decodings undo their encodings.
+//! Numbers are stored little-endian. A configuration with [`UnHashFn`] is for keys that are hashes
+//! already: the table uses their last four bytes as the hash, so these bytes should vary. For text,
+//! tuples, floats and other keys, write one line with [`config!`](crate::config!), `by Xxh64`.
+//!
+//! They are the configurations of the proved library. It proves that decoding undoes encoding for
+//! each of them.
 //!
 //! ```
 //! use odht::{configs::U64ToU32, HashTableOwned};

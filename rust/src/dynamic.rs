@@ -1,10 +1,10 @@
-//! Dynamic tables: the lengths of keys and values are known only at run time, such as those of a
+//! Dynamic tables: the lengths of keys and values are known only at run time, for example from a
 //! file.
 //!
-//! A configuration says how long keys and values are, and a table of other lengths needs another
-//! one. A [`DynTable`] has the lengths as numbers: it reads and writes the same bytes, of any
-//! lengths, and its keys and values are the bytes as they are stored. The hash function stays a
-//! type, since the bytes do not name it.
+//! A [`Config`] fixes the lengths of keys and values at compile time. A [`DynTable`] takes them as
+//! numbers, in a [`Layout`]. It reads and writes the same format for any lengths, and its keys and
+//! values are the stored bytes. The hash function is still a type parameter, since the bytes do not
+//! record it.
 //!
 //! ```
 //! use odht::dynamic::{DynTable, Layout};
@@ -70,7 +70,7 @@ impl fmt::Display for DynError {
 
 impl std::error::Error for DynError {}
 
-/// How many bytes an encoded key and an encoded value have.
+/// The lengths of encoded keys and values.
 #[derive(Clone, Copy, PartialEq, Eq, Hash, Debug)]
 pub struct Layout {
     /// The length of an encoded key, in bytes.
@@ -80,7 +80,7 @@ pub struct Layout {
 }
 
 impl Layout {
-    /// The lengths of a configuration.
+    /// Returns the lengths of a configuration's encoded keys and values.
     ///
     /// ```
     /// use odht::{configs::U64ToU32, dynamic::Layout};
@@ -96,21 +96,24 @@ impl Layout {
         }
     }
 
-    // As the proved library has it.
+    // The same lengths, as the type of the proved library.
     fn proved(self) -> layout::Layout {
         layout::Layout { key_len: self.key_len, value_len: self.value_len }
     }
 }
 
-/// A table in bytes of any kind, of keys and values of the lengths that were given when it was opened. It cannot grow.
+/// A view of a table in bytes that you provide. The lengths of keys and values are given when it is
+/// opened. A view cannot grow; [`DynTableOwned`] can.
 ///
-/// The bytes may be a slice, a vector, a mapped file, or anything else that implements `Borrow<[u8]>`. Where it
-/// implements `BorrowMut<[u8]>` too, pairs can be inserted. Any number of threads may read a table.
+/// The bytes may be a slice, a vector, or anything else that implements `Borrow<[u8]>`. If the type
+/// also implements `BorrowMut<[u8]>`, pairs can be inserted. [`BytesOf`](crate::BytesOf) wraps
+/// types that have only `AsRef<[u8]>`, such as a mapped file. Any number of threads may read a
+/// table.
 ///
 /// # Panics
 ///
-/// Every call that looks at the table panics where `D` gives bytes of another length, or with another slot count, than
-/// those that were opened.
+/// Every call that reads or writes the table panics if `D` returns bytes whose length or slot count
+/// differs from that of the bytes that were opened.
 ///
 /// # Mapped files
 ///
@@ -124,8 +127,9 @@ pub struct DynTable<H: HashFn, D: Borrow<[u8]>> {
 }
 
 impl<H: HashFn, D: Borrow<[u8]>> DynTable<H, D> {
-    /// Opens bytes as a table of these lengths: the header, the length and the first ten slots are checked, in constant
-    /// time, as [`try_from_raw_bytes`](crate::HashTable::try_from_raw_bytes) checks them.
+    /// Opens bytes as a table with these key and value lengths. Like
+    /// [`try_from_raw_bytes`](crate::HashTable::try_from_raw_bytes), it checks the header, the
+    /// length and the first ten slots, in constant time.
     ///
     /// ```
     /// use odht::dynamic::{DynError, DynTable, Layout};
@@ -143,7 +147,10 @@ impl<H: HashFn, D: Borrow<[u8]>> DynTable<H, D> {
     ///
     /// # Errors
     ///
-    /// `KeyTooShort` where the hash function needs longer keys; then `Rejected` with the error of `try_from_raw_bytes`.
+    /// Returns the first of these errors that applies:
+    ///
+    /// - `KeyTooShort` if the hash function needs longer keys
+    /// - `Rejected` with the error that `try_from_raw_bytes` would return
     pub fn open(layout: Layout, data: D) -> Result<Self, DynError> {
         let bytes = data.borrow();
         dynamic::DynTable::<Hash<H>, _>::open(layout.proved(), Borrowed::new(bytes))?;
@@ -151,13 +158,19 @@ impl<H: HashFn, D: Borrow<[u8]>> DynTable<H, D> {
         Ok(DynTable { data, layout, opened, hash: PhantomData })
     }
 
-    /// [`open`](DynTable::open) with the lengths that the header states, which [`layout`](DynTable::layout) tells.
+    /// Like [`open`](DynTable::open), with the key and value lengths that the header states.
+    /// [`layout`](DynTable::layout) returns them.
     ///
     /// # Errors
     ///
-    /// `Rejected` with the error of too few bytes, of the header, of the length; then `KeyTooShort`; then `Rejected`
-    /// with that of the first ten slots. A header states no hash function: a table of another one is rejected where one
-    /// of the first ten slots is occupied and has another tag.
+    /// Returns the first of these errors that applies:
+    ///
+    /// - `Rejected` if there are too few bytes, or the header or the length is wrong
+    /// - `KeyTooShort` if the hash function needs longer keys
+    /// - `Rejected` if one of the first ten slots is wrong
+    ///
+    /// The header does not record the hash function. A table that was built with another one is
+    /// rejected if the tag of an occupied slot among the first ten does not match.
     pub fn open_as_stated(data: D) -> Result<Self, DynError> {
         let bytes = data.borrow();
         let table = dynamic::DynTable::<Hash<H>, _>::open_as_stated(Borrowed::new(bytes))?;
@@ -166,7 +179,7 @@ impl<H: HashFn, D: Borrow<[u8]>> DynTable<H, D> {
         Ok(DynTable { data, layout: Layout { key_len, value_len }, opened, hash: PhantomData })
     }
 
-    // The bytes, which are as long as they were, and have as many slots.
+    // The bytes. Panics if their length or slot count has changed.
     #[inline(always)]
     fn bytes(&self) -> &[u8] {
         let bytes = self.data.borrow();
@@ -181,22 +194,23 @@ impl<H: HashFn, D: Borrow<[u8]>> DynTable<H, D> {
         dynamic::DynTable::open_unchecked(self.layout.proved(), store)
     }
 
-    // The proved parts of the table. That their header fits is known from when the bytes were opened.
+    // The proved parts of the table. Opening has checked that the header fits.
     #[inline(always)]
     fn parts(&self) -> DynRawTable<'_, Hash<H>> {
         dynamic_parts(self.bytes(), self.layout.proved())
     }
 
-    /// The lengths of keys and values.
+    /// Returns the lengths of keys and values.
     #[inline]
     #[must_use]
     pub fn layout(&self) -> Layout {
         self.layout
     }
 
-    /// The value of a key: that of its last insert. A key of another length has none.
+    /// Returns the value that the last insert of the key stored, or `None`. A key of another length
+    /// has no value.
     ///
-    /// Each group of sixteen control bytes is read at most once.
+    /// Reads each group of sixteen control bytes at most once.
     #[inline]
     #[must_use]
     pub fn get(&self, key: &[u8]) -> Option<&[u8]> {
@@ -206,8 +220,9 @@ impl<H: HashFn, D: Borrow<[u8]>> DynTable<H, D> {
         self.parts().find(key)
     }
 
-    /// `get`, and how many groups of sixteen control bytes it read: in a table those up to the first slot that is free
-    /// or holds the key. For a key of another length it reads none.
+    /// Like [`get`](DynTable::get), and also returns how many groups of sixteen control bytes it
+    /// read. In a valid table, these are the groups up to the first slot that is free or contains
+    /// the key. For a key of another length it reads none.
     #[inline]
     #[must_use]
     pub fn get_counted(&self, key: &[u8]) -> (Option<&[u8]>, usize) {
@@ -217,14 +232,14 @@ impl<H: HashFn, D: Borrow<[u8]>> DynTable<H, D> {
         self.parts().find_counted(key)
     }
 
-    /// Whether the key has a value.
+    /// Returns `true` if the key has a value.
     #[inline]
     #[must_use]
     pub fn contains_key(&self, key: &[u8]) -> bool {
         self.get(key).is_some()
     }
 
-    /// The keys and values, in slot order.
+    /// Returns an iterator over the keys and values, in slot order.
     ///
     /// ```
     /// # use odht::{configs::U64ToU32, dynamic::DynTable, FxHashFn, HashTableOwned};
@@ -240,37 +255,39 @@ impl<H: HashFn, D: Borrow<[u8]>> DynTable<H, D> {
         self.parts().iter()
     }
 
-    /// The keys and values in the slots from `from` on, in slot order, each with its slot. There is none where `from`
-    /// is past the last slot.
+    /// Returns an iterator over the pairs in the slots from `from` on, in slot order. Each item is
+    /// the index of a slot, with its key and value. If `from` is past the last slot, the iterator
+    /// is empty.
     pub fn iter_from(&self, from: usize) -> impl FusedIterator<Item = (usize, (&[u8], &[u8]))> {
         self.parts().iter_from(from)
     }
 
-    /// How many items there are, by the header.
+    /// Returns the number of items, as the header states it.
     #[inline]
     #[must_use]
     pub fn len(&self) -> usize {
         Header::of(self.bytes()).item_count()
     }
 
-    /// Whether there is no item, by the header.
+    /// Returns `true` if the table has no items, according to the header.
     #[inline]
     #[must_use]
     pub fn is_empty(&self) -> bool {
         self.len() == 0
     }
 
-    /// Checks what opening leaves out: whether all of the bytes are those of a table. It costs what
-    /// [`check_all`](crate::check_all) does.
+    /// Checks what opening does not check: whether all of the bytes are those of a valid table. It
+    /// costs what [`check_all`](crate::check_all) costs.
     ///
     /// # Errors
     ///
-    /// The first that `check_all` finds behind those of opening.
+    /// Returns the first error that `check_all` finds after the checks of opening.
     pub fn check_rest(&self) -> Result<(), Error> {
         check_dynamic::<Hash<H>>(self.bytes(), self.layout.proved())
     }
 
-    /// Whether all of the bytes are those of a table: whether [`check_rest`](DynTable::check_rest) finds no error.
+    /// Returns `true` if all of the bytes are those of a valid table: if
+    /// [`check_rest`](DynTable::check_rest) returns no error.
     ///
     /// ```
     /// # use odht::{configs::U64ToU32, dynamic::DynTable, FxHashFn, HashTableOwned};
@@ -284,19 +301,22 @@ impl<H: HashFn, D: Borrow<[u8]>> DynTable<H, D> {
         self.check_rest().is_ok()
     }
 
-    /// [`check_rest`](DynTable::check_rest) for untrusted bytes, whose time nobody can make long: it also returns an
-    /// error where a home has, among the first `groups` groups of sixteen of its probe order, no control byte that
-    /// counts as free. Where there is no error, no search, of a present or an absent key, reads more.
+    /// Like [`check_rest`](DynTable::check_rest), but in bounded time: use it for untrusted bytes.
+    /// It also checks that searches are short. Each home, the slot where a search begins, must have
+    /// a control byte that counts as free among the first `groups` groups of sixteen of its probe
+    /// order. If there is no error, no search reads more groups, whether the key is present or
+    /// absent.
     ///
     /// # Errors
     ///
-    /// The first that [`check_all_within`](crate::check_all_within) finds behind those of opening.
+    /// Returns the first error that [`check_all_within`](crate::check_all_within) finds after the
+    /// checks of opening.
     pub fn check_rest_within(&self, groups: usize) -> Result<(), Error> {
         check_dynamic_within::<Hash<H>>(self.bytes(), self.layout.proved(), groups)
     }
 
-    /// [`verify`](DynTable::verify) for untrusted bytes: whether
-    /// [`check_rest_within`](DynTable::check_rest_within) finds no error.
+    /// Like [`verify`](DynTable::verify), for untrusted bytes: returns `true` if
+    /// [`check_rest_within`](DynTable::check_rest_within) returns no error.
     ///
     /// ```
     /// # use odht::{configs::U64ToU32, dynamic::DynTable, FxHashFn, HashTableOwned, DEFAULT_GROUPS};
@@ -310,22 +330,24 @@ impl<H: HashFn, D: Borrow<[u8]>> DynTable<H, D> {
         self.check_rest_within(groups).is_ok()
     }
 
-    /// Whether each home has, among the first `groups` groups of sixteen of its probe order, a
-    /// control byte that counts as free. Then no search in valid bytes reads more. It reads only
-    /// control bytes.
+    /// Returns `true` if all searches are short: if each home (the slot where a search begins) has
+    /// a control byte that counts as free among the first `groups` groups of sixteen of its probe
+    /// order. Then no search in a valid table reads more groups.
+    ///
+    /// Reads only control bytes.
     #[must_use]
     pub fn searches_within(&self, groups: usize) -> bool {
         self.parts().searches_within(groups)
     }
 
-    /// All bytes.
+    /// Returns all bytes of the table.
     #[inline]
     #[must_use]
     pub fn raw_bytes(&self) -> &[u8] {
         self.bytes()
     }
 
-    /// The data, as it was given.
+    /// Consumes the view, and returns the data that it was opened from.
     #[inline]
     #[must_use]
     pub fn into_data(self) -> D {

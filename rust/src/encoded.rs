@@ -1,11 +1,11 @@
-//! A table as that of the bytes that it stores: keys and values that are encoded already.
+//! The same table seen as one of encoded keys and values.
 
 use crate::config::{Config, Proved};
 use crate::generated::base::bytes::{Borrowed, BorrowedMut};
 use crate::generated::tables;
 use std::marker::PhantomData;
 
-/// The configuration of the same tables whose keys and values are the encoded ones of `C`.
+/// A configuration of the same tables, whose keys and values are the encoded ones of `C`.
 pub struct Stored<C>(PhantomData<fn() -> C>);
 
 impl<C: Config> Config for Stored<C> {
@@ -42,7 +42,7 @@ pub fn stored<C: Config>(bytes: &[u8]) -> tables::HashTable<Proved<Stored<C>>, B
     tables::HashTable::from_raw_bytes_unchecked(Borrowed::new(bytes))
 }
 
-/// The same, to be written.
+/// The same, for writing.
 #[inline(always)]
 pub fn stored_mut<C: Config>(
     bytes: &mut [u8],

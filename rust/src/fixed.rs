@@ -1,25 +1,25 @@
-//! Types of a fixed number of bytes, and configurations of them in a line.
+//! Types that are encoded to a fixed number of bytes, and configurations of them in a line.
 
 mod fields;
 mod others;
 
-/// A type each of whose values is a fixed number of bytes, as keys and values of a configuration are. [`config!`]
-/// takes any such types.
+/// A type whose values are all encoded to the same number of bytes. [`config!`] takes such types as
+/// keys and values.
 ///
-/// These types are `Fixed`. Any bytes are those of a value, since a table may come from anywhere, so the last column
-/// lists how bytes are read that no value has.
+/// These types are `Fixed`. Any bytes must decode to a value, since a table may come from an
+/// untrusted source. The last column lists how bytes are decoded to which no value is encoded.
 ///
 /// | types | bytes | other bytes |
 /// |---|---|---|
 /// | numbers from 8 to 128 bits | little-endian | none |
-/// | `bool` | 0 or 1 | each but 0 is `true` |
+/// | `bool` | 0 or 1 | every byte except 0 is `true` |
 /// | `char` | its number, as a `u32` | U+FFFD, the replacement character |
-/// | `NonZero` numbers of these types | as the number | 0 is read as 1 |
-/// | `Option<T>` | 1 and the bytes of the value; for `None` zeros | each first byte but 0 is that of a `Some` |
+/// | `NonZero` numbers of these types | like the number | 0 is read as 1 |
+/// | `Option<T>` | 1, then the bytes of the value; for `None` zeros | a first byte other than 0 means `Some` |
 /// | `Ipv4Addr`, `Ipv6Addr` | the 4 or 16 bytes as the address is written | none |
-/// | arrays, and tuples of up to six | their members one after the other, without padding | as the members |
+/// | arrays, and tuples of up to six | their members one after the other, without padding | as of the members |
 ///
-/// [`fields!`] makes a struct one; what else is to be a key or a value implements it by hand:
+/// [`fields!`] implements the trait for a struct. For any other type, implement it by hand:
 ///
 /// ```
 /// use odht::{Fixed, HashTableOwned};
@@ -36,7 +36,7 @@ mod others;
 ///     fn write(&self, to: &mut [u8]) {
 ///         to[0] = *self as u8;
 ///     }
-///     // any byte is to be read as one, since a table may come from anywhere
+///     // any byte must decode, since a table may come from an untrusted source
 ///     fn read(from: &[u8]) -> Self {
 ///         [Kind::Function, Kind::Data][usize::from(from[0] & 1)]
 ///     }
@@ -51,13 +51,14 @@ mod others;
 /// [`config!`]: crate::config!
 /// [`fields!`]: crate::fields!
 pub trait Fixed: Sized {
-    /// How many bytes a value has.
+    /// The length of an encoded value, in bytes.
     const LEN: usize;
 
-    /// Writes the bytes of the value to `to`, which has [`LEN`](Fixed::LEN) bytes.
+    /// Encodes the value to `to`, which has [`LEN`](Fixed::LEN) bytes.
     fn write(&self, to: &mut [u8]);
 
-    /// The value of the bytes of `from`, which has [`LEN`](Fixed::LEN) bytes. Any bytes are those of a value.
+    /// Decodes a value from `from`, which has [`LEN`](Fixed::LEN) bytes. It must return a value for
+    /// any bytes.
     #[must_use]
     fn read(from: &[u8]) -> Self;
 }
@@ -92,7 +93,7 @@ impl Fixed for bool {
         to[0] = u8::from(*self);
     }
 
-    /// Each byte but 0 is `true`.
+    /// Every byte except 0 is `true`.
     #[inline(always)]
     fn read(from: &[u8]) -> Self {
         from[0] != 0
@@ -153,12 +154,13 @@ tuples! {
     (A 0, B 1, C 2, D 3, E 4, F 5)
 }
 
-/// Writes configurations: a name, a key, a value, and by which function keys are hashed. Keys and values are of any
-/// types that are [`Fixed`](crate::Fixed): numbers, arrays and tuples of them, and structs by
-/// [`fields!`](crate::fields!). An encoded key or value has at most 255 bytes.
+/// Defines configurations. Each consists of a name, the type of keys, the type of values, and the
+/// hash function of keys. Keys and values may have any type that is [`Fixed`](crate::Fixed):
+/// numbers, arrays and tuples of them, and structs with [`fields!`](crate::fields!). An encoded key
+/// or value has at most 255 bytes.
 ///
-/// The hash function has to fit the keys. One that does not gives many keys the same hash, and searches become a
-/// hundred times longer:
+/// The hash function must fit the keys. Otherwise many keys have the same hash, and searches become
+/// a hundred times longer:
 ///
 /// | keys | hash function |
 /// |---|---|
@@ -171,9 +173,12 @@ tuples! {
 /// - [`FxHashFn`](crate::FxHashFn) uses the low 32 bits of each eight bytes of a key. Keys that differ only in the high
 ///   32 bits have few different hashes.
 /// - [`UnHashFn`](crate::UnHashFn) takes the last four bytes of a key as its hash.
-/// - [`Xxh64HashFn`](crate::Xxh64HashFn) uses all bits. It is the low half of XXH64, which other languages have too.
-/// - `by FxHashFn`, `by UnHashFn` and `by Xxh64HashFn`, the names of these types, mean the same.
-/// - A [`HashFn`](crate::HashFn) of your own stands there by its path; one that has such a name by `self::FxHashFn`.
+/// - [`Xxh64HashFn`](crate::Xxh64HashFn) uses all bits. It is the low half of XXH64, which
+///   libraries in other languages provide too.
+/// - Instead of `by Fx` you can write `by FxHashFn`, the name of the type. `by UnHashFn` and `by
+///   Xxh64HashFn` work in the same way.
+/// - To use a [`HashFn`](crate::HashFn) of your own, write its path. If its name is one of these,
+///   write a longer path, such as `by self::FxHashFn`.
 ///
 /// ```
 /// odht::config! { Names: [u8; 32] => u64, by Xxh64 }
@@ -191,8 +196,8 @@ tuples! {
 /// assert_eq!(lines.get(&(1, 4096)), Some((20, 7)));
 /// ```
 ///
-/// `String` is no `Fixed`, since its length varies. A short text is an array that is filled up with zeros; one that may
-/// be longer goes by its hash, as in the example `names`.
+/// `String` is not `Fixed`, since its length varies. Store a short text as an array, filled up with
+/// zeros. For a text that may be longer, store its hash, as the example `names` does.
 ///
 /// ```
 /// odht::config! { Names: [u8; 16] => u64, by Xxh64 }

@@ -1,4 +1,4 @@
-//! Walks over the pairs of a table.
+//! Iterators over the pairs of a table.
 
 use crate::config::{Config, Proved};
 use crate::generated::header::layout::Layout;
@@ -12,11 +12,11 @@ mod owning;
 
 pub use owning::{IntoIter, IntoKeys, IntoValues};
 
-// What a walk has left: the occupied slots from one on.
+// The rest of an iteration: the occupied slots from one slot on.
 struct Walk<'a, C: Config> {
     left: RawSlots<'a, C::EncodedKey, C::EncodedValue>,
     bytes: &'a [u8],
-    // the slot behind the last one that was taken
+    // the slot after the last one that was returned
     from: usize,
 }
 
@@ -59,8 +59,8 @@ fn places<C: Config>(bytes: &[u8]) -> (usize, usize) {
     (slots, entry_at::<Proved<C>>(slots))
 }
 
-// How many slots from `from` on are occupied. Their own control bytes tell, whatever the header counts. It is given
-// values and no walk, which may then stay in registers.
+// How many slots from `from` on are occupied, counted from their own control bytes, and not taken
+// from the header. Its parameters are values instead of a `Walk`, which can then stay in registers.
 #[inline(never)]
 fn occupied_from<C: Config>(bytes: &[u8], from: usize) -> usize {
     let (slots, control) = places::<C>(bytes);
@@ -70,7 +70,7 @@ fn occupied_from<C: Config>(bytes: &[u8], from: usize) -> usize {
 /// How many of these control bytes are those of occupied slots.
 #[inline(always)]
 pub fn occupied_in(own: &[u8]) -> usize {
-    // a piece has no more than a byte counts, so that many are added at once
+    // a sum of 255 control bytes fits in a byte, so many bytes are added at once
     let in_piece = |piece: &[u8]| -> u8 {
         piece.iter().map(|control| u8::from(!is_empty_or_deleted(*control))).sum()
     };
@@ -86,8 +86,9 @@ macro_rules! walks {
     ($( $(#[$doc:meta])* $name:ident, $item:ty, |$slot:pat_param, $entry:pat_param| $made:expr; )*) => { $(
         $(#[$doc])*
         ///
-        /// A whole walk reads each control byte once, sixteen at a time. Its length is exact for any bytes, since
-        /// `len` and `size_hint` count the control bytes of the slots that are left; they believe no header.
+        /// The whole iteration reads each control byte once, sixteen at a time. `len` and
+        /// `size_hint` are exact for any bytes: they count the control bytes of the slots that are
+        /// left, and do not trust the header.
         #[must_use = "a walk does nothing until something is taken"]
         pub struct $name<'a, C: Config>(Walk<'a, C>);
 
@@ -138,20 +139,28 @@ macro_rules! walks {
 }
 
 walks! {
-    /// The keys and values of a table, in slot order. Made by `iter` of both tables.
+    /// An iterator over the keys and values of a table, in slot order. Returned by
+    /// [`HashTable::iter`](crate::HashTable::iter) and
+    /// [`HashTableOwned::iter`](crate::HashTableOwned::iter).
     Iter, (C::Key, C::Value), |_, entry| (C::decode_key(&entry.key), C::decode_value(&entry.value));
 
-    /// The slots of a table that hold a pair, from a slot on: the number of each, with its key and value. Made by
-    /// `iter_from` of both tables.
+    /// An iterator over the occupied slots of a table, from a given slot on. Each item is the index
+    /// of a slot, with its key and value. Returned by
+    /// [`HashTable::iter_from`](crate::HashTable::iter_from) and
+    /// [`HashTableOwned::iter_from`](crate::HashTableOwned::iter_from).
     ///
-    /// Whoever stops at a pair may go on later from the number that came with it.
+    /// If you stop at a pair, you can continue later: pass the index of its slot to `iter_from`.
     Slots, (usize, (C::Key, C::Value)), |slot, entry| {
         (slot, (C::decode_key(&entry.key), C::decode_value(&entry.value)))
     };
 
-    /// The keys of a table, in slot order. Made by `keys` of both tables. No value is decoded.
+    /// An iterator over the keys of a table, in slot order. No value is decoded. Returned by
+    /// [`HashTable::keys`](crate::HashTable::keys) and
+    /// [`HashTableOwned::keys`](crate::HashTableOwned::keys).
     Keys, C::Key, |_, entry| C::decode_key(&entry.key);
 
-    /// The values of a table, in slot order. Made by `values` of both tables. No key is decoded.
+    /// An iterator over the values of a table, in slot order. No key is decoded. Returned by
+    /// [`HashTable::values`](crate::HashTable::values) and
+    /// [`HashTableOwned::values`](crate::HashTableOwned::values).
     Values, C::Value, |_, entry| C::decode_value(&entry.value);
 }

@@ -1,9 +1,9 @@
-//! What was seen of the bytes of a table when it was opened, and the item count in its header.
+//! The length and slot count of a table when it was opened, and the item count in its header.
 //!
-//! A table over a `D: Borrow<[u8]>` asks for the bytes at each call, and a `D` that is badly written may give others.
-//! What the proved library takes for granted of them is their length and the slot count in their header, so both are
-//! kept, and compared at each call. What was kept is never read from the bytes again: another process may write to
-//! those of a mapped file (`shim::slots`).
+//! A table over a `D: Borrow<[u8]>` borrows the bytes at each call, and a `D` that is badly written
+//! may return others. The proved library relies on their length and on the slot count in their
+//! header. So both are kept here, and compared at each call. They are then taken from here and
+//! never read from the bytes again: another process may write to a mapped file (`shim::slots`).
 
 use crate::config::{Config, Proved};
 use crate::iter::occupied;
@@ -19,15 +19,15 @@ pub struct Opened {
 }
 
 impl Opened {
-    /// Of bytes whose header and length fit. Panics where they do so no more: where another process wrote to the file
-    /// that is mapped there, since they were looked at.
+    /// Of bytes whose header and length were found to fit. Panics if they no longer do, because
+    /// another process has written to the mapped file since then.
     #[inline]
     pub fn of(bytes: &[u8], layout: Layout) -> Opened {
         Opened::fitting(bytes, layout).unwrap_or_else(|| slots::others())
     }
 
-    /// Of bytes that nobody has looked at. Panics where their length is not that of the slot count in their header: the
-    /// proved library takes no more than this for granted where it looks at memory.
+    /// Of bytes that nobody has checked. Panics if their length does not match the slot count in
+    /// their header. For its accesses to memory the proved library relies on nothing else.
     #[track_caller]
     pub fn unchecked<C: Config>(bytes: &[u8]) -> Opened {
         let opened = Opened::fitting(bytes, Layout::of::<Proved<C>>());
@@ -37,21 +37,23 @@ impl Opened {
             .expect("the length of the bytes is not that of the slot count in their header")
     }
 
-    // Of bytes with a slot count that fits. No other one fits their length, so it is that of the header that was opened.
+    // Of bytes with a slot count that fits their length. No other slot count fits it, so it is that
+    // of the header that was opened.
     #[inline]
     fn fitting(bytes: &[u8], layout: Layout) -> Option<Opened> {
         let (len, slots) = (bytes.len(), slots_in(bytes.first_chunk()?));
         slots::fits(len, slots as usize, layout).then_some(Opened { len, slots })
     }
 
-    /// How many slots there are.
+    /// The number of slots.
     #[inline]
     pub fn slots(self) -> usize {
         self.slots as usize
     }
 
-    /// Panics where the bytes are not as long as those that were opened, or have another slot count. The layout is that
-    /// of `of`. In this order of the tests the compiler moves them out of a loop of lookups.
+    /// Panics if the bytes are longer or shorter than those that were opened, or have another slot
+    /// count. The layout is that of `of`. With the tests in this order, the compiler moves them out
+    /// of a loop of lookups.
     #[inline(always)]
     #[allow(unsafe_code)]
     pub fn check(self, bytes: &[u8], layout: Layout) {

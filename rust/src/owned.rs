@@ -1,7 +1,8 @@
 //! The table that owns its bytes, and grows.
 //!
-//! What the proved library requires is seen to here: its bytes are those that the proved library made or checked, a
-//! load factor is a percentage (`percent_of`), and slices are as long as they have to be.
+//! This module ensures what the proved library requires: the bytes are ones that the proved library
+//! wrote or checked, a load factor is a percentage (`percent_of`), and slices have the right
+//! lengths.
 
 use crate::config::{Config, Proved};
 use crate::iter::{occupied, Iter, Keys, Slots, Values};
@@ -21,7 +22,8 @@ mod making;
 mod room;
 mod traits;
 
-/// A table that owns its bytes, and grows where a new key is inserted at the maximum.
+/// A hash table that owns its bytes, and grows when a new key is inserted at its maximum item count
+/// ([`capacity`](HashTableOwned::capacity)).
 ///
 /// ```
 /// use odht::{configs::U64ToU32, HashTableOwned};
@@ -35,9 +37,9 @@ mod traits;
 pub struct HashTableOwned<C: Config>(tables::HashTableOwned<Proved<C>>);
 
 impl<C: Config> HashTableOwned<C> {
-    /// The value of a key: that of its last insert.
+    /// Returns the value that the last insert of the key stored, or `None`.
     ///
-    /// Each group of sixteen control bytes is read at most once.
+    /// Reads each group of sixteen control bytes at most once.
     ///
     /// ```
     /// # use odht::{configs::U64ToU32, HashTableOwned};
@@ -51,9 +53,11 @@ impl<C: Config> HashTableOwned<C> {
         self.0.get(key)
     }
 
-    /// `get` of many keys, each to its index. The first groups of eight keys are read ahead; each key is encoded
-    /// twice. In this crate that seldom gains: in the run of `bench/RESULTS.md` it took 0.9 to 1.3 times a loop of
-    /// `get` for present keys of 64 bits, and up to 1.7 times for absent ones.
+    /// Looks up many keys, and writes the value of `keys[i]` to `values[i]`.
+    ///
+    /// The first groups of eight keys are read ahead, and each key is encoded twice. In this crate
+    /// that is seldom faster than a loop of `get`. In `bench/RESULTS.md` it took 0.9 to 1.3 times
+    /// as long for present keys of 64 bits, and up to 1.7 times for absent ones.
     ///
     /// ```
     /// # use odht::{configs::U64ToU32, HashTableOwned};
@@ -66,7 +70,7 @@ impl<C: Config> HashTableOwned<C> {
     ///
     /// # Panics
     ///
-    /// Where there are more or fewer values than keys.
+    /// Panics if `keys` and `values` have different lengths.
     #[inline]
     #[track_caller]
     pub fn get_all(&self, keys: &[C::Key], values: &mut [Option<C::Value>]) {
@@ -74,8 +78,8 @@ impl<C: Config> HashTableOwned<C> {
         self.0.get_all(keys, values);
     }
 
-    /// `get`, and how many groups of sixteen control bytes it read: those up to the first slot that is free or holds
-    /// the key.
+    /// Like [`get`](HashTableOwned::get), and also returns how many groups of sixteen control bytes
+    /// it read. These are the groups up to the first slot that is free or contains the key.
     ///
     /// ```
     /// # use odht::{configs::U64ToU32, HashTableOwned};
@@ -89,7 +93,7 @@ impl<C: Config> HashTableOwned<C> {
         self.0.get_counted(key)
     }
 
-    /// Whether the key has a value.
+    /// Returns `true` if the key has a value.
     ///
     /// ```
     /// # use odht::{configs::U64ToU32, HashTableOwned};
@@ -103,7 +107,7 @@ impl<C: Config> HashTableOwned<C> {
         self.0.contains_key(key)
     }
 
-    /// The keys and values, in slot order.
+    /// Returns an iterator over the keys and values, in slot order.
     ///
     /// ```
     /// # use odht::{configs::U64ToU32, HashTableOwned};
@@ -116,7 +120,7 @@ impl<C: Config> HashTableOwned<C> {
         Iter::of(self.raw_bytes(), 0)
     }
 
-    /// The keys, in slot order. No value is decoded.
+    /// Returns an iterator over the keys, in slot order. No value is decoded.
     ///
     /// ```
     /// # use odht::{configs::U64ToU32, HashTableOwned};
@@ -128,7 +132,7 @@ impl<C: Config> HashTableOwned<C> {
         Keys::of(self.raw_bytes(), 0)
     }
 
-    /// The values, in slot order. No key is decoded.
+    /// Returns an iterator over the values, in slot order. No key is decoded.
     ///
     /// ```
     /// # use odht::{configs::U64ToU32, HashTableOwned};
@@ -140,8 +144,9 @@ impl<C: Config> HashTableOwned<C> {
         Values::of(self.raw_bytes(), 0)
     }
 
-    /// The keys and values in the slots from `from` on, in slot order, each with its slot. There is none where `from`
-    /// is past the last slot.
+    /// Returns an iterator over the pairs in the slots from `from` on, in slot order. Each item is
+    /// the index of a slot, with its key and value. If `from` is past the last slot, the iterator
+    /// is empty.
     ///
     /// ```
     /// # use odht::{configs::U64ToU32, HashTableOwned};
@@ -156,7 +161,7 @@ impl<C: Config> HashTableOwned<C> {
         Slots::of(self.raw_bytes(), from)
     }
 
-    /// How many items there are.
+    /// Returns the number of items.
     ///
     /// ```
     /// # use odht::{configs::U64ToU32, HashTableOwned};
@@ -170,7 +175,7 @@ impl<C: Config> HashTableOwned<C> {
         self.0.len()
     }
 
-    /// Whether there is no item.
+    /// Returns `true` if the table has no items.
     ///
     /// ```
     /// # use odht::{configs::U64ToU32, HashTableOwned};
@@ -182,7 +187,8 @@ impl<C: Config> HashTableOwned<C> {
         self.len() == 0
     }
 
-    /// How many items the table has at the most before it grows: those that its slots take at its load factor.
+    /// Returns the maximum number of items before the table grows. It follows from the slot count
+    /// and the load factor.
     ///
     /// ```
     /// # use odht::{configs::U64ToU32, HashTableOwned};
@@ -196,7 +202,7 @@ impl<C: Config> HashTableOwned<C> {
         max_item_count_for(header.slot_count(), header.max_load_factor())
     }
 
-    /// The bytes of the table, which can be stored as they are.
+    /// Returns the bytes of the table. You can store them as they are.
     ///
     /// ```
     /// # use odht::{configs::U64ToU32, HashTableOwned};
@@ -209,7 +215,7 @@ impl<C: Config> HashTableOwned<C> {
         self.0.raw_bytes()
     }
 
-    /// The bytes of the table, which is given up for them. They are not copied.
+    /// Consumes the table and returns its bytes, without copying them.
     ///
     /// ```
     /// # use odht::{configs::U64ToU32, HashTable, HashTableOwned};
@@ -224,13 +230,14 @@ impl<C: Config> HashTableOwned<C> {
         self.0.into_raw_bytes()
     }
 
-    /// Whether some list of inserts, growths included, makes this table from an empty one of its load factor. Where one
-    /// does, `out` lists the occupied slots in such an order: their pairs, inserted in this order into an empty table
-    /// of as many slots and the same load factor, leave these very bytes. Where none does, what it writes means
-    /// nothing.
+    /// Returns `true` if inserts can have made this table: if some list of inserts, growths
+    /// included, makes it from an empty table with the same load factor. Then `out` lists the
+    /// occupied slots in such an order: insert their pairs in this order into an empty table with
+    /// the same slot count and load factor, and you get exactly these bytes. If it returns `false`,
+    /// the contents of `out` are unspecified.
     ///
-    /// It takes no memory. There are at most as many passes over the items as there are slots that wait for one of a
-    /// higher number, and one more.
+    /// Allocates nothing. It makes at most `n + 1` passes over the items, if `n` slots must be
+    /// listed after one with a higher index.
     ///
     /// ```
     /// # use odht::{configs::U64ToU32, HashTableOwned};
@@ -249,8 +256,8 @@ impl<C: Config> HashTableOwned<C> {
     ///
     /// # Panics
     ///
-    /// Where `out` does not have as many numbers as the table has items; and where the item count is not that of the
-    /// occupied slots, which only bytes that were opened unchecked can have.
+    /// Panics if the length of `out` is not the item count, or if the item count is not the number
+    /// of occupied slots. These two differ only in bytes that were opened unchecked.
     #[track_caller]
     #[must_use]
     pub fn insert_order(&self, out: &mut [usize]) -> bool {
@@ -260,13 +267,17 @@ impl<C: Config> HashTableOwned<C> {
         self.0.insert_order(out)
     }
 
-    /// [`insert_order`](HashTableOwned::insert_order) for untrusted tables, where it has `scratch` to write to: it
-    /// returns the same, and leaves the same order in `out`. `scratch` has as many numbers as
-    /// [`insert_order_scratch`](HashTableOwned::insert_order_scratch) says or more, of any values; with fewer this is
-    /// `insert_order`, in the time that that takes. It takes no memory.
+    /// Like [`insert_order`](HashTableOwned::insert_order), for untrusted tables: it uses `scratch`
+    /// as working memory, returns the same result, and writes the same order to `out`. `scratch`
+    /// needs at least the length that
+    /// [`insert_order_scratch`](HashTableOwned::insert_order_scratch) returns, and may contain any
+    /// numbers. With a shorter one this call does what `insert_order` does, in the same time.
+    /// Allocates nothing.
     ///
-    /// The time is in proportion to the slots, and to the groups that the longest search from each home reads: with a
-    /// bound of `g` groups to `g` times the slots. Where most keys are near their homes `insert_order` is faster.
+    /// The time is proportional to the number of slots, and to the groups that the longest search
+    /// from each home (the slot where it begins) reads. If searches are bounded by `g` groups, it
+    /// is proportional to `g` times the slots. If most keys are near their homes, `insert_order` is
+    /// faster.
     ///
     /// ```
     /// # use odht::{configs::U64ToU32, HashTableOwned};
@@ -279,7 +290,7 @@ impl<C: Config> HashTableOwned<C> {
     ///
     /// # Panics
     ///
-    /// As `insert_order` does.
+    /// Panics when [`insert_order`](HashTableOwned::insert_order) does.
     #[track_caller]
     #[must_use]
     pub fn insert_order_with(&self, out: &mut [usize], scratch: &mut [usize]) -> bool {
@@ -289,7 +300,8 @@ impl<C: Config> HashTableOwned<C> {
         self.0.insert_order_with(out, scratch)
     }
 
-    /// How many numbers of scratch [`insert_order_with`](HashTableOwned::insert_order_with) takes: three for each slot.
+    /// Returns the length of the scratch that
+    /// [`insert_order_with`](HashTableOwned::insert_order_with) needs: three numbers for each slot.
     #[must_use]
     pub fn insert_order_scratch(&self) -> usize {
         self.0.insert_order_scratch()

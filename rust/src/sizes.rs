@@ -1,12 +1,14 @@
-//! How long tables are, the whole check of their bytes, and what comes of an error where a call returns none.
+//! The lengths of tables, the whole check of their bytes, and the panics of calls that return no
+//! error.
 
 use crate::config::{Config, Proved};
 use crate::generated::header::error::Error;
 use crate::generated::{raw, tables};
 use alloc::alloc::{handle_alloc_error, Layout};
 
-/// The length in bytes of a new table for that many items, to be given to
-/// [`HashTable::try_init_in_place`]. The load factor is in percent of the slots.
+/// Returns the length in bytes of a new table for `max_item_count` items.
+/// [`HashTable::try_init_in_place`] needs bytes of this length. `max_load_factor_percent` is the
+/// percentage of the slots that may be occupied.
 ///
 /// ```
 /// use odht::{bytes_needed, configs::U64ToU32};
@@ -17,7 +19,7 @@ use alloc::alloc::{handle_alloc_error, Layout};
 ///
 /// # Panics
 ///
-/// Where the percentage is not from 1 to 100, and where no table is large enough.
+/// Panics if the percentage is not from 1 to 100, or if no table is large enough.
 ///
 /// [`HashTable::try_init_in_place`]: crate::HashTable::try_init_in_place
 #[track_caller]
@@ -29,7 +31,7 @@ pub fn bytes_needed<C: Config>(max_item_count: usize, max_load_factor_percent: u
     }
 }
 
-/// [`bytes_needed`], with an error in place of the second panic.
+/// Like [`bytes_needed`], but returns an error if no table is large enough.
 ///
 /// ```
 /// use odht::{configs::U64ToU32, try_bytes_needed, Error};
@@ -40,12 +42,12 @@ pub fn bytes_needed<C: Config>(max_item_count: usize, max_load_factor_percent: u
 ///
 /// # Errors
 ///
-/// [`Error::Capacity`] where no slot count is enough for that many items, or the length is above
+/// [`Error::Capacity`] if no slot count is large enough for the items, or the length exceeds
 /// `usize::MAX`.
 ///
 /// # Panics
 ///
-/// Where the percentage is not from 1 to 100.
+/// Panics if the percentage is not from 1 to 100.
 #[track_caller]
 pub fn try_bytes_needed<C: Config>(
     max_item_count: usize,
@@ -55,9 +57,9 @@ pub fn try_bytes_needed<C: Config>(
     tables::bytes_needed::<Proved<C>>(max_item_count, percent).ok_or(Error::Capacity)
 }
 
-/// How many bytes the table at the front of `bytes` has, by its header. What follows the table is
-/// not looked at, nor is any slot: it takes constant time. Where it returns a length, opening
-/// accepts the header of that many bytes at the front, and of no other number of them.
+/// Returns the length of the table at the front of `bytes`, as its header states it. It reads only
+/// the header, in constant time. If it returns a length `n`, opening accepts the header and the
+/// length of `&bytes[..n]`, and of no other prefix of `bytes`.
 ///
 /// ```
 /// use odht::{configs::U64ToU32, table_len, HashTableOwned};
@@ -69,20 +71,21 @@ pub fn try_bytes_needed<C: Config>(
 ///
 /// # Errors
 ///
-/// The first of `TooShort`, `WrongTag`, `WrongVersion`, `WrongSizeOf`, `SlotCountNotPowerOfTwo`,
-/// `SlotCountTooSmall`, that the header gives, then `WrongLength` where there are fewer bytes than
-/// the table has: it has their number as `found` and the table's length as `expected`.
+/// Returns the first of `TooShort`, `WrongTag`, `WrongVersion`, `WrongSizeOf`,
+/// `SlotCountNotPowerOfTwo` and `SlotCountTooSmall` that applies to the header. If none does, it
+/// returns `WrongLength` if there are fewer bytes than the table has: `found` is their number, and
+/// `expected` is the length of the table.
 pub fn table_len<C: Config>(bytes: &[u8]) -> Result<usize, Error> {
     let () = Proved::<C>::FITS;
     raw::memory_layout::table_len::<Proved<C>>(bytes)
 }
 
-/// Checks all of the bytes. They are accepted exactly where they are those of a table that the format allows, to the
-/// last byte; lookups in such a table answer as a map does.
+/// Checks all of the bytes. It accepts exactly the bytes of tables that the format allows, to the
+/// last byte. Lookups in such a table return what a map would.
 ///
-/// It takes no memory. Where hashes vary its time is linear in the bytes. At worst, where all keys of `s` slots have
-/// one hash, it makes `s*s/2` comparisons of keys: over an hour for 2^20 slots. So bound the length of bytes that come
-/// from a stranger.
+/// It allocates nothing. If hashes vary, its time is linear in the number of bytes. At worst, if
+/// all keys of `s` slots have the same hash, it compares keys `s*s/2` times: over an hour for 2^20
+/// slots. For untrusted bytes, limit their length, or call [`check_all_within`].
 ///
 /// ```
 /// use odht::{check_all, configs::U64ToU32, Error, HashTableOwned};
@@ -110,10 +113,13 @@ pub fn check_all<C: Config>(bytes: &[u8]) -> Result<(), Error> {
     raw::memory_layout::check_all::<Proved<C>>(bytes)
 }
 
-/// [`check_all`] with a bound of searches, for untrusted bytes: also checks that each home has, among the first
-/// `groups` groups of sixteen of its probe order, a control byte that counts as free. Then no search, of a present or
-/// an absent key, reads more. For `s` slots it reads at most `2 * s * groups` groups and compares at most
-/// `16 * s * groups` keys, whatever the bytes are.
+/// Like [`check_all`], but in bounded time: use it for untrusted bytes. It also checks that
+/// searches are short. Each home, the slot where a search begins, must have a control byte that
+/// counts as free among the first `groups` groups of sixteen of its probe order. If it returns no
+/// error, no search reads more groups, whether the key is present or absent.
+///
+/// For `s` slots it reads at most `2 * s * groups` groups and compares at most `16 * s * groups`
+/// keys, for any bytes.
 ///
 /// ```
 /// use odht::{check_all_within, configs::U64ToU32, HashTableOwned, DEFAULT_GROUPS};
@@ -125,20 +131,20 @@ pub fn check_all<C: Config>(bytes: &[u8]) -> Result<(), Error> {
 ///
 /// # Errors
 ///
-/// Those of [`check_all`] in their order, and [`Error::SearchTooLong`] before `Unreachable`.
+/// Those of [`check_all`] in the same order, with [`Error::SearchTooLong`] before `Unreachable`.
 pub fn check_all_within<C: Config>(bytes: &[u8], groups: usize) -> Result<(), Error> {
     let () = Proved::<C>::FITS;
     raw::memory_layout::check_all_within::<Proved<C>>(bytes, groups)
 }
 
-/// What the proved library requires of a load factor.
+/// Ensures what the proved library requires of a load factor.
 #[track_caller]
 pub fn percent_of<C: Config>(max_load_factor_percent: u8) -> u8 {
     let () = Proved::<C>::FITS;
     percent(max_load_factor_percent)
 }
 
-/// The same where there is no configuration.
+/// The same without a configuration.
 #[track_caller]
 pub fn percent(max_load_factor_percent: u8) -> u8 {
     assert!(
@@ -148,8 +154,8 @@ pub fn percent(max_load_factor_percent: u8) -> u8 {
     max_load_factor_percent
 }
 
-/// Ends a call that returns no error. Where that many bytes of memory were refused it does what
-/// Rust's collections do.
+/// Ends a call that returns no error. If an allocation of `len` bytes failed, it does what Rust's
+/// collections do.
 #[cold]
 #[track_caller]
 pub fn refused(error: Error, len: usize) -> ! {

@@ -1,16 +1,19 @@
-//! What has bytes by `AsRef`, as the bytes of a table.
+//! Types that implement `AsRef<[u8]>`, as the bytes of a table.
 
 use std::borrow::{Borrow, BorrowMut};
 
-/// Makes anything that has `AsRef<[u8]>` the bytes of a table: a mapped file, a reference to a vector, an array from
-/// `include_bytes!`.
+/// Wraps a type that implements `AsRef<[u8]>`, so that a table can be opened in its bytes: a mapped
+/// file, a reference to a vector, an array from `include_bytes!`.
 ///
-/// [`HashTable`](crate::HashTable) takes what implements `Borrow<[u8]>`, as the original does. A slice, a vector, an
-/// array and an `Arc<[u8]>` do. `Mmap` of the crate `memmap2` does not, nor do `&Vec<u8>` and `&[u8; N]`. These have
-/// `AsRef<[u8]>`, and this wrapper hands it on. Where they have `AsMut<[u8]>` too, as `MmapMut`, pairs can be inserted.
+/// [`HashTable`](crate::HashTable) takes types that implement `Borrow<[u8]>`, as the original does:
+/// a slice, a vector, an array, an `Arc<[u8]>`. `&Vec<u8>`, `&[u8; N]` and the `Mmap` of the crate
+/// `memmap2` do not implement it, but they implement `AsRef<[u8]>`. This wrapper turns one trait
+/// into the other. If the type also implements `AsMut<[u8]>`, as `MmapMut` does, pairs can be
+/// inserted.
 ///
-/// It costs nothing: the wrapper has the size of what it wraps, and no byte is copied. The table asks for the bytes at
-/// each call. It panics where their length or slot count is another than when it was opened, as for every store.
+/// It costs nothing: the wrapper has the size of what it wraps, and no byte is copied. The table
+/// calls `as_ref` at each call. As with all types of bytes, it panics if their length or slot count
+/// differs from that of the bytes that were opened.
 ///
 /// ```
 /// use odht::{bytes_needed, configs::U64ToU32, BytesOf, HashTable};
@@ -23,7 +26,8 @@ use std::borrow::{Borrow, BorrowMut};
 /// assert_eq!(view.get(&1), Some(2));
 /// # Ok::<(), odht::Error>(())
 /// ```
-// No `==` and no hash: `Borrow` asks that they be those of the bytes, and those of `T` may be others.
+// No `Eq` and no `Hash`: `Borrow` requires that they agree with those of the bytes, and those of
+// `T` may differ.
 #[derive(Clone, Copy, Debug, Default)]
 pub struct BytesOf<T>(pub T);
 

@@ -1,7 +1,8 @@
-//! The table over bytes of any kind.
+//! A table in bytes that the user provides.
 //!
-//! What the proved library requires is seen to here: the length and the slot count of the bytes are those that were
-//! opened (`Opened::check`), a load factor is a percentage (`percent_of`), and slices are as long as one another.
+//! This module ensures what the proved library requires: the length and the slot count of the bytes
+//! are those that were opened (`Opened::check`), a load factor is a percentage (`percent_of`), and
+//! slices have equal lengths.
 
 use crate::config::{Config, Proved};
 use crate::opened::Opened;
@@ -24,12 +25,13 @@ mod traits;
 mod walks;
 mod writing;
 
-/// A table in bytes of any kind: a view. It cannot grow; [`grow_into`](HashTable::grow_into) writes the grown table
-/// into other bytes.
+/// A view of a table in bytes that you provide. It cannot grow, but
+/// [`grow_into`](HashTable::grow_into) writes the grown table into other bytes.
 ///
-/// The bytes may be a slice, a vector, an array, an `Arc<[u8]>`, or anything else that implements `Borrow<[u8]>`; where
-/// it implements `BorrowMut<[u8]>` too, pairs can be inserted. [`BytesOf`](crate::BytesOf) makes anything that has
-/// `AsRef<[u8]>` such bytes, as a mapped file. Any number of threads may read a table.
+/// The bytes may be a slice, a vector, an array, an `Arc<[u8]>`, or anything else that implements
+/// `Borrow<[u8]>`. If the type also implements `BorrowMut<[u8]>`, pairs can be inserted.
+/// [`BytesOf`](crate::BytesOf) wraps types that have only `AsRef<[u8]>`, such as a mapped file. Any
+/// number of threads may read a table.
 ///
 /// ```
 /// use odht::{configs::U64ToU32, HashTable, HashTableOwned};
@@ -44,8 +46,8 @@ mod writing;
 /// # Ok::<(), odht::Error>(())
 /// ```
 ///
-/// A reference to a vector, an array from `include_bytes!` and a mapped file have no `Borrow<[u8]>`. They are opened as
-/// a slice, `&bytes[..]`, or by [`BytesOf`](crate::BytesOf):
+/// A reference to a vector, an array from `include_bytes!` and a mapped file do not implement
+/// `Borrow<[u8]>`. Open them as a slice, `&bytes[..]`, or with [`BytesOf`](crate::BytesOf):
 ///
 /// ```
 /// use odht::{configs::U64ToU32, BytesOf, HashTable, HashTableOwned};
@@ -72,8 +74,8 @@ mod writing;
 ///
 /// # Panics
 ///
-/// Every call that looks at the table panics where `D` gives bytes of another length, or with another slot count, than
-/// those that were opened.
+/// Every call that reads or writes the table panics if `D` returns bytes whose length or slot count
+/// differs from that of the bytes that were opened.
 ///
 /// # Mapped files
 ///
@@ -86,9 +88,10 @@ pub struct HashTable<C: Config, D: Borrow<[u8]>> {
 }
 
 impl<C: Config, D: Borrow<[u8]>> HashTable<C, D> {
-    /// [`try_from_raw_bytes`](HashTable::try_from_raw_bytes), with the [`Error`] in a box, as the original returns it:
-    /// code that is written for that compiles. `?` does not turn this box into one of an error that goes to other
-    /// threads, so new code takes the other call. `downcast_ref` gives the [`Error`] back.
+    /// Like [`try_from_raw_bytes`](HashTable::try_from_raw_bytes), but returns the [`Error`] in a
+    /// box, as the original does. Code that was written for the original compiles. New code should
+    /// call `try_from_raw_bytes`, since `?` does not turn this box into a
+    /// `Box<dyn Error + Send + Sync>`. `downcast_ref` returns the [`Error`].
     ///
     /// ```
     /// use odht::{configs::U64ToU32, HashTable};
@@ -99,15 +102,16 @@ impl<C: Config, D: Borrow<[u8]>> HashTable<C, D> {
     ///
     /// # Errors
     ///
-    /// As [`try_from_raw_bytes`](HashTable::try_from_raw_bytes).
+    /// Those of [`try_from_raw_bytes`](HashTable::try_from_raw_bytes).
     pub fn from_raw_bytes(data: D) -> Result<Self, Box<dyn AnyError>> {
         Ok(Self::try_from_raw_bytes(data)?)
     }
 
-    /// Opens bytes as a table: the header, the length and the first ten slots are checked, in constant time.
+    /// Opens bytes as a table. Checks header, length and first ten slots, in constant time.
     ///
-    /// A view of bytes that are accepted and are not those of a table does no harm: each call returns, reads nothing
-    /// else, and gives only pairs that are stored. [`check_all`](HashTable::check_all) tells whether all of them are.
+    /// The other bytes may be wrong. A view of such bytes does no harm: each call returns or panics
+    /// as documented, reads only these bytes, and returns only pairs that are stored in them.
+    /// [`check_all`](HashTable::check_all) reports whether all bytes are those of a valid table.
     ///
     /// ```
     /// use odht::{configs::U64ToU32, Error, HashTable};
@@ -118,9 +122,9 @@ impl<C: Config, D: Borrow<[u8]>> HashTable<C, D> {
     ///
     /// # Errors
     ///
-    /// The first of `TooShort`, `WrongTag`, `WrongVersion`, `WrongSizeOf`, `SlotCountNotPowerOfTwo`,
-    /// `SlotCountTooSmall`, `WrongLength`, and of the first ten slots `NonZeroEmpty` and `ControlMismatch`, that the
-    /// bytes give.
+    /// Returns the first of these that applies: `TooShort`, `WrongTag`, `WrongVersion`,
+    /// `WrongSizeOf`, `SlotCountNotPowerOfTwo`, `SlotCountTooSmall`, `WrongLength`, and for the
+    /// first ten slots `NonZeroEmpty` and `ControlMismatch`.
     pub fn try_from_raw_bytes(data: D) -> Result<Self, Error> {
         let () = Proved::<C>::FITS;
         let bytes = data.borrow();
@@ -129,8 +133,8 @@ impl<C: Config, D: Borrow<[u8]>> HashTable<C, D> {
         Ok(HashTable::of(data, opened))
     }
 
-    /// Opens bytes as [`try_from_raw_bytes`](HashTable::try_from_raw_bytes) does, in constant time too, but looks at
-    /// their length and slot count alone.
+    /// Like [`try_from_raw_bytes`](HashTable::try_from_raw_bytes), but checks only the length and
+    /// the slot count of the bytes, also in constant time.
     ///
     /// ```
     /// # use odht::{configs::U64ToU32, HashTable, HashTableOwned};
@@ -143,12 +147,12 @@ impl<C: Config, D: Borrow<[u8]>> HashTable<C, D> {
     ///
     /// # Safety
     ///
-    /// It is unsafe since the original's is: `from_raw_bytes` is to accept these bytes. Others are no danger to memory;
-    /// calls may then panic or return anything.
+    /// The bytes must be ones that `from_raw_bytes` accepts. With other bytes, calls may panic or
+    /// return anything, but memory stays safe. It is unsafe only because the original is.
     ///
     /// # Panics
     ///
-    /// Where the length of the bytes is not that of the slot count in their header.
+    /// Panics if the length of the bytes does not match the slot count in their header.
     #[inline]
     #[allow(unsafe_code)]
     #[track_caller]
@@ -164,7 +168,7 @@ impl<C: Config, D: Borrow<[u8]>> HashTable<C, D> {
         HashTable { data, opened, config: PhantomData }
     }
 
-    // The bytes, which are as long as they were, and have as many slots.
+    // The bytes. Panics if their length or slot count has changed.
     #[inline(always)]
     pub(crate) fn bytes(&self) -> &[u8] {
         let bytes = self.data.borrow();
@@ -172,15 +176,15 @@ impl<C: Config, D: Borrow<[u8]>> HashTable<C, D> {
         bytes
     }
 
-    // The proved table of the bytes. That their header fits is known from when they were opened.
+    // The proved table of the bytes. Opening has checked that their header fits.
     #[inline(always)]
     fn view(&self) -> tables::HashTable<Proved<C>, Borrowed<'_>> {
         tables::HashTable::from_raw_bytes_unchecked(Borrowed::new(self.bytes()))
     }
 
-    /// The value of a key: that of its last insert.
+    /// Returns the value that the last insert of the key stored, or `None`.
     ///
-    /// Each group of sixteen control bytes is read at most once.
+    /// Reads each group of sixteen control bytes at most once.
     ///
     /// ```
     /// # use odht::{configs::U64ToU32, HashTable, HashTableOwned};
@@ -196,9 +200,9 @@ impl<C: Config, D: Borrow<[u8]>> HashTable<C, D> {
         self.view().get(key)
     }
 
-    /// `get` of many keys, each to its index. The first groups of eight keys are read ahead; each key is encoded
-    /// twice. In this crate that seldom gains: in the run of `bench/RESULTS.md` it took 0.9 to 1.3 times a loop of
-    /// `get` for present keys of 64 bits, and up to 1.7 times for absent ones.
+    /// Looks up many keys, and writes the value of `keys[i]` to `values[i]`. In this crate that is
+    /// seldom faster than a loop of `get`: see
+    /// [`HashTableOwned::get_all`](crate::HashTableOwned::get_all).
     ///
     /// ```
     /// # use odht::{configs::U64ToU32, HashTable, HashTableOwned};
@@ -213,7 +217,7 @@ impl<C: Config, D: Borrow<[u8]>> HashTable<C, D> {
     ///
     /// # Panics
     ///
-    /// Where there are more or fewer values than keys.
+    /// Panics if `keys` and `values` have different lengths.
     #[inline]
     #[track_caller]
     pub fn get_all(&self, keys: &[C::Key], values: &mut [Option<C::Value>]) {
@@ -221,16 +225,15 @@ impl<C: Config, D: Borrow<[u8]>> HashTable<C, D> {
         self.view().get_all(keys, values);
     }
 
-    /// `get`, and how many groups of sixteen control bytes it read: in a table those up to the first slot that is free
-    /// or holds the key.
+    /// Like [`get`](HashTable::get), and also returns how many groups of sixteen control bytes it
+    /// read. In a valid table, these are the groups up to the first slot that is free or contains
+    /// the key.
     ///
     /// ```
-    /// # use odht::{configs::U64ToU32, HashTable, HashTableOwned};
-    /// # let mut table = HashTableOwned::<U64ToU32>::default();
-    /// # table.insert(&1, &2);
-    /// # let view = HashTable::<U64ToU32, _>::try_from_raw_bytes(table.raw_bytes())?;
+    /// # use odht::{configs::U64ToU32, HashTableOwned};
+    /// # let table = HashTableOwned::<U64ToU32>::from([(1, 2)]);
+    /// # let view = table.as_view();
     /// assert_eq!(view.get_counted(&1), (Some(2), 1));
-    /// # Ok::<(), odht::Error>(())
     /// ```
     #[inline]
     #[must_use]
@@ -238,15 +241,13 @@ impl<C: Config, D: Borrow<[u8]>> HashTable<C, D> {
         self.view().get_counted(key)
     }
 
-    /// Whether the key has a value.
+    /// Returns `true` if the key has a value.
     ///
     /// ```
-    /// # use odht::{configs::U64ToU32, HashTable, HashTableOwned};
-    /// # let mut table = HashTableOwned::<U64ToU32>::default();
-    /// # table.insert(&1, &2);
-    /// # let view = HashTable::<U64ToU32, _>::try_from_raw_bytes(table.raw_bytes())?;
+    /// # use odht::{configs::U64ToU32, HashTableOwned};
+    /// # let table = HashTableOwned::<U64ToU32>::from([(1, 2)]);
+    /// # let view = table.as_view();
     /// assert!(view.contains_key(&1) && !view.contains_key(&3));
-    /// # Ok::<(), odht::Error>(())
     /// ```
     #[inline]
     #[must_use]
@@ -254,15 +255,13 @@ impl<C: Config, D: Borrow<[u8]>> HashTable<C, D> {
         self.view().contains_key(key)
     }
 
-    /// How many items there are, by the header.
+    /// Returns the number of items, as the header states it.
     ///
     /// ```
-    /// # use odht::{configs::U64ToU32, HashTable, HashTableOwned};
-    /// # let mut table = HashTableOwned::<U64ToU32>::default();
-    /// # table.insert(&1, &2);
-    /// # let view = HashTable::<U64ToU32, _>::try_from_raw_bytes(table.raw_bytes())?;
+    /// # use odht::{configs::U64ToU32, HashTableOwned};
+    /// # let table = HashTableOwned::<U64ToU32>::from([(1, 2)]);
+    /// # let view = table.as_view();
     /// assert_eq!(view.len(), 1);
-    /// # Ok::<(), odht::Error>(())
     /// ```
     #[inline]
     #[must_use]
@@ -270,15 +269,13 @@ impl<C: Config, D: Borrow<[u8]>> HashTable<C, D> {
         self.view().len()
     }
 
-    /// Whether there is no item, by the header.
+    /// Returns `true` if the table has no items, according to the header.
     ///
     /// ```
-    /// # use odht::{configs::U64ToU32, HashTable, HashTableOwned};
-    /// # let mut table = HashTableOwned::<U64ToU32>::default();
-    /// # table.insert(&1, &2);
-    /// # let view = HashTable::<U64ToU32, _>::try_from_raw_bytes(table.raw_bytes())?;
+    /// # use odht::{configs::U64ToU32, HashTableOwned};
+    /// # let table = HashTableOwned::<U64ToU32>::from([(1, 2)]);
+    /// # let view = table.as_view();
     /// assert!(!view.is_empty());
-    /// # Ok::<(), odht::Error>(())
     /// ```
     #[inline]
     #[must_use]
@@ -286,14 +283,13 @@ impl<C: Config, D: Borrow<[u8]>> HashTable<C, D> {
         self.len() == 0
     }
 
-    /// How many items the table takes at the most: those that its slots take at its load factor, by the header.
+    /// Returns the maximum number of items, by the slot count and load factor in the header.
     ///
     /// ```
-    /// # use odht::{configs::U64ToU32, HashTable, HashTableOwned};
-    /// # let table = HashTableOwned::<U64ToU32>::default();
-    /// # let view = HashTable::<U64ToU32, _>::try_from_raw_bytes(table.raw_bytes())?;
+    /// # use odht::{configs::U64ToU32, HashTableOwned};
+    /// # let table = HashTableOwned::<U64ToU32>::from([(1, 2)]);
+    /// # let view = table.as_view();
     /// assert_eq!(view.capacity(), 13); // of 16 slots 87 percent
-    /// # Ok::<(), odht::Error>(())
     /// ```
     #[inline]
     #[must_use]
@@ -302,74 +298,70 @@ impl<C: Config, D: Borrow<[u8]>> HashTable<C, D> {
         max_item_count_for(header.slot_count(), header.max_load_factor())
     }
 
-    /// Checks all of the bytes, as [`check_all`](crate::check_all) does, and costs what that costs.
+    /// Checks all of the bytes, like [`check_all`](crate::check_all), at the same cost.
     ///
     /// ```
-    /// # use odht::{configs::U64ToU32, HashTable, HashTableOwned};
-    /// # let mut table = HashTableOwned::<U64ToU32>::default();
-    /// # table.insert(&1, &2);
-    /// # let view = HashTable::<U64ToU32, _>::try_from_raw_bytes(table.raw_bytes())?;
+    /// # use odht::{configs::U64ToU32, HashTableOwned};
+    /// # let table = HashTableOwned::<U64ToU32>::from([(1, 2)]);
+    /// # let view = table.as_view();
     /// assert_eq!(view.check_all(), Ok(()));
-    /// # Ok::<(), odht::Error>(())
     /// ```
     ///
     /// # Errors
     ///
-    /// The first that [`check_all`](crate::check_all) finds.
+    /// The first error that [`check_all`](crate::check_all) finds.
     pub fn check_all(&self) -> Result<(), Error> {
         crate::check_all::<C>(self.bytes())
     }
 
-    /// Whether all of the bytes are those of a table: whether [`check_all`](HashTable::check_all) finds no error.
+    /// Returns `true` if all of the bytes are those of a valid table: if
+    /// [`check_all`](HashTable::check_all) returns no error.
     ///
     /// ```
-    /// # use odht::{configs::U64ToU32, HashTable, HashTableOwned};
-    /// # let mut table = HashTableOwned::<U64ToU32>::default();
-    /// # table.insert(&1, &2);
-    /// # let view = HashTable::<U64ToU32, _>::try_from_raw_bytes(table.raw_bytes())?;
+    /// # use odht::{configs::U64ToU32, HashTableOwned};
+    /// # let table = HashTableOwned::<U64ToU32>::from([(1, 2)]);
+    /// # let view = table.as_view();
     /// assert!(view.verify());
-    /// # Ok::<(), odht::Error>(())
     /// ```
     #[must_use]
     pub fn verify(&self) -> bool {
         self.view().verify()
     }
 
-    /// [`verify`](HashTable::verify) for untrusted bytes, whose time nobody can make long: also whether each home
-    /// has, among the first `groups` groups of sixteen of its probe order, a control byte that counts as free. Then no
-    /// search, of a present or an absent key, reads more.
+    /// Like [`verify`](HashTable::verify), but in bounded time: use it for untrusted bytes. Like
+    /// [`check_all_within`](crate::check_all_within), it also checks that searches are short. If it
+    /// returns `true`, no search reads more than `groups` groups of sixteen control bytes, whether
+    /// the key is present or absent.
     ///
     /// ```
-    /// # use odht::{configs::U64ToU32, HashTable, HashTableOwned, DEFAULT_GROUPS};
-    /// # let mut table = HashTableOwned::<U64ToU32>::default();
-    /// # table.insert(&1, &2);
-    /// # let view = HashTable::<U64ToU32, _>::try_from_raw_bytes(table.raw_bytes())?;
+    /// # use odht::{configs::U64ToU32, HashTableOwned, DEFAULT_GROUPS};
+    /// # let table = HashTableOwned::<U64ToU32>::from([(1, 2)]);
+    /// # let view = table.as_view();
     /// assert!(view.verify_within(DEFAULT_GROUPS));
-    /// # Ok::<(), odht::Error>(())
     /// ```
     #[must_use]
     pub fn verify_within(&self, groups: usize) -> bool {
         self.view().verify_within(groups)
     }
 
-    /// Whether each home has, among the first `groups` groups of sixteen of its probe order, a
-    /// control byte that counts as free. Then no search in valid bytes reads more. It reads only
-    /// control bytes.
+    /// Returns `true` if all searches are short: if each home (the slot where a search begins) has
+    /// a control byte that counts as free among the first `groups` groups of sixteen of its probe
+    /// order. Then no search in a valid table reads more groups.
+    ///
+    /// Reads only control bytes.
     ///
     /// ```
-    /// # use odht::{configs::U64ToU32, HashTable, HashTableOwned};
-    /// # let mut table = HashTableOwned::<U64ToU32>::default();
-    /// # table.insert(&1, &2);
-    /// # let view = HashTable::<U64ToU32, _>::try_from_raw_bytes(table.raw_bytes())?;
+    /// # use odht::{configs::U64ToU32, HashTableOwned};
+    /// # let table = HashTableOwned::<U64ToU32>::from([(1, 2)]);
+    /// # let view = table.as_view();
     /// assert!(view.searches_within(1));
-    /// # Ok::<(), odht::Error>(())
     /// ```
     #[must_use]
     pub fn searches_within(&self, groups: usize) -> bool {
         self.view().searches_within(groups)
     }
 
-    /// The bytes of the table.
+    /// Returns the bytes of the table.
     ///
     /// ```
     /// # use odht::{configs::U64ToU32, HashTable, HashTableOwned};
@@ -385,7 +377,7 @@ impl<C: Config, D: Borrow<[u8]>> HashTable<C, D> {
         self.data.borrow()
     }
 
-    /// What holds the bytes of the table.
+    /// Consumes the view, and returns the data that it was opened from.
     ///
     /// ```
     /// # use odht::{configs::U64ToU32, HashTable, HashTableOwned};

@@ -1,7 +1,8 @@
-//! Ready configurations: integers, keys that are hashes already, and bytes as they are.
+//! Ready configurations: for integers, for keys that are hashes already, and for bytes that are
+//! stored as they are.
 //!
-//! docs/FORMAT.md says in "Hashes" how a key is hashed, and in "Probe order" where its probe order
-//! begins.
+//! docs/FORMAT.md specifies in "Hashes" how a key is hashed, and in "Probe order" where a search
+//! for it begins.
 ghost use Rattle.std.specs.Prelude.{◌≤◌};
 ghost use Rattle.std.proofs.Common.{lit≤, zero-le};
 
@@ -19,7 +20,7 @@ pub use stored::{Fits, FixedBytes, HashedBy};
 mod pairs;
 mod stored;
 
-/// A byte array that may be a key or a value: of at most 255 bytes.
+/// A byte array of at most 255 bytes, which may be a key or a value.
 pub trait Short: ByteArray {
     ghost short: { Self.LEN ≤ 255 };
 }
@@ -84,7 +85,7 @@ impl Short for [u8; 255] {
     ghost short = { lit≤ tt };
 }
 
-/// From bytes to bytes, as they are.
+/// From bytes to bytes, stored as they are.
 pub struct Plain<K, V> {
     key: PhantomData<K>,
     value: PhantomData<V>,

@@ -1,4 +1,4 @@
-//! Dynamic tables: the lengths of keys and values are known only at run time, such as those of a
+//! Dynamic tables: the lengths of keys and values are known only at run time, for example from a
 //! file.
 ghost use Rattle.odht.specs.Tables.{OfTable, HasParts};
 ghost use Rattle.std.specs.Prelude.{◌≡◌, ◌≢◌, ◌<◌, ◌≤◌, ◌↔◌, ℕ, None, All, length, slice_index};
@@ -44,39 +44,38 @@ pub use file::{FileError, FileTable};
 pub use owned::DynTableOwned;
 pub use prefix::table_len;
 
-/// Why bytes are not opened as a dynamic table, or such a table
-/// takes no pair.
+/// Why bytes cannot be opened as a dynamic table, or why such a table does not accept a pair.
 #[derive(Debug, PartialEq, Eq, Drop)]
 pub enum DynError {
     /// The keys are shorter than the hash function needs.
     KeyTooShort {
         /// The length of a key, in bytes.
         key_len: u8,
-        /// How many bytes the hash function needs at least.
+        /// The minimum length that the hash function needs, in bytes.
         least: usize,
     },
-    /// The key has another length than the keys of the table.
+    /// The key is longer or shorter than the keys of the table.
     WrongKeyLength {
         /// The length of a key of the table, in bytes.
         expected: u8,
         /// The length of the key, in bytes.
         found: usize,
     },
-    /// The value has another length than the values of the table.
+    /// The value is longer or shorter than the values of the table.
     WrongValueLength {
         /// The length of a value of the table, in bytes.
         expected: u8,
         /// The length of the value, in bytes.
         found: usize,
     },
-    /// The error of a table of a configuration with these lengths.
+    /// The error that a typed table with these lengths would return.
     Rejected(Error),
 }
 
-/// A table in the bytes of a store, of keys and values of lengths that were given when it was
-/// opened, or that its header states. It cannot grow.
+/// A view of a table in the bytes of a store. The lengths of keys and values are given when it is
+/// opened, or stated by its header. It cannot grow.
 ///
-/// A contract speaks of it as of these lengths and the store.
+/// In contracts its value consists of these lengths and the store.
 #[derive(Drop)]
 pub struct DynTable<H: HashFn, D: ByteStore> {
     store: D,
@@ -119,14 +118,14 @@ fn stated_layout(bytes: &[u8]) -> Result<Layout, DynError>
 }
 
 impl<H: HashFn, D: ByteStore> DynTable<H, D> {
-    /// Opens bytes as a table of these lengths, or returns the first error: `KeyTooShort` where
-    /// the hash function needs longer keys; then `Rejected` with that of too few bytes, of the
-    /// header, of the length, of the first ten slots, as
-    /// [`HashTable::from_raw_bytes`](crate::hash_table::HashTable::from_raw_bytes) returns it. On
-    /// an error the store is dropped.
+    /// Opens bytes as a table with these key and value lengths, or returns the first error. It is
+    /// `KeyTooShort` if the hash function needs longer keys. Otherwise it is `Rejected` with the
+    /// error that [`HashTable::from_raw_bytes`](crate::hash_table::HashTable::from_raw_bytes)
+    /// returns: too few bytes, then an error of the header, of the length, of the first ten slots.
+    /// On an error the store is dropped.
     ///
-    /// Nothing else is checked. A table of bytes that are accepted and not valid is safe to use,
-    /// but its calls keep only what their clauses say of any bytes.
+    /// Nothing else is checked. A table of accepted bytes that are not valid is safe to use, but
+    /// its calls guarantee only what their clauses state for any bytes.
     pub fn open(layout: Layout, data: D) -> Result<Self, DynError>
         ensures ok { IfOk result (λ t. t ≡ dyn_store layout.key_len layout.value_len «data») }
         ensures err { let F = format_of layout.key_len layout.value_len H.hash
@@ -150,13 +149,14 @@ impl<H: HashFn, D: ByteStore> DynTable<H, D> {
         }
     }
 
-    /// [`DynTable::open`] with the lengths that the header states; [`DynTable::layout`] tells
-    /// them.
+    /// Like [`DynTable::open`], with the key and value lengths that the header states.
+    /// [`DynTable::layout`] returns them.
     ///
-    /// The first error: `Rejected` with that of too few bytes, of the header, of the length; then
-    /// `KeyTooShort`; then `Rejected` with that of the first ten slots. On an error the store is
-    /// dropped. A header states no hash function: a table of another one is rejected where one of
-    /// the first ten slots is occupied and has another tag.
+    /// It returns the first error: `Rejected` for too few bytes, the header or the length, then
+    /// `KeyTooShort`, then `Rejected` for the first ten slots. On an error the store is dropped.
+    ///
+    /// The header does not record the hash function. A table that was built with another one is
+    /// rejected if the tag of an occupied slot among the first ten does not match.
     pub fn open_as_stated(data: D) -> Result<Self, DynError>
         ensures ok { let B = D.bytes «data»
             in IfOk result (λ t. t ≡ dyn_store (slice_index B 5) (slice_index B 6) «data») }
@@ -172,7 +172,7 @@ impl<H: HashFn, D: ByteStore> DynTable<H, D> {
         }
     }
 
-    /// Takes the bytes as those of a table of these lengths, without a check: the caller knows
+    /// Opens bytes as a table with these key and value lengths, without a check. The caller ensures
     /// that their header and length fit, and that keys are long enough for the hash function.
     #[inline]
     pub fn open_unchecked(layout: Layout, data: D) -> Self
@@ -190,7 +190,7 @@ impl<H: HashFn, D: ByteStore> DynTable<H, D> {
         }
     }
 
-    /// The lengths of keys and values.
+    /// Returns the lengths of keys and values.
     #[inline]
     pub fn layout(&self) -> Layout
         ensures key { result.key_len ≡ self.now.key_len }
@@ -200,9 +200,9 @@ impl<H: HashFn, D: ByteStore> DynTable<H, D> {
         self.layout
     }
 
-    /// The value of a key, or None. On valid bytes it is the table's value for the key; on any
-    /// bytes it is one that some entry has beside this very key. A key of another length has no
-    /// value. [`DynTable::get_counted`] counts the groups of such a search.
+    /// Returns the value of a key, or `None`. On valid bytes it is the table's value for the key.
+    /// On any bytes it is a value that some entry stores with exactly this key. A key of another
+    /// length has no value. [`DynTable::get_counted`] counts the groups that such a search reads.
     pub fn get(&self, key: &[u8]) -> Option<&[u8]>
         ensures { IsGet (dyn_coding self.now H.hash) (D.bytes self.now.store) key.now
             (option_copied result) }
@@ -213,10 +213,10 @@ impl<H: HashFn, D: ByteStore> DynTable<H, D> {
         self.as_dynamic().find(key)
     }
 
-    /// `get`, and how many groups of control bytes it read: on valid bytes those up to the first
-    /// slot of the key's probe order that is free or holds the key, and on any bytes at most one
-    /// for sixteen slots. docs/FORMAT.md, "Search", counts them. For a key of another length no
-    /// group is read.
+    /// Like `get`, and also returns how many groups of control bytes it read. On valid bytes these
+    /// are the groups up to the first slot of the key's probe order that is free or contains the
+    /// key. On any bytes it is at most one group for sixteen slots. docs/FORMAT.md, "Search",
+    /// defines the count. For a key of another length no group is read.
     pub fn get_counted(&self, key: &[u8]) -> (Option<&[u8]>, usize)
         ensures counted { length key.now ≡ self.now.key_len
             → IsCountedGet (dyn_coding self.now H.hash) (D.bytes self.now.store) key.now
@@ -237,16 +237,16 @@ impl<H: HashFn, D: ByteStore> DynTable<H, D> {
         key.len() == self.layout.key_len as usize
     }
 
-    /// Whether the key has a value. On any bytes it is true only where the entry of some slot
-    /// holds this very key.
+    /// Returns whether the key has a value. On any bytes it returns true only if the entry of some
+    /// slot contains exactly this key.
     pub fn contains_key(&self, key: &[u8]) -> bool
         ensures { IsKnown (dyn_coding self.now H.hash) (D.bytes self.now.store) key.now result }
     {
         self.get(key).is_some()
     }
 
-    /// The keys and values of the slots whose own control byte is below 128, in slot order: on
-    /// valid bytes each pair of the table once.
+    /// Iterates over the keys and values of the slots whose own control byte is below 128, in slot
+    /// order. On valid bytes these are the pairs of the table, each once.
     pub fn iter(&self) -> DynIter<'_, H>
         ensures pairs { ArePairs (dyn_format self.now H.hash) (D.bytes self.now.store) result }
         ensures lengths { All (HasLengthsOf self.now.key_len self.now.value_len) result }
@@ -255,9 +255,9 @@ impl<H: HashFn, D: ByteStore> DynTable<H, D> {
         self.as_dynamic().iter()
     }
 
-    /// The slots from slot `from` on whose own control byte is below 128, in slot order, each with
-    /// its key and value: on valid bytes each pair in these slots once. Nothing where `from` is
-    /// past the last slot.
+    /// Iterates over the slots from `from` on whose own control byte is below 128, in slot order,
+    /// each with its key and value. On valid bytes these are the pairs in these slots, each once.
+    /// If `from` is past the last slot, the iterator is empty.
     pub fn iter_from(&self, from: usize) -> DynSlots<'_, H>
         ensures slots { AreSlots (dyn_format self.now H.hash) (D.bytes self.now.store) from result }
         ensures few { length result ≤ usize.MAX }
@@ -265,7 +265,7 @@ impl<H: HashFn, D: ByteStore> DynTable<H, D> {
         self.as_dynamic().iter_from(from)
     }
 
-    /// The item count of the header. On valid bytes it is the number of items.
+    /// Returns the item count of the header. On valid bytes it is the number of items.
     #[inline]
     pub fn len(&self) -> usize
         ensures { IsItemCount (dyn_format self.now H.hash) (D.bytes self.now.store) result }
@@ -273,12 +273,12 @@ impl<H: HashFn, D: ByteStore> DynTable<H, D> {
         Header::of(self.raw_bytes()).item_count()
     }
 
-    /// Whether the bytes are valid: those of a table that the format allows, to the last byte
-    /// (docs/FORMAT.md, "Valid bytes"). On valid bytes each lookup returns what a map would.
+    /// Returns whether the bytes are valid: those of a table that the format allows, to the last
+    /// byte (docs/FORMAT.md, "Valid bytes"). On valid bytes each lookup returns what a map would.
     ///
-    /// All of the bytes are checked. It takes no memory, and costs what
-    /// [`crate::memory_layout::check_all`] does. [`crate::memory_layout::check_dynamic`] returns the
-    /// error.
+    /// It checks all of the bytes, and allocates nothing. It costs what
+    /// [`crate::memory_layout::check_all`] costs. [`crate::memory_layout::check_dynamic`] returns
+    /// the error.
     pub fn verify(&self) -> bool
         ensures { IsTrue result
             ↔ IsValidBytes (dyn_format self.now H.hash) (D.bytes self.now.store) }
@@ -286,12 +286,13 @@ impl<H: HashFn, D: ByteStore> DynTable<H, D> {
         check_dynamic::<H>(self.store.bytes(), self.layout).is_ok()
     }
 
-    /// Whether the bytes are valid and each home has, among the first `groups` groups of its probe
-    /// order, a control byte that counts as free. Then no search, of a present or an absent key,
-    /// reads more. [`DEFAULT_GROUPS`](crate::memory_layout::DEFAULT_GROUPS) is a bound that tables
-    /// of hashes that vary keep.
+    /// Returns whether the bytes are valid and all searches are short. Each home (the slot where a
+    /// search begins) must have a control byte that counts as free among the first `groups` groups
+    /// of its probe order. Then no search reads more groups, whether the key is present or absent.
+    /// Tables whose hashes vary keep within
+    /// [`DEFAULT_GROUPS`](crate::memory_layout::DEFAULT_GROUPS).
     ///
-    /// It is for untrusted bytes: whatever they are it costs no more than
+    /// Use it for untrusted bytes: for any bytes it costs no more than
     /// [`crate::memory_layout::check_all_within`]. [`crate::memory_layout::check_dynamic_within`]
     /// returns the error.
     pub fn verify_within(&self, groups: usize) -> bool
@@ -301,16 +302,17 @@ impl<H: HashFn, D: ByteStore> DynTable<H, D> {
         check_dynamic_within::<H>(self.store.bytes(), self.layout, groups).is_ok()
     }
 
-    /// Whether each home has, among the first `groups` groups of its probe order, a control byte
-    /// that counts as free. Then no search in valid bytes, of a present or an absent key, reads
-    /// more. It reads only control bytes: for `s` slots at most `s * groups` groups.
+    /// Returns whether each home (the slot where a search begins) has a control byte that counts as
+    /// free among the first `groups` groups of its probe order. Then no search in valid bytes reads
+    /// more groups, whether the key is present or absent. It reads only control bytes: for `s`
+    /// slots at most `s * groups` groups.
     pub fn searches_within(&self, groups: usize) -> bool
         ensures { IsBound (dyn_coding self.now H.hash) (D.bytes self.now.store) groups result }
     {
         self.as_dynamic().searches_within(groups)
     }
 
-    /// All bytes. Their header and length fit.
+    /// Returns all bytes. Their header and length fit.
     #[inline]
     pub fn raw_bytes(&self) -> &[u8]
         ensures bytes { result.now ≡ D.bytes self.now.store }
@@ -320,7 +322,7 @@ impl<H: HashFn, D: ByteStore> DynTable<H, D> {
         self.store.bytes()
     }
 
-    /// The store, with the bytes as they are now. Their header and length fit.
+    /// Returns the store, with the bytes as they are now. Their header and length fit.
     #[inline]
     pub fn into_data(self) -> D
         ensures store { result ≡ self.store }
@@ -334,7 +336,7 @@ impl<H: HashFn, D: ByteStore> DynTable<H, D> {
         store
     }
 
-    /// The parts of the table. A caller that looks up many keys calls this once.
+    /// Returns the parts of the table. To look up many keys, call this once.
     #[inline]
     pub fn as_dynamic(&self) -> DynRawTable<'_, H>
         ensures parts { result ≡ dyn_parts self.now H.hash (D.bytes self.now.store) }

@@ -5,24 +5,25 @@ ghost use Rattle.odht_header.specs.Coding.{Coding, coding_of};
 use crate::bytes::ByteArray;
 use crate::hash::HashFn;
 
-/// The types of a table, and how they are encoded: all keys to one number of bytes, and all values
-/// to one, the same on every platform.
+/// The types of a table, and their encodings. All encoded keys have the same length, and so have
+/// all encoded values. The encodings are the same on every platform.
 ///
-/// In a contract the ghost member of the same name is what each of the four functions returns.
+/// In contracts, what each of the four functions returns is the ghost member of the same name.
 pub trait Config {
-    /// A key, as a user of the table has it.
+    /// The type of keys, before they are encoded.
     type Key: Drop;
 
-    /// A value, as a user of the table has it.
+    /// The type of values, before they are encoded.
     type Value: Drop;
 
-    /// At most 255 bytes, and at least as many as the hash function needs.
+    /// The type of encoded keys: at most 255 bytes, and at least the `MIN_LEN` of the hash
+    /// function.
     type EncodedKey: ByteArray;
 
-    /// At most 255 bytes.
+    /// The type of encoded values: at most 255 bytes.
     type EncodedValue: ByteArray;
 
-    /// The hash function of encoded keys. The bytes of a table do not name it.
+    /// The hash function of encoded keys. The bytes of a table do not record it.
     type H: HashFn;
 
     ghost encode_key: { Self.Key → Self.EncodedKey };
@@ -33,19 +34,19 @@ pub trait Config {
 
     ghost decode_value: { Self.EncodedValue → Self.Value };
 
-    /// The bytes of a key.
+    /// Encodes a key.
     fn encode_key(k: &Self::Key) -> Self::EncodedKey
         ensures { result ≡ encode_key k.now };
 
-    /// The bytes of a value.
+    /// Encodes a value.
     fn encode_value(v: &Self::Value) -> Self::EncodedValue
         ensures { result ≡ encode_value v.now };
 
-    /// The key of the bytes. Any bytes have to decode, since they may be untrusted.
+    /// Decodes a key. It must return a key for any bytes, since they may be untrusted.
     fn decode_key(k: &Self::EncodedKey) -> Self::Key
         ensures { result ≡ decode_key k.now };
 
-    /// The value of the bytes. Any bytes have to decode, since they may be untrusted.
+    /// Decodes a value. It must return a value for any bytes, since they may be untrusted.
     fn decode_value(v: &Self::EncodedValue) -> Self::Value
         ensures { result ≡ decode_value v.now };
 
@@ -56,8 +57,8 @@ pub trait Config {
     ghost key_hashes: { Self.H.MIN_LEN ≤ Self.EncodedKey.LEN };
 }
 
-/// The coding of a configuration, as one value for contracts. Each `Config` has it; a user does
-/// not implement it.
+/// The coding of a configuration, as one value for contracts. Each `Config` implements this trait;
+/// users do not.
 pub trait Coded: Config {
     ghost coding: { Coding Self.Key Self.Value };
 }
@@ -68,11 +69,11 @@ impl<C: Config> Coded for C {
         C.encode_value C.decode_key C.decode_value };
 }
 
-/// A configuration whose decodings undo its encodings, so that different keys have different
-/// bytes. By `odht::laws`, `get` in a table that is built from empty then returns the last value
-/// of this very key.
+/// A configuration whose decodings undo its encodings, so that different keys have different bytes.
+/// By `odht::laws`, `get` in a table that is built from empty then returns the last value of the
+/// key itself.
 ///
-/// Both functions do nothing: their contracts are the law, for a given key and a given value.
+/// Both functions do nothing. Their contracts state the law, for a given key and a given value.
 pub trait Lossless: Config {
     /// The bytes of a key decode to it, so different keys have different bytes.
     fn key_kept(k: &Self::Key)

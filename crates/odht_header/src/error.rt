@@ -10,7 +10,7 @@ ghost use Rattle.odht_header.specs.ErrorTexts.{part_text, error_text, IsOpeningE
 use std::alloc::AllocError;
 use std::fmt;
 
-/// A part of the format whose size in bytes the header holds in one byte.
+/// A part of the format. The header states its size in bytes, in one byte.
 #[derive(Clone, Copy, PartialEq, Eq, Debug)]
 pub enum Part {
     /// A control byte.
@@ -36,8 +36,9 @@ impl fmt::Display for Part {
     }
 }
 
-/// An error. Lengths and sizes are in bytes, item counts in items, slot counts in slots; a `slot`
-/// is the index of a slot. `found` is what the bytes have, `expected` what they need to have.
+/// An error of opening or checking bytes, or of a call. Lengths and sizes are in bytes, item counts
+/// in items, and slot counts in slots. A `slot` is the index of a slot. `found` is what the bytes
+/// contain, and `expected` is what they should contain.
 #[derive(Clone, Copy, PartialEq, Eq, Debug)]
 pub enum Error {
     // begin variants: generated from lists/errors.txt by make generate
@@ -53,13 +54,13 @@ pub enum Error {
     WrongVersion {
         found: [u8; 4],
     },
-    /// By the header a part has another size than by the configuration.
+    /// The header states another size of a part than the configuration has.
     WrongSizeOf {
         part: Part,
         expected: usize,
         found: u8,
     },
-    /// The slot count is no power of two.
+    /// The slot count is not a power of two.
     SlotCountNotPowerOfTwo {
         found: usize,
     },
@@ -110,17 +111,17 @@ pub enum Error {
         count: usize,
         max: usize,
     },
-    /// The search slot by slot for the key of this occupied slot does not end at it.
+    /// A search slot by slot for the key in this occupied slot does not end at the slot.
     Unreachable {
         slot: usize,
     },
-    /// A search from the slot `home` may read more than `groups` groups of control bytes: none of
-    /// those that it would read has a byte that counts as free.
+    /// A search from the slot `home` may read more than `groups` groups of control bytes: the
+    /// first `groups` of them contain no byte that counts as free.
     SearchTooLong {
         home: usize,
         groups: usize,
     },
-    /// The bytes in which a new table is to be made have another length than the table.
+    /// The bytes for a new table do not have the length that it needs.
     InitLength {
         found: usize,
         expected: usize,
@@ -128,10 +129,10 @@ pub enum Error {
     /// No room for a new key: the view is at its maximum item count, or the search met no free
     /// slot.
     Full,
-    /// Out of memory: an allocation failed; or an owned table cannot grow, since no slot count or
-    /// no length is enough.
+    /// An allocation failed, or an owned table cannot grow because no slot count or length is
+    /// large enough.
     Memory,
-    /// No slot count is large enough, or the length of the table in bytes passes `usize::MAX`.
+    /// No slot count is large enough, or the length of the table in bytes exceeds `usize::MAX`.
     Capacity,
     // end variants
 }

@@ -1,4 +1,4 @@
-//! Makes the table that the program has in it.
+//! Creates the table that is embedded in the program.
 
 use odht::HashTableOwned;
 use std::path::Path;

@@ -5,20 +5,22 @@ use crate::config::HashFn;
 use std::borrow::Borrow;
 
 impl<H: HashFn, D: Borrow<[u8]>> DynTable<H, D> {
-    /// The length in bytes of the table that this one grows into: with the slots for twice its items, and for one at
-    /// least. `None` where no table is that large.
+    /// Returns the length in bytes of the table that this one grows into, or `None` if no table is
+    /// that large. The grown table has the slots for twice as many items, and for at least one.
     ///
-    /// The count is the header's. Of bytes that were not checked it may be any number: check them, or bound the length,
-    /// before you allocate.
+    /// The item count comes from the header. In unchecked bytes it may be any number. Check the
+    /// bytes, or limit the length, before you allocate.
     #[must_use]
     pub fn grown_len(&self) -> Option<usize> {
         self.view().grown_len()
     }
 
-    /// Writes the table that this one grows into to `out`, whatever its bytes were: the bytes that a
-    /// [`HashTableOwned`](crate::HashTableOwned) of these lengths grows to.
+    /// Writes the table that this one grows into to `out`, over any bytes that are there. The
+    /// result has the bytes that a [`HashTableOwned`](crate::HashTableOwned) with these key and
+    /// value lengths grows to.
     ///
-    /// It is one pass over `out` and one over the slots of this table; each item is hashed once.
+    /// The cost is one pass over `out` and one over the slots of this table. Each item is hashed
+    /// once.
     ///
     /// ```
     /// use odht::dynamic::{DynError, DynTable, Layout};
@@ -41,7 +43,7 @@ impl<H: HashFn, D: Borrow<[u8]>> DynTable<H, D> {
     ///
     /// # Panics
     ///
-    /// Where `out` does not have [`grown_len`](DynTable::grown_len) bytes.
+    /// Panics if the length of `out` is not [`grown_len`](DynTable::grown_len).
     #[track_caller]
     pub fn grow_into(&self, out: &mut [u8]) {
         let view = self.view();

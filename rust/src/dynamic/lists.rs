@@ -5,7 +5,8 @@ use crate::config::HashFn;
 use std::borrow::{Borrow, BorrowMut};
 
 impl<H: HashFn, D: Borrow<[u8]>> DynTable<H, D> {
-    /// `get` of many keys, each to its index. A key of another length has no value.
+    /// Looks up many keys, and writes the value of `keys[i]` to `values[i]`. A key of another
+    /// length has no value.
     ///
     /// ```
     /// # use odht::{configs::U64ToU32, dynamic::DynTable, FxHashFn, HashTableOwned};
@@ -20,7 +21,7 @@ impl<H: HashFn, D: Borrow<[u8]>> DynTable<H, D> {
     ///
     /// # Panics
     ///
-    /// Where there are more or fewer values than keys.
+    /// Panics if `keys` and `values` have different lengths.
     #[track_caller]
     pub fn get_all<'a>(&'a self, keys: &[&[u8]], values: &mut [Option<&'a [u8]>]) {
         assert_eq!(values.len(), keys.len(), "there are as many values as keys");
@@ -31,8 +32,8 @@ impl<H: HashFn, D: Borrow<[u8]>> DynTable<H, D> {
 }
 
 impl<H: HashFn, D: Borrow<[u8]> + BorrowMut<[u8]>> DynTable<H, D> {
-    /// Inserts the items, keys and values, in their order, and stops at the first whose insert fails. Returns how many
-    /// were inserted, and the error of the one that failed. No memory is allocated.
+    /// Inserts the items in order, and stops at the first whose insert fails. Returns the number of
+    /// inserted items, and the error of the one that failed. Allocates nothing.
     ///
     /// ```
     /// use odht::dynamic::{DynError, DynTable, Layout};
@@ -49,7 +50,7 @@ impl<H: HashFn, D: Borrow<[u8]> + BorrowMut<[u8]>> DynTable<H, D> {
     ///
     /// # Errors
     ///
-    /// Those of [`insert`](DynTable::insert). The table is then as the items before the one that failed left it.
+    /// Those of [`insert`](DynTable::insert). The items before the one that failed stay inserted.
     pub fn insert_all(&mut self, items: &[(&[u8], &[u8])]) -> (usize, Result<(), DynError>) {
         self.view_mut().insert_all(items)
     }

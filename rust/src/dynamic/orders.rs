@@ -8,11 +8,14 @@ use crate::generated::tables::dynamic;
 use std::borrow::Borrow;
 
 impl<H: HashFn, D: Borrow<[u8]>> DynTable<H, D> {
-    /// Whether some list of inserts makes this table from an empty one of its load factor, growths included. Where one
-    /// does, `out` lists the occupied slots in such an order, as
-    /// [`HashTableOwned::insert_order`](crate::HashTableOwned::insert_order) lists them, in as many steps. Where none
-    /// does, what it writes means nothing. The bytes are those of a table, as [`verify`](DynTable::verify) tells: of
-    /// others the result and `out` mean nothing.
+    /// Returns `true` if inserts can have made this table: if some list of inserts, growths
+    /// included, makes it from an empty table with the same load factor. Then `out` lists the
+    /// occupied slots in such an order, as
+    /// [`HashTableOwned::insert_order`](crate::HashTableOwned::insert_order) does, in the same
+    /// number of steps. If it returns `false`, the contents of `out` are unspecified.
+    ///
+    /// Check the bytes with [`verify`](DynTable::verify) first, unless you know that they are those
+    /// of a valid table. For other bytes the result and `out` are unspecified.
     ///
     /// ```
     /// use odht::dynamic::{DynError, DynTable, Layout};
@@ -37,19 +40,23 @@ impl<H: HashFn, D: Borrow<[u8]>> DynTable<H, D> {
     ///
     /// # Panics
     ///
-    /// Where `out` does not have as many numbers as the header states items; and where the header states more or fewer
-    /// than there are, which only bytes that are not those of a table do.
+    /// Panics if the length of `out` is not the item count that the header states, or if this is
+    /// not the number of occupied slots. These two differ only in bytes that are not those of a
+    /// valid table.
     #[track_caller]
     #[must_use]
     pub fn insert_order(&self, out: &mut [usize]) -> bool {
         self.counted(out.len()).insert_order(out)
     }
 
-    /// [`insert_order`](DynTable::insert_order) for untrusted tables, where it has `scratch` to write to: it returns
-    /// the same, and leaves the same order in `out`. `scratch` has as many numbers as
-    /// [`insert_order_scratch`](DynTable::insert_order_scratch) says or more, of any values; with fewer this is
-    /// `insert_order`, in the time that that takes. The bytes are those of a table, as [`verify`](DynTable::verify)
-    /// tells: of others the result and `out` mean nothing.
+    /// Like [`insert_order`](DynTable::insert_order), for untrusted tables: it uses `scratch` as
+    /// working memory, returns the same result, and writes the same order to `out`. `scratch` needs
+    /// at least the length that [`insert_order_scratch`](DynTable::insert_order_scratch) returns,
+    /// and may contain any numbers. With a shorter one this call does what `insert_order` does, in
+    /// the same time.
+    ///
+    /// Check the bytes with [`verify`](DynTable::verify) first, unless you know that they are those
+    /// of a valid table. For other bytes the result and `out` are unspecified.
     ///
     /// ```
     /// # use odht::{configs::U64ToU32, dynamic::DynTable, FxHashFn, HashTableOwned};
@@ -64,21 +71,22 @@ impl<H: HashFn, D: Borrow<[u8]>> DynTable<H, D> {
     ///
     /// # Panics
     ///
-    /// As `insert_order` does.
+    /// Panics when [`insert_order`](DynTable::insert_order) does.
     #[track_caller]
     #[must_use]
     pub fn insert_order_with(&self, out: &mut [usize], scratch: &mut [usize]) -> bool {
         self.counted(out.len()).insert_order_with(out, scratch)
     }
 
-    /// How many numbers of scratch [`insert_order_with`](DynTable::insert_order_with) takes: three for each slot.
+    /// Returns the length of the scratch that [`insert_order_with`](DynTable::insert_order_with)
+    /// needs: three numbers for each slot.
     #[must_use]
     pub fn insert_order_scratch(&self) -> usize {
         self.view().insert_order_scratch()
     }
 
-    // The proved table, for a list of that many numbers. That it takes no other list is all that
-    // its steps need, whatever the bytes are.
+    // The proved table, for a list of this length. The check of the length is all that the search
+    // for an order requires, for any bytes.
     #[track_caller]
     fn counted(&self, numbers: usize) -> dynamic::DynTable<Hash<H>, Borrowed<'_>> {
         let table = self.view();

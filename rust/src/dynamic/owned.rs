@@ -11,8 +11,8 @@ use std::fmt;
 use std::iter::FusedIterator;
 use std::marker::PhantomData;
 
-/// A table that owns its bytes, of keys and values of the lengths that were given when it was made. It grows where a
-/// new key is inserted at the maximum.
+/// A table that owns its bytes, and grows when a new key is inserted at its maximum item count. The
+/// lengths of keys and values are given when it is created.
 ///
 /// ```
 /// use odht::dynamic::{DynTableOwned, Layout};
@@ -32,17 +32,19 @@ use std::marker::PhantomData;
 pub struct DynTableOwned<H: HashFn>(dynamic::DynTableOwned<Hash<H>>);
 
 impl<H: HashFn> DynTableOwned<H> {
-    /// An empty table of these lengths made for twelve items at a load factor of 87 percent, which has sixteen slots.
+    /// Creates an empty table with these key and value lengths, for twelve items at a load factor
+    /// of 87 percent. It has sixteen slots.
     ///
     /// # Errors
     ///
-    /// As [`with_capacity`](DynTableOwned::with_capacity).
+    /// Those of [`with_capacity`](DynTableOwned::with_capacity).
     pub fn new(layout: Layout) -> Result<Self, DynError> {
         Self::with_capacity(layout, 12, 87)
     }
 
-    /// An empty table of these lengths that takes at least that many items before it grows. The
-    /// load factor is in percent of the slots.
+    /// Creates an empty table with these key and value lengths, which takes at least
+    /// `max_item_count` items before it grows. `max_load_factor_percent` is the percentage of the
+    /// slots that may be occupied.
     ///
     /// ```
     /// use odht::dynamic::{DynError, DynTableOwned, Layout};
@@ -59,13 +61,16 @@ impl<H: HashFn> DynTableOwned<H> {
     ///
     /// # Errors
     ///
-    /// `KeyTooShort` where the hash function needs longer keys; then `Rejected` with
-    /// [`Error::Capacity`] where no slot count is enough, or the length is above `usize::MAX`, and
-    /// with [`Error::Memory`] where memory is refused.
+    /// Returns the first of these errors that applies:
+    ///
+    /// - `KeyTooShort` if the hash function needs longer keys
+    /// - `Rejected` with [`Error::Capacity`] if no slot count is large enough, or the length
+    ///   exceeds `usize::MAX`
+    /// - `Rejected` with [`Error::Memory`] if allocation fails
     ///
     /// # Panics
     ///
-    /// Where the percentage is not from 1 to 100.
+    /// Panics if the percentage is not from 1 to 100.
     ///
     /// [`Error::Capacity`]: crate::Error::Capacity
     /// [`Error::Memory`]: crate::Error::Memory
@@ -80,8 +85,9 @@ impl<H: HashFn> DynTableOwned<H> {
             .map(DynTableOwned)
     }
 
-    /// A copy of the bytes as a table of these lengths, after all of them were checked: what
-    /// [`check_all`](crate::check_all) rejects is not copied. The check costs what that call does.
+    /// Checks all of the bytes as a table with these key and value lengths, and copies them. Bytes
+    /// that [`check_all`](crate::check_all) rejects are not copied. The check costs what that call
+    /// costs.
     ///
     /// ```
     /// # use odht::{configs::U64ToU32, dynamic::{DynTableOwned, Layout}, FxHashFn, HashTableOwned};
@@ -95,16 +101,21 @@ impl<H: HashFn> DynTableOwned<H> {
     ///
     /// # Errors
     ///
-    /// `KeyTooShort` where the hash function needs longer keys; then `Rejected` with the first error that `check_all`
-    /// finds, else with [`Error::Memory`](crate::Error::Memory) where memory is refused.
+    /// Returns the first of these errors that applies:
+    ///
+    /// - `KeyTooShort` if the hash function needs longer keys
+    /// - `Rejected` with the first error that `check_all` finds
+    /// - `Rejected` with [`Error::Memory`](crate::Error::Memory) if allocation fails
     pub fn from_raw_bytes(layout: Layout, data: &[u8]) -> Result<Self, DynError> {
         dynamic::DynTableOwned::from_raw_bytes(Global, layout.proved(), data).map(DynTableOwned)
     }
 
-    /// Gives the key this value, and returns its former one. At the maximum the table grows for a
-    /// new key. A key that is there gets its value in place, which takes no memory.
+    /// Inserts a pair, and returns the former value of the key. If the key is new and the table is
+    /// at its maximum, the table grows. The value of a present key is overwritten in place, which
+    /// allocates nothing.
     ///
-    /// The key is hashed once, and again at a growth, which hashes and places each item again.
+    /// The key is hashed once. If the table grows, all items are hashed and placed again, and the
+    /// key is hashed again.
     ///
     /// ```
     /// use odht::dynamic::{DynError, DynTableOwned, Layout};
@@ -119,21 +130,26 @@ impl<H: HashFn> DynTableOwned<H> {
     ///
     /// # Errors
     ///
-    /// `WrongKeyLength` where the key has another length than the keys of the table;
-    /// `WrongValueLength` where the value has another one than its values; then `Rejected` with
-    /// [`Error::Memory`](crate::Error::Memory) where the table would grow, and memory is refused or
-    /// no table is that large. Nothing has changed then.
+    /// Returns the first of these errors that applies:
+    ///
+    /// - `WrongKeyLength` if the key is longer or shorter than the keys of the table
+    /// - `WrongValueLength` if the value is longer or shorter than its values
+    /// - `Rejected` with [`Error::Memory`](crate::Error::Memory) if the table would grow, and
+    ///   allocation fails or no table is that large
+    ///
+    /// On an error nothing changes.
     #[inline]
     pub fn insert(&mut self, key: &[u8], value: &[u8]) -> Result<Option<ShortBytes>, DynError> {
         let former = self.0.insert(key, value)?;
         Ok(former.map(ShortBytes))
     }
 
-    /// Makes room for that many more items: that many new keys are inserted before the table grows.
-    /// Where it has the room nothing changes, and no memory is asked for. Otherwise its pairs are
-    /// placed again, in the fewest slots that are enough, at the same load factor.
+    /// Makes room for `additional` more items, so that inserting this number of new keys does not
+    /// grow the table. If the table has the room, nothing changes and nothing is allocated.
+    /// Otherwise its pairs are placed again, in the fewest slots that suffice, at the same load
+    /// factor.
     ///
-    /// Where it moves, one pass over the slots; each item is hashed once.
+    /// Placing the pairs again takes one pass over the slots. Each item is hashed once.
     ///
     /// ```
     /// use odht::dynamic::{DynError, DynTableOwned, Layout};
@@ -148,14 +164,16 @@ impl<H: HashFn> DynTableOwned<H> {
     ///
     /// # Errors
     ///
-    /// `Rejected` with [`Error::Capacity`](crate::Error::Capacity) where no slot count is enough,
-    /// or the length is above `usize::MAX`, and with [`Error::Memory`](crate::Error::Memory) where
-    /// memory is refused. Nothing has changed then.
+    /// - `Rejected` with [`Error::Capacity`](crate::Error::Capacity) if no slot count is large
+    ///   enough, or the length exceeds `usize::MAX`
+    /// - `Rejected` with [`Error::Memory`](crate::Error::Memory) if allocation fails
+    ///
+    /// On an error nothing changes.
     pub fn reserve(&mut self, additional: usize) -> Result<(), DynError> {
         self.0.reserve(additional)
     }
 
-    /// The table as one that does not grow, with the calls that look at it.
+    /// Returns a view of the table, which has all calls that read a table.
     ///
     /// ```
     /// # use odht::{dynamic::{DynTableOwned, Layout}, FxHashFn};
@@ -170,7 +188,7 @@ impl<H: HashFn> DynTableOwned<H> {
         DynTable { data, layout: self.layout(), opened, hash: PhantomData }
     }
 
-    /// The lengths of keys and values.
+    /// Returns the lengths of keys and values.
     #[inline]
     #[must_use]
     pub fn layout(&self) -> Layout {
@@ -178,55 +196,57 @@ impl<H: HashFn> DynTableOwned<H> {
         Layout { key_len: layout.key_len, value_len: layout.value_len }
     }
 
-    /// The value of a key: that of its last insert. A key of another length has none.
+    /// Returns the value that the last insert of the key stored, or `None`. A key of another length
+    /// has no value.
     #[inline]
     #[must_use]
     pub fn get(&self, key: &[u8]) -> Option<&[u8]> {
         self.0.get(key)
     }
 
-    /// `get`, and how many groups of sixteen control bytes it read: those up to the first slot that is free or holds
-    /// the key. For a key of another length it reads none.
+    /// Like [`get`](DynTableOwned::get), and also returns how many groups of sixteen control bytes
+    /// it read. These are the groups up to the first slot that is free or contains the key. For a
+    /// key of another length it reads none.
     #[inline]
     #[must_use]
     pub fn get_counted(&self, key: &[u8]) -> (Option<&[u8]>, usize) {
         self.0.get_counted(key)
     }
 
-    /// Whether the key has a value.
+    /// Returns `true` if the key has a value.
     #[inline]
     #[must_use]
     pub fn contains_key(&self, key: &[u8]) -> bool {
         self.0.contains_key(key)
     }
 
-    /// The keys and values, in slot order.
+    /// Returns an iterator over the keys and values, in slot order.
     pub fn iter(&self) -> impl FusedIterator<Item = (&[u8], &[u8])> {
         self.0.iter()
     }
 
-    /// How many items there are.
+    /// Returns the number of items.
     #[inline]
     #[must_use]
     pub fn len(&self) -> usize {
         self.0.len()
     }
 
-    /// Whether there is no item.
+    /// Returns `true` if the table has no items.
     #[inline]
     #[must_use]
     pub fn is_empty(&self) -> bool {
         self.len() == 0
     }
 
-    /// The bytes of the table, which can be stored as they are.
+    /// Returns the bytes of the table. You can store them as they are.
     #[inline]
     #[must_use]
     pub fn raw_bytes(&self) -> &[u8] {
         self.0.raw_bytes()
     }
 
-    /// The bytes of the table, which is given up for them. They are not copied.
+    /// Consumes the table and returns its bytes, without copying them.
     #[inline]
     #[must_use]
     pub fn into_raw_bytes(self) -> Vec<u8> {

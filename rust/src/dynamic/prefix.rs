@@ -10,8 +10,9 @@ use crate::generated::tables::dynamic;
 use std::marker::PhantomData;
 
 impl Layout {
-    /// How many bytes the table of these lengths at the front of `bytes` has, by its header, as
-    /// [`table_len`](crate::table_len). What follows is not looked at, nor is any slot. It takes constant time.
+    /// Returns the length of the table at the front of `bytes`, as its header states it. It works
+    /// like [`table_len`](crate::table_len), for these key and value lengths. It reads only the
+    /// header, in constant time.
     ///
     /// ```
     /// # use odht::{configs::U64ToU32, dynamic::Layout, HashTableOwned};
@@ -30,8 +31,9 @@ impl Layout {
 }
 
 impl<'b, H: HashFn> DynTable<H, &'b [u8]> {
-    /// Opens the table of these lengths at the front of `bytes`, and returns it with the bytes behind it. How many are
-    /// the table's its header says, as [`Layout::table_len`]. What follows is not looked at. It takes constant time.
+    /// Opens the table at the front of `bytes`, with these key and value lengths, and returns it
+    /// with the bytes that follow it. The header states the length of the table, as in
+    /// [`Layout::table_len`]. The bytes that follow are not read. Takes constant time.
     ///
     /// ```
     /// use odht::dynamic::{DynError, DynTable, Layout};
@@ -50,16 +52,19 @@ impl<'b, H: HashFn> DynTable<H, &'b [u8]> {
     ///
     /// # Errors
     ///
-    /// `KeyTooShort` where the hash function needs longer keys; then `Rejected` with the first of those of
-    /// [`Layout::table_len`], and of the first ten slots.
+    /// Returns the first of these errors that applies:
+    ///
+    /// - `KeyTooShort` if the hash function needs longer keys
+    /// - `Rejected` with the error of [`Layout::table_len`]
+    /// - `Rejected` if one of the first ten slots is wrong
     pub fn open_prefix(layout: Layout, bytes: &'b [u8]) -> Result<(Self, &'b [u8]), DynError> {
         let found =
             dynamic::DynTable::<Hash<H>, Borrowed<'b>>::from_prefix(layout.proved(), bytes)?;
         Ok(opened_front(found))
     }
 
-    /// [`open_prefix`](DynTable::open_prefix) with the lengths that the header states, which
-    /// [`layout`](DynTable::layout) tells.
+    /// Like [`open_prefix`](DynTable::open_prefix), with the key and value lengths that the header
+    /// states. [`layout`](DynTable::layout) returns them.
     ///
     /// ```
     /// # use odht::{configs::U64ToU32, dynamic::DynTable, FxHashFn, HashTableOwned};
@@ -72,16 +77,21 @@ impl<'b, H: HashFn> DynTable<H, &'b [u8]> {
     ///
     /// # Errors
     ///
-    /// `Rejected` with those of [`Layout::table_len`]; then `KeyTooShort`; then `Rejected` with that of the first ten
-    /// slots. A header states no hash function: a table of another one is rejected where one of the first ten slots is
-    /// occupied and has another tag.
+    /// Returns the first of these errors that applies:
+    ///
+    /// - `Rejected` with the error of [`Layout::table_len`]
+    /// - `KeyTooShort` if the hash function needs longer keys
+    /// - `Rejected` if one of the first ten slots is wrong
+    ///
+    /// The header does not record the hash function. A table that was built with another one is
+    /// rejected if the tag of an occupied slot among the first ten does not match.
     pub fn open_prefix_as_stated(bytes: &'b [u8]) -> Result<(Self, &'b [u8]), DynError> {
         let found = dynamic::DynTable::<Hash<H>, Borrowed<'b>>::from_prefix_as_stated(bytes)?;
         Ok(opened_front(found))
     }
 }
 
-// The table of a proved one, with what is behind it.
+// Converts a table of the proved library, and passes on the bytes that follow it.
 fn opened_front<'b, H: HashFn>(
     (table, rest): (dynamic::DynTable<Hash<H>, Borrowed<'b>>, &'b [u8]),
 ) -> (DynTable<H, &'b [u8]>, &'b [u8]) {

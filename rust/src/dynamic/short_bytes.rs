@@ -4,8 +4,8 @@ use crate::generated::raw::raw_table;
 use std::fmt;
 use std::ops::Deref;
 
-/// At most 255 bytes, by value: a value of a table, such as one that an insert has overwritten. No memory is allocated
-/// for them.
+/// A copy of a value of a table, such as the one that an insert has overwritten. It holds at most
+/// 255 bytes, and needs no allocation.
 ///
 /// ```
 /// # use odht::{configs::U64ToU32, dynamic::DynTable, FxHashFn, HashTableOwned};
@@ -22,7 +22,7 @@ use std::ops::Deref;
 pub struct ShortBytes(pub(super) raw_table::ShortBytes);
 
 impl ShortBytes {
-    /// The bytes.
+    /// Returns the bytes.
     #[inline]
     #[must_use]
     pub fn as_slice(&self) -> &[u8] {

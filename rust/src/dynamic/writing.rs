@@ -10,9 +10,10 @@ use std::borrow::{Borrow, BorrowMut};
 use std::marker::PhantomData;
 
 impl Layout {
-    /// The length in bytes of a new table of these lengths for that many items, to be given to
-    /// [`DynTable::init_in_place`]. The load factor is in percent of the slots. `None` where no
-    /// table is large enough.
+    /// Returns the length in bytes of a new table for `max_item_count` items, with these key and
+    /// value lengths. [`DynTable::init_in_place`] needs bytes of this length.
+    /// `max_load_factor_percent` is the percentage of the slots that may be occupied. Returns
+    /// `None` if no table is large enough.
     ///
     /// ```
     /// use odht::{bytes_needed, configs::U64ToU32, dynamic::Layout};
@@ -23,7 +24,7 @@ impl Layout {
     ///
     /// # Panics
     ///
-    /// Where the percentage is not from 1 to 100.
+    /// Panics if the percentage is not from 1 to 100.
     #[track_caller]
     #[must_use]
     pub fn bytes_needed(self, max_item_count: usize, max_load_factor_percent: u8) -> Option<usize> {
@@ -38,9 +39,9 @@ impl Layout {
 }
 
 impl<H: HashFn, D: Borrow<[u8]> + BorrowMut<[u8]>> DynTable<H, D> {
-    /// Makes an empty table of these lengths for that many items in `data`, whatever its bytes
-    /// were. Its length is [`Layout::bytes_needed`], and the load factor is in percent of the
-    /// slots.
+    /// Creates an empty table for `max_item_count` items in `data`, over any bytes that are there.
+    /// The length of `data` must be [`Layout::bytes_needed`]. `max_load_factor_percent` is the
+    /// percentage of the slots that may be occupied.
     ///
     /// ```
     /// use odht::dynamic::{DynError, DynTable, Layout};
@@ -59,13 +60,15 @@ impl<H: HashFn, D: Borrow<[u8]> + BorrowMut<[u8]>> DynTable<H, D> {
     ///
     /// # Errors
     ///
-    /// `KeyTooShort` where the hash function needs longer keys; then `Rejected` with
-    /// [`Error::Capacity`] where no table is large enough, else with [`Error::InitLength`] where
-    /// `data` has another length.
+    /// Returns the first of these errors that applies:
+    ///
+    /// - `KeyTooShort` if the hash function needs longer keys
+    /// - `Rejected` with [`Error::Capacity`] if no table is large enough
+    /// - `Rejected` with [`Error::InitLength`] if `data` has another length
     ///
     /// # Panics
     ///
-    /// Where the percentage is not from 1 to 100.
+    /// Panics if the percentage is not from 1 to 100.
     ///
     /// [`Error::Capacity`]: crate::Error::Capacity
     /// [`Error::InitLength`]: crate::Error::InitLength
@@ -97,10 +100,11 @@ impl<H: HashFn, D: Borrow<[u8]> + BorrowMut<[u8]>> DynTable<H, D> {
         dynamic::DynTable::open_unchecked(layout, BorrowedMut::new(bytes))
     }
 
-    /// Gives the key this value, and returns its former one. The table cannot grow: a new key needs a free slot below
-    /// the maximum.
+    /// Inserts a pair, and returns the former value of the key. The table cannot grow, so a new key
+    /// needs a free slot, and an item count below the maximum.
     ///
-    /// The key is hashed once, and each group of control bytes is read at most once. No memory is allocated.
+    /// The key is hashed once, and each group of control bytes is read at most once. Allocates
+    /// nothing.
     ///
     /// ```
     /// use odht::dynamic::{DynError, DynTable, Layout};
@@ -127,9 +131,14 @@ impl<H: HashFn, D: Borrow<[u8]> + BorrowMut<[u8]>> DynTable<H, D> {
     ///
     /// # Errors
     ///
-    /// `WrongKeyLength` where the key has another length than the keys of the table; `WrongValueLength` where the value
-    /// has another one than its values; then `Rejected` with [`Error::Full`] where the table is at its maximum and the
-    /// key is new, and of bytes that are not those of a table also where no slot is free. Nothing has changed then.
+    /// Returns the first of these errors that applies:
+    ///
+    /// - `WrongKeyLength` if the key is longer or shorter than the keys of the table
+    /// - `WrongValueLength` if the value is longer or shorter than its values
+    /// - `Rejected` with [`Error::Full`] if the key is new and the table is at its maximum. In
+    ///   bytes that are not those of a valid table, also if no slot is free.
+    ///
+    /// On an error nothing changes.
     ///
     /// [`Error::Full`]: crate::Error::Full
     #[inline]
@@ -138,8 +147,8 @@ impl<H: HashFn, D: Borrow<[u8]> + BorrowMut<[u8]>> DynTable<H, D> {
         Ok(former.map(ShortBytes))
     }
 
-    /// [`insert`](DynTable::insert), which writes the former value to `former` and returns whether there is one. It takes
-    /// fewer instructions, since no value is copied more than once.
+    /// Like [`insert`](DynTable::insert), but writes the former value to `former`, and returns
+    /// whether there is one. It takes fewer instructions, since no value is copied more than once.
     ///
     /// ```
     /// use odht::dynamic::{DynError, DynTable, Layout};
@@ -160,8 +169,9 @@ impl<H: HashFn, D: Borrow<[u8]> + BorrowMut<[u8]>> DynTable<H, D> {
     ///
     /// # Errors
     ///
-    /// Those of `insert`, and `WrongValueLength` where `former` has another length than the values of the table. The
-    /// table and `former` have not changed then. Nor has `former` where the key had no value.
+    /// Those of `insert`, and `WrongValueLength` if `former` is longer or shorter than the values
+    /// of the table. On an error the table and `former` do not change. `former` does not change
+    /// either if the key had no value.
     #[inline]
     pub fn insert_into(
         &mut self,

@@ -1,6 +1,7 @@
-//! Structs of a fixed number of bytes, in a line.
+//! The trait `Fixed` for structs, in a line.
 
-/// Makes a struct [`Fixed`](crate::Fixed): its bytes are those of the fields that are listed, in this order.
+/// Implements [`Fixed`](crate::Fixed) for a struct. Its bytes are those of the fields that you
+/// list, in this order.
 ///
 /// ```
 /// #[derive(Clone, PartialEq, Debug)]
@@ -14,11 +15,12 @@
 ///
 /// let parts = odht::HashTableOwned::<Parts>::from([(7, Span { offset: 4096, length: 30 })]);
 /// assert_eq!(parts.get(&7), Some(Span { offset: 4096, length: 30 }));
-/// assert_eq!(parts.raw_bytes()[5..7], [8, 10]); // how many bytes a key has, and a value
+/// assert_eq!(parts.raw_bytes()[5..7], [8, 10]); // the lengths of keys and of values
 /// ```
 ///
-/// Of a tuple struct the types are listed. A generic struct has its parameters behind its name, without bounds: each
-/// type that is one has to be `Fixed`, and a constant is given with its type.
+/// For a tuple struct, list the types of its fields. For a generic struct, write its parameters
+/// after its name, without bounds. Each type parameter must be `Fixed`, and each constant is
+/// written with its type.
 ///
 /// ```
 /// #[derive(Clone, PartialEq, Debug)]

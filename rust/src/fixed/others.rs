@@ -14,7 +14,7 @@ impl Fixed for char {
         u32::from(*self).write(to);
     }
 
-    /// A number that is no character's is read as [`char::REPLACEMENT_CHARACTER`].
+    /// A number that is not that of a character is read as [`char::REPLACEMENT_CHARACTER`].
     #[inline(always)]
     fn read(from: &[u8]) -> Self {
         char::from_u32(u32::read(from)).unwrap_or(char::REPLACEMENT_CHARACTER)
@@ -24,7 +24,7 @@ impl Fixed for char {
 impl<T: Fixed> Fixed for Option<T> {
     const LEN: usize = 1 + T::LEN;
 
-    /// `Some` is a byte 1 and the bytes of the value, `None` is zeros of the same number.
+    /// `Some` is a byte 1 and the bytes of the value. `None` is the same number of zeros.
     #[inline(always)]
     fn write(&self, to: &mut [u8]) {
         let (is_some, value) = to.split_at_mut(1);
@@ -35,7 +35,7 @@ impl<T: Fixed> Fixed for Option<T> {
         }
     }
 
-    /// Each first byte but 0 is that of a `Some`. What follows a 0 is not looked at.
+    /// A first byte other than 0 means `Some`. The bytes after a 0 are not read.
     #[inline(always)]
     fn read(from: &[u8]) -> Self {
         let (is_some, value) = from.split_at(1);
@@ -83,7 +83,7 @@ numbers_without_zero! {
 impl Fixed for Ipv4Addr {
     const LEN: usize = 4;
 
-    /// The four numbers, as the address is written.
+    /// The four numbers, in the order in which the address is written.
     #[inline(always)]
     fn write(&self, to: &mut [u8]) {
         to.copy_from_slice(&self.octets());
@@ -98,7 +98,7 @@ impl Fixed for Ipv4Addr {
 impl Fixed for Ipv6Addr {
     const LEN: usize = 16;
 
-    /// The sixteen bytes, as the address is written.
+    /// The sixteen bytes, in the order in which the address is written.
     #[inline(always)]
     fn write(&self, to: &mut [u8]) {
         to.copy_from_slice(&self.octets());

@@ -1,4 +1,4 @@
-//! Walks over the pairs of a table that was given up for them.
+//! Iterators that own the table over whose pairs they iterate.
 
 use super::Walk;
 use crate::config::Config;
@@ -11,12 +11,13 @@ macro_rules! owning_walks {
     ($( $(#[$doc:meta])* $name:ident, $item:ty, |$entry:pat_param| $made:expr; )*) => { $(
         $(#[$doc])*
         ///
-        /// Each step looks at the header and at a group of control bytes, so a walk by reference is faster. Its length
-        /// is exact, and counted when it is asked for, as that of [`Iter`](crate::Iter).
+        /// Each step reads the header and a group of control bytes, so an iteration by reference is
+        /// faster. `len` and `size_hint` are exact, and count the rest at each call, as those of
+        /// [`Iter`](crate::Iter) do.
         #[must_use = "a walk does nothing until something is taken"]
         pub struct $name<C: Config, D: Borrow<[u8]>> {
             table: HashTable<C, D>,
-            // the slot behind the last one that was taken
+            // the slot after the last one that was returned
             from: usize,
         }
 
@@ -63,14 +64,17 @@ macro_rules! owning_walks {
 }
 
 owning_walks! {
-    /// The keys and values of a table that was given up for them, in slot order. Made by `into_iter` of both tables.
+    /// An owning iterator over the keys and values of a table, in slot order. Returned by
+    /// `into_iter` of [`HashTable`] and [`HashTableOwned`](crate::HashTableOwned).
     IntoIter, (C::Key, C::Value), |entry| (C::decode_key(&entry.key), C::decode_value(&entry.value));
 
-    /// The keys of a table that was given up for them, in slot order. Made by `into_keys` of both tables. No value is
-    /// decoded.
+    /// An owning iterator over the keys of a table, in slot order. No value is decoded. Returned by
+    /// [`HashTable::into_keys`](crate::HashTable::into_keys) and
+    /// [`HashTableOwned::into_keys`](crate::HashTableOwned::into_keys).
     IntoKeys, C::Key, |entry| C::decode_key(&entry.key);
 
-    /// The values of a table that was given up for them, in slot order. Made by `into_values` of both tables. No key is
-    /// decoded.
+    /// An owning iterator over the values of a table, in slot order. No key is decoded. Returned by
+    /// [`HashTable::into_values`](crate::HashTable::into_values) and
+    /// [`HashTableOwned::into_values`](crate::HashTableOwned::into_values).
     IntoValues, C::Value, |entry| C::decode_value(&entry.value);
 }

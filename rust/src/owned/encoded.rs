@@ -7,8 +7,8 @@ use alloc::vec::Vec;
 use std::mem;
 
 impl<C: Config> HashTableOwned<C> {
-    /// [`get`](HashTableOwned::get) by a key that is encoded already. Where `Key` is a `String` a lookup by `&str`
-    /// allocates nothing: the caller encodes the text.
+    /// Like [`get`](HashTableOwned::get), for a key that is already encoded. If `Key` is a
+    /// `String`, this looks up a `&str` without an allocation: you encode the text yourself.
     ///
     /// ```
     /// use odht::{Config, FxHashFn, HashTableOwned};
@@ -52,7 +52,7 @@ impl<C: Config> HashTableOwned<C> {
         stored::<C>(self.raw_bytes()).get(key).map(|value| C::decode_value(&value))
     }
 
-    /// [`contains_key`](HashTableOwned::contains_key) by a key that is encoded already.
+    /// Like [`contains_key`](HashTableOwned::contains_key), for a key that is already encoded.
     ///
     /// ```
     /// # use odht::{configs::U64ToU32, HashTableOwned};
@@ -65,10 +65,10 @@ impl<C: Config> HashTableOwned<C> {
         stored::<C>(self.raw_bytes()).contains_key(key)
     }
 
-    /// [`insert`](HashTableOwned::insert) by a key that is encoded already.
+    /// Like [`insert`](HashTableOwned::insert), for a key that is already encoded.
     ///
-    /// The bytes are to be those of a key, as `encode_key` makes them. Others are stored as they are, and the walk
-    /// decodes them.
+    /// The bytes should be those that `encode_key` returns for a key. Other bytes are stored as
+    /// they are, and iterators decode them.
     ///
     /// ```
     /// # use odht::{configs::U64ToU32, HashTableOwned};
@@ -79,7 +79,7 @@ impl<C: Config> HashTableOwned<C> {
     ///
     /// # Panics
     ///
-    /// As [`insert`](HashTableOwned::insert).
+    /// Panics when [`insert`](HashTableOwned::insert) does.
     #[inline]
     #[track_caller]
     pub fn insert_encoded(&mut self, key: &C::EncodedKey, value: &C::Value) -> Option<C::Value> {
@@ -89,7 +89,8 @@ impl<C: Config> HashTableOwned<C> {
         }
     }
 
-    /// [`insert_encoded`](HashTableOwned::insert_encoded), with an error if allocation fails.
+    /// Like [`insert_encoded`](HashTableOwned::insert_encoded), but returns an error if allocation
+    /// fails.
     ///
     /// ```
     /// # use odht::{configs::U64ToU32, HashTableOwned};
@@ -100,7 +101,7 @@ impl<C: Config> HashTableOwned<C> {
     ///
     /// # Errors
     ///
-    /// As [`try_insert`](HashTableOwned::try_insert).
+    /// Those of [`try_insert`](HashTableOwned::try_insert).
     pub fn try_insert_encoded(
         &mut self,
         key: &C::EncodedKey,
@@ -109,14 +110,15 @@ impl<C: Config> HashTableOwned<C> {
         let value = C::encode_value(value);
         let mut done = self.insert_stored(key, &value);
         if done == Err(Error::Full) {
-            // The slots for twice as many items and for one at least, as where `insert` grows.
+            // The slots for twice as many items, and for at least one, as when `insert` grows the
+            // table.
             self.try_reserve(self.len().max(1)).map_err(|_| Error::Memory)?;
             done = self.insert_stored(key, &value);
         }
         Ok(done?.map(|value| C::decode_value(&value)))
     }
 
-    // Inserts a pair as it is stored, without a growth.
+    // Inserts an encoded pair. The table does not grow.
     fn insert_stored(
         &mut self,
         key: &C::EncodedKey,
@@ -126,7 +128,8 @@ impl<C: Config> HashTableOwned<C> {
         stored_mut::<C>(&mut lent.bytes).insert(key, value)
     }
 
-    /// [`get_or_insert_with`](HashTableOwned::get_or_insert_with) by a key that is encoded already.
+    /// Like [`get_or_insert_with`](HashTableOwned::get_or_insert_with), for a key that is already
+    /// encoded.
     ///
     /// ```
     /// # use odht::{configs::U64ToU32, HashTableOwned};
@@ -137,7 +140,7 @@ impl<C: Config> HashTableOwned<C> {
     ///
     /// # Panics
     ///
-    /// As [`insert`](HashTableOwned::insert).
+    /// Panics when [`insert`](HashTableOwned::insert) does.
     #[track_caller]
     pub fn get_or_insert_encoded_with(
         &mut self,
@@ -152,7 +155,8 @@ impl<C: Config> HashTableOwned<C> {
         value
     }
 
-    /// [`get_or_insert_encoded_with`](HashTableOwned::get_or_insert_encoded_with), with an error if allocation fails.
+    /// Like [`get_or_insert_encoded_with`](HashTableOwned::get_or_insert_encoded_with), but returns
+    /// an error if allocation fails.
     ///
     /// ```
     /// # use odht::{configs::U64ToU32, HashTableOwned};
@@ -163,7 +167,7 @@ impl<C: Config> HashTableOwned<C> {
     ///
     /// # Errors
     ///
-    /// As [`try_insert`](HashTableOwned::try_insert).
+    /// Those of [`try_insert`](HashTableOwned::try_insert).
     pub fn try_get_or_insert_encoded_with(
         &mut self,
         key: &C::EncodedKey,
@@ -178,8 +182,8 @@ impl<C: Config> HashTableOwned<C> {
     }
 }
 
-// The bytes of a table, taken out of it to be written as those of encoded pairs, and given back in any case: the hash
-// function is the configuration's own, and may panic.
+// The bytes of a table, taken out of it for an insert of encoded pairs. `drop` puts them back in
+// any case, since the configuration's hash function may panic.
 struct Lent<'t, C: Config> {
     table: &'t mut tables::HashTable<Proved<C>, OwnedBytes>,
     bytes: Vec<u8>,

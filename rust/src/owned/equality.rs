@@ -3,9 +3,12 @@
 use super::{Config, HashTableOwned};
 
 impl<C: Config> PartialEq for HashTableOwned<C> {
-    /// Whether the tables are the same map: the same keys with the same values, as their encodings tell, whatever their
-    /// slots, their load factors and the order of their inserts. Where the counts differ nothing is looked up;
-    /// otherwise each key of the one is looked up in the other, up to the first that differs.
+    /// Compares the tables as maps. They are equal if they have the same encoded keys with the same
+    /// encoded values. Their slots, their load factors and the order of their inserts do not
+    /// matter.
+    ///
+    /// If the item counts differ, no key is looked up. Otherwise each key of one table is looked up
+    /// in the other, up to the first difference.
     ///
     /// ```
     /// use odht::{configs::U64ToU32, HashTableOwned};
@@ -25,7 +28,8 @@ impl<C: Config> PartialEq for HashTableOwned<C> {
 impl<C: Config> Eq for HashTableOwned<C> {}
 
 impl<C: Config> HashTableOwned<C> {
-    /// Whether the tables have the same bytes. Tables that are equal may differ in theirs: `==` compares maps.
+    /// Returns `true` if the tables have the same bytes. Tables that are equal by `==`, as maps,
+    /// may have different bytes.
     ///
     /// ```
     /// use odht::{configs::U64ToU32, HashTableOwned};

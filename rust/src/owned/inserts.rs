@@ -1,4 +1,4 @@
-//! Inserts into the table that grows.
+//! Inserts into the owned table.
 
 use super::{refused, tables, Config, Error, Global, HashTableOwned, Proved};
 use crate::opened::count_again;
@@ -6,8 +6,9 @@ use crate::generated::base::bytes::Borrowed;
 use crate::shim::to_vec;
 
 impl<C: Config> HashTableOwned<C> {
-    /// Gives the key this value, and returns its former one. At the maximum the table grows for a new key: to the slots
-    /// for twice as many items, into which each item is hashed and placed again.
+    /// Inserts a pair, and returns the former value of the key. If the key is new and the table is
+    /// at its maximum, the table grows to the slots for twice as many items. A growth hashes and
+    /// places each item again.
     ///
     /// The key is hashed once, and each group of control bytes is read at most once.
     ///
@@ -20,8 +21,10 @@ impl<C: Config> HashTableOwned<C> {
     ///
     /// # Panics
     ///
-    /// Where the grown table would be too large. Where memory is refused it ends as Rust's collections do.
-    // Always inlined: so the place of the call, which the panic tells, is no argument of the insert itself.
+    /// Panics if the grown table would be too large. If allocation fails, it panics or ends the
+    /// program, as Rust's collections do.
+    // Always inlined, so that the location of the caller, which a panic reports, is not passed to
+    // the insert itself.
     #[inline(always)]
     #[track_caller]
     pub fn insert(&mut self, key: &C::Key, value: &C::Value) -> Option<C::Value> {
@@ -31,7 +34,7 @@ impl<C: Config> HashTableOwned<C> {
         }
     }
 
-    /// [`insert`](HashTableOwned::insert), with an error where memory is refused.
+    /// Like [`insert`](HashTableOwned::insert), but returns an error if allocation fails.
     ///
     /// ```
     /// # use odht::{configs::U64ToU32, HashTableOwned};
@@ -42,8 +45,8 @@ impl<C: Config> HashTableOwned<C> {
     ///
     /// # Errors
     ///
-    /// [`Error::Memory`] at the maximum and for a new key, where memory is refused or the grown table would be too
-    /// large. Nothing has changed then.
+    /// [`Error::Memory`] if the table would grow, and allocation fails or the grown table would be
+    /// too large. Nothing changes then.
     #[inline]
     pub fn try_insert(
         &mut self,
@@ -53,8 +56,9 @@ impl<C: Config> HashTableOwned<C> {
         self.0.insert(key, value)
     }
 
-    /// `insert` of all items in their order. The header is read and written once a list or growth, and in a large table
-    /// the loads of eight keys overlap, so it is faster than one `insert` after the other.
+    /// Inserts all items in order. This is faster than a loop of `insert`. The header is read and
+    /// written only once for the list and once for each growth, and in a large table the loads of
+    /// eight keys overlap.
     ///
     /// ```
     /// # use odht::{configs::U64ToU32, HashTableOwned};
@@ -65,7 +69,7 @@ impl<C: Config> HashTableOwned<C> {
     ///
     /// # Panics
     ///
-    /// As [`insert`](HashTableOwned::insert).
+    /// Panics when [`insert`](HashTableOwned::insert) does.
     #[track_caller]
     pub fn insert_all(&mut self, items: &[(C::Key, C::Value)]) {
         if let (_, Err(e)) = self.try_insert_all(items) {
@@ -73,8 +77,8 @@ impl<C: Config> HashTableOwned<C> {
         }
     }
 
-    /// [`insert_all`](HashTableOwned::insert_all), which stops at the first item whose insert fails, and returns how
-    /// many were inserted.
+    /// Like [`insert_all`](HashTableOwned::insert_all), but stops at the first item whose insert
+    /// fails. Returns the number of inserted items, and the error.
     ///
     /// ```
     /// # use odht::{configs::U64ToU32, HashTableOwned};
@@ -84,8 +88,8 @@ impl<C: Config> HashTableOwned<C> {
     ///
     /// # Errors
     ///
-    /// [`Error::Memory`] as of [`try_insert`](HashTableOwned::try_insert). The table is then as the items before left
-    /// it.
+    /// [`Error::Memory`], as [`try_insert`](HashTableOwned::try_insert) returns it. The items
+    /// before the one that failed stay inserted.
     pub fn try_insert_all(&mut self, items: &[(C::Key, C::Value)]) -> (usize, Result<(), Error>) {
         let list = List(self);
         let done = list.0 .0.insert_all(items);
@@ -93,8 +97,9 @@ impl<C: Config> HashTableOwned<C> {
         done
     }
 
-    /// `insert_all` of the items of an iterator, which are collected first: `extend` with an error where memory is
-    /// refused. Returns how many were inserted.
+    /// Like `extend`, but returns an error if allocation fails. It collects the items first, and
+    /// then inserts them like [`insert_all`](HashTableOwned::insert_all). Returns the number of
+    /// inserted items, and the error.
     ///
     /// ```
     /// # use odht::{configs::U64ToU32, HashTableOwned};
@@ -105,7 +110,7 @@ impl<C: Config> HashTableOwned<C> {
     ///
     /// # Errors
     ///
-    /// [`Error::Memory`] where memory for the list is refused, with nothing inserted, and as of
+    /// [`Error::Memory`] if allocating the list fails, with nothing inserted. Otherwise those of
     /// [`try_insert_all`](HashTableOwned::try_insert_all).
     pub fn try_extend<I: IntoIterator<Item = (C::Key, C::Value)>>(
         &mut self,
@@ -127,8 +132,8 @@ impl<C: Config> HashTableOwned<C> {
     }
 }
 
-// A table while a list is inserted. Its item count is written behind the list; so where the configuration's own code
-// panics within the list, the items that were inserted are counted here.
+// A table while a list is inserted. Its item count is written only after the list. If the
+// configuration's code panics within the list, `drop` counts the items that were inserted.
 struct List<'t, C: Config>(&'t mut HashTableOwned<C>);
 
 impl<C: Config> Drop for List<'_, C> {

@@ -1,4 +1,4 @@
-//! Where a table that owns its bytes comes from.
+//! Constructors of the table that owns its bytes.
 
 use super::{percent_of, refused, tables, AnyError, Config, Error, Global, HashTableOwned, Proved};
 use crate::opened::Opened;
@@ -7,7 +7,8 @@ use alloc::boxed::Box;
 use alloc::vec::Vec;
 
 impl<C: Config> HashTableOwned<C> {
-    /// An empty table made for twelve items at a load factor of 87 percent, which has sixteen slots.
+    /// Creates an empty table for twelve items at a load factor of 87 percent. It has sixteen
+    /// slots.
     ///
     /// ```
     /// use odht::{configs::U64ToU32, HashTableOwned};
@@ -19,8 +20,8 @@ impl<C: Config> HashTableOwned<C> {
         Self::default()
     }
 
-    /// An empty table that takes at least that many items before it grows. The load factor is in
-    /// percent of the slots.
+    /// Creates an empty table that takes at least `max_item_count` items before it grows.
+    /// `max_load_factor_percent` is the percentage of the slots that may be occupied.
     ///
     /// ```
     /// use odht::{configs::U64ToU32, HashTableOwned};
@@ -31,8 +32,8 @@ impl<C: Config> HashTableOwned<C> {
     ///
     /// # Panics
     ///
-    /// Where the percentage is not from 1 to 100, and where no table is large enough. Where memory
-    /// is refused it ends as Rust's collections do.
+    /// Panics if the percentage is not from 1 to 100, or if no table is large enough. If allocation
+    /// fails, it panics or ends the program, as Rust's collections do.
     #[track_caller]
     #[must_use]
     pub fn with_capacity(max_item_count: usize, max_load_factor_percent: u8) -> Self {
@@ -45,8 +46,8 @@ impl<C: Config> HashTableOwned<C> {
         }
     }
 
-    /// [`with_capacity`](HashTableOwned::with_capacity), with an error where no table is large enough or memory is
-    /// refused.
+    /// Like [`with_capacity`](HashTableOwned::with_capacity), but returns an error if no table is
+    /// large enough or allocation fails.
     ///
     /// ```
     /// use odht::{configs::U64ToU32, Error, HashTableOwned};
@@ -57,12 +58,12 @@ impl<C: Config> HashTableOwned<C> {
     ///
     /// # Errors
     ///
-    /// [`Error::Capacity`] where no slot count is enough, or the length is above `usize::MAX`; [`Error::Memory`] where
-    /// memory is refused.
+    /// - [`Error::Capacity`] if no slot count is large enough, or the length exceeds `usize::MAX`
+    /// - [`Error::Memory`] if allocation fails
     ///
     /// # Panics
     ///
-    /// Where the percentage is not from 1 to 100.
+    /// Panics if the percentage is not from 1 to 100.
     #[track_caller]
     pub fn try_with_capacity(
         max_item_count: usize,
@@ -72,8 +73,8 @@ impl<C: Config> HashTableOwned<C> {
         tables::HashTableOwned::with_capacity(Global, max_item_count, percent).map(HashTableOwned)
     }
 
-    /// A table of the items, which are collected first: made for as many as there are, so it never grows. An item with
-    /// the key of an earlier one overwrites its value.
+    /// Creates a table of the items. It collects them first and creates a table for their number,
+    /// which therefore does not grow. If a key occurs again, the later item overwrites the value.
     ///
     /// ```
     /// use odht::{configs::U64ToU32, HashTableOwned};
@@ -84,7 +85,7 @@ impl<C: Config> HashTableOwned<C> {
     ///
     /// # Panics
     ///
-    /// As [`with_capacity`](HashTableOwned::with_capacity).
+    /// Panics when [`with_capacity`](HashTableOwned::with_capacity) does.
     #[track_caller]
     #[must_use]
     pub fn from_iterator<I: IntoIterator<Item = (C::Key, C::Value)>>(
@@ -97,8 +98,8 @@ impl<C: Config> HashTableOwned<C> {
         table
     }
 
-    /// [`from_iterator`](HashTableOwned::from_iterator), with an error where no table is large enough or memory is
-    /// refused.
+    /// Like [`from_iterator`](HashTableOwned::from_iterator), but returns an error if no table is
+    /// large enough or allocation fails.
     ///
     /// ```
     /// use odht::{configs::U64ToU32, HashTableOwned};
@@ -110,11 +111,11 @@ impl<C: Config> HashTableOwned<C> {
     ///
     /// # Errors
     ///
-    /// As [`try_with_capacity`](HashTableOwned::try_with_capacity).
+    /// Those of [`try_with_capacity`](HashTableOwned::try_with_capacity).
     ///
     /// # Panics
     ///
-    /// Where the percentage is not from 1 to 100.
+    /// Panics if the percentage is not from 1 to 100.
     #[track_caller]
     pub fn try_from_iterator<I: IntoIterator<Item = (C::Key, C::Value)>>(
         items: I,
@@ -125,9 +126,10 @@ impl<C: Config> HashTableOwned<C> {
             .map(HashTableOwned)
     }
 
-    /// [`try_from_raw_bytes`](HashTableOwned::try_from_raw_bytes), with the [`Error`] in a box, as the original returns
-    /// it: code that is written for that compiles. `?` does not turn this box into one of an error that goes to other
-    /// threads, so new code takes the other call.
+    /// Like [`try_from_raw_bytes`](HashTableOwned::try_from_raw_bytes), but returns the [`Error`]
+    /// in a box, as the original does. Code that was written for the original compiles. New code
+    /// should call `try_from_raw_bytes`, since `?` does not turn this box into a
+    /// `Box<dyn Error + Send + Sync>`.
     ///
     /// ```
     /// use odht::{configs::U64ToU32, HashTableOwned};
@@ -141,13 +143,14 @@ impl<C: Config> HashTableOwned<C> {
     ///
     /// # Errors
     ///
-    /// As [`try_from_raw_bytes`](HashTableOwned::try_from_raw_bytes).
+    /// Those of [`try_from_raw_bytes`](HashTableOwned::try_from_raw_bytes).
     pub fn from_raw_bytes(data: &[u8]) -> Result<Self, Box<dyn AnyError>> {
         Ok(Self::try_from_raw_bytes(data)?)
     }
 
-    /// A copy of the bytes, after all of them were checked: what [`check_all`](crate::check_all) rejects is not copied.
-    /// The check costs what that call does.
+    /// Checks all of the bytes, and copies them into a new table. Bytes that
+    /// [`check_all`](crate::check_all) rejects are not copied. The check costs what that call
+    /// costs.
     ///
     /// ```
     /// use odht::{configs::U64ToU32, Error, HashTableOwned};
@@ -158,15 +161,16 @@ impl<C: Config> HashTableOwned<C> {
     ///
     /// # Errors
     ///
-    /// The first that [`check_all`](crate::check_all) finds, else [`Error::Memory`] where memory is refused.
+    /// The first error that [`check_all`](crate::check_all) finds. If it finds none,
+    /// [`Error::Memory`] if allocation fails.
     pub fn try_from_raw_bytes(data: &[u8]) -> Result<Self, Error> {
         let () = Proved::<C>::FITS;
         tables::HashTableOwned::from_raw_bytes(Global, data).map(HashTableOwned)
     }
 
-    /// [`try_from_raw_bytes`](HashTableOwned::try_from_raw_bytes) for untrusted bytes: rejected are also bytes in
-    /// which a search may read more than `groups` groups of sixteen control bytes, as by
-    /// [`check_all_within`](crate::check_all_within).
+    /// Like [`try_from_raw_bytes`](HashTableOwned::try_from_raw_bytes), for untrusted bytes. Like
+    /// [`check_all_within`](crate::check_all_within), it also rejects bytes in which a search may
+    /// read more than `groups` groups of sixteen control bytes.
     ///
     /// ```
     /// use odht::{configs::U64ToU32, HashTableOwned, DEFAULT_GROUPS};
@@ -180,15 +184,15 @@ impl<C: Config> HashTableOwned<C> {
     ///
     /// # Errors
     ///
-    /// The first that [`check_all_within`](crate::check_all_within) finds, else [`Error::Memory`] where memory is
-    /// refused.
+    /// The first error that [`check_all_within`](crate::check_all_within) finds. If it finds none,
+    /// [`Error::Memory`] if allocation fails.
     pub fn from_raw_bytes_within(data: &[u8], groups: usize) -> Result<Self, Error> {
         let () = Proved::<C>::FITS;
         tables::HashTableOwned::from_raw_bytes_within(Global, data, groups).map(HashTableOwned)
     }
 
-    /// A copy of the bytes, of which length and slot count alone are looked at. Where memory is refused it ends as
-    /// Rust's collections do.
+    /// Copies the bytes into a new table. It checks only their length and slot count. If allocation
+    /// fails, it panics or ends the program, as Rust's collections do.
     ///
     /// ```
     /// # use odht::{configs::U64ToU32, HashTableOwned};
@@ -201,12 +205,13 @@ impl<C: Config> HashTableOwned<C> {
     ///
     /// # Safety
     ///
-    /// It is unsafe since the original's is: [`check_all`](crate::check_all) is to accept these bytes. Others are no
-    /// danger to memory; calls may then panic or return anything.
+    /// The bytes must be ones that [`check_all`](crate::check_all) accepts. With other bytes, calls
+    /// may panic or return anything, but memory stays safe. It is unsafe only because the original
+    /// is.
     ///
     /// # Panics
     ///
-    /// Where the length of the bytes is not that of the slot count in their header.
+    /// Panics if the length of the bytes does not match the slot count in their header.
     #[allow(unsafe_code)]
     #[track_caller]
     #[must_use]
@@ -219,7 +224,7 @@ impl<C: Config> HashTableOwned<C> {
         }
     }
 
-    /// A table of the same bytes.
+    /// Copies the table. The copy has the same bytes.
     ///
     /// ```
     /// # use odht::{configs::U64ToU32, HashTableOwned};
@@ -231,7 +236,7 @@ impl<C: Config> HashTableOwned<C> {
     ///
     /// # Errors
     ///
-    /// [`Error::Memory`] where memory is refused.
+    /// [`Error::Memory`] if allocation fails.
     pub fn try_clone(&self) -> Result<Self, Error> {
         self.0.clone().map(HashTableOwned)
     }

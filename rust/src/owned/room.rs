@@ -1,4 +1,4 @@
-//! Room for items that are still to come, and a table that is emptied.
+//! Reserving room, shrinking and clearing a table, and inserts of keys that may be present.
 
 use super::{refused, tables, Config, Error, Global, HashTableOwned, Proved};
 use crate::encoded::{stored, Stored};
@@ -6,9 +6,9 @@ use crate::generated::base::bytes::OwnedBytes;
 use crate::generated::raw::memory_layout::{allocate, layout_for, Header};
 
 impl<C: Config> HashTableOwned<C> {
-    /// Makes room for that many more items: with that many new keys the table does not grow. Where
-    /// it has the room nothing changes. Otherwise its items are placed again, in the fewest slots
-    /// that are enough for all, at the same load factor.
+    /// Makes room for `additional` more items, so that inserting this number of new keys does not
+    /// grow the table. If the table has the room, nothing changes. Otherwise its items are placed
+    /// again, in the fewest slots that suffice for all, at the same load factor.
     ///
     /// ```
     /// use odht::{configs::U64ToU32, HashTableOwned};
@@ -22,7 +22,8 @@ impl<C: Config> HashTableOwned<C> {
     ///
     /// # Panics
     ///
-    /// Where no table is large enough. Where memory is refused it ends as Rust's collections do.
+    /// Panics if no table is large enough. If allocation fails, it panics or ends the program, as
+    /// Rust's collections do.
     #[track_caller]
     pub fn reserve(&mut self, additional: usize) {
         if let Err(e) = self.try_reserve(additional) {
@@ -33,7 +34,8 @@ impl<C: Config> HashTableOwned<C> {
         }
     }
 
-    /// [`reserve`](HashTableOwned::reserve), with an error where no table is large enough or memory is refused.
+    /// Like [`reserve`](HashTableOwned::reserve), but returns an error if no table is large enough
+    /// or allocation fails.
     ///
     /// ```
     /// use odht::{configs::U64ToU32, Error, HashTableOwned};
@@ -44,13 +46,16 @@ impl<C: Config> HashTableOwned<C> {
     ///
     /// # Errors
     ///
-    /// [`Error::Capacity`] where no slot count is enough, or the length is above `usize::MAX`; [`Error::Memory`] where
-    /// memory is refused. Nothing has changed then.
+    /// - [`Error::Capacity`] if no slot count is large enough, or the length exceeds `usize::MAX`
+    /// - [`Error::Memory`] if allocation fails
+    ///
+    /// On an error nothing changes.
     pub fn try_reserve(&mut self, additional: usize) -> Result<(), Error> {
         self.0.reserve(additional)
     }
 
-    /// Takes all items out. Slots, load factor and memory stay: the bytes are those of a new table of this size.
+    /// Removes all items. The table keeps its slots, load factor and memory, and its bytes become
+    /// those of a new table of this size.
     ///
     /// Each byte is written once.
     ///
@@ -66,10 +71,12 @@ impl<C: Config> HashTableOwned<C> {
         self.0.clear();
     }
 
-    /// Gives back memory that the items do not need: they are placed again in the fewest slots that are enough for
-    /// them, at the same load factor, in slot order. Where the table has no more slots than these, nothing changes.
+    /// Shrinks the table to the fewest slots that its items need at the same load factor, and frees
+    /// the rest of its memory. The items are placed again, in slot order. If the table has no more
+    /// slots than these, nothing changes.
     ///
-    /// It is one pass over the slots. Each item is hashed once, and the new memory is allocated before the old is freed.
+    /// The cost is one pass over the slots. Each item is hashed once, and the new memory is
+    /// allocated before the old is freed.
     ///
     /// ```
     /// use odht::{configs::U64ToU32, HashTableOwned};
@@ -80,7 +87,7 @@ impl<C: Config> HashTableOwned<C> {
     /// assert_eq!((table.raw_bytes().len(), table.get(&3)), (256, Some(4)));
     /// ```
     ///
-    /// If allocation fails it ends as Rust's collections do.
+    /// If allocation fails, it panics or ends the program, as Rust's collections do.
     #[track_caller]
     pub fn shrink_to_fit(&mut self) {
         if let Err(e) = self.try_shrink_to_fit() {
@@ -88,7 +95,8 @@ impl<C: Config> HashTableOwned<C> {
         }
     }
 
-    /// [`shrink_to_fit`](HashTableOwned::shrink_to_fit), with an error if allocation fails.
+    /// Like [`shrink_to_fit`](HashTableOwned::shrink_to_fit), but returns an error if allocation
+    /// fails.
     ///
     /// ```
     /// use odht::{configs::U64ToU32, HashTableOwned};
@@ -101,7 +109,7 @@ impl<C: Config> HashTableOwned<C> {
     ///
     /// # Errors
     ///
-    /// [`Error::Memory`] if allocation fails. Nothing has changed then.
+    /// [`Error::Memory`] if allocation fails. Nothing changes then.
     pub fn try_shrink_to_fit(&mut self) -> Result<(), Error> {
         let header = Header::of(self.raw_bytes());
         let (slots, factor) = (header.slot_count(), header.max_load_factor());
@@ -118,13 +126,13 @@ impl<C: Config> HashTableOwned<C> {
         Ok(())
     }
 
-    // The fewest slots that are enough for the items, and the length of such a table.
+    // The fewest slots that suffice for the items, and the length of such a table.
     fn least_layout(&self) -> Option<(usize, usize)> {
         let factor = Header::of(self.raw_bytes()).max_load_factor();
         layout_for::<Proved<C>>(self.len(), factor)
     }
 
-    /// The value of a key; where it has none, it is given `value`, and this is returned.
+    /// Returns the value of a key. If the key is new, inserts it with `value`, and returns `value`.
     ///
     /// ```
     /// use odht::{configs::U64ToU32, HashTableOwned};
@@ -135,13 +143,14 @@ impl<C: Config> HashTableOwned<C> {
     ///
     /// # Panics
     ///
-    /// As [`insert`](HashTableOwned::insert).
+    /// Panics when [`insert`](HashTableOwned::insert) does.
     #[track_caller]
     pub fn get_or_insert(&mut self, key: &C::Key, value: C::Value) -> C::Value {
         self.get_or_insert_with(key, || value)
     }
 
-    /// [`get_or_insert`](HashTableOwned::get_or_insert), with an error if allocation fails.
+    /// Like [`get_or_insert`](HashTableOwned::get_or_insert), but returns an error if allocation
+    /// fails.
     ///
     /// ```
     /// use odht::{configs::U64ToU32, HashTableOwned};
@@ -153,15 +162,16 @@ impl<C: Config> HashTableOwned<C> {
     ///
     /// # Errors
     ///
-    /// As [`try_insert`](HashTableOwned::try_insert).
+    /// Those of [`try_insert`](HashTableOwned::try_insert).
     pub fn try_get_or_insert(&mut self, key: &C::Key, value: C::Value) -> Result<C::Value, Error> {
         self.try_get_or_insert_with(key, || value)
     }
 
-    /// The value of a key; where it has none, it is given the one that `make` returns, and this is returned.
+    /// Returns the value of a key. If the key is new, inserts it with the value that `make`
+    /// returns, and returns this value.
     ///
-    /// A value is returned and no reference to it, since it is stored as bytes. A key that has a value costs a lookup;
-    /// a new one a lookup and an insert.
+    /// It returns the value and not a reference, since the table stores encoded bytes. A present
+    /// key costs a lookup, and a new key a lookup and an insert.
     ///
     /// ```
     /// use odht::{configs::U64ToU32, HashTableOwned};
@@ -176,7 +186,7 @@ impl<C: Config> HashTableOwned<C> {
     ///
     /// # Panics
     ///
-    /// As [`insert`](HashTableOwned::insert).
+    /// Panics when [`insert`](HashTableOwned::insert) does.
     #[track_caller]
     pub fn get_or_insert_with(
         &mut self,
@@ -191,7 +201,8 @@ impl<C: Config> HashTableOwned<C> {
         value
     }
 
-    /// [`get_or_insert_with`](HashTableOwned::get_or_insert_with), with an error where memory is refused.
+    /// Like [`get_or_insert_with`](HashTableOwned::get_or_insert_with), but returns an error if
+    /// allocation fails.
     ///
     /// ```
     /// use odht::{configs::U64ToU32, HashTableOwned};
@@ -204,7 +215,7 @@ impl<C: Config> HashTableOwned<C> {
     ///
     /// # Errors
     ///
-    /// As [`try_insert`](HashTableOwned::try_insert).
+    /// Those of [`try_insert`](HashTableOwned::try_insert).
     pub fn try_get_or_insert_with(
         &mut self,
         key: &C::Key,
@@ -220,10 +231,12 @@ impl<C: Config> HashTableOwned<C> {
 }
 
 impl<C: Config> Extend<(C::Key, C::Value)> for HashTableOwned<C> {
-    /// `insert` of the items in their order. A later item with the key of an earlier one overwrites its value. Those of
-    /// a slice are given by reference; those of a map by reference are `map.iter().map(|(key, value)| (*key, *value))`.
+    /// Inserts the items in order. If a key occurs again, the later item overwrites the value. To
+    /// insert the items of a slice, pass a reference to it. To insert those of a map without
+    /// consuming it, pass `map.iter().map(|(key, value)| (*key, *value))`.
     ///
-    /// No room is made before, so the bytes follow from the items alone, whatever the iterator says of its length.
+    /// It reserves no room in advance, so the bytes depend only on the items, and not on the
+    /// `size_hint` of the iterator.
     #[track_caller]
     fn extend<I: IntoIterator<Item = (C::Key, C::Value)>>(&mut self, items: I) {
         for (key, value) in items {
@@ -237,7 +250,7 @@ where
     C::Key: 'a,
     C::Value: 'a,
 {
-    /// `insert` of items by reference, in their order, as of a slice. None is copied.
+    /// Inserts items by reference, in order, for example those of a slice. No item is copied.
     ///
     /// ```
     /// use odht::{configs::U64ToU32, HashTableOwned};

@@ -1,4 +1,4 @@
-//! The traits of the table that grows.
+//! The traits of the owned table.
 
 use super::{refused, Config, Error, HashTableOwned, Proved};
 use crate::iter::{IntoIter, IntoKeys, IntoValues, Iter};
@@ -9,7 +9,8 @@ use alloc::vec::Vec;
 use std::fmt;
 
 impl<C: Config> Default for HashTableOwned<C> {
-    /// An empty table made for twelve items at a load factor of 87 percent, which has sixteen slots.
+    /// Creates an empty table for twelve items at a load factor of 87 percent. It has sixteen
+    /// slots.
     fn default() -> Self {
         Self::with_capacity(12, 87)
     }
@@ -25,8 +26,8 @@ impl<C: Config> Clone for HashTableOwned<C> {
 }
 
 impl<C: Config> fmt::Debug for HashTableOwned<C> {
-    /// The numbers of the header on a line, then each slot on one, as the original prints it. The pairs alone are
-    /// `table.iter().collect::<Vec<_>>()`.
+    /// Prints the numbers of the header on one line, and then each slot on a line, as the original
+    /// does. To print only the pairs, use `table.iter().collect::<Vec<_>>()`.
     fn fmt(&self, f: &mut fmt::Formatter<'_>) -> fmt::Result {
         self.0.fmt(f)
     }
@@ -52,7 +53,8 @@ impl<C: Config> IntoIterator for HashTableOwned<C> {
 }
 
 impl<C: Config> HashTableOwned<C> {
-    /// The keys of a table that is given up for them, in slot order. No value is decoded.
+    /// Consumes the table, and returns an iterator over its keys, in slot order. No value is
+    /// decoded.
     ///
     /// ```
     /// use odht::{configs::U64ToU32, HashTableOwned};
@@ -65,7 +67,8 @@ impl<C: Config> HashTableOwned<C> {
         IntoKeys::of(self.into_view())
     }
 
-    /// The values of a table that is given up for them, in slot order. No key is decoded.
+    /// Consumes the table, and returns an iterator over its values, in slot order. No key is
+    /// decoded.
     ///
     /// ```
     /// use odht::{configs::U64ToU32, HashTableOwned};
@@ -78,7 +81,7 @@ impl<C: Config> HashTableOwned<C> {
         IntoValues::of(self.into_view())
     }
 
-    /// A view of the table, in constant time: for functions that take any table as a
+    /// Returns a view of the table, in constant time. Use it to call functions that take a
     /// [`HashTable`](crate::HashTable)`<C, &[u8]>`.
     ///
     /// ```
@@ -109,7 +112,8 @@ impl<C: Config> HashTableOwned<C> {
 impl<C: Config> TryFrom<&[u8]> for HashTableOwned<C> {
     type Error = Error;
 
-    /// [`try_from_raw_bytes`](HashTableOwned::try_from_raw_bytes): checks all of the bytes, and copies them.
+    /// Calls [`try_from_raw_bytes`](HashTableOwned::try_from_raw_bytes), which checks all of the
+    /// bytes and copies them.
     ///
     /// ```
     /// use odht::{configs::U64ToU32, HashTableOwned};
@@ -125,7 +129,8 @@ impl<C: Config> TryFrom<&[u8]> for HashTableOwned<C> {
 }
 
 impl<C: Config> From<HashTableOwned<C>> for Vec<u8> {
-    /// The bytes of the table, as by [`into_raw_bytes`](HashTableOwned::into_raw_bytes). They are not copied.
+    /// Returns the bytes of the table without copying them, like
+    /// [`into_raw_bytes`](HashTableOwned::into_raw_bytes).
     ///
     /// ```
     /// use odht::{configs::U64ToU32, HashTableOwned};
@@ -139,14 +144,15 @@ impl<C: Config> From<HashTableOwned<C>> for Vec<u8> {
 }
 
 impl<C: Config> AsRef<[u8]> for HashTableOwned<C> {
-    /// The bytes of the table.
+    /// Returns the bytes of the table.
     fn as_ref(&self) -> &[u8] {
         self.raw_bytes()
     }
 }
 
 impl<C: Config> FromIterator<(C::Key, C::Value)> for HashTableOwned<C> {
-    /// A table of the items at a load factor of 87 percent, as [`HashTableOwned::from_iterator`] makes it.
+    /// Creates a table of the items at a load factor of 87 percent, like
+    /// [`HashTableOwned::from_iterator`].
     ///
     /// ```
     /// use odht::{configs::U64ToU32, HashTableOwned};
@@ -161,7 +167,8 @@ impl<C: Config> FromIterator<(C::Key, C::Value)> for HashTableOwned<C> {
 }
 
 impl<C: Config> From<Vec<(C::Key, C::Value)>> for HashTableOwned<C> {
-    /// A table of the items at a load factor of 87 percent. An item with the key of an earlier one overwrites its value.
+    /// Creates a table of the items at a load factor of 87 percent. If a key occurs again, the
+    /// later item overwrites the value.
     ///
     /// ```
     /// use odht::{configs::U64ToU32, HashTableOwned};
@@ -178,7 +185,8 @@ impl<C: Config> From<Vec<(C::Key, C::Value)>> for HashTableOwned<C> {
 }
 
 impl<C: Config, const N: usize> From<[(C::Key, C::Value); N]> for HashTableOwned<C> {
-    /// A table of the items at a load factor of 87 percent. An item with the key of an earlier one overwrites its value.
+    /// Creates a table of the items at a load factor of 87 percent. If a key occurs again, the
+    /// later item overwrites the value.
     #[track_caller]
     fn from(items: [(C::Key, C::Value); N]) -> Self {
         let mut table = HashTableOwned::with_capacity(N, 87);

@@ -87,7 +87,7 @@ mod unchecked {
             list.get(index.clone()).is_some(),
             "out of bounds, against the clause: {clause}"
         );
-        // SAFETY: the caller says that the index is in bounds.
+        // SAFETY: the caller ensures that the index is in bounds.
         unsafe { list.get_unchecked(index) }
     }
 
@@ -107,7 +107,7 @@ mod unchecked {
             list.get(index.clone()).is_some(),
             "out of bounds, against the clause: {clause}"
         );
-        // SAFETY: the caller says that the index is in bounds.
+        // SAFETY: the caller ensures that the index is in bounds.
         unsafe { list.get_unchecked_mut(index) }
     }
 
@@ -127,7 +127,7 @@ mod unchecked {
         // `split_at_mut_unchecked` of std is newer than the Rust that this crate needs.
         let rest = list.len().wrapping_sub(index);
         let start = list.as_mut_ptr();
-        // SAFETY: the caller says that the index is in bounds, so the two slices are parts of the list, and apart.
+        // SAFETY: the caller ensures that the index is in bounds, so the two slices are parts of the list, and apart.
         unsafe {
             (
                 std::slice::from_raw_parts_mut(start, index),

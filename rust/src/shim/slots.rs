@@ -41,7 +41,7 @@ pub(crate) fn fits(len: usize, slots: usize, layout: Layout) -> bool {
 pub(crate) unsafe fn known(len: usize, slots: usize, layout: Layout) {
     debug_assert!(fits(len, slots, layout), "a slot count that was seen to fit");
     if cfg!(not(feature = "checked")) && !fits(len, slots, layout) {
-        // SAFETY: the caller says that it fits.
+        // SAFETY: the caller ensures that it fits.
         unsafe { std::hint::unreachable_unchecked() }
     }
 }

@@ -8,8 +8,9 @@ use crate::sizes::refused;
 use std::borrow::{Borrow, BorrowMut};
 
 impl<C: Config, D: Borrow<[u8]>> HashTable<C, D> {
-    /// [`get`](HashTable::get) by a key that is encoded already. Where `Key` is a `String` a lookup by `&str` allocates
-    /// nothing: the caller encodes the text. The example `names` has a dictionary of this kind.
+    /// Like [`get`](HashTable::get), for a key that is already encoded. If `Key` is a `String`,
+    /// this looks up a `&str` without an allocation: you encode the text yourself. The example
+    /// `names` shows such a dictionary.
     ///
     /// ```
     /// # use odht::{configs::U64ToU32, HashTable, HashTableOwned};
@@ -25,7 +26,7 @@ impl<C: Config, D: Borrow<[u8]>> HashTable<C, D> {
         stored::<C>(self.bytes()).get(key).map(|value| C::decode_value(&value))
     }
 
-    /// [`contains_key`](HashTable::contains_key) by a key that is encoded already.
+    /// Like [`contains_key`](HashTable::contains_key), for a key that is already encoded.
     ///
     /// ```
     /// # use odht::{configs::U64ToU32, HashTable, HashTableOwned};
@@ -43,10 +44,10 @@ impl<C: Config, D: Borrow<[u8]>> HashTable<C, D> {
 }
 
 impl<C: Config, D: Borrow<[u8]> + BorrowMut<[u8]>> HashTable<C, D> {
-    /// [`insert`](HashTable::insert) by a key that is encoded already.
+    /// Like [`insert`](HashTable::insert), for a key that is already encoded.
     ///
-    /// The bytes are to be those of a key, as `encode_key` makes them. Others are stored as they are, and the walk
-    /// decodes them.
+    /// The bytes should be those that `encode_key` returns for a key. Other bytes are stored as
+    /// they are, and iterators decode them.
     ///
     /// ```
     /// use odht::{bytes_needed, configs::U64ToU32, HashTable};
@@ -60,7 +61,7 @@ impl<C: Config, D: Borrow<[u8]> + BorrowMut<[u8]>> HashTable<C, D> {
     ///
     /// # Panics
     ///
-    /// As [`insert`](HashTable::insert).
+    /// Panics when [`insert`](HashTable::insert) does.
     #[inline(always)]
     #[track_caller]
     pub fn insert_encoded(&mut self, key: &C::EncodedKey, value: &C::Value) -> Option<C::Value> {
@@ -70,7 +71,8 @@ impl<C: Config, D: Borrow<[u8]> + BorrowMut<[u8]>> HashTable<C, D> {
         }
     }
 
-    /// [`insert_encoded`](HashTable::insert_encoded), with an error instead of the panic.
+    /// Like [`insert_encoded`](HashTable::insert_encoded), but returns an error instead of
+    /// panicking.
     ///
     /// ```
     /// use odht::{bytes_needed, configs::U64ToU32, HashTable};
@@ -84,7 +86,7 @@ impl<C: Config, D: Borrow<[u8]> + BorrowMut<[u8]>> HashTable<C, D> {
     ///
     /// # Errors
     ///
-    /// As [`try_insert`](HashTable::try_insert).
+    /// Those of [`try_insert`](HashTable::try_insert).
     #[inline]
     pub fn try_insert_encoded(
         &mut self,

@@ -5,13 +5,15 @@ use crate::config::Config;
 use std::borrow::Borrow;
 
 impl<C: Config, D: Borrow<[u8]>, E: Borrow<[u8]>> PartialEq<HashTable<C, E>> for HashTable<C, D> {
-    /// Whether the bytes of both are those of tables, as [`verify`](HashTable::verify) tells, and the tables are the
-    /// same map, as [`is_same_map`](HashTable::is_same_map) tells. So a view of bytes that are no table's is equal to
-    /// no view, itself included, and views have no `Eq`.
+    /// Compares the views as maps. They are equal if [`verify`](HashTable::verify) returns `true`
+    /// for both, and [`is_same_map`](HashTable::is_same_map) returns `true`. So a view of bytes
+    /// that are not those of a valid table is not equal to any view, not even to itself. Views
+    /// therefore do not implement `Eq`.
     ///
-    /// Where the counts differ nothing else is looked at. Otherwise it costs two whole checks and a lookup for each
-    /// key. Where both were checked before, `is_same_map` returns the same for the lookups only. Untrusted bytes can
-    /// make a check take long: bound them first by [`verify_within`](HashTable::verify_within).
+    /// If the item counts differ, nothing else is read. Otherwise the cost is two whole checks and
+    /// a lookup for each key. If you have checked both before, call `is_same_map`: it returns the
+    /// same, and costs only the lookups. A check of untrusted bytes can take long, so call
+    /// [`verify_within`](HashTable::verify_within) on them first.
     ///
     /// ```
     /// use odht::{configs::U64ToU32, HashTable, HashTableOwned};
@@ -21,7 +23,7 @@ impl<C: Config, D: Borrow<[u8]>, E: Borrow<[u8]>> PartialEq<HashTable<C, E>> for
     /// assert!(one.as_view() == other.as_view());
     ///
     /// let mut bytes = one.raw_bytes().to_vec();
-    /// *bytes.last_mut().unwrap() ^= 1; // in the mirror, which opening does not look at
+    /// *bytes.last_mut().unwrap() ^= 1; // in the mirror, which opening does not check
     /// let view = HashTable::<U64ToU32, _>::try_from_raw_bytes(bytes)?;
     /// assert!(view.is_same_map(&one.as_view()) && view != one.as_view());
     /// # Ok::<(), odht::Error>(())
@@ -32,13 +34,16 @@ impl<C: Config, D: Borrow<[u8]>, E: Borrow<[u8]>> PartialEq<HashTable<C, E>> for
 }
 
 impl<C: Config, D: Borrow<[u8]>> HashTable<C, D> {
-    /// Whether this table and another are the same map: the same keys with the same values, as their encodings tell,
-    /// whatever their slots, their load factors and the order of their inserts. This is said of bytes that
-    /// [`check_all`](crate::check_all) accepts. Where the counts differ nothing is looked up; otherwise each key of
-    /// this one is looked up in the other, up to the first that differs.
+    /// Returns `true` if this table and another are the same map: if they have the same encoded
+    /// keys with the same encoded values. Their slots, their load factors and the order of their
+    /// inserts do not matter. The result is right for bytes that [`check_all`](crate::check_all)
+    /// accepts.
     ///
-    /// `==` checks the bytes of both first, so that it is true only of tables. This call does not: on other bytes a view
-    /// need not be the same map as itself.
+    /// If the item counts differ, no key is looked up. Otherwise each key of this table is looked
+    /// up in the other, up to the first difference.
+    ///
+    /// Unlike `==`, this call does not check the bytes first. If they are not those of a valid
+    /// table, it may return `false` even for a view and itself.
     ///
     /// ```
     /// use odht::{configs::U64ToU32, HashTable, HashTableOwned};
@@ -55,7 +60,8 @@ impl<C: Config, D: Borrow<[u8]>> HashTable<C, D> {
         self.view().is_same_map(&other.view())
     }
 
-    /// Whether this table and another have the same bytes. Tables that are the same map may differ in theirs.
+    /// Returns `true` if this table and another have the same bytes. Tables that are the same map
+    /// may have different bytes.
     ///
     /// ```
     /// use odht::{configs::U64ToU32, HashTable, HashTableOwned};

@@ -5,11 +5,11 @@ use crate::config::Config;
 use std::borrow::Borrow;
 
 impl<C: Config, D: Borrow<[u8]>> HashTable<C, D> {
-    /// The length in bytes of the table that this one grows into: with the slots for twice its items, and for one at
-    /// least. `None` where no table is that large.
+    /// Returns the length in bytes of the table that this one grows into, or `None` if no table is
+    /// that large. The grown table has the slots for twice as many items, and for at least one.
     ///
-    /// The count is the header's. Of bytes that were not checked it may be any number: check them, or bound the length,
-    /// before you allocate.
+    /// The item count comes from the header. In unchecked bytes it may be any number. Check the
+    /// bytes, or limit the length, before you allocate.
     ///
     /// ```
     /// # use odht::{configs::U64ToU32, HashTable, HashTableOwned};
@@ -24,10 +24,12 @@ impl<C: Config, D: Borrow<[u8]>> HashTable<C, D> {
         self.view().grown_len()
     }
 
-    /// Writes the table that this one grows into to `out`, whatever its bytes were. So a table in a file or in shared
-    /// memory grows too, and to the same bytes as a [`HashTableOwned`](crate::HashTableOwned).
+    /// Writes the table that this one grows into to `out`, over any bytes that are there. So a
+    /// table in a file or in shared memory can grow too, to the same bytes as a
+    /// [`HashTableOwned`](crate::HashTableOwned).
     ///
-    /// It is one pass over `out` and one over the slots of this table; each item is hashed once.
+    /// The cost is one pass over `out` and one over the slots of this table. Each item is hashed
+    /// once.
     ///
     /// ```
     /// # use odht::{configs::U64ToU32, HashTable, HashTableOwned};
@@ -44,7 +46,7 @@ impl<C: Config, D: Borrow<[u8]>> HashTable<C, D> {
     ///
     /// # Panics
     ///
-    /// Where `out` does not have [`grown_len`](HashTable::grown_len) bytes.
+    /// Panics if the length of `out` is not [`grown_len`](HashTable::grown_len).
     #[track_caller]
     pub fn grow_into(&self, out: &mut [u8]) {
         let view = self.view();

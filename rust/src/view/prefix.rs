@@ -10,8 +10,9 @@ use crate::generated::tables;
 use std::marker::PhantomData;
 
 impl<'b, C: Config> HashTable<C, &'b [u8]> {
-    /// Opens the table at the front of `bytes`, and returns it with the bytes behind it. How many are the table's its
-    /// header says, as [`table_len`](crate::table_len). What follows is not looked at. It takes constant time.
+    /// Opens the table at the front of `bytes`, and returns it with the bytes that follow it. The
+    /// header states the length of the table, as in [`table_len`](crate::table_len). The bytes that
+    /// follow are not read. Takes constant time.
     ///
     /// ```
     /// use odht::{configs::U64ToU32, HashTable, HashTableOwned};
@@ -28,8 +29,8 @@ impl<'b, C: Config> HashTable<C, &'b [u8]> {
     ///
     /// # Errors
     ///
-    /// The first of those of [`table_len`](crate::table_len), and of the first ten slots `NonZeroEmpty` and
-    /// `ControlMismatch`, that the bytes give.
+    /// Returns the first of these that applies: those of [`table_len`](crate::table_len), and for
+    /// the first ten slots `NonZeroEmpty` and `ControlMismatch`.
     pub fn open_prefix(bytes: &'b [u8]) -> Result<(Self, &'b [u8]), Error> {
         let () = Proved::<C>::FITS;
         let (table, rest) = tables::HashTable::<Proved<C>, Borrowed<'b>>::from_prefix(bytes)?;

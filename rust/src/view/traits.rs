@@ -46,7 +46,8 @@ impl<C: Config, D: Borrow<[u8]>> IntoIterator for HashTable<C, D> {
 impl<'b, C: Config> TryFrom<&'b [u8]> for HashTable<C, &'b [u8]> {
     type Error = Error;
 
-    /// [`try_from_raw_bytes`](HashTable::try_from_raw_bytes) of a slice: opens it as a view, in constant time.
+    /// Opens a slice as a view, in constant time, with
+    /// [`try_from_raw_bytes`](HashTable::try_from_raw_bytes).
     ///
     /// ```
     /// use odht::{configs::U64ToU32, HashTable, HashTableOwned};
@@ -62,7 +63,7 @@ impl<'b, C: Config> TryFrom<&'b [u8]> for HashTable<C, &'b [u8]> {
 }
 
 impl<C: Config, D: Borrow<[u8]>> AsRef<[u8]> for HashTable<C, D> {
-    /// The bytes of the table.
+    /// Returns the bytes of the table.
     fn as_ref(&self) -> &[u8] {
         self.raw_bytes()
     }

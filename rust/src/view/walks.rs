@@ -1,4 +1,4 @@
-//! Walks in a view.
+//! Iterators over a view.
 
 use super::HashTable;
 use crate::config::Config;
@@ -6,7 +6,7 @@ use crate::iter::{IntoKeys, IntoValues, Iter, Keys, Slots, Values};
 use std::borrow::Borrow;
 
 impl<C: Config, D: Borrow<[u8]>> HashTable<C, D> {
-    /// The keys and values, in slot order.
+    /// Returns an iterator over the keys and values, in slot order.
     ///
     /// ```
     /// # use odht::{configs::U64ToU32, HashTable, HashTableOwned};
@@ -21,7 +21,7 @@ impl<C: Config, D: Borrow<[u8]>> HashTable<C, D> {
         Iter::of(self.bytes(), 0)
     }
 
-    /// The keys, in slot order. No value is decoded.
+    /// Returns an iterator over the keys, in slot order. No value is decoded.
     ///
     /// ```
     /// # use odht::{configs::U64ToU32, HashTable, HashTableOwned};
@@ -36,7 +36,7 @@ impl<C: Config, D: Borrow<[u8]>> HashTable<C, D> {
         Keys::of(self.bytes(), 0)
     }
 
-    /// The values, in slot order. No key is decoded.
+    /// Returns an iterator over the values, in slot order. No key is decoded.
     ///
     /// ```
     /// # use odht::{configs::U64ToU32, HashTable, HashTableOwned};
@@ -51,7 +51,8 @@ impl<C: Config, D: Borrow<[u8]>> HashTable<C, D> {
         Values::of(self.bytes(), 0)
     }
 
-    /// The keys of a view that is given up for them, in slot order. No value is decoded.
+    /// Consumes the view, and returns an iterator over its keys, in slot order. No value is
+    /// decoded.
     ///
     /// ```
     /// # use odht::{configs::U64ToU32, HashTable, HashTableOwned};
@@ -66,7 +67,8 @@ impl<C: Config, D: Borrow<[u8]>> HashTable<C, D> {
         IntoKeys::of(self)
     }
 
-    /// The values of a view that is given up for them, in slot order. No key is decoded.
+    /// Consumes the view, and returns an iterator over its values, in slot order. No key is
+    /// decoded.
     ///
     /// ```
     /// # use odht::{configs::U64ToU32, HashTable, HashTableOwned};
@@ -81,8 +83,9 @@ impl<C: Config, D: Borrow<[u8]>> HashTable<C, D> {
         IntoValues::of(self)
     }
 
-    /// The keys and values in the slots from `from` on, in slot order, each with its slot. There is none where `from`
-    /// is past the last slot.
+    /// Returns an iterator over the pairs in the slots from `from` on, in slot order. Each item is
+    /// the index of a slot, with its key and value. If `from` is past the last slot, the iterator
+    /// is empty.
     ///
     /// ```
     /// # use odht::{configs::U64ToU32, HashTable, HashTableOwned};

@@ -14,9 +14,10 @@ use std::error::Error as AnyError;
 use std::marker::PhantomData;
 
 impl<C: Config, D: Borrow<[u8]> + BorrowMut<[u8]>> HashTable<C, D> {
-    /// [`try_init_in_place`](HashTable::try_init_in_place), with the [`Error`] in a box, as the original returns it:
-    /// code that is written for that compiles. `?` does not turn this box into one of an error that goes to other
-    /// threads, so new code takes the other call.
+    /// Like [`try_init_in_place`](HashTable::try_init_in_place), but returns the [`Error`] in a
+    /// box, as the original does. Code that was written for the original compiles. New code should
+    /// call `try_init_in_place`, since `?` does not turn this box into a
+    /// `Box<dyn Error + Send + Sync>`.
     ///
     /// ```
     /// use odht::{bytes_needed, configs::U64ToU32, HashTable};
@@ -29,11 +30,11 @@ impl<C: Config, D: Borrow<[u8]> + BorrowMut<[u8]>> HashTable<C, D> {
     ///
     /// # Errors
     ///
-    /// As [`try_init_in_place`](HashTable::try_init_in_place).
+    /// Those of [`try_init_in_place`](HashTable::try_init_in_place).
     ///
     /// # Panics
     ///
-    /// Where the percentage is not from 1 to 100.
+    /// Panics if the percentage is not from 1 to 100.
     #[track_caller]
     pub fn init_in_place(
         data: D,
@@ -43,8 +44,9 @@ impl<C: Config, D: Borrow<[u8]> + BorrowMut<[u8]>> HashTable<C, D> {
         Ok(Self::try_init_in_place(data, max_item_count, max_load_factor_percent)?)
     }
 
-    /// Makes an empty table for that many items in `data`, whatever its bytes were. Its length is
-    /// [`bytes_needed`](crate::bytes_needed), and the load factor is in percent of the slots.
+    /// Creates an empty table for `max_item_count` items in `data`, over any bytes that are there.
+    /// The length of `data` must be [`bytes_needed`](crate::bytes_needed).
+    /// `max_load_factor_percent` is the percentage of the slots that may be occupied.
     ///
     /// ```
     /// use odht::{bytes_needed, configs::U64ToU32, Error, HashTable};
@@ -62,12 +64,12 @@ impl<C: Config, D: Borrow<[u8]> + BorrowMut<[u8]>> HashTable<C, D> {
     ///
     /// # Errors
     ///
-    /// [`Error::Capacity`] where no table is large enough, else [`Error::InitLength`] where `data`
+    /// [`Error::Capacity`] if no table is large enough, otherwise [`Error::InitLength`] if `data`
     /// has another length.
     ///
     /// # Panics
     ///
-    /// Where the percentage is not from 1 to 100.
+    /// Panics if the percentage is not from 1 to 100.
     #[track_caller]
     pub fn try_init_in_place(
         mut data: D,
@@ -82,7 +84,7 @@ impl<C: Config, D: Borrow<[u8]> + BorrowMut<[u8]>> HashTable<C, D> {
         Ok(HashTable { data, opened, config: PhantomData })
     }
 
-    // The bytes to be written, which are as long as they were, and have as many slots.
+    // The bytes, for writing. Panics if their length or slot count has changed.
     #[inline(always)]
     pub(super) fn bytes_mut(&mut self) -> &mut [u8] {
         let bytes = self.data.borrow_mut();
@@ -96,8 +98,8 @@ impl<C: Config, D: Borrow<[u8]> + BorrowMut<[u8]>> HashTable<C, D> {
         tables::HashTable::from_raw_bytes_unchecked(BorrowedMut::new(self.bytes_mut()))
     }
 
-    /// Gives the key this value, and returns its former one. A view cannot grow: a new key needs a free slot below the
-    /// maximum.
+    /// Inserts a pair, and returns the former value of the key. A view cannot grow, so a new key
+    /// needs a free slot, and an item count below the maximum.
     ///
     /// The key is hashed once, and each group of control bytes is read at most once.
     ///
@@ -113,9 +115,10 @@ impl<C: Config, D: Borrow<[u8]> + BorrowMut<[u8]>> HashTable<C, D> {
     ///
     /// # Panics
     ///
-    /// Where the table is at its maximum and the key is new; of bytes that are not those of a table also where no slot
-    /// is free. Nothing has changed then.
-    // Always inlined: so the place of the call, which the panic tells, is no argument of the insert itself.
+    /// Panics if the key is new and the table is at its maximum. In bytes that are not those of a
+    /// valid table, also if no slot is free. Nothing changes then.
+    // Always inlined, so that the location of the caller, which a panic reports, is not passed to
+    // the insert itself.
     #[inline(always)]
     #[track_caller]
     pub fn insert(&mut self, key: &C::Key, value: &C::Value) -> Option<C::Value> {
@@ -125,7 +128,7 @@ impl<C: Config, D: Borrow<[u8]> + BorrowMut<[u8]>> HashTable<C, D> {
         }
     }
 
-    /// [`insert`](HashTable::insert), with an error in place of the panic.
+    /// Like [`insert`](HashTable::insert), but returns an error instead of panicking.
     ///
     /// ```
     /// use odht::{bytes_needed, configs::U64ToU32, Error, HashTable};
@@ -143,8 +146,8 @@ impl<C: Config, D: Borrow<[u8]> + BorrowMut<[u8]>> HashTable<C, D> {
     ///
     /// # Errors
     ///
-    /// [`Error::Full`] where the table is at its maximum and the key is new; of bytes that are not those of a table
-    /// also where no slot is free. Nothing has changed then.
+    /// [`Error::Full`] if the key is new and the table is at its maximum. In bytes that are not
+    /// those of a valid table, also if no slot is free. Nothing changes then.
     #[inline]
     pub fn try_insert(
         &mut self,
@@ -154,8 +157,8 @@ impl<C: Config, D: Borrow<[u8]> + BorrowMut<[u8]>> HashTable<C, D> {
         self.view_mut().insert(key, value)
     }
 
-    /// `insert` of all items in their order. The header is read and written once a list, and in a large table the loads
-    /// of eight keys overlap, so it is faster than one `insert` after the other.
+    /// Inserts all items in order. This is faster than a loop of `insert`. The header is read and
+    /// written only once for the list, and in a large table the loads of eight keys overlap.
     ///
     /// ```
     /// use odht::{bytes_needed, configs::U64ToU32, HashTable};
@@ -169,7 +172,8 @@ impl<C: Config, D: Borrow<[u8]> + BorrowMut<[u8]>> HashTable<C, D> {
     ///
     /// # Panics
     ///
-    /// Where the table is at its maximum and the next key is new. The items before it are inserted then.
+    /// Panics if the next key is new and the table is at its maximum. The items before it stay
+    /// inserted.
     #[track_caller]
     pub fn insert_all(&mut self, items: &[(C::Key, C::Value)]) {
         if let (_, Err(e)) = self.try_insert_all(items) {
@@ -177,8 +181,8 @@ impl<C: Config, D: Borrow<[u8]> + BorrowMut<[u8]>> HashTable<C, D> {
         }
     }
 
-    /// [`insert_all`](HashTable::insert_all), which stops at the first item whose insert fails, and returns how many
-    /// were inserted.
+    /// Like [`insert_all`](HashTable::insert_all), but stops at the first item whose insert fails.
+    /// Returns the number of inserted items, and the error.
     ///
     /// ```
     /// use odht::{bytes_needed, configs::U64ToU32, Error, HashTable};
@@ -192,8 +196,8 @@ impl<C: Config, D: Borrow<[u8]> + BorrowMut<[u8]>> HashTable<C, D> {
     ///
     /// # Errors
     ///
-    /// [`Error::Full`] where the table is at its maximum and the next key is new. The table is then as the items before
-    /// it left it.
+    /// [`Error::Full`] if the next key is new and the table is at its maximum. The items before it
+    /// stay inserted.
     pub fn try_insert_all(&mut self, items: &[(C::Key, C::Value)]) -> (usize, Result<(), Error>) {
         let list = List { bytes: self.bytes_mut(), config: PhantomData::<C> };
         let store = BorrowedMut::new(&mut *list.bytes);
@@ -204,8 +208,8 @@ impl<C: Config, D: Borrow<[u8]> + BorrowMut<[u8]>> HashTable<C, D> {
     }
 }
 
-// The bytes of a table while a list is inserted. The item count is written behind the list; so where the
-// configuration's own code panics within the list, the items that were inserted are counted here.
+// The bytes of a table while a list is inserted. The item count is written only after the list. If
+// the configuration's code panics within the list, `drop` counts the items that were inserted.
 struct List<'b, C: Config> {
     bytes: &'b mut [u8],
     config: PhantomData<C>,

@@ -1,5 +1,5 @@
-// What the build script and the program both have to know: it is included by both.
+// The configuration, which the build script and the program both include.
 odht::config! {
-    /// From the code of a country to the number by which it is called.
+    /// From the code of a country to its telephone prefix.
     pub Prefixes: [u8; 2] => u16, by Xxh64
 }

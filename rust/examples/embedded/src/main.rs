@@ -1,4 +1,4 @@
-//! Looks up a table that is a part of the program: it is in the program's read-only data, and nothing is decoded or
+//! Looks up keys in a table that is part of the program's read-only data. Nothing is decoded or
 //! allocated when the program starts.
 
 use odht::{BytesOf, HashTable};

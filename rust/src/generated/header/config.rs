@@ -4,35 +4,36 @@
 use crate::generated::header::bytes::ByteArray;
 use crate::generated::header::hash::HashFn;
 
-/// The types of a table, and how they are encoded: all keys to one number of bytes, and all values
-/// to one, the same on every platform.
+/// The types of a table, and their encodings. All encoded keys have the same length, and so have
+/// all encoded values. The encodings are the same on every platform.
 ///
-/// In a contract the ghost member of the same name is what each of the four functions returns.
+/// In contracts, what each of the four functions returns is the ghost member of the same name.
 pub trait Config {
-    /// A key, as a user of the table has it.
+    /// The type of keys, before they are encoded.
     type Key;
 
-    /// A value, as a user of the table has it.
+    /// The type of values, before they are encoded.
     type Value;
 
-    /// At most 255 bytes, and at least as many as the hash function needs.
+    /// The type of encoded keys: at most 255 bytes, and at least the `MIN_LEN` of the hash
+    /// function.
     type EncodedKey: ByteArray;
 
-    /// At most 255 bytes.
+    /// The type of encoded values: at most 255 bytes.
     type EncodedValue: ByteArray;
 
-    /// The hash function of encoded keys. The bytes of a table do not name it.
+    /// The hash function of encoded keys. The bytes of a table do not record it.
     type H: HashFn;
 
-    /// The bytes of a key.
+    /// Encodes a key.
     fn encode_key(k: &Self::Key) -> Self::EncodedKey;
 
-    /// The bytes of a value.
+    /// Encodes a value.
     fn encode_value(v: &Self::Value) -> Self::EncodedValue;
 
-    /// The key of the bytes. Any bytes have to decode, since they may be untrusted.
+    /// Decodes a key. It must return a key for any bytes, since they may be untrusted.
     fn decode_key(k: &Self::EncodedKey) -> Self::Key;
 
-    /// The value of the bytes. Any bytes have to decode, since they may be untrusted.
+    /// Decodes a value. It must return a value for any bytes, since they may be untrusted.
     fn decode_value(v: &Self::EncodedValue) -> Self::Value;
 }

@@ -7,7 +7,7 @@
 use crate::shim::AllocError;
 use std::fmt;
 
-/// A part of the format whose size in bytes the header holds in one byte.
+/// A part of the format. The header states its size in bytes, in one byte.
 #[derive(Clone, Copy, PartialEq, Eq, Debug)]
 pub enum Part {
     /// A control byte.
@@ -31,8 +31,9 @@ impl fmt::Display for Part {
     }
 }
 
-/// An error. Lengths and sizes are in bytes, item counts in items, slot counts in slots; a `slot`
-/// is the index of a slot. `found` is what the bytes have, `expected` what they need to have.
+/// An error of opening or checking bytes, or of a call. Lengths and sizes are in bytes, item counts
+/// in items, and slot counts in slots. A `slot` is the index of a slot. `found` is what the bytes
+/// contain, and `expected` is what they should contain.
 #[derive(Clone, Copy, PartialEq, Eq, Debug)]
 #[non_exhaustive]
 pub enum Error {
@@ -43,9 +44,9 @@ pub enum Error {
     WrongTag { found: [u8; 4] },
     /// The file format version is not 0, 0, 0, 2.
     WrongVersion { found: [u8; 4] },
-    /// By the header a part has another size than by the configuration.
+    /// The header states another size of a part than the configuration has.
     WrongSizeOf { part: Part, expected: usize, found: u8 },
-    /// The slot count is no power of two.
+    /// The slot count is not a power of two.
     SlotCountNotPowerOfTwo { found: usize },
     /// The slot count is below 16.
     SlotCountTooSmall { found: usize },
@@ -67,20 +68,20 @@ pub enum Error {
     WrongItemCount { stated: usize, found: usize },
     /// The header's item count is above the maximum of the header's slot count and load factor.
     TooManyItems { count: usize, max: usize },
-    /// The search slot by slot for the key of this occupied slot does not end at it.
+    /// A search slot by slot for the key in this occupied slot does not end at the slot.
     Unreachable { slot: usize },
-    /// A search from the slot `home` may read more than `groups` groups of control bytes: none of
-    /// those that it would read has a byte that counts as free.
+    /// A search from the slot `home` may read more than `groups` groups of control bytes: the
+    /// first `groups` of them contain no byte that counts as free.
     SearchTooLong { home: usize, groups: usize },
-    /// The bytes in which a new table is to be made have another length than the table.
+    /// The bytes for a new table do not have the length that it needs.
     InitLength { found: usize, expected: usize },
     /// No room for a new key: the view is at its maximum item count, or the search met no free
     /// slot.
     Full,
-    /// Out of memory: an allocation failed; or an owned table cannot grow, since no slot count or
-    /// no length is enough.
+    /// An allocation failed, or an owned table cannot grow because no slot count or length is
+    /// large enough.
     Memory,
-    /// No slot count is large enough, or the length of the table in bytes passes `usize::MAX`.
+    /// No slot count is large enough, or the length of the table in bytes exceeds `usize::MAX`.
     Capacity,
     // end variants
 }

@@ -1,8 +1,9 @@
 // Generated from crates/odht/src/configs.rt by make generate.
-//! Ready configurations: integers, keys that are hashes already, and bytes as they are.
+//! Ready configurations: for integers, for keys that are hashes already, and for bytes that are
+//! stored as they are.
 //!
-//! docs/FORMAT.md says in "Hashes" how a key is hashed, and in "Probe order" where its probe order
-//! begins.
+//! docs/FORMAT.md specifies in "Hashes" how a key is hashed, and in "Probe order" where a search
+//! for it begins.
 
 use crate::generated::tables::bytes::ByteArray;
 use crate::generated::tables::config::Config;
@@ -18,7 +19,7 @@ pub use stored::{Fits, FixedBytes, HashedBy};
 mod pairs;
 mod stored;
 
-/// A byte array that may be a key or a value: of at most 255 bytes.
+/// A byte array of at most 255 bytes, which may be a key or a value.
 pub trait Short: ByteArray {}
 
 impl Short for [u8; 0] {}
@@ -51,7 +52,7 @@ impl Short for [u8; 128] {}
 
 impl Short for [u8; 255] {}
 
-/// From bytes to bytes, as they are.
+/// From bytes to bytes, stored as they are.
 pub struct Plain<K, V> {
     key: PhantomData<K>,
     value: PhantomData<V>,

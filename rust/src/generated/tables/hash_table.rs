@@ -1,5 +1,5 @@
 // Generated from crates/odht/src/hash_table.rt by make generate.
-//! The table over bytes of any kind.
+//! A table in the bytes of any store.
 
 use crate::generated::tables::bytes::{ByteStore, ByteStoreMut};
 use crate::generated::tables::config::Config;
@@ -16,9 +16,9 @@ mod lists;
 mod prefix;
 mod walks;
 
-/// The length in bytes of a new table for `max_item_count` items, at a load factor in percent of
-/// the slots. None exactly where no slot count is enough, or the length passes `usize`.
-/// docs/FORMAT.md, "Load factors", has the rule.
+/// Returns the length in bytes of a new table for `max_item_count` items, at a load factor in
+/// percent of the slots. Returns `None` exactly if no slot count is large enough, or the length
+/// exceeds `usize::MAX`. docs/FORMAT.md, "Load factors", specifies the rule.
 pub fn bytes_needed<C: Config>(
     max_item_count: usize,
     max_load_factor_percent: u8,
@@ -28,20 +28,22 @@ pub fn bytes_needed<C: Config>(
     Some(len)
 }
 
-/// A table in the bytes of a store: a view. It cannot grow. A contract speaks of it as of this
-/// store: `D.bytes` are the table's bytes, and the clauses and fields named `same_store` say that
-/// it stays the store that was passed in, so bytes that were borrowed hold the table.
+/// A view of a table in the bytes of a store. It cannot grow.
+///
+/// In contracts the value of a view is its store, and `D.bytes` of the store are the table's bytes.
+/// The clauses and fields named `same_store` state that the view keeps the store that was passed
+/// in. So if the store borrows its bytes, the borrowed bytes contain the table.
 pub struct HashTable<C: Config, D: ByteStore> {
     pub(crate) allocation: Allocation<C, D>,
 }
 
 impl<C: Config, D: ByteStore> HashTable<C, D> {
-    /// Opens bytes as a table, or returns the first error: of too few bytes, of the header, of the
-    /// length, of the first ten slots. On an error the store is dropped. docs/FORMAT.md, "What is
-    /// rejected, and in which order", has the order.
+    /// Opens bytes as a table, or returns the first error: too few bytes, then an error of the
+    /// header, of the length, of the first ten slots. On an error the store is dropped.
+    /// docs/FORMAT.md, "What is rejected, and in which order", specifies the order.
     ///
-    /// Nothing else is checked. A view of bytes that are accepted and not valid is safe to use,
-    /// but its calls keep only what their clauses say of any bytes.
+    /// Nothing else is checked. A view of accepted bytes that are not valid is safe to use, but its
+    /// calls guarantee only what their clauses state for any bytes.
     #[inline(always)]
     pub fn from_raw_bytes(data: D) -> Result<Self, Error> {
         match Allocation::from_raw_bytes(data) {
@@ -50,12 +52,12 @@ impl<C: Config, D: ByteStore> HashTable<C, D> {
         }
     }
 
-    /// Opens bytes as a table, and checks only their header and length; or returns the first error:
-    /// of too few bytes, of the header, of the length. On an error the store is dropped.
-    /// docs/FORMAT.md, "What is rejected, and in which order", has the order.
+    /// Opens bytes as a table, and checks only their header and length. Returns the first error:
+    /// too few bytes, then an error of the header, of the length. On an error the store is dropped.
+    /// docs/FORMAT.md, "What is rejected, and in which order", specifies the order.
     ///
-    /// No slot is checked. A view of bytes that are not valid is safe to use, but its calls keep
-    /// only what their clauses say of any bytes.
+    /// No slot is checked. A view of bytes that are not valid is safe to use, but its calls
+    /// guarantee only what their clauses state for any bytes.
     #[inline(always)]
     pub fn from_raw_bytes_by_header(data: D) -> Result<Self, Error> {
         match Allocation::from_raw_bytes_by_header(data) {
@@ -64,16 +66,15 @@ impl<C: Config, D: ByteStore> HashTable<C, D> {
         }
     }
 
-    /// Takes the bytes as those of a table, without a check: the caller knows that their header
-    /// and length fit.
+    /// Opens bytes as a table without a check. The caller ensures that their header and length fit.
     #[inline]
     pub fn from_raw_bytes_unchecked(data: D) -> Self {
         HashTable { allocation: Allocation::from_raw_bytes_unchecked(data) }
     }
 
-    /// The value of a key, or None. On valid bytes it is the table's value for the key; on any
-    /// bytes it is one that some entry has beside this very key. [`HashTable::get_counted`] counts
-    /// the groups of such a search.
+    /// Returns the value of a key, or `None`. On valid bytes it is the table's value for the key.
+    /// On any bytes it is a value that some entry stores with exactly this key.
+    /// [`HashTable::get_counted`] counts the groups that such a search reads.
     #[inline(always)]
     pub fn get(&self, key: &C::Key) -> Option<C::Value> {
         let table = self.as_raw();
@@ -84,8 +85,8 @@ impl<C: Config, D: ByteStore> HashTable<C, D> {
         }
     }
 
-    /// `get` of many keys: the value of each key is written to its index. The loads of eight keys
-    /// overlap, so that many lookups in a large table are faster than one `get` after the other.
+    /// Looks up many keys, and writes the value of `keys[i]` to `values[i]`. The loads of eight
+    /// keys overlap, so in a large table many lookups are faster than a loop of `get`.
     ///
     /// Each key is encoded twice, and hashed once. No group is read twice.
     #[inline]
@@ -94,9 +95,10 @@ impl<C: Config, D: ByteStore> HashTable<C, D> {
         lookups::get_all::<C, InSlice<'_, Option<C::Value>>>(&self.as_raw(), keys, &mut answers);
     }
 
-    /// `get`, and how many groups of control bytes it read: on valid bytes those up to the first
-    /// slot of the key's probe order that is free or holds the key, and on any bytes at most one
-    /// for sixteen slots. docs/FORMAT.md, "Search", counts them.
+    /// Like `get`, and also returns how many groups of control bytes it read. On valid bytes these
+    /// are the groups up to the first slot of the key's probe order that is free or contains the
+    /// key. On any bytes it is at most one group for sixteen slots. docs/FORMAT.md, "Search",
+    /// defines the count.
     #[inline]
     pub fn get_counted(&self, key: &C::Key) -> (Option<C::Value>, usize) {
         let table = self.as_raw();
@@ -107,8 +109,8 @@ impl<C: Config, D: ByteStore> HashTable<C, D> {
         }
     }
 
-    /// Whether the key has a value. On any bytes it is true only where the entry of some slot
-    /// holds this very key.
+    /// Returns whether the key has a value. On any bytes it returns true only if the entry of some
+    /// slot contains exactly this key.
     #[inline]
     pub fn contains_key(&self, key: &C::Key) -> bool {
         let table = self.as_raw();
@@ -117,38 +119,38 @@ impl<C: Config, D: ByteStore> HashTable<C, D> {
         value.is_some()
     }
 
-    /// The keys and values of the slots whose own control byte is below 128, in slot order: on
-    /// valid bytes each pair of the table once.
+    /// Iterates over the keys and values of the slots whose own control byte is below 128, in slot
+    /// order. On valid bytes these are the pairs of the table, each once.
     #[inline]
     pub fn iter(&self) -> Iter<'_, C> {
         let (control, entries) = self.allocation.data_slices();
         Iter { raw: RawIter::new(control, entries) }
     }
 
-    /// The item count of the header. On valid bytes it is the number of items.
+    /// Returns the item count of the header. On valid bytes it is the number of items.
     #[inline]
     pub fn len(&self) -> usize {
         self.allocation.header().item_count()
     }
 
-    /// Whether the bytes are valid: those of a table that the format allows, to the last byte
-    /// (docs/FORMAT.md, "Valid bytes"). On valid bytes each lookup returns what a map would.
+    /// Returns whether the bytes are valid: those of a table that the format allows, to the last
+    /// byte (docs/FORMAT.md, "Valid bytes"). On valid bytes each lookup returns what a map would.
     ///
-    /// All of the bytes are checked. It takes no memory, and costs what
-    /// [`memory_layout::check_all`] does, which returns the error. For untrusted bytes there is
-    /// [`verify_within`](HashTable::verify_within), which nobody can make slow.
+    /// It checks all of the bytes, and allocates nothing. It costs what
+    /// [`memory_layout::check_all`] costs, which returns the error. For untrusted bytes, call
+    /// [`verify_within`](HashTable::verify_within), whose time is bounded.
     pub fn verify(&self) -> bool {
         self.allocation.check_rest().is_ok()
     }
 
-    /// All bytes. Their header and length fit, so [`HashTable::from_raw_bytes_unchecked`] accepts
-    /// them.
+    /// Returns all bytes. Their header and length fit, so [`HashTable::from_raw_bytes_unchecked`]
+    /// accepts them.
     #[inline]
     pub fn raw_bytes(&self) -> &[u8] {
         self.allocation.raw_bytes()
     }
 
-    /// The store, with the bytes as they are now. Their header and length fit, so
+    /// Returns the store, with the bytes as they are now. Their header and length fit, so
     /// [`HashTable::from_raw_bytes_unchecked`] accepts it again.
     #[inline]
     pub fn into_data(self) -> D {
@@ -156,7 +158,7 @@ impl<C: Config, D: ByteStore> HashTable<C, D> {
         allocation.into_data()
     }
 
-    /// The raw table of these bytes. A caller that looks up many keys calls this once.
+    /// Returns the raw table of these bytes. To look up many keys, call this once.
     #[inline]
     pub fn as_raw(&self) -> RawTable<'_, C::EncodedKey, C::EncodedValue, C::H> {
         self.allocation.as_raw()
@@ -164,12 +166,12 @@ impl<C: Config, D: ByteStore> HashTable<C, D> {
 }
 
 impl<C: Config, D: ByteStoreMut> HashTable<C, D> {
-    /// Makes an empty table for `max_item_count` items in `data`, whatever its bytes were. The
-    /// load factor is in percent of the slots.
+    /// Creates an empty table for `max_item_count` items in `data`, over any bytes that are there.
+    /// The load factor is in percent of the slots.
     ///
-    /// `Capacity` where no slot count is enough, or the length passes `usize`; otherwise
-    /// `InitLength` where `data` has another length than [`bytes_needed`]. On an error `data` is
-    /// dropped. docs/FORMAT.md, "Load factors", has the rule.
+    /// The error is `Capacity` if no slot count is large enough, or the length exceeds
+    /// `usize::MAX`. Otherwise it is `InitLength` if the length of `data` is not [`bytes_needed`].
+    /// On an error `data` is dropped. docs/FORMAT.md, "Load factors", specifies the rule.
     pub fn init_in_place(
         data: D,
         max_item_count: usize,
@@ -180,12 +182,12 @@ impl<C: Config, D: ByteStoreMut> HashTable<C, D> {
         Ok(HashTable::from_raw_bytes_unchecked(store))
     }
 
-    /// Makes an empty table for `max_item_count` items in a store that stays the caller's,
-    /// whatever its bytes were. The load factor is in percent of the slots.
+    /// Creates an empty table for `max_item_count` items in a store that the caller keeps, over any
+    /// bytes that are there. The load factor is in percent of the slots.
     ///
     /// The errors are those of [`HashTable::init_in_place`]. An error leaves the store as it was.
-    /// Where there is none, [`HashTable::from_raw_bytes_unchecked`] accepts the store. One pass
-    /// over the bytes.
+    /// If there is none, [`HashTable::from_raw_bytes_unchecked`] accepts the store. The cost is one
+    /// pass over the bytes.
     pub fn init_store(
         store: &mut D,
         max_item_count: usize,
@@ -205,21 +207,24 @@ impl<C: Config, D: ByteStoreMut> HashTable<C, D> {
         Ok(())
     }
 
-    /// Gives the key this value, and returns its former one: on valid bytes the table's value for
-    /// the key.
+    /// Inserts a pair, and returns the former value of the key: on valid bytes the table's value
+    /// for the key.
     ///
-    /// The one error is `Full`, and then nothing changes. On valid bytes it comes exactly where
-    /// the table is at its maximum and the key is absent: a present key is always given its value.
-    /// docs/FORMAT.md, "Insert" and "At the maximum", has the rules.
+    /// The only error is `Full`, and then nothing changes. On valid bytes it is returned exactly if
+    /// the table is at its maximum and the key is absent. A present key always gets the new value.
+    /// docs/FORMAT.md, "Insert" and "At the maximum", specifies the rules.
     ///
-    /// On any bytes one of three things happens. One value changes that an entry of any slot has
-    /// beside an equal key. Or, where the header's count is below its maximum, one entry, its tag
-    /// and, below slot 16, the tag's mirror are written to a slot that counted as free, and the
-    /// count rises by one. Or it is `Full`: only where a search slot by slot can end without the
-    /// key, and where besides the header's count is its maximum or more, or each slot counts as
-    /// occupied. No other byte changes.
+    /// On any bytes one of three things happens, and no other byte changes:
     ///
-    /// The key is hashed once. [`HashTable::get_counted`] counts the groups of such a search.
+    /// - The value changes in one entry, of any slot, whose key is equal.
+    /// - If the header's count is below its maximum: one entry and its tag are written to a slot
+    ///   that counted as free, and below slot 16 also the tag's mirror. The count rises by one.
+    /// - The call returns `Full`. This requires that a search slot by slot can end without the key.
+    ///   It also requires that the header's count is its maximum or more, or that each slot counts
+    ///   as occupied.
+    ///
+    /// The key is hashed once. [`HashTable::get_counted`] counts the groups that such a search
+    /// reads.
     #[inline(always)]
     pub fn insert(&mut self, key: &C::Key, value: &C::Value) -> Result<Option<C::Value>, Error> {
         self.allocation.insert_by::<GroupQuery>(key, value)

@@ -20,19 +20,19 @@ mod insert_order;
 mod lists;
 mod reserve;
 
-/// A table in memory of its own, which grows where an absent key is inserted at the maximum. Its
-/// bytes are always valid, and a contract speaks of it as of these bytes.
+/// A table that owns its bytes, and grows when an absent key is inserted at the maximum. Its bytes
+/// are always valid. In contracts its value is the table that they store.
 pub struct HashTableOwned<C: Config> {
     pub(crate) table: HashTable<C, OwnedBytes>,
     alloc: Global,
 }
 
 impl<C: Config> HashTableOwned<C> {
-    /// An empty table that takes at least `max_item_count` items before it grows. The load factor
-    /// is in percent of the slots; docs/FORMAT.md, "Load factors", has the rule.
+    /// Creates an empty table that takes at least `max_item_count` items before it grows. The load
+    /// factor is in percent of the slots. docs/FORMAT.md, "Load factors", specifies the rule.
     ///
-    /// `Capacity` exactly where no slot count is enough, or its length passes `usize`; `Memory`
-    /// where the allocator gives none.
+    /// The error is `Capacity` exactly if no slot count is large enough, or the length exceeds
+    /// `usize::MAX`. It is `Memory` if allocation fails.
     pub fn with_capacity(
         alloc: Global,
         max_item_count: usize,
@@ -43,23 +43,23 @@ impl<C: Config> HashTableOwned<C> {
         Ok(HashTableOwned { table, alloc })
     }
 
-    /// An empty table made for twelve items: sixteen slots at a load factor of 87 percent, whose
-    /// maximum is thirteen items.
+    /// Creates an empty table for twelve items. It has sixteen slots and a load factor of 87
+    /// percent, so its maximum is thirteen items.
     ///
-    /// `Memory` where the allocator gives none.
+    /// The error is `Memory` if allocation fails.
     pub fn default(alloc: Global) -> Result<Self, Error> {
         Self::with_capacity(alloc, 12, 87)
     }
 
-    /// A table of the items, which are collected first: made for as many as there are, so it never
-    /// grows. An item with the key of an earlier one overwrites its value. The load factor is in
-    /// percent of the slots.
+    /// Creates a table of the items. It collects them first and creates a table for their number,
+    /// which therefore does not grow. If a key occurs again, the later item overwrites the value.
+    /// The load factor is in percent of the slots.
     ///
-    /// `items` has to end (`ends`), and its `next` may be called (`can`). The clauses speak of the
-    /// list `xs` that it gives until then (`EndsAfter`).
+    /// `items` must end (`ends`), and calling its `next` must be allowed (`can`). In the clauses,
+    /// `xs` is the list of the items that it returns until then (`EndsAfter`).
     ///
-    /// `Capacity` only where no slot count is enough for that many items, or its length passes
-    /// `usize`; `Memory` where the allocator gives none.
+    /// The error is `Capacity` only if no slot count is large enough for the items, or the length
+    /// exceeds `usize::MAX`. It is `Memory` if allocation fails.
     pub fn from_iterator<I: Iterator<Item = (C::Key, C::Value)>>(
         alloc: Global,
         items: I,
@@ -71,56 +71,58 @@ impl<C: Config> HashTableOwned<C> {
         Ok(table)
     }
 
-    /// The value of a key, or None: what its last insert gave it, or what the bytes have for it
-    /// that were opened. [`HashTableOwned::get_counted`] counts the groups of such a search.
+    /// Returns the value of a key, or `None`. It is the value of the key's last insert, or else the
+    /// one in the bytes that were opened. [`HashTableOwned::get_counted`] counts the groups that
+    /// such a search reads.
     #[inline]
     pub fn get(&self, key: &C::Key) -> Option<C::Value> {
         self.table.get(key)
     }
 
-    /// `get`, and how many groups of control bytes it read: those up to the first slot of the
-    /// key's probe order that is free or holds the key. docs/FORMAT.md, "Search", counts them.
+    /// Like `get`, and also returns how many groups of control bytes it read: the groups up to the
+    /// first slot of the key's probe order that is free or contains the key. docs/FORMAT.md,
+    /// "Search", defines the count.
     #[inline]
     pub fn get_counted(&self, key: &C::Key) -> (Option<C::Value>, usize) {
         self.table.get_counted(key)
     }
 
-    /// Whether the key has a value.
+    /// Returns whether the key has a value.
     #[inline]
     pub fn contains_key(&self, key: &C::Key) -> bool {
         self.table.contains_key(key)
     }
 
-    /// The keys and values, each pair once, in slot order.
+    /// Iterates over the keys and values, each pair once, in slot order.
     #[inline]
     pub fn iter(&self) -> Iter<'_, C> {
         self.table.iter()
     }
 
-    /// How many items there are.
+    /// Returns the number of items.
     #[inline]
     pub fn len(&self) -> usize {
         self.table.len()
     }
 
-    /// All bytes. They are valid.
+    /// Returns all bytes. They are valid.
     #[inline]
     pub fn raw_bytes(&self) -> &[u8] {
         self.table.raw_bytes()
     }
 
-    /// The bytes themselves, which the table no longer has. They are valid.
+    /// Consumes the table, and returns its bytes without copying them. They are valid.
     #[inline]
     pub fn into_raw_bytes(self) -> Vec<u8> {
         let HashTableOwned { table, alloc: _ } = self;
         table.into_data().into_vec()
     }
 
-    /// A copy of the bytes, after all of them were checked. The error that
-    /// [`memory_layout::check_all`] returns comes before memory is requested; valid bytes are
-    /// never rejected. The check costs what that call does.
+    /// Checks all of the bytes, and copies them into a new table. An error of
+    /// [`memory_layout::check_all`] is returned before anything is allocated. Valid bytes are never
+    /// rejected. The check costs what that call costs.
     ///
-    /// `Memory` where the allocator gives none.
+    /// The error is `Memory` if allocation fails.
     pub fn from_raw_bytes(alloc: Global, raw_bytes: &[u8]) -> Result<Self, Error> {
         if let Err(refused) = memory_layout::check_all::<C>(raw_bytes) {
             return Err(refused);
@@ -128,11 +130,11 @@ impl<C: Config> HashTableOwned<C> {
         Self::from_raw_bytes_unchecked(alloc, raw_bytes)
     }
 
-    /// `from_raw_bytes` for untrusted bytes: also rejected, as by
-    /// [`memory_layout::check_all_within`], are bytes in which a search may read more than
-    /// `groups` groups of control bytes. The check costs what that call does.
+    /// Like `from_raw_bytes`, for untrusted bytes. Like [`memory_layout::check_all_within`], it
+    /// also rejects bytes in which a search may read more than `groups` groups of control bytes.
+    /// The check costs what that call costs.
     ///
-    /// `Memory` where the allocator gives none.
+    /// The error is `Memory` if allocation fails.
     pub fn from_raw_bytes_within(
         alloc: Global,
         raw_bytes: &[u8],
@@ -144,9 +146,9 @@ impl<C: Config> HashTableOwned<C> {
         Self::from_raw_bytes_unchecked(alloc, raw_bytes)
     }
 
-    /// A copy of the bytes without a check: the caller knows that they are valid.
+    /// Copies the bytes into a new table without a check. The caller ensures that they are valid.
     ///
-    /// `Memory` where the allocator gives none.
+    /// The error is `Memory` if allocation fails.
     pub fn from_raw_bytes_unchecked(alloc: Global, raw_bytes: &[u8]) -> Result<Self, Error> {
         let Ok(bytes) = crate::shim::to_vec(raw_bytes, alloc) else {
             return Err(Error::Memory);
@@ -155,23 +157,23 @@ impl<C: Config> HashTableOwned<C> {
         Ok(HashTableOwned { table, alloc })
     }
 
-    /// A table of the same bytes.
+    /// Copies the table. The copy has the same bytes.
     ///
-    /// `Memory` where the allocator gives none.
+    /// The error is `Memory` if allocation fails.
     pub fn clone(&self) -> Result<Self, Error> {
         Self::from_raw_bytes_unchecked(self.alloc, self.table.raw_bytes())
     }
 
-    /// Gives the key this value, and returns its former one, or None. At the maximum the table
-    /// grows for an absent key; a present key is given its value in place, which takes no memory.
-    /// docs/FORMAT.md, "Insert" and "Growth", has the rules.
+    /// Inserts a pair, and returns the former value of the key, or `None`. If the key is absent and
+    /// the table is at its maximum, the table grows. A present key gets the new value in place,
+    /// which allocates nothing. docs/FORMAT.md, "Insert" and "Growth", specifies the rules.
     ///
-    /// The one error is `Memory`, only at the maximum and for an absent key; then nothing changes.
-    /// It comes where the allocator gives none, or the grown table would need more than 2^63
-    /// slots, or more bytes than a `usize` counts; that it comes for no other reason, no clause
-    /// says.
+    /// The only error is `Memory`, and only if the key is absent and the table is at its maximum.
+    /// Then nothing changes. It is returned if allocation fails, or if the grown table would exceed
+    /// 2^63 slots or `usize::MAX` bytes. The contract does not rule out other causes.
     ///
-    /// The key is hashed once, and again at a growth, which hashes and places each item again.
+    /// The key is hashed once. If the table grows, all items are hashed and placed again, and the
+    /// key is hashed again.
     #[inline(always)]
     pub fn insert(&mut self, key: &C::Key, value: &C::Value) -> Result<Option<C::Value>, Error> {
         match self.table.insert(key, value) {

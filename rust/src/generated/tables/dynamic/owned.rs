@@ -1,6 +1,6 @@
 // Generated from crates/odht/src/dynamic/owned.rt by make generate.
-//! The table that owns its bytes, and grows, of keys and values of lengths that are known only at
-//! run time.
+//! The table that owns its bytes and grows, with key and value lengths that are known only at run
+//! time.
 
 use super::{DynError, DynTable};
 use crate::generated::tables::bytes::OwnedBytes;
@@ -14,22 +14,23 @@ mod inserts;
 mod reserve;
 mod stores;
 
-/// A table in memory of its own, of keys and values of lengths that were given when it was made.
-/// It grows where an absent key is inserted at the maximum. Its bytes are always valid.
+/// A table that owns its bytes. The lengths of keys and values are given when it is created. It
+/// grows when an absent key is inserted at the maximum. Its bytes are always valid.
 ///
-/// A contract speaks of it as of these lengths and the bytes.
+/// In contracts its value consists of these lengths and the bytes.
 pub struct DynTableOwned<H: HashFn> {
     table: DynTable<H, OwnedBytes>,
     alloc: Global,
 }
 
 impl<H: HashFn> DynTableOwned<H> {
-    /// An empty table of these lengths that takes at least `max_item_count` items before it grows.
-    /// The load factor is in percent of the slots; docs/FORMAT.md, "Load factors", has the rule.
+    /// Creates an empty table with these key and value lengths, which takes at least
+    /// `max_item_count` items before it grows. The load factor is in percent of the slots.
+    /// docs/FORMAT.md, "Load factors", specifies the rule.
     ///
-    /// `KeyTooShort` where the hash function needs longer keys; then `Rejected` with `Capacity`
-    /// exactly where no slot count is enough, or its length passes `usize`; then with `Memory`
-    /// where the allocator gives none.
+    /// The error is `KeyTooShort` if the hash function needs longer keys. Otherwise it is
+    /// `Rejected` with `Capacity` exactly if no slot count is large enough, or the length exceeds
+    /// `usize::MAX`. Otherwise it is `Rejected` with `Memory` if allocation fails.
     pub fn with_capacity(
         alloc: Global,
         layout: Layout,
@@ -48,12 +49,12 @@ impl<H: HashFn> DynTableOwned<H> {
         }
     }
 
-    /// A copy of the bytes as a table of these lengths, after all of them were checked.
+    /// Checks all of the bytes as a table with these key and value lengths, and copies them.
     ///
-    /// `KeyTooShort` where the hash function needs longer keys; then `Rejected` with the error
-    /// that [`memory_layout::check_all`](crate::generated::tables::memory_layout::check_all) returns, before memory
-    /// is requested; then with `Memory` where the allocator gives none. Valid bytes are never
-    /// rejected by the check, which costs what that call does.
+    /// The error is `KeyTooShort` if the hash function needs longer keys. Otherwise it is
+    /// `Rejected` with the error of [`memory_layout::check_all`](crate::generated::tables::memory_layout::check_all),
+    /// before anything is allocated. Otherwise it is `Rejected` with `Memory` if allocation fails.
+    /// The check never rejects valid bytes, and costs what that call costs.
     pub fn from_raw_bytes(
         alloc: Global,
         layout: Layout,
@@ -83,17 +84,17 @@ impl<H: HashFn> DynTableOwned<H> {
         &self.table
     }
 
-    /// The value of a key, or None: what its last insert gave it, or what the bytes have for it
-    /// that were opened. A key of another length has no value. [`DynTableOwned::get_counted`]
-    /// counts the groups of such a search.
+    /// Returns the value of a key, or `None`. It is the value of the key's last insert, or else the
+    /// one in the bytes that were opened. A key of another length has no value.
+    /// [`DynTableOwned::get_counted`] counts the groups that such a search reads.
     #[inline]
     pub fn get(&self, key: &[u8]) -> Option<&[u8]> {
         self.table.get(key)
     }
 
-    /// `get`, and how many groups of control bytes it read: those up to the first slot of the
-    /// key's probe order that is free or holds the key. docs/FORMAT.md, "Search", counts them. For
-    /// a key of another length no group is read.
+    /// Like `get`, and also returns how many groups of control bytes it read: the groups up to the
+    /// first slot of the key's probe order that is free or contains the key. docs/FORMAT.md,
+    /// "Search", defines the count. For a key of another length no group is read.
     #[inline]
     pub fn get_counted(&self, key: &[u8]) -> (Option<&[u8]>, usize) {
         self.table.get_counted(key)
@@ -123,7 +124,7 @@ impl<H: HashFn> DynTableOwned<H> {
         self.table.raw_bytes()
     }
 
-    /// The bytes themselves, which the table no longer has. They are valid.
+    /// Consumes the table, and returns its bytes without copying them. They are valid.
     #[inline]
     pub fn into_raw_bytes(self) -> Vec<u8> {
         let DynTableOwned { table, alloc: _ } = self;
