@@ -102,8 +102,8 @@
  *
  * odht_S_sizes(bytes, bytes_len, *slots, *max_item_count, *percent)
  *     Reads the slot count and the load factor from the header, and computes the maximum number of items from both.
- *     The load factor is in percent, rounded down. So it may be one less than the percentage that the table
- *     was made with.
+ *     The load factor is in percent, rounded down. So it may be one less than the percentage that the table was made
+ *     with.
  *     OK: all three are written. An error, @HEADER@. Constant time.
  *
  * odht_S_table_len(bytes, bytes_len, *len)
@@ -155,8 +155,9 @@
  *     Cost: it reads the control bytes from the old *cursor to the new one, and the entries of the pairs.
  *
  * odht_S_insert_order(bytes, bytes_len, slots, slots_len)
- *     Finds an order of inserts that makes exactly these bytes: insert the pairs of these slots, in this order, into an
- *     empty table of the same slot count and load factor. Some valid tables have no such order.
+ *     Finds an order of inserts that makes exactly these bytes, and writes it as a list of slots. To make the bytes,
+ *     insert the pairs of these slots, in this order, into an empty table of the same slot count and load factor. For
+ *     some valid tables there is no such order.
  *     OK: slots holds the occupied slots, each once, in such an order. Slots are numbered from 0. UNMADE: no list of
  *     inserts makes the table, with growths or without, and the content of slots is unspecified. An error of the whole
  *     check, @CHECK@. BAD_LENGTHS: the bytes are valid, and slots_len is not the number of items.
