@@ -92,13 +92,13 @@
  *   the value stored there.
  * - len returns the item count in the header.
  * - An insert changes one value that is stored with an equal key, or adds one entry if the item count is below the
- *   maximum. It returns FULL only if a search slot by slot can miss the key, and only if the item count is at or above
- *   the maximum, or no slot is free. Here a slot is free if its control byte, and its mirror byte if it has one, are
- *   above 127.
+ *   maximum. It returns FULL only under two conditions. A search slot by slot can miss the key. And the item count is
+ *   at or above the maximum, or no slot is free. Here a slot is free if its control byte is above 127, and its mirror
+ *   byte, too, if there is one.
  * - grow writes bytes without the errors 1 to 7. They have the same item count and load factor; their pairs are
  *   unspecified.
  *
- * docs/FORMAT.md has the details under "Accepted but invalid bytes".
+ * docs/FORMAT.md lists these limits under "Accepted but invalid bytes".
  *
  * Only odht_*_build_growing allocates memory. It uses malloc, and frees the memory before it returns. The libraries
  * of make lib need only the C library; those that cargo builds also need libgcc_s. This header needs C99 or later, or
@@ -167,8 +167,8 @@ extern "C" {
    first error is not in a slot. No slot has this number. */
 #define ODHT_NO_SLOT SIZE_MAX
 
-/* The result of a call. Error::Name is the library's error in Rattle; the rest of the comment is its cause.
-   docs/FORMAT.md, "Numbers for C", has the same table. */
+/* The result of a call. Error::Name is the name of the error in Rattle. The rest of the comment is its cause.
+   docs/FORMAT.md, "Numbers for C", lists the same numbers. */
 enum odht_status {
     ODHT_OK = 0,                          /* success */
 
@@ -337,9 +337,9 @@ typedef struct odht_view {
  */
 /* ---- The calls ----
  *
- * S is the name of a shape, such as u64_u32. A key or value that is a number is passed by value. One of N bytes is
- * passed as a pointer to them. *value and *former are a number or N bytes. A call writes an out-parameter only with the
- * statuses that name it below.
+ * S is the name of a shape, such as u64_u32. A number, as a key or value, is passed by value. A key or value of N bytes
+ * is passed as a pointer to its bytes. *value and *former are a number or N bytes. A call writes an out-parameter only
+ * with the statuses that name it below.
  *
  * The prototypes of odht_u64_u32_*, as they are with ODHT_PLAIN defined:
  *
@@ -403,9 +403,9 @@ typedef struct odht_view {
  *     Cost: one pass over the slots. For each occupied slot it reads the control bytes of the key's probe order up to
  *     that slot, sixteen at a time. It compares the key with each earlier key of that order that has the same tag. It
  *     allocates nothing.
- *     If the hashes of the keys vary, the check takes up to three times as long as one lookup of each key, and up to
- *     1.4 times at 87 percent. If many keys have one hash, by chance or by forgery, it compares up to every pair of
- *     keys: the time grows with the square of the number of slots. bench/README.md lists times. Use
+ *     If the hashes of the keys vary, the check takes up to three times as long as one lookup of each key. At 87
+ *     percent it takes up to 1.4 times as long. If many keys have one hash, by chance or by forgery, it compares up to
+ *     every pair of keys: the time grows with the square of the number of slots. bench/README.md lists times. Use
  *     odht_S_check_within for untrusted bytes.
  *
  * odht_S_check_within(bytes, bytes_len, groups)
@@ -439,8 +439,8 @@ typedef struct odht_view {
  *
  * odht_S_sizes(bytes, bytes_len, *slots, *max_item_count, *percent)
  *     Reads the slot count and the load factor from the header, and computes the maximum number of items from both.
- *     The load factor is in percent, rounded down. So it may be one less than the percentage that the table
- *     was made with.
+ *     The load factor is in percent, rounded down. So it may be one less than the percentage that the table was made
+ *     with.
  *     OK: all three are written. An error, 1 to 7. Constant time.
  *
  * odht_S_table_len(bytes, bytes_len, *len)
@@ -492,8 +492,9 @@ typedef struct odht_view {
  *     Cost: it reads the control bytes from the old *cursor to the new one, and the entries of the pairs.
  *
  * odht_S_insert_order(bytes, bytes_len, slots, slots_len)
- *     Finds an order of inserts that makes exactly these bytes: insert the pairs of these slots, in this order, into an
- *     empty table of the same slot count and load factor. Some valid tables have no such order.
+ *     Finds an order of inserts that makes exactly these bytes, and writes it as a list of slots. To make the bytes,
+ *     insert the pairs of these slots, in this order, into an empty table of the same slot count and load factor. For
+ *     some valid tables there is no such order.
  *     OK: slots holds the occupied slots, each once, in such an order. Slots are numbered from 0. UNMADE: no list of
  *     inserts makes the table, with growths or without, and the content of slots is unspecified. An error of the whole
  *     check, 1 to 16. BAD_LENGTHS: the bytes are valid, and slots_len is not the number of items.
@@ -619,9 +620,9 @@ ODHT_NODISCARD extern uint32_t odht_version(void);
 #define ODHT_FUNCTION(result, name, parameters, body)
 #endif
 
-/* For keys and values that are numbers of `bits` bits: the type of an array item, a parameter, an out-parameter (a
-   pointer that may be NULL), a variable for a result that the caller does not need, and arrays whose pointer may be
-   NULL. */
+/* For keys and values that are numbers of `bits` bits. In this order: the type of an array item, a parameter, an
+   out-parameter (a pointer that may be NULL), and a variable for a result that the caller does not need. The last two
+   are arrays, to read and to write, whose pointer may be NULL. */
 #define ODHT_NUMBER_ITEM(bits) uint##bits##_t
 #define ODHT_NUMBER_GIVEN(bits, name) uint##bits##_t name
 #define ODHT_NUMBER_WANTED(bits, name) uint##bits##_t *name
@@ -892,8 +893,8 @@ ODHT_NODISCARD extern uint32_t odht_version(void);
  * hash function, as a layout. Each key and value is a pointer to bytes, with a length.
  *
  * The comment on odht_S_NAME above is also the comment on odht_any_NAME. With the lengths and the hash function of a
- * shape, these calls read and write the same bytes as the calls of the shape, and return the same. A view from one can
- * be used by the other if the lengths are the same. For many lookups the calls of a shape are faster.
+ * shape, these calls return and write the same as the calls of the shape. A view from one can be used by the other if
+ * the lengths are the same. For many lookups the calls of a shape are faster.
  *
  * All lengths of keys and values are in bytes here. This includes the lengths of arrays, in which items follow each
  * other without gaps. A layout is never NULL. In a set, values have no bytes: pass any pointer and 0 for them, or NULL

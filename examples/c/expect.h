@@ -1,4 +1,4 @@
-/* Compares what calls answer with what they must. */
+/* Compares the results of calls with the expected ones. */
 #ifndef EXPECT_H
 #define EXPECT_H
 
@@ -6,10 +6,10 @@
 #include <stdio.h>
 #include <stdlib.h>
 
-/* How many answers were compared. */
+/* The number of results that were compared. */
 static unsigned compared = 0;
 
-/* Stops the program where a number, a status or another one, is not the wanted one. */
+/* Stops the program if a number, such as a status, is not the expected one. */
 static inline void expect(uint64_t number, uint64_t wanted, const char *what, const char *file,
                           int line)
 {

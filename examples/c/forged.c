@@ -1,8 +1,8 @@
 /*
- * A program that reads an untrusted table without the whole check: it opens the bytes and walks, a few pairs at a time.
- * It does not use the header's item count, which is forged here; all pairs are found, and nothing is read or written
- * outside of the arrays. A program that does use it, and allocates for all pairs at once, has to compare the count with
- * the length of the bytes first.
+ * Reads an untrusted table without the whole check: it opens the bytes and walks, a few pairs at a time. It does not
+ * use the header's item count, which is forged here. So it finds all pairs, and reads and writes nothing outside of the
+ * arrays. If a program does use the count, to allocate for all pairs at once, it must compare it with the length of the
+ * bytes first.
  */
 #include <inttypes.h>
 #include <stdint.h>
@@ -43,8 +43,8 @@ static uint32_t add_up_keys(const uint8_t *bytes, size_t length, uint64_t *sum)
 }
 
 /*
- * The same by one walk. A slot takes more than one byte, so a table whose header's count is above its length in bytes
- * is forged; for smaller counts the products below are far below 2^64.
+ * Does the same with one call of walk, for all pairs. A slot takes more than one byte, so a header is forged if its
+ * count is above the length of the bytes. For smaller counts the products below are far below 2^64.
  */
 static uint32_t add_up_keys_at_once(const uint8_t *bytes, size_t length, uint64_t *sum)
 {
@@ -68,14 +68,14 @@ static uint32_t add_up_keys_at_once(const uint8_t *bytes, size_t length, uint64_
     return status;
 }
 
-/* The item count in the header is bytes 8 to 15, in little-endian order. */
+/* Bytes 8 to 15 of the header are the item count, in little-endian order. */
 static void state(uint8_t *bytes, uint64_t count)
 {
     for (size_t index = 0; index < 8; index++)
         bytes[8 + index] = (uint8_t)(count >> (8 * index));
 }
 
-/* Keys 1 to 13 with the value 1: as many as 16 slots take at 87 percent. */
+/* Keys 1 to 13 with the value 1. At 87 percent, 13 items are the maximum of 16 slots. */
 static uint8_t *made(void)
 {
     uint64_t keys[PAIRS];

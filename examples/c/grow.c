@@ -1,6 +1,6 @@
-/* Grow on FULL, as odht.h describes it: a table in memory from malloc that grows where an insert is answered FULL.
-   The sizes follow from docs/FORMAT.md: 16 slots take 13 items at 87 percent, 32 take 27, 64 take 55, and a table of
-   s slots has 32 + 13 * s + 16 bytes. */
+/* "Grow on FULL" of odht.h: a table in memory from malloc, which grows when an insert returns FULL. The sizes follow
+   from docs/FORMAT.md. At 87 percent the maximum of 16, 32 and 64 slots is 13, 27 and 55 items. A table of s slots
+   takes 32 + 13 * s + 16 bytes. */
 #include "odht.h"
 
 #include <stdio.h>
@@ -43,7 +43,7 @@ static int wrong = 0;
         } \
     } while (0)
 
-/* A new table for one item; NULL where there is no memory. */
+/* Returns a new table for one item, or for none at 1 percent. Returns NULL if malloc fails. */
 static uint8_t *made(size_t *len, uint8_t percent)
 {
     uint8_t *bytes;
@@ -71,7 +71,7 @@ static void grows(uint8_t *bytes, size_t len)
     free(bytes);
 }
 
-/* Of 16 slots one percent is no item; the table grows to 128 slots, of which it is one. */
+/* At 1 percent the maximum of 16 slots is 0 items. So the table grows to 128 slots, whose maximum is 1. */
 static void grows_at_once(uint8_t *bytes, size_t len)
 {
     uint32_t former = 7, value = 0;
@@ -80,7 +80,7 @@ static void grows_at_once(uint8_t *bytes, size_t len)
     free(bytes);
 }
 
-/* A table whose header says that it takes no item, whatever its size, and one that is none: neither changes. */
+/* Two tables that cannot grow stay unchanged: one with a load factor of 0, and one with a wrong header tag. */
 static void stays(uint8_t *bytes, size_t len)
 {
     uint8_t *before = bytes, copy[256];

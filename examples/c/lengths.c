@@ -1,7 +1,7 @@
 /*
- * Tables of lengths that no ready shape has: keys of twelve bytes, the numbers of parts, and values of five, how many
- * there are and where. A table takes 32 bytes, and for each slot an entry of seventeen and a control byte, of which the
- * first sixteen are repeated.
+ * A dynamic table, for lengths that no shape has: the keys are part numbers of twelve bytes, and the values are places
+ * of five bytes. A table takes 32 bytes for the header, 17 + 1 bytes for the entry and the control byte of each slot,
+ * and 16 bytes that repeat the first control bytes.
  */
 #include <stdint.h>
 #include <stdio.h>
@@ -16,7 +16,7 @@ enum { GROWN = 32 + 64 * (KEY + VALUE) + 80, ROOM = 8 };
 
 static const odht_layout layout = {KEY, VALUE, ODHT_HASH_XXH64};
 
-/* The number of a part, and what is known of it: in two digits. */
+/* Writes the key and the value of a part. Both end in its number, in two digits. */
 static void write_part(unsigned part, uint8_t *key, uint8_t *value)
 {
     memcpy(key, "part-number-", KEY);
@@ -25,7 +25,7 @@ static void write_part(unsigned part, uint8_t *key, uint8_t *value)
     key[KEY - 1] = value[VALUE - 1] = (uint8_t)('0' + part % 10);
 }
 
-/* One part after the other. */
+/* Inserts the parts one by one. */
 static void fills(uint8_t *bytes)
 {
     uint8_t key[KEY];
@@ -48,7 +48,7 @@ static void fills(uint8_t *bytes)
     EXPECT(odht_any_check(&layout, bytes, LENGTH), ODHT_OK);
 }
 
-/* A lookup, and what is answered to keys and buffers of other lengths. */
+/* Looks up a key, and passes keys and buffers of wrong lengths. */
 static void looks_up(const uint8_t *bytes)
 {
     uint8_t key[KEY];
@@ -64,7 +64,7 @@ static void looks_up(const uint8_t *bytes)
     EXPECT(odht_any_contains(&layout, bytes, LENGTH, key, KEY), ODHT_ABSENT);
 }
 
-/* Many lookups in bytes that are opened once. */
+/* Opens the bytes once for many lookups. */
 static void looks_up_often(const uint8_t *bytes)
 {
     odht_view view = ODHT_NO_VIEW;
@@ -83,7 +83,7 @@ static void looks_up_often(const uint8_t *bytes)
     EXPECT(odht_any_view_contains(&layout, &view, key, KEY), ODHT_ABSENT);
 }
 
-/* A file says which lengths its table has, and not which hash function. */
+/* Reads the lengths from the bytes of a table. These do not store the hash function. */
 static void reads_the_lengths(const uint8_t *bytes)
 {
     odht_layout stated = {0, 0, ODHT_HASH_XXH64};
@@ -96,7 +96,7 @@ static void reads_the_lengths(const uint8_t *bytes)
     EXPECT(odht_any_open(&none, bytes, LENGTH), ODHT_BAD_LAYOUT);
 }
 
-/* Each part comes once, some of them at a time. */
+/* Walks over the table in batches. Each part comes once. */
 static void walks(const uint8_t *bytes)
 {
     uint8_t keys[ROOM * KEY];
@@ -116,7 +116,7 @@ static void walks(const uint8_t *bytes)
     EXPECT(seen, PARTS * (PARTS - 1) / 2);
 }
 
-/* Many at once, after a growth into larger bytes. */
+/* Grows the table into larger bytes, and then inserts and looks up many parts at once. */
 static void grows(const uint8_t *bytes, uint8_t *grown)
 {
     uint8_t keys[2 * KEY];

@@ -1,7 +1,7 @@
 /*
- * Makes tables, stores one of them in the file that is named by the only argument, maps it, looks
- * keys up, and prints what is rejected. examples/expected holds what it must print, and
- * examples/README.md says why.
+ * Makes tables, stores one of them in the file that its only argument names, maps the file, looks
+ * keys up, and prints the errors of damaged bytes. examples/expected is the expected output, and
+ * examples/README.md derives its numbers.
  */
 #define _POSIX_C_SOURCE 200809L
 
@@ -71,7 +71,7 @@ static void store(const char *path, const uint8_t *bytes, size_t length)
         fail(path);
 }
 
-/* The file's contents as bytes that can only be read. */
+/* Maps the file's contents as bytes that can only be read. */
 static const uint8_t *map(const char *path, size_t *length)
 {
     struct stat about;
@@ -131,7 +131,7 @@ static void walk(const uint8_t *bytes, size_t length)
     printf(", %zu pair, %" PRIu64 " to %" PRIu32 "\n", count, keys[0], values[0]);
 }
 
-/* Builds the stored table by one call, from the pairs that it holds. */
+/* Builds the stored table again with one call, from the pairs in it. */
 static void build(const uint8_t *bytes)
 {
     uint64_t keys[PAIRS];
@@ -183,7 +183,7 @@ static void fill_to_the_maximum(void)
 
 /* ---- Keys of 16 bytes ---- */
 
-/* The pairs are 1 to 100, 2 to 200, and so on; each of a key's bytes is its number. */
+/* The pairs are 1 to 100, 2 to 200, and so on. All bytes of a key are its number. */
 static void fill_byte_pairs(uint8_t *keys, uint32_t *values, size_t count)
 {
     for (size_t index = 0; index < count; index++) {

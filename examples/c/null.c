@@ -1,4 +1,4 @@
-/* Calls each function with NULL wherever it is allowed, and compares the answers with what they must be. */
+/* Calls each function with NULL wherever it is allowed, and compares the results with the expected ones. */
 #include <stdint.h>
 #include <stdio.h>
 #include <stdlib.h>
@@ -39,7 +39,7 @@ static const uint8_t hashes[] = "the first key 16the other key 16";
 #define LENGTH 384
 #include "null_calls.h"
 
-/* A table without pairs has 16 slots, so 256 bytes. */
+/* A table for no pairs has 16 slots, so it takes 256 bytes. */
 static void null_builds(void)
 {
     uint8_t out[256];
@@ -58,7 +58,7 @@ static void null_builds(void)
     EXPECT(odht_u64_u32_check(out, 256), ODHT_OK);
 }
 
-/* Values of bytes: a table of 16 slots has 32 + 16 * (16 + 16) + 32 bytes. */
+/* Values that are bytes. A table of 16 slots takes 32 + 16 * (16 + 16) + 32 bytes. */
 static void null_values_of_bytes(void)
 {
     const uint8_t *key = hashes;
@@ -78,7 +78,7 @@ static void null_values_of_bytes(void)
     EXPECT(odht_b16_b16_get_all(bytes, 576, NULL, 0, NULL, 0, NULL, 0), ODHT_OK);
 }
 
-/* Dynamic tables: keys of three bytes and no values, so 32 + 16 * 3 + 32 bytes. */
+/* Dynamic tables with keys of three bytes and no values. One of 16 slots takes 32 + 16 * 3 + 32 bytes. */
 static void null_any(void)
 {
     const odht_layout layout = {3, 0, ODHT_HASH_FX};
@@ -112,7 +112,7 @@ static void null_any(void)
     EXPECT(odht_any_build(&layout, 0, NULL, 0, NULL, 0, 87, bytes, 112, NULL), ODHT_OK);
 }
 
-/* A pointer to a function points to the inline function, which takes NULL. */
+/* The address of a call is that of the inline function, which accepts NULL. */
 static void null_through_pointer(void)
 {
     uint32_t (*open)(const uint8_t *, size_t) = odht_u64_u32_open;

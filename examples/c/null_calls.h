@@ -1,7 +1,13 @@
 /*
- * Each call of one kind of table, with NULL wherever it is allowed. null.c includes this once for each kind, with
- * CALL(name), the call of that name; TEST, the name for this function; KEY and OTHER_KEY, two keys;
- * KEYS, an array that begins with KEY; VALUE, the type of values; LENGTH, the bytes of 16 slots.
+ * Makes each call of one kind of table, with NULL wherever it is allowed. null.c includes this once for each kind, and
+ * defines these macros before:
+ *
+ *   CALL(name)       the call of this name
+ *   TEST             the name of this function
+ *   KEY, OTHER_KEY   two keys
+ *   KEYS             an array that begins with KEY
+ *   VALUE            the type of values
+ *   LENGTH           the length of a table of 16 slots, in bytes
  */
 static void TEST(void)
 {

@@ -1,4 +1,4 @@
-/* Asks for orders of inserts, of tables of both kinds. */
+/* Finds orders of inserts, for tables of both shapes. */
 #include <inttypes.h>
 #include <stdint.h>
 #include <stdio.h>
@@ -19,7 +19,8 @@ static void insert_again(const char *what, const uint64_t *keys, const uint32_t 
     printf("%s: %s bytes\n", what, memcmp(again, bytes, sizeof again) == 0 ? "same" : "other");
 }
 
-/* The index of a slot's pair in the walk, which is in slot order: after those of the smaller slots. */
+/* Returns the index of a slot's pair in the walk: the number of listed slots before it, because a walk is in slot
+   order. */
 static size_t place_in_walk(size_t slot, const size_t *slots)
 {
     size_t place = 0;
@@ -57,7 +58,7 @@ void order_of_inserts(void)
              odht_u64_u32_insert_order(bytes, sizeof bytes, slots, 2));
 }
 
-/* Each key is in its home, and then two of them are in each other's. */
+/* First each key is in its home. Then two keys are in each other's homes. */
 void unmade_table(void)
 {
     uint8_t bytes[1392];

@@ -2,7 +2,7 @@
 #ifndef ORDERS_H
 #define ORDERS_H
 
-/* The order of a table that has only one, and what inserts in it make. */
+/* Prints the only order of a table, and whether inserts in this order make it. */
 void order_of_inserts(void);
 
 /* A valid table that no inserts make. */

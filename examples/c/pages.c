@@ -1,7 +1,7 @@
 /*
- * A large table in pages of 2 MB. Its memory begins at a multiple of that, and the system is asked
- * for such pages before the first write (docs/USING.md, "Large tables"). Where it has none the pages
- * are of the usual size, and the table is the same. It ends with 0 where each key is found.
+ * A large table in pages of 2 MB. Its memory begins at a multiple of 2 MB. The program requests such
+ * pages before the first write (docs/USING.md, "Large tables"). If the system has none, it uses pages
+ * of the usual size, and the table is the same. The program exits with 0 if it finds each key.
  */
 #ifndef _GNU_SOURCE
 #define _GNU_SOURCE
@@ -16,7 +16,7 @@
 #define ITEMS ((size_t)200000)
 #define PAGE ((size_t)2 << 20)
 
-/* Memory for so many bytes, to be given back by `free`; or NULL. */
+/* Allocates `length` bytes, which the caller frees with `free`. Returns NULL if allocation fails. */
 static uint8_t *allocate_in_large_pages(size_t length)
 {
     size_t whole = (length + PAGE - 1) / PAGE * PAGE;
@@ -24,7 +24,7 @@ static uint8_t *allocate_in_large_pages(size_t length)
     if (whole < length || posix_memalign(&memory, PAGE, whole) != 0)
         return NULL;
 #ifdef MADV_HUGEPAGE
-    /* it is advice: whether it is taken changes no byte */
+    /* this is only advice: it never changes the bytes */
     (void)madvise(memory, whole, MADV_HUGEPAGE);
 #endif
     return (uint8_t *)memory;

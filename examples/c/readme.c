@@ -1,4 +1,4 @@
-/* The example of README. It ends with 0 where each call answers what it must. */
+/* The example of README. It exits with 0 if each call returns what it must. */
 #include <stdint.h>
 #include <stdlib.h>
 

@@ -1,4 +1,4 @@
-/* How the example prints what the calls have answered. */
+/* Prints the results of calls. */
 #ifndef SAY_H
 #define SAY_H
 
@@ -22,7 +22,7 @@ static inline void say_line(const char *what, uint32_t status)
     printf("\n");
 }
 
-/* Stops the program where a call that cannot fail has failed. */
+/* Stops the program if a call failed that cannot fail here. */
 static inline void must_be_ok(uint32_t status)
 {
     if (status != ODHT_OK) {
@@ -31,7 +31,7 @@ static inline void must_be_ok(uint32_t status)
     }
 }
 
-/* Prints what a lookup has answered. */
+/* Prints the result of a lookup. */
 static inline void say_value(uint64_t key, uint32_t status, uint32_t value)
 {
     printf("get %" PRIu64, key);

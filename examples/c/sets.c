@@ -1,4 +1,4 @@
-/* Sets of hashes: what is in them, a walk by two keys at a time, a growth, and builds. */
+/* Sets of hashes: lookups, a walk over two keys at a time, a growth, and builds. */
 #include <stdint.h>
 #include <stdio.h>
 #include <stdlib.h>
@@ -9,7 +9,7 @@
 
 enum { HASH = 16, LENGTH = 32 + 16 * HASH + 32, GROWN = 32 + 32 * HASH + 48 };
 
-/* Three hashes, one after the other, whose last four bytes differ, and one that is in no set. */
+/* Three hashes whose last four bytes differ, without gaps between them, and one that is in no set. */
 static const uint8_t hashes[] = "a hash that ends0another hash end1the third of thm2";
 static const uint8_t other[] = "this one is not3";
 
@@ -32,7 +32,7 @@ static void fills(uint8_t *bytes)
     EXPECT(odht_b16_check(bytes, LENGTH), ODHT_OK);
 }
 
-/* A walk by two keys at a time gives each hash once. */
+/* A walk over two keys at a time gives each hash once. */
 static void walks(const uint8_t *bytes)
 {
     uint8_t keys[2 * HASH];

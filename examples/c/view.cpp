@@ -1,6 +1,6 @@
-/* Tables through odht.hpp: a map of numbers, one of 16-byte keys, a set, openings that fail, walks, and tables that own
-   their bytes and grow. The pairs of the first are those that docs/FORMAT.md works out: (1, 2) in slot 5, (5, 6) in
-   slot 9 and (3, 4) in slot 15. */
+/* Uses odht.hpp: a map of numbers, a map with 16-byte keys, a set, openings that fail, walks, and tables that own their
+   bytes and grow. The pairs of the first map are those of the worked example of docs/FORMAT.md: (1, 2) in slot 5,
+   (5, 6) in slot 9 and (3, 4) in slot 15. */
 #include "odht.hpp"
 
 #include <algorithm>
@@ -23,7 +23,7 @@ static int wrong = 0;
 using Numbers = odht::view<std::uint64_t, std::uint32_t>;
 using Hash = odht::bytes<16>;
 
-/* A hash whose bytes are all the same, so it is in the slot of this number. */
+/* Returns a hash whose bytes are all this number, so it is in the slot of this number. */
 static Hash hash(std::uint8_t byte)
 {
     Hash all;
@@ -72,7 +72,7 @@ static void walks(const std::vector<std::uint8_t> &bytes)
     EXPECT(table.begin() != table.end() && ++++++table.begin() == table.end() && table.end() == Numbers::iterator());
 }
 
-/* More pairs than a walk takes at a time: 40 keys add up to 820, and the values, ten times as much, to 8200. */
+/* More pairs than a walk reads at a time. The sum of the 40 keys is 820. The values are ten times the keys. */
 static void many()
 {
     std::vector<std::uint64_t> keys(40);
@@ -118,7 +118,7 @@ static void hashes_and_sets()
     EXPECT(!pairs);
 }
 
-/* Where opening and checks fail: the keys are in slots 5, 9 and 15. */
+/* The slots of errors that opening and checks return. The keys are in slots 5, 9 and 15. */
 static void places(std::vector<std::uint8_t> bytes)
 {
     std::size_t slot = 0;
@@ -166,8 +166,8 @@ static void failures(std::vector<std::uint8_t> bytes)
 
 using Owning = odht::table<std::uint64_t, std::uint32_t>;
 
-/* 16 slots take 13 items at 87 percent, 32 take 27, 64 take 55. A table of s slots has 32 + 13 * s + 16 bytes. The
-   homes of the keys 1 to 40 differ, so all ways to make the table leave the same bytes. */
+/* At 87 percent the maximum of 16, 32 and 64 slots is 13, 27 and 55 items. A table of s slots takes 32 + 13 * s + 16
+   bytes. The homes of the keys 1 to 40 differ, so all ways to make the table give the same bytes. */
 static void owning_grows()
 {
     Owning table;
@@ -217,14 +217,14 @@ static void owning_of_bytes(std::vector<std::uint8_t> bytes)
     auto table = Owning::from_bytes(bytes.data(), bytes.size(), &why);
     EXPECT(table && why == ODHT_OK && table->data() != bytes.data() && table->find(3) == 4u);
     EXPECT(table->insert(3, 9) == ODHT_REPLACED && bytes == three_pairs());
-    bytes[255] = 0; /* in the mirror, which opening does not look at */
+    bytes[255] = 0; /* in the mirror, which opening does not check */
     EXPECT(Numbers::open(bytes.data(), bytes.size()));
     EXPECT(!Owning::from_bytes(bytes.data(), bytes.size(), &why) && why == ODHT_MIRROR_MISMATCH);
     table = Owning::with_capacity(1000, 87, &why);
     EXPECT(table && why == ODHT_OK && table->size_bytes() == 32 + 13 * 2048 + 16);
     EXPECT(!Owning::with_capacity(3, 0, &why) && why == ODHT_BAD_PERCENT);
     EXPECT(!Owning::with_capacity(SIZE_MAX, 87, &why) && why == ODHT_CAPACITY);
-    /* of 16 slots one percent is no item, of 128 it is one */
+    /* at 1 percent the maximum of 16 slots is 0 items, and that of 128 slots is 1 */
     table = Owning::with_capacity(0, 1);
     EXPECT(table->size_bytes() == 256 && table->insert(1, 2) == ODHT_OK && table->find(1) == 2u);
     EXPECT(table->size_bytes() == 32 + 13 * 128 + 16);

@@ -1,4 +1,4 @@
-/* Opens tables of both kinds once, and looks keys up in the views. */
+/* Opens tables of both shapes once, and looks keys up in the views. */
 #include <inttypes.h>
 #include <stdint.h>
 #include <stdio.h>

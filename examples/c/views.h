@@ -8,7 +8,7 @@
 /* Looks keys up in a view of the first table. */
 void look_up_in_view(const uint8_t *bytes, size_t length);
 
-/* A view of keys of 16 bytes, which finds what is inserted into its bytes later. */
+/* A view of a table with keys of 16 bytes, which finds what is inserted into its bytes later. */
 void insert_behind_view(uint8_t *bytes, size_t length, const uint8_t key[16]);
 
 #endif

@@ -1,5 +1,5 @@
-//! Makes tables, stores one of them in the file that is named by the only argument, reads it, looks keys up, and
-//! prints what is rejected. It prints the same as examples/c.
+//! Makes tables, stores one of them in the file that its only argument names, reads the file, looks keys up, and
+//! prints the errors of damaged bytes. It prints the same as examples/c.
 
 mod refusals;
 mod say;
@@ -13,7 +13,7 @@ pub const LENGTH: usize = 880;
 
 // ---- Keys of 64 bits ----
 
-/// The pairs 1 to 10, 2 to 20, and so on.
+/// Returns the pairs 1 to 10, 2 to 20, and so on.
 fn pairs(count: usize) -> (Vec<u64>, Vec<u32>) {
     ((1..=count as u64).collect(), (1..=count as u32).map(|number| 10 * number).collect())
 }
@@ -42,7 +42,7 @@ fn look_up(bytes: &[u8]) -> Result<(), Error> {
     Ok(())
 }
 
-/// A `Table` is what a view is in C: it is opened once, and does not check the header again.
+/// Looks keys up in a `Table`. Like a view in C it is opened once, and does not check the header again.
 fn look_up_in_view(bytes: &[u8]) -> Result<(), Error> {
     let table = printed("open_view", Table::<U64U32>::open(bytes))?;
     say("open_view without the last byte", Table::<U64U32>::open(&bytes[..LENGTH - 1]));
@@ -72,7 +72,7 @@ fn walk(bytes: &[u8]) -> Result<(), Error> {
     Ok(())
 }
 
-/// Builds the stored table by one call, from the pairs that it holds.
+/// Builds the stored table again with one call, from the pairs in it.
 fn build(bytes: &[u8]) -> Result<(), Error> {
     let (keys, mut values) = pairs(PAIRS);
     values[7 - 1] = 1000;
@@ -136,7 +136,7 @@ fn order_of_inserts() -> Result<(), Error> {
 
 // ---- Keys of 16 bytes ----
 
-/// The pairs 1 to 100, 2 to 200, and so on; each of a key's bytes is its number.
+/// Returns the pairs 1 to 100, 2 to 200, and so on. All bytes of a key are its number.
 fn byte_pairs(count: u8) -> (Vec<[u8; 16]>, Vec<u32>) {
     let values = (1..=u32::from(count)).map(|number| 100 * number);
     ((1..=count).map(|number| [number; 16]).collect(), values.collect())
@@ -154,7 +154,7 @@ fn look_up_bytes(table: Table<B16U32>, keys: &[[u8; 16]]) {
     say::sums(&pairs);
 }
 
-/// A table to look up in borrows the bytes, so after an insert another one is needed.
+/// Looks keys up. A `Table` borrows the bytes, so after an insert a new one is needed.
 fn insert_between_views(bytes: &mut [u8], key: &[u8; 16]) -> Result<(), Error> {
     let view = printed("open_view", Table::<B16U32>::open(bytes))?;
     say::value("view_get 6", view.get(key));
@@ -186,7 +186,7 @@ fn byte_keys() -> Result<(), Error> {
     Ok(())
 }
 
-/// Each key is in its home, and then two of them are in each other's.
+/// First each key is in its home. Then two keys are in each other's homes.
 fn unmade_table() -> Result<(), Error> {
     let mut bytes = [0; 1392];
     println!("\na valid table that no inserts make");

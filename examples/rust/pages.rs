@@ -1,4 +1,4 @@
-//! A large table in pages of 2 MB, as `examples/c/pages.c` has one. It panics where a key is not found.
+//! A large table in pages of 2 MB, like `examples/c/pages.c`. The program panics if it does not find a key.
 
 use std::alloc::{alloc, dealloc, handle_alloc_error, Layout};
 use std::ffi::{c_int, c_void};
@@ -14,7 +14,7 @@ extern "C" {
     fn madvise(start: *mut c_void, length: usize, advice: c_int) -> c_int;
 }
 
-/// Memory in large pages where Linux has them, and in usual ones elsewhere.
+/// Memory in large pages if Linux has them, and otherwise in pages of the usual size.
 struct LargePages {
     start: *mut u8,
     layout: Layout,
@@ -22,31 +22,31 @@ struct LargePages {
 }
 
 impl LargePages {
-    /// So many bytes, all zero. The advice comes before the first write, which is when a page is given.
+    /// Allocates this number of zero bytes. The advice comes before the first write, because that allocates the pages.
     fn of(length: usize) -> LargePages {
         let whole = length.max(1).next_multiple_of(PAGE);
         let layout = Layout::from_size_align(whole, PAGE).expect("a table is that long");
-        // SAFETY: the layout has a size.
+        // SAFETY: the size of the layout is not 0.
         let start = unsafe { alloc(layout) };
         if start.is_null() {
             handle_alloc_error(layout);
         }
-        // SAFETY: the memory was allocated with this layout; advice on it changes no byte.
+        // SAFETY: the memory was allocated with this layout. The advice does not change its bytes.
         unsafe { madvise(start.cast(), whole, MADV_HUGEPAGE) };
-        // SAFETY: the memory is as long, and nobody else has it.
+        // SAFETY: the memory has at least this length, and nothing else refers to it.
         unsafe { start.write_bytes(0, length) };
         LargePages { start, layout, length }
     }
 
     fn bytes(&mut self) -> &mut [u8] {
-        // SAFETY: all of these bytes were written, and they are borrowed as this is.
+        // SAFETY: all of these bytes were written, and the slice borrows `self`.
         unsafe { std::slice::from_raw_parts_mut(self.start, self.length) }
     }
 }
 
 impl Drop for LargePages {
     fn drop(&mut self) {
-        // SAFETY: it was allocated with this layout.
+        // SAFETY: the memory was allocated with this layout.
         unsafe { dealloc(self.start, self.layout) };
     }
 }

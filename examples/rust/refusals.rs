@@ -1,4 +1,4 @@
-//! Errors: damaged tables, and arguments that do not fit.
+//! Errors: damaged tables and wrong arguments.
 
 use odht_ffi::{bytes_needed, Error, Table, TableMut, U64U32};
 

@@ -1,4 +1,4 @@
-//! Prints answers as examples/c does: with the library's statuses, each a number and a text.
+//! Prints results as examples/c does: each status of the library as a number and a text.
 
 use odht_ffi::Error;
 
@@ -7,7 +7,7 @@ const ABSENT: &str = "32 absent";
 const REPLACED: &str = "33 replaced";
 const UNMADE: &str = "37 unmade";
 
-/// The status of a result.
+/// Returns the status of a result.
 pub fn status<T>(answer: &Result<T, Error>) -> String {
     match answer {
         Ok(_) => OK.to_string(),
@@ -51,7 +51,7 @@ pub fn value(what: &str, found: Option<u32>) {
     }
 }
 
-/// Prints flags and values of a lookup of many keys.
+/// Prints the flags and values of a lookup of many keys.
 pub fn found(what: &str, answer: Result<(), Error>, found: &[u8], values: &[u32]) {
     let found: Vec<String> = found.iter().map(u8::to_string).collect();
     let values: Vec<String> = values.iter().map(u32::to_string).collect();
@@ -70,7 +70,7 @@ pub fn order(what: &str, answer: &Result<Option<Vec<usize>>, Error>) {
     }
 }
 
-/// Prints how many pairs a walk gives, and what their numbers add up to.
+/// Prints the number of pairs of a walk, and the sums of their keys and values.
 pub fn sums(pairs: &[(u64, u32)]) {
     let keys: u64 = pairs.iter().map(|pair| pair.0).sum();
     let values: u64 = pairs.iter().map(|pair| u64::from(pair.1)).sum();

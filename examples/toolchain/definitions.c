@@ -1,6 +1,6 @@
-/* Finds the tables of the Rust compiler in files of its metadata: each maps the hashes of definitions, of 8 bytes, to
-   their indices. Each table is checked, each of its keys is looked up, and its bytes are made again by inserts. For
-   each a line: where it begins, its length, its items and its slots. */
+/* Finds the tables of the Rust compiler in files of its metadata. Each table maps hashes of definitions, of 8 bytes, to
+   their indices. The program checks each table, looks up each of its keys, and makes its bytes again with inserts. It
+   prints a line for each table: its offset, its length, its number of items and its slot count. */
 #include <stdint.h>
 #include <stdio.h>
 #include <stdlib.h>
@@ -46,14 +46,14 @@ static uint8_t *read_file(const char *name, size_t *len)
     return bytes;
 }
 
-/* The value of the entry of a slot, which follows the key: four bytes, the lowest first. */
+/* Returns the value in the entry of a slot. It follows the key, as a little-endian number of four bytes. */
 static uint32_t stored_value(const uint8_t *entry)
 {
     const uint8_t *value = entry + KEY;
     return value[0] | (uint32_t)value[1] << 8 | (uint32_t)value[2] << 16 | (uint32_t)value[3] << 24;
 }
 
-/* Looks up each key that the walk gives, in a view. */
+/* Looks up each key of the walk in a view. */
 static void look_up_all(const uint8_t *table, size_t len, size_t count)
 {
     uint8_t *keys = (uint8_t *)allocated(count, KEY);
@@ -75,7 +75,7 @@ static void look_up_all(const uint8_t *table, size_t len, size_t count)
     free(values);
 }
 
-/* Inserts the pairs into an empty table in the order that insert_order gives. */
+/* Inserts the pairs into an empty table in the order that insert_order returns. */
 static void make_again(const uint8_t *table, size_t len, size_t count)
 {
     size_t *slots = (size_t *)allocated(count, sizeof *slots);
@@ -94,7 +94,7 @@ static void make_again(const uint8_t *table, size_t len, size_t count)
     free(again);
 }
 
-/* Whether the bytes are a valid table. Its searches have to be within the bound that tables of such hashes keep. */
+/* Returns whether the bytes are a valid table. Stops the program if a search may be longer than the default bound. */
 static int is_valid(const uint8_t *bytes, size_t len)
 {
     uint32_t status = odht_b8_u32_check_within(bytes, len, ODHT_DEFAULT_GROUPS);
@@ -104,7 +104,7 @@ static int is_valid(const uint8_t *bytes, size_t len)
     return status == ODHT_OK;
 }
 
-/* Whether there is a table of definitions at the front, of how many bytes, and that all that is promised of it holds. */
+/* Reads and checks the table of definitions at the start of the bytes. Returns its length, or 0 if there is none. */
 static size_t read_table(const uint8_t *front, size_t rest, size_t offset)
 {
     size_t len = 0;

@@ -1,15 +1,15 @@
-//! Finds the tables of the Rust compiler in files of its metadata: each maps the hashes of definitions, of 8 bytes, to
-//! their indices. Each table is checked, each of its keys is looked up, and its bytes are made again by inserts. For
-//! each a line: where it begins, its length, its items and its slots.
+//! Finds the tables of the Rust compiler in files of its metadata. Each table maps hashes of definitions, of 8 bytes,
+//! to their indices. The program checks each table, looks up each of its keys, and makes its bytes again with inserts.
+//! It prints a line for each table: its offset, its length, its number of items and its slot count.
 
 use odht::configs::Bytes8ToU32;
 use odht::{HashTable, HashTableOwned, DEFAULT_GROUPS};
 
-/// The bytes of the header, and those of a key and a value.
+/// The lengths in bytes of the header, and of a key with its value.
 const HEADER: usize = 32;
 const ENTRY: usize = 12;
 
-/// Inserts the pairs into an empty table in the order that `insert_order` gives.
+/// Inserts the pairs into an empty table in the order that `insert_order` returns.
 fn make_again(bytes: &[u8]) {
     let table = HashTableOwned::<Bytes8ToU32>::try_from_raw_bytes(bytes).expect("valid bytes");
     let mut slots = vec![0; table.len()];
@@ -24,7 +24,7 @@ fn make_again(bytes: &[u8]) {
     assert!(again.raw_bytes() == bytes, "the inserts make the same bytes");
 }
 
-/// Whether there is a table at the front, of how many bytes, and that all that is promised of it holds.
+/// Reads and checks the table at the start of the bytes. Returns its length, if there is one.
 fn read_table(front: &[u8], offset: usize) -> Option<usize> {
     let (table, rest) = HashTable::<Bytes8ToU32, &[u8]>::open_prefix(front).ok()?;
     if !table.verify() {

@@ -1,4 +1,4 @@
-/* Dynamic tables, beside a second writing and beside the calls of the shapes. */
+/* Dynamic tables, compared with the second writing and with the calls of the shapes. */
 #include <stdint.h>
 #include <string.h>
 

@@ -1,4 +1,4 @@
-/* Lists, walks and the numbers of the header of dynamic tables. */
+/* Dynamic tables: calls with many keys, walks, and the numbers in the header. */
 #include <stdint.h>
 #include <string.h>
 

@@ -1,4 +1,4 @@
-/* Orders of inserts of dynamic tables, beside those of the shapes and beside inserts of a second writing. */
+/* Orders of inserts of dynamic tables, compared with those of the shapes and with inserts of the second writing. */
 #include <stdint.h>
 #include <string.h>
 

@@ -1,4 +1,4 @@
-/* Opened dynamic tables, and tables that grow while they are built: beside a second writing and the shapes. */
+/* Opened dynamic tables, and growing builds, compared with the second writing and with the shapes. */
 #include <stdint.h>
 #include <string.h>
 

@@ -1,4 +1,4 @@
-/* The whole check with a bound of searches: on tables of one hash, on forged ones, and on tables of random keys. */
+/* The whole check with a bound for searches: on tables of one hash, on forged ones, and on tables of random keys. */
 #include <stdint.h>
 #include <string.h>
 #include <time.h>

@@ -1,4 +1,4 @@
-/* Buffers between two pages that fault. */
+/* Buffers between two guard pages, which fault on any access. */
 #include "buffers.h"
 
 #include <stdbool.h>

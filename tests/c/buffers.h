@@ -1,7 +1,7 @@
 /*
- * Buffers between two pages that nobody may read or write. Each test runs once in every placement, so that a call that
- * reads or writes a byte outside of a buffer faults in one of them. What is left of the pages of a buffer is checked
- * where the buffers are dropped.
+ * Buffers between two guard pages, which fault on any read or write. Each test runs once in every placement. A call
+ * that reads or writes a byte outside of a buffer faults in one of them. When the buffers are dropped, the rest of
+ * their pages is checked for writes.
  */
 #ifndef BUFFERS_H
 #define BUFFERS_H
@@ -11,39 +11,39 @@
 
 #include "odht.h"
 
-/* Where buffers are. */
+/* The placements of buffers. */
 enum placement {
     BEFORE_GUARD, /* the last byte is right before a page that faults */
-    BEHIND_GUARD, /* the first byte is right behind one */
-    ODD_ADDRESS,  /* bytes begin at an odd address, numbers at one that is no multiple of 16 */
+    BEHIND_GUARD, /* the first byte is right after such a page */
+    ODD_ADDRESS,  /* bytes begin at an odd address, numbers at one that is not a multiple of 16 */
     PLACEMENTS
 };
 
-/* What is in a new buffer. */
+/* The bytes of a new buffer. */
 enum { FILL = 7 };
 
-/* New buffers are placed so from now on. */
+/* Sets the placement of new buffers. */
 void place_buffers(enum placement wanted);
 
-/* How new buffers are placed. */
+/* Returns the placement of new buffers. */
 enum placement placement(void);
 
-/* The words for a placement. */
+/* Returns the words for a placement. */
 const char *placement_name(enum placement of);
 
-/* A buffer of so many bytes, each FILL. */
+/* Makes a buffer of this length in bytes. Each byte is FILL. */
 uint8_t *bytes_of(size_t len);
 
-/* A buffer of numbers that take so many bytes, each FILL. */
+/* Makes a buffer of this length in bytes, for numbers. Each byte is FILL. */
 void *numbers_of(size_t len);
 
-/* A copy of these bytes. */
+/* Copies these bytes into a new buffer. */
 uint8_t *copy_of(const void *bytes, size_t len);
 
-/* A copy of these numbers. */
+/* Copies these numbers into a new buffer. */
 void *copy_of_numbers(const void *numbers, size_t len);
 
-/* Arrays with these elements, and pointers to one number. */
+/* New buffers with these elements, and with one number. */
 #define BYTES(...)                                                                                \
     copy_of((const uint8_t[]){ __VA_ARGS__ }, sizeof((const uint8_t[]){ __VA_ARGS__ }))
 #define U32S(...) NUMBERS_OF_TYPE(uint32_t, __VA_ARGS__)
@@ -55,13 +55,13 @@ void *copy_of_numbers(const void *numbers, size_t len);
 /* A view of no bytes. */
 odht_view *view_of_nothing(void);
 
-/* How many buffers there are. */
+/* Returns the number of buffers. */
 size_t buffer_count(void);
 
-/* Drops the buffers that were made since there were so many, and checks what is left of their pages. */
+/* Drops the buffers made after the first `count`, and checks the rest of their pages for writes. */
 void drop_buffers_since(size_t count);
 
-/* Asserts that nothing was written beside a buffer. */
+/* Asserts that nothing was written next to a buffer. */
 void check_margins(void);
 
 /* Drops all buffers. */
@@ -70,7 +70,7 @@ void drop_buffers(void);
 /* Makes the pages of a buffer read-only until it is dropped. */
 void freeze(const void *bytes);
 
-/* Writes where this address is beside the buffer whose pages have it. */
+/* Prints where this address is, relative to the buffer in whose pages it is. */
 void describe_address(const void *address, char *text, size_t len);
 
 #endif

@@ -1,4 +1,4 @@
-/* Tables that are built of pairs, with slots for as many, or growing. */
+/* Tables built from pairs, with slots for their number or growing. */
 #include <stdint.h>
 #include <string.h>
 

@@ -1,4 +1,4 @@
-/* The calls of every shape. Numbers in memory have the lowest byte first, as in a table: odht is for such machines. */
+/* The calls of every shape. Numbers in memory are little-endian, as in a table: odht supports only such machines. */
 #include "calls.h"
 
 #include "calls_of_map.h"

@@ -1,6 +1,6 @@
 /*
- * The calls of every shape, with the same types: keys and values are pointers to their bytes. So a test can be run with
- * each shape. Sets have values of no bytes, and their calls do not look at pointers to values.
+ * The calls of every shape with the same types, so that a test can run with each shape. Keys and values are pointers to
+ * their bytes. The values of sets have no bytes, and the calls of sets ignore pointers to values.
  */
 #ifndef CALLS_H
 #define CALLS_H
@@ -11,7 +11,7 @@
 #include "odht.h"
 #include "shape_list.h"
 
-/* How a key is hashed. */
+/* The hash function of keys. */
 enum hash { FX, UN, XXH64 };
 
 /* The lengths in bytes of keys and values, and the hash. */
@@ -21,7 +21,7 @@ struct shape {
     enum hash hash;
 };
 
-/* A shape and its calls. `keys` and `values` are arrays of so many elements. */
+/* A shape and its calls. `keys` and `values` are arrays of `count` elements. */
 struct calls {
     const char *name;
     struct shape shape;
@@ -60,7 +60,7 @@ struct calls {
                               size_t values_len, uint8_t *out, size_t out_len, size_t *len);
 };
 
-/* All shapes: the place of each in their list, and how many there are. */
+/* The index of each shape in the list of all shapes, and their number. */
 #define PLACE_OF_MAP(name, key_kind, key, value_kind, value, hash) AT_##name,
 #define PLACE_OF_SET(name, key_kind, key, hash) AT_##name,
 enum { EACH_SHAPE(PLACE_OF_MAP, PLACE_OF_SET) SHAPES };

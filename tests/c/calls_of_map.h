@@ -1,6 +1,6 @@
-/* The calls of a map, for the table in calls.c: K and V are NUMBER or BYTES, k and v how many bits or bytes. */
+/* The calls of a map, for the table in calls.c. K and V are NUMBER or BYTES, k and v the numbers of bits or bytes. */
 
-/* What is passed for a pointer to a key or value. */
+/* What to pass for a pointer to a key or value. */
 #define PASSED_NUMBER(bits, it) (*(const uint##bits##_t *)(it))
 #define PASSED_BYTES(count, it) ((const uint8_t *)(it))
 

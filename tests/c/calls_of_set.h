@@ -1,4 +1,4 @@
-/* The calls of a set, for the table in calls.c. K is NUMBER or BYTES, k how many bits or bytes. */
+/* The calls of a set, for the table in calls.c. K is NUMBER or BYTES, k the number of bits or bytes. */
 #define CALLS_OF_SET(shape, K, k, hash) \
     static uint32_t shape##_get_of_bytes(const uint8_t *bytes, size_t len, const void *key, \
         void *value) \

@@ -1,4 +1,4 @@
-/* Tables that the library made, of which bytes are changed. */
+/* Tables that the library made, with changed bytes. */
 #include "changed.h"
 
 #include "buffers.h"

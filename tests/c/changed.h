@@ -1,4 +1,4 @@
-/* Tables that the library made, of which bytes are changed. The lists of changes are those of crates/odht_tests. */
+/* Tables that the library made, with changed bytes. The lists of changes are those of crates/odht_tests. */
 #ifndef CHANGED_H
 #define CHANGED_H
 
@@ -17,14 +17,14 @@ struct changed {
     size_t slots;
 };
 
-/* A table of so many slots at 87 percent, with so many inserts of keys and values that look random. */
+/* Makes a table of `slots` slots at 87 percent, with `inserts` inserts of keys and values that look random. */
 struct changed made_table(const struct calls *calls, size_t slots, size_t maximum, size_t inserts,
                           struct random *random);
 
-/* The bytes as the second reading takes them. */
+/* Returns the bytes in the form that the second reading takes. */
 struct reading reading_of(const struct changed *changed);
 
-/* Writes one byte, where there is one at the offset. */
+/* Writes one byte, if there is one at the offset. */
 void write_byte(struct changed *changed, size_t at, uint8_t byte);
 
 #endif

@@ -1,4 +1,4 @@
-/* Tables of the library whose bytes are then changed: where they are opened, each call stays in the frame. */
+/* Tables that the library made, with changed bytes: if they can be opened, each call keeps to the frame. */
 #include <stdint.h>
 #include <string.h>
 

@@ -1,4 +1,4 @@
-/* The whole check of tables that were worked out by hand, unchanged and with changes that opening does not find. */
+/* The whole check of tables worked out by hand, unchanged and with changes that opening does not find. */
 #include <stdint.h>
 
 #include "buffers.h"

@@ -1,4 +1,4 @@
-/* How often each status of bytes came, from ODHT_OK to ODHT_UNREACHABLE. */
+/* Counts the statuses of bytes, from ODHT_OK to ODHT_UNREACHABLE. */
 #ifndef COUNTS_H
 #define COUNTS_H
 
@@ -14,14 +14,14 @@ struct counts {
     size_t of[KINDS];
 };
 
-/* One more of a status. */
+/* Adds one to the count of a status. */
 static inline void count_status(struct counts *counts, uint32_t status)
 {
     HOLDS(status < KINDS);
     counts->of[status]++;
 }
 
-/* Asserts these numbers. */
+/* Asserts these counts. */
 static inline void check_counts(const struct counts *counts, const size_t *expected)
 {
     for (size_t status = 0; status < KINDS; status++) {

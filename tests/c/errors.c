@@ -1,6 +1,6 @@
 /*
- * Errors of bytes, in each shape: which call returns which, which of two comes first, and that nothing is changed by a
- * call that returns one.
+ * Errors of bytes, in each shape: which call returns which error, which of two errors comes first, and that a call that
+ * returns an error changes nothing.
  */
 #include <stdint.h>
 #include <string.h>

@@ -1,4 +1,4 @@
-/* Tables that are forged to make the whole check read and compare much. */
+/* Forged tables, for which the whole check reads and compares much. */
 #include "forged.h"
 
 #include <stdbool.h>
@@ -74,7 +74,7 @@ struct forged forge_one_home(size_t slots)
     return forge_from_one_home(slots, TAGS);
 }
 
-/* Free slots that follow one another, and which group of a probe order begins so many times 16 slots behind the home. */
+/* The free slots, which are neighbours. Group group_behind[i] of a probe order begins 16 * i slots after its home. */
 struct free_slots {
     size_t first;
     size_t count;
@@ -91,7 +91,7 @@ static const uint32_t *groups_behind(size_t slots)
     return behind;
 }
 
-/* Whether all free slots are in groups behind this one of the probe order of a home. */
+/* Returns whether all free slots are in later groups of a home's probe order than this one. */
 static bool is_before(const struct free_slots *free, size_t slots, size_t home, size_t group)
 {
     size_t groups = slots / GROUP;
@@ -105,7 +105,7 @@ static bool is_before(const struct free_slots *free, size_t slots, size_t home, 
     return true;
 }
 
-/* A home in whose probe order the slot is the first of a late group, of sixteen that are tried; else the slot itself. */
+/* Returns a home in whose probe order the slot begins a late group. It tries fifteen, and else returns the slot. */
 static size_t late_home(const struct free_slots *free, size_t slots, size_t slot)
 {
     for (size_t part = PARTS - 1; part > 0; part--) {

@@ -1,6 +1,6 @@
 /*
- * Valid tables that are forged to make the whole check read and compare much, from 8 bytes, of which the last four are
- * the hash, to 32-bit numbers. They are made by docs/FORMAT.md alone, slot by slot.
+ * Valid tables that are forged so that the whole check reads and compares much. Keys have 8 bytes, the last four of
+ * which are the hash. Values are 32-bit numbers. The tables are made only from docs/FORMAT.md, slot by slot.
  */
 #ifndef FORGED_H
 #define FORGED_H
@@ -10,7 +10,7 @@
 
 #include "calls.h"
 
-/* A table, and what is in its header: slots, and items as they are counted meanwhile. */
+/* A table, with the number of its slots, and the number of its items so far. */
 struct forged {
     uint8_t *bytes;
     size_t len;
@@ -18,22 +18,22 @@ struct forged {
     uint64_t items;
 };
 
-/* Full at 87 percent, and all keys have one hash: each is compared with all that come before it. */
+/* Full at 87 percent. All keys have one hash, so each is compared with all keys before it. */
 struct forged forge_one_hash(size_t slots);
 
-/* Full at 87 percent, and all keys have one home, with each tag in turn: the groups before each are read. */
+/* Full at 87 percent. All keys have one home, and their tags cycle, so the check reads all groups before each key. */
 struct forged forge_one_home(size_t slots);
 
 /*
- * As few free slots as 100 percent leave, one of up to 65,536 and each the next of the one before. The home of each key
- * is chosen for its slot, so that the key comes late in the probe order, and before each free slot.
+ * Full at 100 percent, which leaves one free slot for up to 65,536 slots. Several free slots are neighbours. The home
+ * of each key is chosen for its slot, so that the key comes late in the probe order, but before each free slot.
  */
 struct forged forge_few_free_slots(size_t slots);
 
 /*
- * The longest search reads exactly so many groups, at most a sixteenth of the slots. There are few free slots for that,
- * and the home of each key is chosen for its slot: that in whose probe order the slot comes last, but before each free
- * one. All keys have one tag.
+ * The longest search reads exactly `groups` groups, at most a sixteenth of the slots. To that end only few slots are
+ * free. The home of each key is the one in whose probe order its slot comes last, but before each free slot. All keys
+ * have one tag.
  */
 struct forged forge_up_to(size_t slots, size_t groups);
 

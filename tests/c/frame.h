@@ -1,6 +1,6 @@
 /*
- * What the calls may return and leave on bytes whose header and length fit, valid or not: docs/FORMAT.md, "What is
- * rejected, and in which order", at "Accepted but invalid bytes". Each assertion is made by the second reading.
+ * The frame: what calls may return and change on bytes whose header and length fit, valid or not. docs/FORMAT.md lists
+ * it under "Accepted but invalid bytes". Each assertion uses the second reading.
  */
 #ifndef FRAME_H
 #define FRAME_H
@@ -11,7 +11,7 @@
 #include "calls.h"
 #include "reading.h"
 
-/* How often each case came. */
+/* The number of times that each case came. */
 struct cases {
     size_t tried;
     size_t accepted;
@@ -27,20 +27,20 @@ struct cases {
     size_t grown;
 };
 
-/* Asserts that each came. */
+/* Asserts that each case came. */
 void check_each_case(const struct cases *cases);
 
-/* Tables of at most so many bytes and slots. */
+/* The maximum length in bytes and the maximum number of slots of these tables. */
 enum { FRAME_BYTES = 2304, FRAME_SLOTS = 32 };
 
-/* The calls that read a table that was opened stay in the frame, and write nothing to it. */
+/* Asserts that the calls that read an opened table keep to the frame, and write nothing to the table. */
 void check_reads(const struct calls *calls, const uint8_t *bytes, size_t len, struct cases *cases);
 
-/* An insert stays in the frame. */
+/* Asserts that an insert keeps to the frame. */
 void check_insert(const struct calls *calls, uint8_t *bytes, size_t len, const void *key,
                   const void *value, struct cases *cases);
 
-/* The number of inserted pairs is the one that is returned: all, or those up to the first that is answered FULL. */
+/* Asserts that the returned number of pairs was inserted: all, or those up to the first FULL. */
 void check_insert_all(const struct calls *calls, uint8_t *bytes, size_t len, const void *keys,
                       const void *values, size_t count, struct cases *cases);
 

@@ -1,4 +1,4 @@
-/* Inserts into accepted bytes stay in the frame. */
+/* Inserts into accepted bytes keep to the frame. */
 #include <string.h>
 
 #include "frame.h"

@@ -1,4 +1,4 @@
-/* The calls that read accepted bytes stay in the frame. */
+/* The calls that read accepted bytes keep to the frame. */
 #include <string.h>
 
 #include "buffers.h"

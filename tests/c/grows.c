@@ -1,6 +1,6 @@
 /*
- * Growth into the caller's bytes: of full tables whose growth was worked out by docs/FORMAT.md outside the library, and
- * with an error.
+ * Growth into the caller's bytes: full tables, whose growth was worked out from docs/FORMAT.md outside the library, and
+ * errors.
  */
 #include <stdint.h>
 #include <string.h>

@@ -1,4 +1,4 @@
-/* The tests' own tools: what is beside a buffer cannot be read, and the generator is that of crates/odht_tests. */
+/* Tests of the test tools: a buffer's guard pages fault, and the generator is that of crates/odht_tests. */
 #include <stdint.h>
 #include <unistd.h>
 

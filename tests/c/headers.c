@@ -1,4 +1,4 @@
-/* Each header byte of a new table at each of its values, and the results of opening it. */
+/* Opens a new table with each header byte set to each value. */
 #include <stdint.h>
 #include <string.h>
 

@@ -1,4 +1,4 @@
-/* New tables: their length, their bytes, and what is left of a buffer where there is an error. */
+/* New tables: their length, their bytes, and the buffer after an error. */
 #include <stdint.h>
 #include <string.h>
 

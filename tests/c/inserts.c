@@ -1,4 +1,4 @@
-/* Inserts, one by one and of lists: what is new, what is replaced, and what there is no room for. */
+/* Inserts of one pair and of many: new keys, replaced values, and FULL. */
 #include <stdint.h>
 
 #include "buffers.h"

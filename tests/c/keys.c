@@ -1,4 +1,4 @@
-/* Keys and values that are made of numbers. */
+/* Makes keys and values from numbers. */
 #include "keys.h"
 
 #include <string.h>

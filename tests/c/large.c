@@ -1,4 +1,4 @@
-/* Tables with many slots, one of them so many that a list of keys is looked up ahead, and one without a free slot. */
+/* Tables with many slots. One is large enough that lookups of many keys prefetch, and one has no free slot. */
 #include <stdint.h>
 #include <string.h>
 

@@ -1,6 +1,6 @@
 /*
- * Lists that look random, in each shape: built at once, pair by pair, growing, and by the order of inserts that is
- * found for the table. All must be the bytes of the second writing, and what a map has that is kept beside them.
+ * Lists of pairs that look random, in each shape: built at once, pair by pair, growing, and in the order that
+ * insert_order finds. The bytes must be those of the second writing, and the pairs those of a map kept separately.
  */
 #include <stdint.h>
 #include <string.h>

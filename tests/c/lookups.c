@@ -1,6 +1,6 @@
 /*
- * Lookups of many keys against one lookup after the other: of full batches and of others, of present and of absent
- * keys, in a table with one free slot.
+ * Lookups of many keys, compared with single lookups: full batches and others, present and absent keys, in a table with
+ * one free slot.
  */
 #include <stdint.h>
 #include <string.h>

@@ -1,6 +1,6 @@
 /*
- * The calls that take memory, with each request failing in turn, and all others with every request failing. A growing
- * build has one request for its first table, and one for each growth: docs/FORMAT.md, "Growth".
+ * The calls that allocate, with each allocation failing in turn, and all other calls with every allocation failing. A
+ * growing build allocates once for its first table, and once for each growth: docs/FORMAT.md, "Growth".
  */
 #include <stdbool.h>
 #include <stdint.h>

@@ -1,4 +1,4 @@
-/* Orders of inserts: of tables whose only order is known, of one that no inserts make, and with errors. */
+/* Orders of inserts: tables whose only order is known, a table that no inserts make, and errors. */
 #include <stdint.h>
 #include <string.h>
 

@@ -1,6 +1,7 @@
 /*
- * Where opening and checking fail: the slots were worked out by hand, on the worked example of docs/FORMAT.md, whose
- * keys are in slots 5, 9 and 15. whole_checks.c has changed tables of each shape, against the second reading.
+ * The slots of errors that opening and checking return. They were worked out by hand for the worked example of
+ * docs/FORMAT.md, whose keys are in slots 5, 9 and 15. whole_checks.c compares changed tables of each shape with the
+ * second reading.
  */
 #include <stdint.h>
 

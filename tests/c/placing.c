@@ -1,4 +1,4 @@
-/* A second writing of tables. */
+/* The second writing of tables. */
 #include "placing.h"
 
 #include <string.h>

@@ -1,4 +1,4 @@
-/* Tables inside longer bytes: their lengths by their headers, cut bytes, and slot counts that are not true. */
+/* Tables inside longer bytes: lengths from headers, cut bytes, and wrong slot counts. */
 #include <stdint.h>
 #include <string.h>
 

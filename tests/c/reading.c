@@ -1,4 +1,4 @@
-/* A second reading of a table's bytes: where what is. */
+/* The second reading of a table's bytes: the places of its parts. */
 #include "reading.h"
 
 #include <string.h>

@@ -1,4 +1,4 @@
-/* A second reading of a table's bytes: the errors of docs/FORMAT.md, "What is rejected, and in which order". */
+/* The second reading of a table's bytes: the errors of docs/FORMAT.md, "What is rejected, and in which order". */
 #include <string.h>
 
 #include "odht.h"

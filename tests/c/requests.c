@@ -1,4 +1,4 @@
-/* Counts the requests for memory. */
+/* Counts the allocations. */
 #include "requests.h"
 
 #include <errno.h>

@@ -1,25 +1,25 @@
 /*
- * The library's requests for memory, counted, and failing where a test says so. The program is linked with
- * -Wl,--wrap=malloc and the like for each name in run.sh, so that the archive's calls come here.
+ * Counts the library's allocations, and makes those fail that a test selects. The program is linked with
+ * -Wl,--wrap=malloc, and the same option for each other name in run.sh, so that the archive calls these functions.
  */
 #ifndef REQUESTS_H
 #define REQUESTS_H
 
 #include <stddef.h>
 
-/* What no request is. */
+/* The number of no allocation. */
 enum { NO_REQUEST = 0 };
 
-/* Counts requests from 0 again. The one with this number, from 1 on, fails; with NO_REQUEST none does. */
+/* Counts allocations from 0 again. The one with this number, from 1 on, fails. With NO_REQUEST none fails. */
 void count_requests(size_t failing);
 
-/* Counts from 0 again, and all requests fail. */
+/* Counts from 0 again, and lets all allocations fail. */
 void refuse_requests(void);
 
-/* How many there were. */
+/* Returns the number of allocations. */
 size_t requests(void);
 
-/* How many blocks of memory there are that were not freed. */
+/* Returns the number of blocks of memory that were not freed. */
 size_t blocks_in_use(void);
 
 #endif

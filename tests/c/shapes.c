@@ -1,6 +1,6 @@
 /*
- * Each shape of the list once, and some by their own calls: the length, an insert, a lookup, and a lookup of an absent
- * key. A table of sixteen slots has 32 + 16 * (key + value) + 32 bytes.
+ * Each shape of the list once, and some also with their own calls: the length, an insert, a lookup, and a lookup of an
+ * absent key. A table of sixteen slots takes 32 + 16 * (key + value) + 32 bytes.
  */
 #include <stdint.h>
 #include <string.h>

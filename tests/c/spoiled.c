@@ -1,4 +1,4 @@
-/* A table of three pairs, and the ways to spoil it. */
+/* A table of three pairs, and changes that cause each error. */
 #include "spoiled.h"
 
 #include <string.h>

@@ -1,6 +1,6 @@
 /*
- * A table of three pairs in each shape, worked out by hand, and changes of it that lead to each error of bytes, in the
- * order in which the errors are checked.
+ * A table of three pairs in each shape, worked out by hand. For each error of bytes, changes of this table that cause
+ * it, in the order in which the errors are checked.
  */
 #ifndef SPOILED_H
 #define SPOILED_H
@@ -11,14 +11,14 @@
 
 #include "calls.h"
 
-/* Where a changed byte is. */
+/* The place of a changed byte. */
 enum part {
     END,       /* nowhere: the changes end here */
     HEADER,    /* in the header */
     ENTRY,     /* in the entry of a slot */
     CONTROL,   /* the control byte of a slot */
     MIRROR,    /* the mirror of a slot */
-    OTHER_HOME /* the byte of the key in slot 5 that gives it another home; its tag stays */
+    OTHER_HOME /* the byte of the key in slot 5 that gives it another home, and the same tag */
 };
 
 /* A change of one byte: its index is a slot, or the offset in the header. */
@@ -31,8 +31,8 @@ struct edit {
 /* A way to spoil the table. */
 struct spoiling {
     uint32_t error;      /* what the whole check returns */
-    bool is_found_early; /* whether opening returns it too */
-    size_t cut;          /* how many bytes are cut off at the end, or CUT_TO_31 */
+    bool is_found_early; /* whether opening also returns it */
+    size_t cut;          /* the number of bytes cut off at the end, or CUT_TO_31 */
     struct edit edits[4];
 };
 
@@ -52,13 +52,13 @@ size_t three_pairs_len(struct shape shape);
  */
 void write_three_pairs(struct shape shape, uint8_t *bytes);
 
-/* The keys of the table, in slot order. */
+/* Returns the keys of the table, in slot order. */
 void *three_keys(struct shape shape);
 
-/* Makes the changes in a table. Returns how many bytes of it are left. */
+/* Makes the changes in a table. Returns the number of bytes that are left. */
 size_t spoil(struct shape shape, uint8_t *bytes, const struct spoiling *spoiling);
 
-/* Whether two ways change a byte in common, or cut both. */
+/* Returns whether two ways change the same byte, or both cut bytes off. */
 bool are_in_conflict(struct shape shape, const struct spoiling *left,
                      const struct spoiling *right);
 

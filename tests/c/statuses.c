@@ -1,4 +1,4 @@
-/* Each status of odht.h once: by a table, or a call, that is made for it. docs/FORMAT.md has the list of them. */
+/* Each status of odht.h once, from a table or a call made for it. docs/FORMAT.md lists the statuses. */
 #include <stdint.h>
 #include <string.h>
 

@@ -1,4 +1,4 @@
-/* The tables of tests, one a file. */
+/* The tables of tests, one for each file. */
 #ifndef SUBJECTS_H
 #define SUBJECTS_H
 
@@ -32,7 +32,7 @@ extern const struct test view_tests[];
 extern const struct test walk_tests[];
 extern const struct test whole_check_tests[];
 
-/* The tables in the order in which they are run. */
+/* The tables in the order in which they run. */
 #define SUBJECTS \
     { \
         harness_tests, any_list_tests, any_order_tests, any_tests, any_view_tests, bound_tests, \

@@ -1,4 +1,4 @@
-/* Tables that were worked out by hand. */
+/* Tables worked out by hand. */
 #include "tables.h"
 
 #include <string.h>

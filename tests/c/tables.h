@@ -11,11 +11,11 @@ struct change {
     uint8_t byte;
 };
 
-/* A list of at most so many changes ends with one at offset NOWHERE. */
+/* A list of changes has at most this length, and ends with one at offset NOWHERE. */
 enum { CHANGES = 12 };
 #define NOWHERE SIZE_MAX
 
-/* A change of nothing, and the changes of a row with their end. */
+/* A change of no byte, and the changes of a row with their end. */
 #define END_OF_CHANGES { NOWHERE, 0 }
 
 /* Writes the byte of each change. */

@@ -1,4 +1,4 @@
-/* Runs tests, and prints what they find. */
+/* Runs tests, and prints their failures. */
 #include "test.h"
 
 #include <inttypes.h>

@@ -1,6 +1,6 @@
 /*
- * Walks into arrays, one part of the slots after another. Keys of 16 bytes are hashes already, so one whose bytes are
- * all `n` is in slot `n` of sixteen.
+ * Walks into arrays, in batches. Keys of 16 bytes are already hashes, so a key whose bytes are all `n` is in slot `n`
+ * of sixteen.
  */
 #include <stdint.h>
 #include <string.h>

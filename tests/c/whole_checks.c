@@ -1,7 +1,6 @@
 /*
- * The whole check against a second reading of the bytes that shares no code with the library: on every change of one
- * byte of a table, and on tables of which some bytes are changed. How often each error comes was counted by a program
- * outside the library.
+ * The whole check, compared with the second reading of the bytes: on every change of one byte of a table, and on
+ * tables with some changed bytes. A program outside the library counted how often each error comes.
  */
 #include <stdint.h>
 #include <string.h>

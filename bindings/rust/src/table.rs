@@ -22,7 +22,7 @@ pub const DEFAULT_GROUPS: usize = 128;
 /// The comments on results are true for valid bytes: those that this library made, and all others that the whole check
 /// accepts ([`Table::checked`]). [`Table::open`] reads only ten slots, so it can accept bytes that are not valid. On
 /// these bytes every call is safe and returns. But [`Table::get`] may miss a key, or return a value that is stored with
-/// the key in a free slot, and [`Table::len`] may return any number. docs/FORMAT.md of the repository has the details
+/// the key in a free slot, and [`Table::len`] may return any number. docs/FORMAT.md of the repository lists the limits
 /// under "Accepted but invalid bytes".
 ///
 /// While a table exists, the borrow checker rejects writes to its bytes:

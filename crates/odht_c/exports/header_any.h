@@ -5,8 +5,8 @@
  * hash function, as a layout. Each key and value is a pointer to bytes, with a length.
  *
  * The comment on odht_S_NAME above is also the comment on odht_any_NAME. With the lengths and the hash function of a
- * shape, these calls read and write the same bytes as the calls of the shape, and return the same. A view from one can
- * be used by the other if the lengths are the same. For many lookups the calls of a shape are faster.
+ * shape, these calls return and write the same as the calls of the shape. A view from one can be used by the other if
+ * the lengths are the same. For many lookups the calls of a shape are faster.
  *
  * All lengths of keys and values are in bytes here. This includes the lengths of arrays, in which items follow each
  * other without gaps. A layout is never NULL. In a set, values have no bytes: pass any pointer and 0 for them, or NULL

@@ -1,8 +1,8 @@
 /* ---- The calls ----
  *
- * S is the name of a shape, such as u64_u32. A key or value that is a number is passed by value. One of N bytes is
- * passed as a pointer to them. *value and *former are a number or N bytes. A call writes an out-parameter only with the
- * statuses that name it below.
+ * S is the name of a shape, such as u64_u32. A number, as a key or value, is passed by value. A key or value of N bytes
+ * is passed as a pointer to its bytes. *value and *former are a number or N bytes. A call writes an out-parameter only
+ * with the statuses that name it below.
  *
  * The prototypes of odht_u64_u32_*, as they are with ODHT_PLAIN defined:
  *
@@ -66,9 +66,9 @@
  *     Cost: one pass over the slots. For each occupied slot it reads the control bytes of the key's probe order up to
  *     that slot, sixteen at a time. It compares the key with each earlier key of that order that has the same tag. It
  *     allocates nothing.
- *     If the hashes of the keys vary, the check takes up to three times as long as one lookup of each key, and up to
- *     1.4 times at 87 percent. If many keys have one hash, by chance or by forgery, it compares up to every pair of
- *     keys: the time grows with the square of the number of slots. bench/README.md lists times. Use
+ *     If the hashes of the keys vary, the check takes up to three times as long as one lookup of each key. At 87
+ *     percent it takes up to 1.4 times as long. If many keys have one hash, by chance or by forgery, it compares up to
+ *     every pair of keys: the time grows with the square of the number of slots. bench/README.md lists times. Use
  *     odht_S_check_within for untrusted bytes.
  *
  * odht_S_check_within(bytes, bytes_len, groups)
@@ -102,8 +102,8 @@
  *
  * odht_S_sizes(bytes, bytes_len, *slots, *max_item_count, *percent)
  *     Reads the slot count and the load factor from the header, and computes the maximum number of items from both.
- *     The load factor is in percent, rounded down. So it may be one less than the percentage that the table
- *     was made with.
+ *     The load factor is in percent, rounded down. So it may be one less than the percentage that the table was made
+ *     with.
  *     OK: all three are written. An error, @HEADER@. Constant time.
  *
  * odht_S_table_len(bytes, bytes_len, *len)
@@ -155,8 +155,9 @@
  *     Cost: it reads the control bytes from the old *cursor to the new one, and the entries of the pairs.
  *
  * odht_S_insert_order(bytes, bytes_len, slots, slots_len)
- *     Finds an order of inserts that makes exactly these bytes: insert the pairs of these slots, in this order, into an
- *     empty table of the same slot count and load factor. Some valid tables have no such order.
+ *     Finds an order of inserts that makes exactly these bytes, and writes it as a list of slots. To make the bytes,
+ *     insert the pairs of these slots, in this order, into an empty table of the same slot count and load factor. For
+ *     some valid tables there is no such order.
  *     OK: slots holds the occupied slots, each once, in such an order. Slots are numbered from 0. UNMADE: no list of
  *     inserts makes the table, with growths or without, and the content of slots is unspecified. An error of the whole
  *     check, @CHECK@. BAD_LENGTHS: the bytes are valid, and slots_len is not the number of items.

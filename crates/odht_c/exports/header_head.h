@@ -77,13 +77,13 @@
  *   the value stored there.
  * - len returns the item count in the header.
  * - An insert changes one value that is stored with an equal key, or adds one entry if the item count is below the
- *   maximum. It returns FULL only if a search slot by slot can miss the key, and only if the item count is at or above
- *   the maximum, or no slot is free. Here a slot is free if its control byte, and its mirror byte if it has one, are
- *   above 127.
+ *   maximum. It returns FULL only under two conditions. A search slot by slot can miss the key. And the item count is
+ *   at or above the maximum, or no slot is free. Here a slot is free if its control byte is above 127, and its mirror
+ *   byte, too, if there is one.
  * - grow writes bytes without the errors @HEADER@. They have the same item count and load factor; their pairs are
  *   unspecified.
  *
- * docs/FORMAT.md has the details under "Accepted but invalid bytes".
+ * docs/FORMAT.md lists these limits under "Accepted but invalid bytes".
  *
  * Only odht_*_build_growing allocates memory. It uses malloc, and frees the memory before it returns. The libraries
  * of make lib need only the C library; those that cargo builds also need libgcc_s. This header needs C99 or later, or
@@ -152,8 +152,8 @@ extern "C" {
    first error is not in a slot. No slot has this number. */
 #define ODHT_NO_SLOT SIZE_MAX
 
-/* The result of a call. Error::Name is the library's error in Rattle; the rest of the comment is its cause.
-   docs/FORMAT.md, "Numbers for C", has the same table. */
+/* The result of a call. Error::Name is the name of the error in Rattle. The rest of the comment is its cause.
+   docs/FORMAT.md, "Numbers for C", lists the same numbers. */
 enum odht_status {
 @STATUS_OK@
 

@@ -30,9 +30,9 @@
 #define ODHT_FUNCTION(result, name, parameters, body)
 #endif
 
-/* For keys and values that are numbers of `bits` bits: the type of an array item, a parameter, an out-parameter (a
-   pointer that may be NULL), a variable for a result that the caller does not need, and arrays whose pointer may be
-   NULL. */
+/* For keys and values that are numbers of `bits` bits. In this order: the type of an array item, a parameter, an
+   out-parameter (a pointer that may be NULL), and a variable for a result that the caller does not need. The last two
+   are arrays, to read and to write, whose pointer may be NULL. */
 #define ODHT_NUMBER_ITEM(bits) uint##bits##_t
 #define ODHT_NUMBER_GIVEN(bits, name) uint##bits##_t name
 #define ODHT_NUMBER_WANTED(bits, name) uint##bits##_t *name

@@ -270,9 +270,8 @@ pub unsafe extern "C" fn odht_any_walk(
 ///
 /// `scratch` is memory for the search. Its content before the call does not matter, and after 0 and
 /// `UNMADE` it is unspecified. Makes the whole check. With at least three numbers of scratch for
-/// each slot, the search then takes time proportional to the slots, and to the groups that the
-/// longest search of each home reads. With fewer it makes the passes of the shapes' calls.
-/// Allocates nothing.
+/// each slot, the time of the search is proportional to the slots, and to the groups of the longest
+/// search of each home. With fewer it makes the passes of the shapes' calls. Allocates nothing.
 #[unsafe(no_mangle)]
 pub unsafe extern "C" fn odht_any_insert_order(
     layout: &AnyLayout,
@@ -289,11 +288,11 @@ pub unsafe extern "C" fn odht_any_insert_order(
     order::insert_order(*layout, bytes, out, scratch)
 }
 
-/// Inserts a key with its value. Returns 0 if the key was new. If the key was present, replaces
-/// its value, writes the former one to `former` and returns `REPLACED`. Returns `FULL` if the key
-/// is absent and the table is at its maximum, `BAD_LENGTHS` if the key, the value or `former` does
-/// not have the layout's length, or an error of the header or length. Then nothing is changed. A
-/// view of the bytes remains usable, whatever the status.
+/// Inserts a key with its value. Returns 0 if the key was new. If the key was present, replaces its
+/// value, writes the former one to `former` and returns `REPLACED`. Returns `FULL` if the key is
+/// absent and the table is at its maximum, or an error of the header or length. Returns
+/// `BAD_LENGTHS` if the key, the value or `former` does not have the layout's length. With these
+/// nothing is changed. A view of the bytes remains usable, whatever the status.
 #[unsafe(no_mangle)]
 pub unsafe extern "C" fn odht_any_insert(
     layout: &AnyLayout,

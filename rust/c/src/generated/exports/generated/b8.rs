@@ -335,10 +335,10 @@ pub unsafe extern "C" fn odht_b8_insert_order(
 /// `len`, and returns 0. The copy has the same load factor, and slots for twice the number of
 /// items, and for at least one. The pairs are placed in slot order (docs/FORMAT.md, "Growth"). The
 /// rest of `out` is unchanged. Returns `TOO_SMALL` if `out` is shorter than the copy. Then only
-/// `len` is written. Returns an error of the header or length, `LOAD_FACTOR_TOO_SMALL` if the
-/// header's load factor is below one percent, or `CAPACITY` if no slot count is large enough or the
-/// length does not fit `usize`. Then nothing is written. Makes one pass over both tables, and
-/// hashes each key once. Allocates nothing.
+/// `len` is written. Returns an error of the header or length, or `LOAD_FACTOR_TOO_SMALL` if the
+/// header's load factor is below one percent. Returns `CAPACITY` if no slot count is large enough
+/// or the length does not fit `usize`. With these errors nothing is written. Makes one pass over
+/// both tables, and hashes each key once. Allocates nothing.
 #[unsafe(no_mangle)]
 pub unsafe extern "C" fn odht_b8_grow(
     bytes: *const u8,
@@ -356,9 +356,10 @@ pub unsafe extern "C" fn odht_b8_grow(
 /// at each index in order. Writes the table's length in bytes to `len`, and returns 0. Of equal
 /// keys the last value counts. The rest of `out` is unchanged. Returns `TOO_SMALL` if `out` is
 /// shorter than the table. Then only `len` is written. Returns `BAD_LENGTHS` if the numbers of keys
-/// and values differ, `BAD_PERCENT` if the load factor is not from 1 to 100 percent, or `CAPACITY`
-/// only if no slot count is large enough or the length does not fit `usize`. Then nothing is
-/// written. Makes one pass over the bytes, and one insert for each pair. Allocates nothing.
+/// and values differ, or `BAD_PERCENT` if the load factor is not from 1 to 100 percent. Returns
+/// `CAPACITY` only if no slot count is large enough or the length does not fit `usize`. With these
+/// errors nothing is written. Makes one pass over the bytes, and one insert for each pair.
+/// Allocates nothing.
 #[unsafe(no_mangle)]
 pub unsafe extern "C" fn odht_b8_build(
     keys: *const [u8; 8],
