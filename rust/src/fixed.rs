@@ -170,8 +170,8 @@ tuples! {
 /// | text, tuples, floats, big-endian numbers | `by Xxh64` |
 /// | anything else, or if you do not know | `by Xxh64` |
 ///
-/// - [`FxHashFn`](crate::FxHashFn) uses the low 32 bits of each eight bytes of a key. Keys that differ only in the high
-///   32 bits have few different hashes.
+/// - [`FxHashFn`](crate::FxHashFn) ignores the high 32 bits of the last eight bytes of a key, such as those of a number
+///   of 64 bits. Keys that differ only in these have one hash.
 /// - [`UnHashFn`](crate::UnHashFn) takes the last four bytes of a key as its hash.
 /// - [`Xxh64HashFn`](crate::Xxh64HashFn) uses all bits. It is the low half of XXH64, which
 ///   libraries in other languages provide too.

@@ -40,8 +40,8 @@ pub trait HashFn: Eq {
 /// 4, 2 or 1 bytes.
 ///
 /// Use it for numbers that count up, and for addresses without the low bits that are always zero.
-/// It uses the low 32 bits of each eight bytes: keys that differ only in the high 32 bits of their
-/// last eight bytes have one hash. `Xxh64HashFn` uses all bits.
+/// It ignores the high 32 bits of the last eight bytes: keys that differ only in these have one
+/// hash. `Xxh64HashFn` uses all bits.
 #[derive(PartialEq, Eq)]
 pub struct FxHashFn;
 

@@ -8,7 +8,7 @@ use std::marker::PhantomData;
 /// From keys to values that are stored as `FixedBytes` says; where values are `()` the table is a set.
 ///
 /// `H` hashes the bytes of a key:
-/// - `FxHashFn` is for numbers that count up. It uses the low 32 bits of each eight bytes.
+/// - `FxHashFn` is for numbers that count up. It ignores the high 32 bits of a 64-bit number.
 /// - `UnHashFn` is for keys that are hashes already. It takes their last four bytes, which should
 ///   be evenly spread.
 /// - `Xxh64HashFn` is for all other keys, such as texts: `Pairs<[u8; 16], u32, Xxh64HashFn>`.
