@@ -6,7 +6,7 @@
 --     IsGrownLayout F B r  r is the slot count and the length in bytes of the table that the bytes B grow into; None exactly
 --                          where there is none
 --     IsGrownImage F P T   T is the image of the grown table of P
---     IsRoomFor c s B      the bytes B are as many as a table of s slots has, and zeros where its entries are
+--     IsRoomFor F s B      the bytes B are as many as a table of s slots has, and zeros where its entries are
 --     IsGrownFrom F B T    T are accepted bytes whose header has the item count and the load factor of B; and where B
 --                          is the image of a table, T is the image of the one that it grows into
 --     IsPlacing F P ps Q   placing the pairs ps into P gives Q; their keys are pairwise distinct and new to P
@@ -24,7 +24,6 @@ use Rattle.odht_base.specs.Decoded.{header_count, header_factor}
 use Rattle.odht_base.specs.Map.{KeysApart}
 use Rattle.odht_base.specs.Table.{Pair, Table, empty}
 use Rattle.odht_base.specs.Valid.{IsImage}
-use Rattle.odht_header.specs.Coding.{Coding}
 use Rattle.odht_header.specs.Layouts.{IsLayout}
 use Rattle.odht_raw.specs.Frame.{IsAccepted}
 use Rattle.odht_raw.specs.Parts.{IsZeros}
@@ -46,9 +45,9 @@ IsGrownLayout F B r = MatchOption r (grown_len F B ≡ None) (λ l. IsLayout F (
 abbrev pub IsGrownImage : Format → Table → List ℕ → Type 0
 IsGrownImage F P T = (Q : Table) × (grown F P ≡ Some Q) × IsImage F Q T
 
-pub record IsRoomFor {K V : Type 0} (c : Coding K V) (s : ℕ) (B : List ℕ) : Type 0 where
-  pub len : length B ≡ image_len c.format s
-  pub zeros : IsZeros (s * entry_len c.format) (bytes_at B 32 (s * entry_len c.format))
+pub record IsRoomFor (F : Format) (s : ℕ) (B : List ℕ) : Type 0 where
+  pub len : length B ≡ image_len F s
+  pub zeros : IsZeros (s * entry_len F) (bytes_at B 32 (s * entry_len F))
 
 pub record IsGrownFrom (F : Format) (B T : List ℕ) : Type 0 where
   pub accepted : IsAccepted F T

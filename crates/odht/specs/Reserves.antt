@@ -6,7 +6,7 @@
 --                          has and n more
 --     IsMovedImage F P s B    B is the image of moved F P s
 --     IsReserved F P n B   B is the image of reserved F P n, a table with the map of P and with room for n more items
---     IsMove c B s T       T has the pairs of the table of the bytes B in s slots: of a valid table that has room there they
+--     IsMove F B s T       T has the pairs of the table of the bytes B in s slots: of a valid table that has room there they
 --                          are placed (`on_valid`), and header and length fit (`accepted`)
 --     IsMoveFor F P n r    r is what P moves into for room for n more items: None where it has the room; else the slots for
 --                          as many as it has and n more, and the length for them, or an error where no table is that large
@@ -50,9 +50,9 @@ pub record IsReserved (F : Format) (P : Table) (n : ℕ) (B : List ℕ) : Type 0
   pub maps : (k : List ℕ) → map_of table k ≡ map_of P k
   pub room : count table + n ≤ max_items (slot_count table) table.factor
 
-pub record IsMove {K V : Type 0} (c : Coding K V) (B : List ℕ) (s : ℕ) (T : List ℕ) : Type 0 where
-  pub on_valid : OfTable c.format B (λ P. count P ≤ max_items s P.factor → IsMovedImage c.format P s T)
-  pub accepted : IsAccepted c.format T
+pub record IsMove (F : Format) (B : List ℕ) (s : ℕ) (T : List ℕ) : Type 0 where
+  pub on_valid : OfTable F B (λ P. count P ≤ max_items s P.factor → IsMovedImage F P s T)
+  pub accepted : IsAccepted F T
 
 abbrev pub IsMoveFor : Format → Table → ℕ → Result (Option (ℕ × ℕ)) Error → Type 0
 IsMoveFor F P n r = MatchResult r

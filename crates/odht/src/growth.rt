@@ -1,26 +1,27 @@
 //! Growth: a table with the slots for twice as many items, written into larger bytes.
 ghost use Rattle.odht.specs.Tables.{InTable};
-ghost use Rattle.std.specs.Prelude.{◌≡◌, Some, length, map};
+ghost use Rattle.std.specs.Prelude.{◌≡◌, All, Some, length};
 ghost use Rattle.odht_base.specs.Decoded.{header_count, header_factor};
 ghost use Rattle.odht_base.specs.Format.{format_of};
 ghost use Rattle.odht_base.specs.Insert.{grown_slots};
 ghost use Rattle.odht_base.specs.Load.{IsSlotCount};
 ghost use Rattle.odht_base.specs.Table.{Table};
 ghost use Rattle.odht_base.specs.Valid.{IsPartsOf};
-ghost use Rattle.odht_raw.specs.PartLengths.{ArePartLengths};
-ghost use Rattle.odht_raw.specs.Walks.{stored};
+ghost use Rattle.odht_raw.specs.DynParts.{HasLengthsOf};
+ghost use Rattle.odht_raw.specs.Frame.{IsAccepted};
+ghost use Rattle.odht_raw.specs.PartLengths.{ArePairLengths, ArePartLengths};
 ghost use Rattle.odht.specs.Growths.{grown_len, table_len};
 ghost use Rattle.odht.specs.Reserves.{IsMove};
 ghost use Rattle.odht.specs.Growths.{IsWritten, IsGrownFrom, IsGrownLayout, IsRoomFor, IsPlacing};
 
-use crate::bytes::{ByteArray, ByteStore};
+use crate::bytes::ByteStore;
 use crate::config::{Coded, Config};
 use crate::hash::HashFn;
 use crate::hash_table::HashTable;
-use crate::layout::{Fixed, Layout};
+use crate::layout::{Fixed, Layout, Lengths};
 use crate::load::Factor;
-use crate::memory_layout::{self, HEADER_SIZE, Header};
-use crate::raw_table::{RawIter, RawTableMut};
+use crate::memory_layout::{self, HEADER_SIZE, Header, parts_in};
+use crate::raw_table::{PartPairs, write_new};
 use crate::swisstable_group_query::GroupQuery;
 
 impl<C: Config, D: ByteStore> HashTable<C, D> {
@@ -102,57 +103,85 @@ pub(crate) fn write_moved<C: Config, D: ByteStore>(
     out: &mut [u8],
 )
     requires slots { IsSlotCount slot_count }
-    requires room { IsRoomFor ⟦<C as Coded>⟧.coding slot_count out.old }
-    ensures moved { IsMove ⟦<C as Coded>⟧.coding (D.bytes table.now) slot_count out.new }
+    requires room { IsRoomFor ⟦<C as Coded>⟧.coding.format slot_count out.old }
+    ensures moved { IsMove ⟦<C as Coded>⟧.coding.format (D.bytes table.now) slot_count out.new }
     ensures count { header_count out.new ≡ header_count (D.bytes table.now) }
     ensures factor { header_factor out.new ≡ header_factor (D.bytes table.now) }
 {
-    let header = table.allocation.header();
-    let item_count = header.item_count();
-    let factor = header.max_load_factor();
-    let (control, entries) = table.allocation.data_slices();
-    let walk = RawIter::new(control, entries);
-    write_walked::<C>(out, slot_count, item_count, factor, walk);
+    let lengths: Fixed<C::EncodedKey, C::EncodedValue> = Fixed::new();
+    let bytes = table.allocation.raw_bytes();
+    move_parts::<Fixed<C::EncodedKey, C::EncodedValue>, C::H>(bytes, lengths, slot_count, out);
 }
 
-// Writes the table of so many slots with the items of the walk into bytes whose entries are zeros.
+/// `write_moved` of the bytes of a table, whose lengths of keys and values are types or numbers.
+/// All tables grow by it.
+pub(crate) fn move_parts<L: Lengths, H: HashFn>(
+    bytes: &[u8],
+    lengths: L,
+    slot_count: usize,
+    out: &mut [u8],
+)
+    requires accepted { IsAccepted (format_of (L.key_len lengths) (L.value_len lengths) H.hash)
+        bytes.now }
+    requires pair { ArePairLengths H.MIN_LEN (L.key_len lengths) (L.value_len lengths) }
+    requires slots { IsSlotCount slot_count }
+    requires room { IsRoomFor (format_of (L.key_len lengths) (L.value_len lengths) H.hash)
+        slot_count out.old }
+    ensures moved { IsMove (format_of (L.key_len lengths) (L.value_len lengths) H.hash)
+        bytes.now slot_count out.new }
+    ensures count { header_count out.new ≡ header_count bytes.now }
+    ensures factor { header_factor out.new ≡ header_factor bytes.now }
+{
+    let header = Header::of(bytes);
+    let items = header.item_count();
+    let factor = header.max_load_factor();
+    let walk = parts_in::<L, H>(bytes, lengths).iter();
+    write_walked::<L, H>(out, lengths, slot_count, items, factor, walk);
+}
+
+// Writes the table of so many slots with the pairs of the walk into bytes whose entries are zeros.
 // The new header gets `item_count`, whatever the walk gives.
-fn write_walked<C: Config>(
+fn write_walked<L: Lengths, H: HashFn>(
     bytes: &mut [u8],
+    lengths: L,
     slot_count: usize,
     item_count: usize,
     max_load_factor: Factor,
-    walk: RawIter<'_, C::EncodedKey, C::EncodedValue>,
+    walk: PartPairs<'_, L, H>,
 )
     requires slots { IsSlotCount slot_count }
-    requires room { IsRoomFor ⟦<C as Coded>⟧.coding slot_count bytes.old }
-    ensures { IsWritten ⟦<C as Coded>⟧.coding.format slot_count item_count max_load_factor.0
-        (map (stored C.EncodedKey.bytes C.EncodedValue.bytes) walk.entry) bytes.new }
+    requires room { IsRoomFor (format_of (L.key_len lengths) (L.value_len lengths) H.hash)
+        slot_count bytes.old }
+    requires pair { ArePairLengths H.MIN_LEN (L.key_len lengths) (L.value_len lengths) }
+    requires lengths { All (HasLengthsOf (L.key_len lengths) (L.value_len lengths)) walk }
+    ensures { let F = format_of (L.key_len lengths) (L.value_len lengths) H.hash
+        in IsWritten F slot_count item_count max_load_factor.0 walk.entry bytes.new }
 {
-    let lengths: Fixed<C::EncodedKey, C::EncodedValue> = Fixed::new();
     memory_layout::write_empty(bytes, lengths, slot_count, item_count, max_load_factor);
-    let (table, control) = bytes.split_at_mut(memory_layout::entry_at::<C>(slot_count));
+    let at = HEADER_SIZE + slot_count * lengths.entry_len();
+    let (table, control) = bytes.split_at_mut(at);
     let (_header, entries) = table.split_at_mut(HEADER_SIZE);
-    place_walk::<C::EncodedKey, C::EncodedValue, C::H>(control, entries, walk);
+    place_walk::<L, H>(control, entries, lengths, walk);
 }
 
-// Places the items of a walk in turn into the parts of a table, each as long as a slot is free.
+// Places the pairs of a walk in turn into the parts of a table, each as long as a slot is free.
 // The clause is for keys that are pairwise distinct and new to the table, as on valid bytes; other
 // walks are taken too.
-fn place_walk<K: ByteArray, V: ByteArray, H: HashFn>(
+fn place_walk<L: Lengths, H: HashFn>(
     control: &mut [u8],
     entries: &mut [u8],
-    walk: RawIter<'_, K, V>,
+    lengths: L,
+    walk: PartPairs<'_, L, H>,
 )
-    requires { ArePartLengths H.MIN_LEN K.LEN V.LEN (length entries.old) (length control.old) }
-    ensures { let F = format_of K.LEN V.LEN H.hash
-        in let pairs = map (stored K.bytes V.bytes) walk.entry
-        in (P Q : Table) → IsPlacing F P pairs Q
+    requires parts { ArePartLengths H.MIN_LEN (L.key_len lengths) (L.value_len lengths)
+        (length entries.old) (length control.old) }
+    requires lengths { All (HasLengthsOf (L.key_len lengths) (L.value_len lengths)) walk }
+    ensures { let F = format_of (L.key_len lengths) (L.value_len lengths) H.hash
+        in (P Q : Table) → IsPlacing F P walk.entry Q
         → IsPartsOf F P entries.old control.old → IsPartsOf F Q entries.new control.new }
 {
-    let mut table: RawTableMut<'_, '_, K, V, H> = RawTableMut::new(control, entries);
-    for (_, entry) in walk {
+    for (key, value) in walk {
         // There is room for each item of a valid table.
-        let _ = table.place_by::<GroupQuery>(entry.key, entry.value);
+        let _ = write_new::<L, H, GroupQuery>(control, entries, lengths, key, value);
     }
 }

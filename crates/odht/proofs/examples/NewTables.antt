@@ -63,7 +63,7 @@ not_checked = (λ h. let is = h.refused (TooShort 1) refl in cc, λ h. let is = 
 
 -- ---- room for the slots, and placing
 -- 256 zeros have room for sixteen slots, and 255 have not
-pub zeros : IsRoomFor number_coding 16 (replicate 256 0) × (IsRoomFor number_coding 16 (replicate 255 0) → ⊥)
+pub zeros : IsRoomFor my_config 16 (replicate 256 0) × (IsRoomFor my_config 16 (replicate 255 0) → ⊥)
 unfolding opened
 zeros = (record { len = refl; zeros = refl }, λ h. let long : 255 ≡ 256 = h.len in omega (arith, long))
 

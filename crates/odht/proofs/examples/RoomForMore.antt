@@ -48,7 +48,7 @@ unfolding opened
 moved_image = (one_of_32 87 2, refl, wide_image)
 
 -- so are its bytes, of those of the table
-pub move : IsMove number_coding (bytes_of (one_pair 2)) 32 (bytes_of (one_of_32 87 2))
+pub move : IsMove my_config (bytes_of (one_pair 2)) 32 (bytes_of (one_of_32 87 2))
 unfolding opened moved_image
 move = record { on_valid = λ P is room. subst (λ T. IsMovedImage my_config T 32 (bytes_of (one_of_32 87 2))) (only_one_pair P is) moved_image; accepted = refl }
 

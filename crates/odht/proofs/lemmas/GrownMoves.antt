@@ -9,7 +9,6 @@ use Rattle.odht_base.specs.Table.{Table, count, empty, walk}
 use Rattle.odht_base.specs.Valid.{IsValid}
 use Rattle.odht_base.proofs.lemmas.Grown.{room_above}
 use Rattle.odht_base.proofs.lemmas.Least.{slots_for-IsLeastSlots}
-use Rattle.odht_header.specs.Coding.{Coding}
 use Rattle.odht.specs.Growths.{grown_slots_of, IsGrownImage, IsGrownFrom}
 use Rattle.odht.specs.Reserves.{IsMove, IsMovedImage}
 use Rattle.odht.proofs.lemmas.GrownBytes.{grown_header}
@@ -23,10 +22,10 @@ grown_moved F P ok s enough T moves =
     (q.0, ap (option_and_then (λ t. place_all F (empty t P.factor) (walk P))) enough ∙ q.1, q.2)
 
 -- so bytes that were moved into the grown slots, with the numbers of the header, are those of the growth
-pub grown_from : {K V : Type 0} (c : Coding K V) (B T : List ℕ) (s : ℕ) → grown_slots_of B ≡ Some s → IsMove c B s T → header_count T ≡ header_count B → header_factor T ≡ header_factor B → IsGrownFrom c.format B T
-grown_from c B T s slots move counts factor = record {
+pub grown_from : (F : Format) (B T : List ℕ) (s : ℕ) → grown_slots_of B ≡ Some s → IsMove F B s T → header_count T ≡ header_count B → header_factor T ≡ header_factor B → IsGrownFrom F B T
+grown_from F B T s slots move counts factor = record {
   accepted = move.accepted;
   count = counts;
   factor = factor;
-  on_valid = λ P is. grown_moved c.format P is.valid s (sym (grown_header c.format P B is) ∙ slots) T (move.on_valid P is);
+  on_valid = λ P is. grown_moved F P is.valid s (sym (grown_header F P B is) ∙ slots) T (move.on_valid P is);
 }

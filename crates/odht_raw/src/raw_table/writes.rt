@@ -81,7 +81,7 @@ pub(crate) fn write_at_end<L: Lengths, H: HashFn>(
 /// Writes the pair into the first free slot of its key's probe order. No key is compared, so it is
 /// for a key that the table does not have. `Full`, with nothing changed, where no slot is free.
 #[inline(always)]
-pub(super) fn write_new<L: Lengths, H: HashFn, Q: Group>(
+pub fn write_new<L: Lengths, H: HashFn, Q: Group>(
     control: &mut [EntryMetadata],
     entries: &mut [u8],
     lengths: L,

@@ -64,6 +64,7 @@ pub use short_bytes::ShortBytes;
 pub use stored::Stored;
 pub use table_mut::RawTableMut;
 pub use walk::{RawIter, RawSlots};
+pub use writes::write_new;
 pub(crate) use writes::{is_found, write_at_end};
 
 /// A control byte: the tag of an occupied slot, which is below 128, or `FREE`.

@@ -1,14 +1,14 @@
 // Made by `make rust` of crates/odht/src/growth.rt.
 //! Growth: a table with the slots for twice as many items, written into larger bytes.
 
-use crate::proved::tables::bytes::{ByteArray, ByteStore};
+use crate::proved::tables::bytes::ByteStore;
 use crate::proved::tables::config::Config;
 use crate::proved::tables::hash::HashFn;
 use crate::proved::tables::hash_table::HashTable;
-use crate::proved::tables::layout::{Fixed, Layout};
+use crate::proved::tables::layout::{Fixed, Layout, Lengths};
 use crate::proved::tables::load::Factor;
-use crate::proved::tables::memory_layout::{self, Header, HEADER_SIZE};
-use crate::proved::tables::raw_table::{RawIter, RawTableMut};
+use crate::proved::tables::memory_layout::{self, parts_in, Header, HEADER_SIZE};
+use crate::proved::tables::raw_table::{write_new, PartPairs};
 use crate::proved::tables::swisstable_group_query::GroupQuery;
 
 impl<C: Config, D: ByteStore> HashTable<C, D> {
@@ -80,41 +80,54 @@ pub(crate) fn write_moved<C: Config, D: ByteStore>(
     slot_count: usize,
     out: &mut [u8],
 ) {
-    let header = table.allocation.header();
-    let item_count = header.item_count();
-    let factor = header.max_load_factor();
-    let (control, entries) = table.allocation.data_slices();
-    let walk = RawIter::new(control, entries);
-    write_walked::<C>(out, slot_count, item_count, factor, walk);
+    let lengths: Fixed<C::EncodedKey, C::EncodedValue> = Fixed::new();
+    let bytes = table.allocation.raw_bytes();
+    move_parts::<Fixed<C::EncodedKey, C::EncodedValue>, C::H>(bytes, lengths, slot_count, out);
 }
 
-// Writes the table of so many slots with the items of the walk into bytes whose entries are zeros.
+/// `write_moved` of the bytes of a table, whose lengths of keys and values are types or numbers.
+/// All tables grow by it.
+pub(crate) fn move_parts<L: Lengths, H: HashFn>(
+    bytes: &[u8],
+    lengths: L,
+    slot_count: usize,
+    out: &mut [u8],
+) {
+    let header = Header::of(bytes);
+    let items = header.item_count();
+    let factor = header.max_load_factor();
+    let walk = parts_in::<L, H>(bytes, lengths).iter();
+    write_walked::<L, H>(out, lengths, slot_count, items, factor, walk);
+}
+
+// Writes the table of so many slots with the pairs of the walk into bytes whose entries are zeros.
 // The new header gets `item_count`, whatever the walk gives.
-fn write_walked<C: Config>(
+fn write_walked<L: Lengths, H: HashFn>(
     bytes: &mut [u8],
+    lengths: L,
     slot_count: usize,
     item_count: usize,
     max_load_factor: Factor,
-    walk: RawIter<'_, C::EncodedKey, C::EncodedValue>,
+    walk: PartPairs<'_, L, H>,
 ) {
-    let lengths: Fixed<C::EncodedKey, C::EncodedValue> = Fixed::new();
     memory_layout::write_empty(bytes, lengths, slot_count, item_count, max_load_factor);
-    let (table, control) = bytes.split_at_mut(memory_layout::entry_at::<C>(slot_count));
+    let at = HEADER_SIZE + slot_count * lengths.entry_len();
+    let (table, control) = bytes.split_at_mut(at);
     let (_header, entries) = table.split_at_mut(HEADER_SIZE);
-    place_walk::<C::EncodedKey, C::EncodedValue, C::H>(control, entries, walk);
+    place_walk::<L, H>(control, entries, lengths, walk);
 }
 
-// Places the items of a walk in turn into the parts of a table, each as long as a slot is free.
+// Places the pairs of a walk in turn into the parts of a table, each as long as a slot is free.
 // The clause is for keys that are pairwise distinct and new to the table, as on valid bytes; other
 // walks are taken too.
-fn place_walk<K: ByteArray, V: ByteArray, H: HashFn>(
+fn place_walk<L: Lengths, H: HashFn>(
     control: &mut [u8],
     entries: &mut [u8],
-    walk: RawIter<'_, K, V>,
+    lengths: L,
+    walk: PartPairs<'_, L, H>,
 ) {
-    let mut table: RawTableMut<'_, '_, K, V, H> = RawTableMut::new(control, entries);
-    for (_, entry) in walk {
+    for (key, value) in walk {
         // There is room for each item of a valid table.
-        let _ = table.place_by::<GroupQuery>(entry.key, entry.value);
+        let _ = write_new::<L, H, GroupQuery>(control, entries, lengths, key, value);
     }
 }

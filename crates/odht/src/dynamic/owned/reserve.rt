@@ -3,7 +3,7 @@
 ghost use Rattle.std.specs.Prelude.{◌≡◌, IfSome, OnErr};
 ghost use Rattle.odht_base.specs.Image.{image_len};
 ghost use Rattle.odht_base.specs.Load.{IsSlotCount};
-ghost use Rattle.odht.specs.Dynamic.{dyn_coding, dyn_format, dyn_store};
+ghost use Rattle.odht.specs.Dynamic.{dyn_format, dyn_store};
 ghost use Rattle.odht.specs.DynOwned.{IsDynWith, IsDynReserve};
 ghost use Rattle.odht.specs.Reserves.{IsMove};
 
@@ -53,7 +53,7 @@ impl<H: HashFn> DynTableOwned<H> {
         requires slots { IsSlotCount slot_count }
         requires len { len ≡ image_len (dyn_format self.now H.hash) slot_count }
         ensures { IfSome result (IsDynWith self.now.key_len self.now.value_len
-            (IsMove (dyn_coding self.now H.hash) self.now.store slot_count)) }
+            (IsMove (dyn_format self.now H.hash) self.now.store slot_count)) }
     {
         let Ok(mut bytes) = vec![in self.alloc; 0; len] else {
             return None;

@@ -3,12 +3,10 @@
 
 use super::DynTable;
 use crate::proved::tables::bytes::ByteStore;
-use crate::proved::tables::growth::grown_sizes;
+use crate::proved::tables::growth::{grown_sizes, move_parts};
 use crate::proved::tables::hash::HashFn;
 use crate::proved::tables::layout::Layout;
-use crate::proved::tables::load::Factor;
-use crate::proved::tables::memory_layout::{init_parts, Header, HEADER_SIZE};
-use crate::proved::tables::raw_table::{DynIter, DynRawTableMut};
+use crate::proved::tables::memory_layout::{clear_entries, Header};
 
 impl<H: HashFn, D: ByteStore> DynTable<H, D> {
     /// The length in bytes of the table that this one grows into, as
@@ -37,41 +35,7 @@ impl<H: HashFn, D: ByteStore> DynTable<H, D> {
     /// load factor of this table.
     pub(super) fn move_into(&self, slot_count: usize, out: &mut [u8]) {
         let layout = self.layout();
-        let header = Header::of(self.raw_bytes());
-        let items = header.item_count();
-        let factor = header.max_load_factor();
-        write_walked::<H>(out, layout, slot_count, items, factor, self.iter());
-    }
-}
-
-// Writes the table of so many slots with the pairs of the walk. The new header gets `item_count`,
-// whatever the walk gives.
-fn write_walked<H: HashFn>(
-    bytes: &mut [u8],
-    layout: Layout,
-    slot_count: usize,
-    item_count: usize,
-    max_load_factor: Factor,
-    walk: DynIter<'_, H>,
-) {
-    init_parts(bytes, layout, slot_count, item_count, max_load_factor);
-    let (table, control) = bytes.split_at_mut(layout.entry_at(slot_count));
-    let (_header, entries) = table.split_at_mut(HEADER_SIZE);
-    place_walk::<H>(control, entries, layout, walk);
-}
-
-// Places the pairs of a walk in turn into the parts of a table, each as long as a slot is free.
-// The clause is for keys that are pairwise distinct and new to the table, as on valid bytes; other
-// walks are taken too.
-fn place_walk<H: HashFn>(
-    control: &mut [u8],
-    entries: &mut [u8],
-    layout: Layout,
-    walk: DynIter<'_, H>,
-) {
-    let mut table: DynRawTableMut<'_, '_, H> = DynRawTableMut::new(control, entries, layout);
-    for (key, value) in walk {
-        // There is room for each item of a valid table.
-        let _ = table.place(key, value);
+        clear_entries(out, layout, slot_count);
+        move_parts::<Layout, H>(self.raw_bytes(), layout, slot_count, out);
     }
 }
