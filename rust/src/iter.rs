@@ -70,7 +70,7 @@ fn occupied_from<C: Config>(bytes: &[u8], from: usize) -> usize {
 /// How many of these control bytes are those of occupied slots.
 #[inline(always)]
 pub fn occupied_in(own: &[u8]) -> usize {
-    // a sum of 255 control bytes fits in a byte, so many bytes are added at once
+    // a sum of 255 control bytes fits in a byte, that many bytes are added at once
     let in_piece = |piece: &[u8]| -> u8 {
         piece.iter().map(|control| u8::from(!is_empty_or_deleted(*control))).sum()
     };

@@ -33,3 +33,5 @@ pub mod WaitingSlots
 pub mod PassesOfSlots
 -- parts that are read by position
 pub mod ReadParts
+-- the write of a pair where a search ended, in the bytes of a table
+pub mod EndWrites

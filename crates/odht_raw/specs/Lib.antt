@@ -66,3 +66,5 @@ pub mod Stored
 pub mod Formers
 -- a former value that an insert writes into bytes of the caller
 pub mod FormerWrites
+-- the write of a pair where the search for its key ended, in the bytes of a table
+pub mod EndWrites

@@ -1,17 +1,17 @@
 //! Inserts into the bytes of a table: the parts are written, and last the item count. The lengths
 //! of keys and values are types or numbers.
-ghost use Rattle.std.specs.Prelude.{◌≡◌, ◌≤◌, ◌<◌, length, option_map, IfOk, IsTrue, ⊤};
-ghost use Rattle.odht_base.specs.Decoded.{header_slots, entries_of, controls_of};
-ghost use Rattle.odht_base.specs.Format.{format_of, tag as key_tag};
+ghost use Rattle.std.specs.Prelude.{◌≡◌, ◌≤◌, ◌<◌, length, option_map, IfOk, ⊤};
+ghost use Rattle.odht_base.specs.Decoded.{header_slots};
+ghost use Rattle.odht_base.specs.Format.{format_of};
 ghost use Rattle.odht_base.specs.Table.{Table};
 ghost use Rattle.odht_base.specs.Valid.{IsImage};
+ghost use Rattle.odht_raw.specs.EndWrites.{IsKeyEnd, IsEndWrite};
 ghost use Rattle.odht_raw.specs.FormerWrites.{IsOneInto};
-ghost use Rattle.odht_raw.specs.Formers.{answered, former_of, write_result};
+ghost use Rattle.odht_raw.specs.Formers.{former_of};
 ghost use Rattle.odht_raw.specs.Frame.{IsAccepted, IsFramed};
-ghost use Rattle.odht_raw.specs.Parts.{stored_in};
+ghost use Rattle.odht_raw.specs.PartLengths.{ArePairLengths};
 ghost use Rattle.odht_raw.specs.Runs.{IsOnePlaced};
 ghost use Rattle.odht_raw.specs.SearchResults.{MatchSearchResult};
-ghost use Rattle.odht_raw.specs.Searches.{IsSearchEnd};
 ghost use Rattle.odht_raw.specs.DynParts.{bytes_coding, parts_format};
 
 use super::allocation::{prove_bytes, write_count};
@@ -31,7 +31,7 @@ use crate::swisstable_group_query::Group;
 // header's item count is its maximum or more, or no slot is free. The caller's error is `Full`
 // then. The slot count is that of the header, which is read once for an insert.
 //
-// In the clauses the former value stands in an Ok. It is not returned.
+// In the clause the former value stands in an Ok. It is not returned.
 #[inline(always)]
 fn insert_in<L: Lengths, H: HashFn>(
     bytes: &mut [u8],
@@ -44,30 +44,13 @@ fn insert_in<L: Lengths, H: HashFn>(
     requires accepted { IsAccepted (format_of (L.key_len lengths) (L.value_len lengths) H.hash)
         bytes.old }
     requires slots { slots ≡ header_slots bytes.old }
-    requires hashes { H.MIN_LEN ≤ L.key_len lengths }
-    requires key_short { L.key_len lengths ≤ 255 }
-    requires value_short { L.value_len lengths ≤ 255 }
+    requires pair { ArePairLengths H.MIN_LEN (L.key_len lengths) (L.value_len lengths) }
     requires key { length key.now ≡ L.key_len lengths }
     requires value { length value.now ≡ L.value_len lengths }
     requires end { let F = format_of (L.key_len lengths) (L.value_len lengths) H.hash
-        in IsSearchEnd F (stored_in (entries_of F bytes.old) (controls_of F bytes.old))
-        (controls_of F bytes.old) key.now end.0 }
-    requires tag { let F = format_of (L.key_len lengths) (L.value_len lengths) H.hash
-        in end.1 ≡ key_tag F key.now }
-    ensures placed { let c = bytes_coding
-        (format_of (L.key_len lengths) (L.value_len lengths) H.hash)
-        in (P : Table)
-        → IsImage c.format P bytes.old
-        → IfOk (answered c.format (entries_of c.format bytes.old) end.0 (write_result result))
-        (λ old. IsOnePlaced c P key.now value.now old bytes.new) }
-    ensures framed { let c = bytes_coding
-        (format_of (L.key_len lengths) (L.value_len lengths) H.hash)
-        in IsFramed c bytes.old key.now value.now
-        (answered c.format (entries_of c.format bytes.old) end.0 (write_result result)) bytes.new }
-    ensures found { MatchSearchResult end.0 (λ _. IsTrue result) (λ _. ⊤) ⊤ }
-    ensures accepted { IsAccepted (format_of (L.key_len lengths) (L.value_len lengths) H.hash)
-        bytes.new }
-    ensures len { length bytes.new ≡ length bytes.old }
+        in IsKeyEnd F bytes.old key.now end }
+    ensures { let F = format_of (L.key_len lengths) (L.value_len lengths) H.hash
+        in IsEndWrite (bytes_coding F) bytes.old key.now value.now end.0 result bytes.new }
 {
     prove_bytes(bytes);
     prove_bytes(key);

@@ -19,7 +19,7 @@ use crate::generated::raw::swisstable_group_query::Group;
 // header's item count is its maximum or more, or no slot is free. The caller's error is `Full`
 // then. The slot count is that of the header, which is read once for an insert.
 //
-// In the clauses the former value stands in an Ok. It is not returned.
+// In the clause the former value stands in an Ok. It is not returned.
 #[inline(always)]
 fn insert_in<L: Lengths, H: HashFn>(
     bytes: &mut [u8],

@@ -1,4 +1,4 @@
-use Rattle.std.proofs.Common.{◌≡◌, ◌∙◌, ◌-◌, ◌+◌, ap, arith, length, subst, sym}
+use Rattle.std.proofs.Common.{rules, ◌≡◌, ◌∙◌, ◌-◌, ◌+◌, ap, arith, length, subst, sym}
 use Rattle.odht_base.specs.Decoded.{controls_of, entries_of, header_slots}
 use Rattle.odht_base.specs.Format.{Format, format_of}
 use Rattle.odht_base.specs.Image.{image_len}
@@ -41,4 +41,7 @@ insert_in-requires-clause-end g c =
     let slots : length (controls_of F B) - 16 ≡ header_slots B = omega (arith, c.cut-parts.ensures.len) in
     let end : IsSearchEnd F (record { slots = header_slots B; bytes = entries_of F B }) (controls_of F B) c.args.key.now c.insert_end-end.result.0 =
     subst (λ (S : DynParts). IsSearchEnd (parts_format S g.H.HashFn.hash) S.parts.entries S.parts.control c.args.key.now c.insert_end-end.result.0) c.cut-parts.ensures.parts c.insert_end-end.ensures.end in
-    subst (λ s. IsSearchEnd F (record { slots = s; bytes = entries_of F B }) (controls_of F B) c.args.key.now c.insert_end-end.result.0) (sym slots) end
+    record {
+      end = subst (λ s. IsSearchEnd F (record { slots = s; bytes = entries_of F B }) (controls_of F B) c.args.key.now c.insert_end-end.result.0) (sym slots) end;
+      tag = search rules;
+    }

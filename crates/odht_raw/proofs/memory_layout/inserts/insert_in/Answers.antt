@@ -92,7 +92,7 @@ lengths_are g c =
     let cut = cut g c in
     let slots : length c.split_at_mut-table.result.1.now - 16 ≡ header_slots c.args.bytes.now = omega (arith, cut.mirrored, cut.slots) in
     record {
-      pair = record { hashes = c.requires.hashes; key = c.requires.key_short; value = c.requires.value_short };
+      pair = c.requires.pair;
       slots = subst IsSlotCount (sym slots) (accepted_slots (F g (g.L.Lengths.key_len c.args.lengths) (g.L.Lengths.value_len c.args.lengths)) c.args.bytes.now c.requires.accepted);
       entries = cut.long ∙ ap (λ s. s * entry_len (F g (g.L.Lengths.key_len c.args.lengths) (g.L.Lengths.value_len c.args.lengths))) (cut.slots ∙ sym slots);
     }
@@ -116,14 +116,14 @@ controls_are g c = sym (c.split_at_mut-table.ensures.back ∙ ap (λ m. drop m c
 ended : (g : Over) (c : After-split_at_mut-front g) → IsSearchEnd (F g (g.L.Lengths.key_len c.args.lengths) (g.L.Lengths.value_len c.args.lengths)) (stored_in c.split_at_mut-front.result.1.now c.split_at_mut-table.result.1.now) c.split_at_mut-table.result.1.now c.args.key.now c.args.end.0
 ended g c =
     subst (λ (ctrl : List ℕ). IsSearchEnd (F g (g.L.Lengths.key_len c.args.lengths) (g.L.Lengths.value_len c.args.lengths)) (stored_in c.split_at_mut-front.result.1.now ctrl) ctrl c.args.key.now c.args.end.0) (controls_are g c)
-    (subst (λ (es : List ℕ). IsSearchEnd (F g (g.L.Lengths.key_len c.args.lengths) (g.L.Lengths.value_len c.args.lengths)) (stored_in es (controls_of (F g (g.L.Lengths.key_len c.args.lengths) (g.L.Lengths.value_len c.args.lengths)) c.args.bytes.now)) (controls_of (F g (g.L.Lengths.key_len c.args.lengths) (g.L.Lengths.value_len c.args.lengths)) c.args.bytes.now) c.args.key.now c.args.end.0) (entries_are g c) c.requires.end)
+    (subst (λ (es : List ℕ). IsSearchEnd (F g (g.L.Lengths.key_len c.args.lengths) (g.L.Lengths.value_len c.args.lengths)) (stored_in es (controls_of (F g (g.L.Lengths.key_len c.args.lengths) (g.L.Lengths.value_len c.args.lengths)) c.args.bytes.now)) (controls_of (F g (g.L.Lengths.key_len c.args.lengths) (g.L.Lengths.value_len c.args.lengths)) c.args.bytes.now) c.args.key.now c.args.end.0) (entries_are g c) c.requires.end.end)
 
 pub write_at_end-requires-clause-end : goal.write_at_end-requires-clause-end
 write_at_end-requires-clause-end g c =
     let end = ended g (goal.at.write_at_end-requires-clause-end g c).After-split_at_mut-front in
     record {
       end = record { slot = end.slot; earlier = λ none. end.earlier };
-      tag = c.requires.tag;
+      tag = c.requires.end.tag;
     }
 
 -- what is known of the header, and what the step does
@@ -203,58 +203,6 @@ overflow_add-count g c =
     let some = added g at cut end same ok in
     omega (arith, some, count_is g at cut end same, small g at cut end same)
 
-pub returns-then-is_found-clause-placed : goal.returns-then-is_found-clause-placed
-returns-then-is_found-clause-placed g c P is =
-    let at = (goal.at.returns-then-is_found-clause-placed g c).After-write_at_end in
-    let front = (goal.at.returns-then-is_found-clause-placed g c).After-split_at_mut-front in
-    let cut = cut g front in
-    let end = ended g front in
-    let same = entries_are g front in
-    let found = c.is_found.ensures.found (F g (g.L.Lengths.key_len c.args.lengths) (g.L.Lengths.value_len c.args.lengths)) c.split_at_mut-front.result.1.now c.if-is_found.true in
-    let ok = answer_is g at cut end same (Some found.0) c.if-not-write_at_end.false found.1 in
-    let told = former_is g at cut end same (Some found.0) found.1 in
-    let placed = one_placed (K g (g.L.Lengths.key_len c.args.lengths) (g.L.Lengths.value_len c.args.lengths)) c.args.bytes.now _ _ _ cut c.args.key.now c.args.value.now (fits g at cut end same) (value_of g at cut end same) (R g at cut end same) _ _ (framed g at cut end same) (Some found.0) ok
-    c.split_at_mut-front.result.0.now (kept g at cut end same) (omega arith) (λ b. b) (λ b. refl) P is (answers g at cut end same P is) in
-    subst (λ (o : Option (List ℕ)). IsOnePlaced (K g (g.L.Lengths.key_len c.args.lengths) (g.L.Lengths.value_len c.args.lengths)) P c.args.key.now c.args.value.now o (c.split_at_mut-front.result.0.now ++ c.write_at_end.new.entries ++ c.write_at_end.new.control)) (sym told) placed
-
-pub returns-then-is_found-clause-framed : goal.returns-then-is_found-clause-framed
-returns-then-is_found-clause-framed g c =
-    let at = (goal.at.returns-then-is_found-clause-framed g c).After-write_at_end in
-    let front = (goal.at.returns-then-is_found-clause-framed g c).After-split_at_mut-front in
-    let cut = cut g front in
-    let end = ended g front in
-    let same = entries_are g front in
-    let found = c.is_found.ensures.found (F g (g.L.Lengths.key_len c.args.lengths) (g.L.Lengths.value_len c.args.lengths)) c.split_at_mut-front.result.1.now c.if-is_found.true in
-    let ok = answer_is g at cut end same (Some found.0) c.if-not-write_at_end.false found.1 in
-    let told = former_is g at cut end same (Some found.0) found.1 in
-    let done = one_overwritten (K g (g.L.Lengths.key_len c.args.lengths) (g.L.Lengths.value_len c.args.lengths)) c.args.bytes.now _ _ _ cut c.args.key.now c.args.value.now (fits g at cut end same) (value_of g at cut end same) (R g at cut end same) _ _ (framed g at cut end same)
-    c.prove_bytes.ensures (counted g at cut end same) (small g at cut end same) (λ b. b) (λ b. refl) found.0 ok in
-    subst (λ (o : Option (List ℕ)). IsFramed (K g (g.L.Lengths.key_len c.args.lengths) (g.L.Lengths.value_len c.args.lengths)) c.args.bytes.now c.args.key.now c.args.value.now (Ok o) (c.split_at_mut-front.result.0.now ++ c.write_at_end.new.entries ++ c.write_at_end.new.control)) (sym told) done
-
-pub returns-then-is_found-clause-accepted : goal.returns-then-is_found-clause-accepted
-returns-then-is_found-clause-accepted g c =
-    let at = (goal.at.returns-then-is_found-clause-accepted g c).After-write_at_end in
-    let front = (goal.at.returns-then-is_found-clause-accepted g c).After-split_at_mut-front in
-    let cut = cut g front in
-    let end = ended g front in
-    let same = entries_are g front in
-    let found = c.is_found.ensures.found (F g (g.L.Lengths.key_len c.args.lengths) (g.L.Lengths.value_len c.args.lengths)) c.split_at_mut-front.result.1.now c.if-is_found.true in
-    let ok = answer_is g at cut end same (Some found.0) c.if-not-write_at_end.false found.1 in
-    let told = former_is g at cut end same (Some found.0) found.1 in
-    list_accepted (K g (g.L.Lengths.key_len c.args.lengths) (g.L.Lengths.value_len c.args.lengths)) c.args.bytes.now _ _ _ cut ((c.args.key.now, c.args.value.now) ∷ []) 0 _ _ _ (kept g at cut end same) (run_over g at cut end same found.0 ok) (omega arith) (counted g at cut end same) (small g at cut end same)
-
-pub returns-then-is_found-clause-len : goal.returns-then-is_found-clause-len
-returns-then-is_found-clause-len g c =
-    let at = (goal.at.returns-then-is_found-clause-len g c).After-write_at_end in
-    let front = (goal.at.returns-then-is_found-clause-len g c).After-split_at_mut-front in
-    let cut = cut g front in
-    let end = ended g front in
-    let same = entries_are g front in
-    let found = c.is_found.ensures.found (F g (g.L.Lengths.key_len c.args.lengths) (g.L.Lengths.value_len c.args.lengths)) c.split_at_mut-front.result.1.now c.if-is_found.true in
-    let ok = answer_is g at cut end same (Some found.0) c.if-not-write_at_end.false found.1 in
-    let told = former_is g at cut end same (Some found.0) found.1 in
-    list_length (K g (g.L.Lengths.key_len c.args.lengths) (g.L.Lengths.value_len c.args.lengths)) c.args.bytes.now _ _ _ cut ((c.args.key.now, c.args.value.now) ∷ []) 0 _ _ _ (kept g at cut end same) (run_over g at cut end same found.0 ok) (omega arith) (counted g at cut end same) (small g at cut end same)
-
 -- the header with one item more
 written : (g : Over) (c : After-write_at_end g) (cut : IsCut (F g (g.L.Lengths.key_len c.args.lengths) (g.L.Lengths.value_len c.args.lengths)) c.args.bytes.now c.split_at_mut-front.result.0.now c.split_at_mut-front.result.1.now c.split_at_mut-table.result.1.now)
     (end : IsSearchEnd (F g (g.L.Lengths.key_len c.args.lengths) (g.L.Lengths.value_len c.args.lengths)) (stored_in c.split_at_mut-front.result.1.now c.split_at_mut-table.result.1.now) c.split_at_mut-table.result.1.now c.args.key.now c.args.end.0)
@@ -262,72 +210,6 @@ written : (g : Over) (c : After-write_at_end g) (cut : IsCut (F g (g.L.Lengths.k
     → (H' : List ℕ) → H' ≡ with_count c.split_at_mut-front.result.0.now (c.item_count-count.result + 1)
     → H' ≡ with_count c.split_at_mut-front.result.0.now (header_count c.args.bytes.now + 1)
 written g c cut end same H' is = is ∙ ap (λ m. with_count c.split_at_mut-front.result.0.now (m + 1)) (count_is g c cut end same)
-
-pub returns-clause-placed : goal.returns-clause-placed
-returns-clause-placed g c P is =
-    let at = (goal.at.returns-clause-placed g c).After-write_at_end in
-    let front = (goal.at.returns-clause-placed g c).After-split_at_mut-front in
-    let cut = cut g front in
-    let end = ended g front in
-    let same = entries_are g front in
-    let none = c.is_found.ensures.absent (F g (g.L.Lengths.key_len c.args.lengths) (g.L.Lengths.value_len c.args.lengths)) c.split_at_mut-front.result.1.now c.if-is_found.false in
-    let ok = answer_is g at cut end same None c.if-not-write_at_end.false none in
-    let told = former_is g at cut end same None none in
-    let placed = one_placed (K g (g.L.Lengths.key_len c.args.lengths) (g.L.Lengths.value_len c.args.lengths)) c.args.bytes.now _ _ _ cut c.args.key.now c.args.value.now (fits g at cut end same) (value_of g at cut end same) (R g at cut end same) _ _ (framed g at cut end same) None ok
-    c.write_count.new.header (written g at cut end same c.write_count.new.header c.write_count.ensures) (let some = added g at cut end same ok in omega (arith, some)) (λ b. b) (λ b. refl) P is (answers g at cut end same P is) in
-    subst (λ (o : Option (List ℕ)). IsOnePlaced (K g (g.L.Lengths.key_len c.args.lengths) (g.L.Lengths.value_len c.args.lengths)) P c.args.key.now c.args.value.now o (c.write_count.new.header ++ c.write_at_end.new.entries ++ c.write_at_end.new.control)) (sym told) placed
-
-pub returns-clause-framed : goal.returns-clause-framed
-returns-clause-framed g c =
-    let at = (goal.at.returns-clause-framed g c).After-write_at_end in
-    let front = (goal.at.returns-clause-framed g c).After-split_at_mut-front in
-    let cut = cut g front in
-    let end = ended g front in
-    let same = entries_are g front in
-    let none = c.is_found.ensures.absent (F g (g.L.Lengths.key_len c.args.lengths) (g.L.Lengths.value_len c.args.lengths)) c.split_at_mut-front.result.1.now c.if-is_found.false in
-    let ok = answer_is g at cut end same None c.if-not-write_at_end.false none in
-    let told = former_is g at cut end same None none in
-    let done = one_added (K g (g.L.Lengths.key_len c.args.lengths) (g.L.Lengths.value_len c.args.lengths)) c.args.bytes.now _ _ _ cut c.args.key.now c.args.value.now (fits g at cut end same) (value_of g at cut end same) (R g at cut end same) _ _ (framed g at cut end same)
-    c.prove_bytes.ensures (counted g at cut end same) (small g at cut end same) (λ b. b) (λ b. refl) ok c.write_count.new.header (written g at cut end same c.write_count.new.header c.write_count.ensures) in
-    subst (λ (o : Option (List ℕ)). IsFramed (K g (g.L.Lengths.key_len c.args.lengths) (g.L.Lengths.value_len c.args.lengths)) c.args.bytes.now c.args.key.now c.args.value.now (Ok o) (c.write_count.new.header ++ c.write_at_end.new.entries ++ c.write_at_end.new.control)) (sym told) done
-
-pub returns-clause-accepted : goal.returns-clause-accepted
-returns-clause-accepted g c =
-    let at = (goal.at.returns-clause-accepted g c).After-write_at_end in
-    let front = (goal.at.returns-clause-accepted g c).After-split_at_mut-front in
-    let cut = cut g front in
-    let end = ended g front in
-    let same = entries_are g front in
-    let none = c.is_found.ensures.absent (F g (g.L.Lengths.key_len c.args.lengths) (g.L.Lengths.value_len c.args.lengths)) c.split_at_mut-front.result.1.now c.if-is_found.false in
-    let ok = answer_is g at cut end same None c.if-not-write_at_end.false none in
-    let told = former_is g at cut end same None none in
-    list_accepted (K g (g.L.Lengths.key_len c.args.lengths) (g.L.Lengths.value_len c.args.lengths)) c.args.bytes.now _ _ _ cut ((c.args.key.now, c.args.value.now) ∷ []) 1 _ _ _ (written g at cut end same c.write_count.new.header c.write_count.ensures)
-    (one_run (K g (g.L.Lengths.key_len c.args.lengths) (g.L.Lengths.value_len c.args.lengths)) c.args.bytes.now _ _ _ cut c.args.key.now c.args.value.now (fits g at cut end same) (value_of g at cut end same) (R g at cut end same) _ _ (framed g at cut end same) None ok)
-    (let some = added g at cut end same ok in omega (arith, some)) (counted g at cut end same) (small g at cut end same)
-
-pub returns-clause-len : goal.returns-clause-len
-returns-clause-len g c =
-    let at = (goal.at.returns-clause-len g c).After-write_at_end in
-    let front = (goal.at.returns-clause-len g c).After-split_at_mut-front in
-    let cut = cut g front in
-    let end = ended g front in
-    let same = entries_are g front in
-    let none = c.is_found.ensures.absent (F g (g.L.Lengths.key_len c.args.lengths) (g.L.Lengths.value_len c.args.lengths)) c.split_at_mut-front.result.1.now c.if-is_found.false in
-    let ok = answer_is g at cut end same None c.if-not-write_at_end.false none in
-    let told = former_is g at cut end same None none in
-    list_length (K g (g.L.Lengths.key_len c.args.lengths) (g.L.Lengths.value_len c.args.lengths)) c.args.bytes.now _ _ _ cut ((c.args.key.now, c.args.value.now) ∷ []) 1 _ _ _ (written g at cut end same c.write_count.new.header c.write_count.ensures)
-    (one_run (K g (g.L.Lengths.key_len c.args.lengths) (g.L.Lengths.value_len c.args.lengths)) c.args.bytes.now _ _ _ cut c.args.key.now c.args.value.now (fits g at cut end same) (value_of g at cut end same) (R g at cut end same) _ _ (framed g at cut end same) None ok)
-    (let some = added g at cut end same ok in omega (arith, some)) (counted g at cut end same) (small g at cut end same)
-
-pub returns-then-not-write_at_end-clause-framed : goal.returns-then-not-write_at_end-clause-framed
-returns-then-not-write_at_end-clause-framed g c =
-    let at = (goal.at.returns-then-not-write_at_end-clause-framed g c).After-write_at_end in
-    let front = (goal.at.returns-then-not-write_at_end-clause-framed g c).After-split_at_mut-front in
-    let cut = cut g front in
-    let end = ended g front in
-    let same = entries_are g front in
-    one_refused (K g (g.L.Lengths.key_len c.args.lengths) (g.L.Lengths.value_len c.args.lengths)) c.args.bytes.now _ _ _ cut c.args.key.now c.args.value.now (fits g at cut end same) (value_of g at cut end same) (R g at cut end same) _ _ (framed g at cut end same)
-    c.prove_bytes.ensures (counted g at cut end same) (small g at cut end same) (λ b. b) (λ b. refl) Full (ap (λ w. answered (F g (g.L.Lengths.key_len c.args.lengths) (g.L.Lengths.value_len c.args.lengths)) c.split_at_mut-front.result.1.now c.args.end.0 (write_result w)) c.if-not-write_at_end.true)
 
 -- a write that was not made changed nothing
 refused : (g : Over) (c : After-write_at_end g) → c.write_at_end.result ≡ false
@@ -342,36 +224,82 @@ unchanged : (g : Over) (c : After-write_at_end g) → c.write_at_end.new.entries
     → IsPartsRun (K g (g.L.Lengths.key_len c.args.lengths) (g.L.Lengths.value_len c.args.lengths)) c.split_at_mut-front.result.1.now c.split_at_mut-table.result.1.now [] 0 c.write_at_end.new.entries c.write_at_end.new.control
 unchanged g c entries control = rw (entries, control) IsPartsRun.start
 
-pub returns-then-not-write_at_end-clause-accepted : goal.returns-then-not-write_at_end-clause-accepted
-returns-then-not-write_at_end-clause-accepted g c =
-    let at = (goal.at.returns-then-not-write_at_end-clause-accepted g c).After-write_at_end in
-    let front = (goal.at.returns-then-not-write_at_end-clause-accepted g c).After-split_at_mut-front in
-    let cut = cut g front in
-    let end = ended g front in
-    let same = entries_are g front in
-    list_accepted (K g (g.L.Lengths.key_len c.args.lengths) (g.L.Lengths.value_len c.args.lengths)) c.args.bytes.now _ _ _ cut [] 0 _ _ _ (kept g at cut end same) (unchanged g at (refused g at c.if-not-write_at_end.true).refused_entries (refused g at c.if-not-write_at_end.true).refused_control) (omega arith) (counted g at cut end same) (small g at cut end same)
-
-pub returns-then-not-write_at_end-clause-len : goal.returns-then-not-write_at_end-clause-len
-returns-then-not-write_at_end-clause-len g c =
-    let at = (goal.at.returns-then-not-write_at_end-clause-len g c).After-write_at_end in
-    let front = (goal.at.returns-then-not-write_at_end-clause-len g c).After-split_at_mut-front in
-    let cut = cut g front in
-    let end = ended g front in
-    let same = entries_are g front in
-    list_length (K g (g.L.Lengths.key_len c.args.lengths) (g.L.Lengths.value_len c.args.lengths)) c.args.bytes.now _ _ _ cut [] 0 _ _ _ (kept g at cut end same) (unchanged g at (refused g at c.if-not-write_at_end.true).refused_entries (refused g at c.if-not-write_at_end.true).refused_control) (omega arith) (counted g at cut end same) (small g at cut end same)
-
 -- a write that was made is one wherever the search ended
 wrote_anywhere : (end : Search) → MatchSearchResult end (λ _. IsTrue true) (λ _. ⊤) ⊤
 wrote_anywhere (Found i) = refl
 wrote_anywhere (Free i) = tt
 wrote_anywhere Neither = tt
 
-pub returns-then-is_found-clause-found : goal.returns-then-is_found-clause-found
-returns-then-is_found-clause-found g c = wrote_anywhere c.args.end.0
+pub returns-then-is_found : goal.returns-then-is_found
+returns-then-is_found g c =
+    let at = (goal.at.returns-then-is_found g c).After-write_at_end in
+    let front = (goal.at.returns-then-is_found g c).After-split_at_mut-front in
+    let cut = cut g front in
+    let end = ended g front in
+    let same = entries_are g front in
+    let found = c.is_found.ensures.found (F g (g.L.Lengths.key_len c.args.lengths) (g.L.Lengths.value_len c.args.lengths)) c.split_at_mut-front.result.1.now c.if-is_found.true in
+    let ok = answer_is g at cut end same (Some found.0) c.if-not-write_at_end.false found.1 in
+    let told = former_is g at cut end same (Some found.0) found.1 in
+    let B' : List ℕ = c.split_at_mut-front.result.0.now ++ c.write_at_end.new.entries ++ c.write_at_end.new.control in
+    let items = (c.args.key.now, c.args.value.now) ∷ [] in
+    record {
+      placed = λ P is. (
+          let placed = one_placed (K g (g.L.Lengths.key_len c.args.lengths) (g.L.Lengths.value_len c.args.lengths)) c.args.bytes.now _ _ _ cut c.args.key.now c.args.value.now (fits g at cut end same) (value_of g at cut end same) (R g at cut end same) _ _ (framed g at cut end same) (Some found.0) ok
+          c.split_at_mut-front.result.0.now (kept g at cut end same) (omega arith) (λ b. b) (λ b. refl) P is (answers g at cut end same P is) in
+          subst (λ (o : Option (List ℕ)). IsOnePlaced (K g (g.L.Lengths.key_len c.args.lengths) (g.L.Lengths.value_len c.args.lengths)) P c.args.key.now c.args.value.now o B') (sym told) placed);
+      framed =
+          let done = one_overwritten (K g (g.L.Lengths.key_len c.args.lengths) (g.L.Lengths.value_len c.args.lengths)) c.args.bytes.now _ _ _ cut c.args.key.now c.args.value.now (fits g at cut end same) (value_of g at cut end same) (R g at cut end same) _ _ (framed g at cut end same)
+          c.prove_bytes.ensures (counted g at cut end same) (small g at cut end same) (λ b. b) (λ b. refl) found.0 ok in
+          subst (λ (o : Option (List ℕ)). IsFramed (K g (g.L.Lengths.key_len c.args.lengths) (g.L.Lengths.value_len c.args.lengths)) c.args.bytes.now c.args.key.now c.args.value.now (Ok o) B') (sym told) done;
+      found = wrote_anywhere c.args.end.0;
+      accepted = list_accepted (K g (g.L.Lengths.key_len c.args.lengths) (g.L.Lengths.value_len c.args.lengths)) c.args.bytes.now _ _ _ cut items 0 _ _ _ (kept g at cut end same) (run_over g at cut end same found.0 ok) (omega arith) (counted g at cut end same) (small g at cut end same);
+      len = list_length (K g (g.L.Lengths.key_len c.args.lengths) (g.L.Lengths.value_len c.args.lengths)) c.args.bytes.now _ _ _ cut items 0 _ _ _ (kept g at cut end same) (run_over g at cut end same found.0 ok) (omega arith) (counted g at cut end same) (small g at cut end same);
+    }
 
-pub returns-clause-found : goal.returns-clause-found
-returns-clause-found g c = wrote_anywhere c.args.end.0
+pub returns : goal.returns
+returns g c =
+    let at = (goal.at.returns g c).After-write_at_end in
+    let front = (goal.at.returns g c).After-split_at_mut-front in
+    let cut = cut g front in
+    let end = ended g front in
+    let same = entries_are g front in
+    let none = c.is_found.ensures.absent (F g (g.L.Lengths.key_len c.args.lengths) (g.L.Lengths.value_len c.args.lengths)) c.split_at_mut-front.result.1.now c.if-is_found.false in
+    let ok = answer_is g at cut end same None c.if-not-write_at_end.false none in
+    let told = former_is g at cut end same None none in
+    let some = added g at cut end same ok in
+    let head = written g at cut end same c.write_count.new.header c.write_count.ensures in
+    let B' : List ℕ = c.write_count.new.header ++ c.write_at_end.new.entries ++ c.write_at_end.new.control in
+    let items = (c.args.key.now, c.args.value.now) ∷ [] in
+    let run = one_run (K g (g.L.Lengths.key_len c.args.lengths) (g.L.Lengths.value_len c.args.lengths)) c.args.bytes.now _ _ _ cut c.args.key.now c.args.value.now (fits g at cut end same) (value_of g at cut end same) (R g at cut end same) _ _ (framed g at cut end same) None ok in
+    record {
+      placed = λ P is. (
+          let placed = one_placed (K g (g.L.Lengths.key_len c.args.lengths) (g.L.Lengths.value_len c.args.lengths)) c.args.bytes.now _ _ _ cut c.args.key.now c.args.value.now (fits g at cut end same) (value_of g at cut end same) (R g at cut end same) _ _ (framed g at cut end same) None ok
+          c.write_count.new.header head (omega (arith, some)) (λ b. b) (λ b. refl) P is (answers g at cut end same P is) in
+          subst (λ (o : Option (List ℕ)). IsOnePlaced (K g (g.L.Lengths.key_len c.args.lengths) (g.L.Lengths.value_len c.args.lengths)) P c.args.key.now c.args.value.now o B') (sym told) placed);
+      framed =
+          let done = one_added (K g (g.L.Lengths.key_len c.args.lengths) (g.L.Lengths.value_len c.args.lengths)) c.args.bytes.now _ _ _ cut c.args.key.now c.args.value.now (fits g at cut end same) (value_of g at cut end same) (R g at cut end same) _ _ (framed g at cut end same)
+          c.prove_bytes.ensures (counted g at cut end same) (small g at cut end same) (λ b. b) (λ b. refl) ok c.write_count.new.header head in
+          subst (λ (o : Option (List ℕ)). IsFramed (K g (g.L.Lengths.key_len c.args.lengths) (g.L.Lengths.value_len c.args.lengths)) c.args.bytes.now c.args.key.now c.args.value.now (Ok o) B') (sym told) done;
+      found = wrote_anywhere c.args.end.0;
+      accepted = list_accepted (K g (g.L.Lengths.key_len c.args.lengths) (g.L.Lengths.value_len c.args.lengths)) c.args.bytes.now _ _ _ cut items 1 _ _ _ head run (omega (arith, some)) (counted g at cut end same) (small g at cut end same);
+      len = list_length (K g (g.L.Lengths.key_len c.args.lengths) (g.L.Lengths.value_len c.args.lengths)) c.args.bytes.now _ _ _ cut items 1 _ _ _ head run (omega (arith, some)) (counted g at cut end same) (small g at cut end same);
+    }
 
-pub returns-then-not-write_at_end-clause-found : goal.returns-then-not-write_at_end-clause-found
-returns-then-not-write_at_end-clause-found g c =
-    subst (λ w. MatchSearchResult c.args.end.0 (λ _. IsTrue w) (λ _. ⊤) ⊤) c.if-not-write_at_end.true c.write_at_end.ensures.found
+pub returns-then-not-write_at_end : goal.returns-then-not-write_at_end
+returns-then-not-write_at_end g c =
+    let at = (goal.at.returns-then-not-write_at_end g c).After-write_at_end in
+    let front = (goal.at.returns-then-not-write_at_end g c).After-split_at_mut-front in
+    let cut = cut g front in
+    let end = ended g front in
+    let same = entries_are g front in
+    let kept = kept g at cut end same in
+    let refused = refused g at c.if-not-write_at_end.true in
+    let run = unchanged g at refused.refused_entries refused.refused_control in
+    record {
+      placed = λ P is. tt;
+      framed = one_refused (K g (g.L.Lengths.key_len c.args.lengths) (g.L.Lengths.value_len c.args.lengths)) c.args.bytes.now _ _ _ cut c.args.key.now c.args.value.now (fits g at cut end same) (value_of g at cut end same) (R g at cut end same) _ _ (framed g at cut end same)
+          c.prove_bytes.ensures (counted g at cut end same) (small g at cut end same) (λ b. b) (λ b. refl) Full (ap (λ w. answered (F g (g.L.Lengths.key_len c.args.lengths) (g.L.Lengths.value_len c.args.lengths)) c.split_at_mut-front.result.1.now c.args.end.0 (write_result w)) c.if-not-write_at_end.true);
+      found = subst (λ w. MatchSearchResult c.args.end.0 (λ _. IsTrue w) (λ _. ⊤) ⊤) c.if-not-write_at_end.true c.write_at_end.ensures.found;
+      accepted = list_accepted (K g (g.L.Lengths.key_len c.args.lengths) (g.L.Lengths.value_len c.args.lengths)) c.args.bytes.now _ _ _ cut [] 0 _ _ _ kept run (omega arith) (counted g at cut end same) (small g at cut end same);
+      len = list_length (K g (g.L.Lengths.key_len c.args.lengths) (g.L.Lengths.value_len c.args.lengths)) c.args.bytes.now _ _ _ cut [] 0 _ _ _ kept run (omega arith) (counted g at cut end same) (small g at cut end same);
+    }
