@@ -261,8 +261,8 @@ def lints():
     programs = ["rust/cli"], ["rust/cli", *checked], ["rust/table"]
     users = ["rust/c"], *programs, ["rust/compat"], ["rust/beside"], [no_std], [embedded]
     for folder, *words in (["tools/erase"], ["rust"], ["rust", *checked], ["rust", *NO_STD], *users):
-        # the tests of the crate are the same source whatever the features are
-        targets = "--lib" if folder == "rust" and words else "--all-targets"
+        # the tests are the same source whatever the features are
+        targets = ("--lib" if folder == "rust" else "--bins") if words else "--all-targets"
         cargo(folder, "clippy", targets, *words, "--", "-D", "warnings")
         done += 1
     cargo("rust", "doc", "--no-deps", RUSTDOCFLAGS="-D warnings")

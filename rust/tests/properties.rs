@@ -45,7 +45,7 @@ fn bytes_are_equal<const K: usize, const V: usize, H: Named>(random: &mut Random
     let percent = 1 + random.below(100) as u8;
     let pairs = pairs::<K, V>(random, count);
     let mut expected = Writing::new(Format::new(K, V, H::HASH), count, percent);
-    let place = vec![random.byte(); bytes_needed::<Plain<K, V, H>>(count, percent)];
+    let place = [random.byte()].repeat(bytes_needed::<Plain<K, V, H>>(count, percent));
     let mut single =
         HashTable::<Plain<K, V, H>, _>::init_in_place(place.clone(), count, percent).unwrap();
     let mut list = HashTable::<Plain<K, V, H>, _>::init_in_place(place, count, percent).unwrap();
@@ -134,7 +134,7 @@ fn makes_again<const K: usize, const V: usize, H: Named>(
     }
     assert_eq!(again.raw_bytes(), table.raw_bytes());
     let view = HashTable::<Plain<K, V, H>, &[u8]>::from_raw_bytes(table.raw_bytes()).unwrap();
-    let mut grown = vec![0x5a; view.grown_len().expect("it fits")];
+    let mut grown = [0x5a].repeat(view.grown_len().expect("it fits"));
     view.grow_into(&mut grown);
     assert_eq!(grown, written.grown().bytes);
 }

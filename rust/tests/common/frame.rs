@@ -331,7 +331,7 @@ fn grows<const K: usize, const V: usize, H: Named>(
     let Some(length) = view.grown_len().filter(|it| *it < 1 << 16) else {
         return;
     };
-    let mut grown = vec![0x5a; length];
+    let mut grown = [0x5a].repeat(length);
     view.grow_into(&mut grown);
     let grown = Reading::new(reading.format, &grown);
     assert_eq!(grown.header_error(), None);

@@ -27,7 +27,9 @@ pub struct Reading<'b> {
 
 // The number of that many bytes, the lowest first.
 fn number(bytes: &[u8]) -> u128 {
-    bytes.iter().rev().fold(0, |number, byte| number << 8 | u128::from(*byte))
+    let mut wide = [0; 16];
+    wide[..bytes.len()].copy_from_slice(bytes);
+    u128::from_le_bytes(wide)
 }
 
 impl Format {
