@@ -37,13 +37,15 @@ pub use owned::DynTableOwned;
 pub use short_bytes::ShortBytes;
 
 use crate::config::{Config, Hash, HashFn};
-use crate::opened::Opened;
 use crate::generated::base::bytes::{Borrowed, ByteArray};
 use crate::generated::header::error::Error;
 use crate::generated::header::layout;
-use crate::generated::raw::memory_layout::{check_dynamic, check_dynamic_within, dynamic_parts, Header};
+use crate::generated::raw::memory_layout::{
+    check_dynamic, check_dynamic_within, dynamic_parts, Header,
+};
 use crate::generated::raw::raw_table::DynRawTable;
 use crate::generated::tables::dynamic;
+use crate::opened::Opened;
 use std::borrow::Borrow;
 use std::fmt;
 use std::iter::FusedIterator;

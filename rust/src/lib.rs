@@ -55,11 +55,11 @@ mod generated {
 
 pub use config::{ByteArray, Config, HashFn};
 pub use fixed::Fixed;
-pub use iter::{IntoIter, IntoKeys, IntoValues, Iter, Keys, Slots, Values};
-pub use owned::HashTableOwned;
 pub use generated::base::hash::{FxHashFn, UnHashFn, Xxh64HashFn};
 pub use generated::header::error::{Error, Part};
 pub use generated::raw::memory_layout::DEFAULT_GROUPS;
+pub use iter::{IntoIter, IntoKeys, IntoValues, Iter, Keys, Slots, Values};
+pub use owned::HashTableOwned;
 pub use sizes::{bytes_needed, check_all, check_all_within, table_len, try_bytes_needed};
 pub use store::BytesOf;
 pub use view::HashTable;

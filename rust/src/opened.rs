@@ -6,9 +6,9 @@
 //! never read from the bytes again: another process may write to a mapped file (`shim::slots`).
 
 use crate::config::{Config, Proved};
-use crate::iter::occupied;
 use crate::generated::header::layout::Layout;
 use crate::generated::raw::memory_layout::HEADER_SIZE;
+use crate::iter::occupied;
 use crate::shim::slots;
 
 /// The length and the slot count of a table's bytes, which fit.

@@ -5,11 +5,11 @@
 //! lengths.
 
 use crate::config::{Config, Proved};
-use crate::iter::{occupied, Iter, Keys, Slots, Values};
 use crate::generated::base::load::max_item_count_for;
 use crate::generated::header::error::Error;
 use crate::generated::raw::memory_layout::Header;
 use crate::generated::tables;
+use crate::iter::{occupied, Iter, Keys, Slots, Values};
 use crate::shim::Global;
 use crate::sizes::{percent_of, refused};
 use alloc::vec::Vec;

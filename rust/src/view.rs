@@ -5,13 +5,13 @@
 //! slices have equal lengths.
 
 use crate::config::{Config, Proved};
-use crate::opened::Opened;
 use crate::generated::base::bytes::Borrowed;
 use crate::generated::base::load::max_item_count_for;
 use crate::generated::header::error::Error;
 use crate::generated::header::layout::Layout;
 use crate::generated::raw::memory_layout::Header;
 use crate::generated::tables;
+use crate::opened::Opened;
 use alloc::boxed::Box;
 use std::borrow::Borrow;
 use std::error::Error as AnyError;

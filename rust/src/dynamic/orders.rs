@@ -2,9 +2,9 @@
 
 use super::DynTable;
 use crate::config::{Hash, HashFn};
-use crate::iter::occupied_in;
 use crate::generated::base::bytes::Borrowed;
 use crate::generated::tables::dynamic;
+use crate::iter::occupied_in;
 use std::borrow::Borrow;
 
 impl<H: HashFn, D: Borrow<[u8]>> DynTable<H, D> {

@@ -2,8 +2,8 @@
 
 use super::{DynTable, Layout, ShortBytes};
 use crate::config::{Hash, HashFn};
-use crate::opened::Opened;
 use crate::generated::tables::dynamic::{self, DynError};
+use crate::opened::Opened;
 use crate::shim::Global;
 use crate::sizes::percent;
 use alloc::vec::Vec;

@@ -2,11 +2,11 @@
 
 use super::{DynError, DynTable, Layout};
 use crate::config::{Hash, HashFn};
-use crate::opened::Opened;
 use crate::generated::base::bytes::Borrowed;
 use crate::generated::header::error::Error;
 use crate::generated::header::layout;
 use crate::generated::tables::dynamic;
+use crate::opened::Opened;
 use std::marker::PhantomData;
 
 impl Layout {

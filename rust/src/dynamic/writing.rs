@@ -2,9 +2,9 @@
 
 use super::{DynError, DynTable, Layout, ShortBytes};
 use crate::config::{Hash, HashFn};
-use crate::opened::Opened;
 use crate::generated::base::bytes::{Borrowed, BorrowedMut};
 use crate::generated::tables::dynamic;
+use crate::opened::Opened;
 use crate::sizes::percent;
 use std::borrow::{Borrow, BorrowMut};
 use std::marker::PhantomData;

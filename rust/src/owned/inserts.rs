@@ -1,8 +1,8 @@
 //! Inserts into the owned table.
 
 use super::{refused, tables, Config, Error, Global, HashTableOwned, Proved};
-use crate::opened::count_again;
 use crate::generated::base::bytes::Borrowed;
+use crate::opened::count_again;
 use crate::shim::to_vec;
 
 impl<C: Config> HashTableOwned<C> {

@@ -1,9 +1,9 @@
 //! The traits of the owned table.
 
 use super::{refused, Config, Error, HashTableOwned, Proved};
+use crate::generated::header::layout::Layout;
 use crate::iter::{IntoIter, IntoKeys, IntoValues, Iter};
 use crate::opened::Opened;
-use crate::generated::header::layout::Layout;
 use crate::view::HashTable;
 use alloc::vec::Vec;
 use std::fmt;

@@ -2,11 +2,11 @@
 
 use super::HashTable;
 use crate::config::{Config, Proved};
-use crate::opened::Opened;
 use crate::generated::base::bytes::Borrowed;
 use crate::generated::header::error::Error;
 use crate::generated::header::layout::Layout;
 use crate::generated::tables;
+use crate::opened::Opened;
 use std::marker::PhantomData;
 
 impl<'b, C: Config> HashTable<C, &'b [u8]> {

@@ -2,8 +2,8 @@
 
 use super::HashTable;
 use crate::config::Config;
-use crate::iter::{IntoIter, Iter};
 use crate::generated::header::error::Error;
+use crate::iter::{IntoIter, Iter};
 use std::borrow::Borrow;
 use std::fmt;
 

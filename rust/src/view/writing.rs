@@ -2,11 +2,11 @@
 
 use super::HashTable;
 use crate::config::{Config, Proved};
-use crate::opened::{count_again, Opened};
 use crate::generated::base::bytes::BorrowedMut;
 use crate::generated::header::error::Error;
 use crate::generated::header::layout::Layout;
 use crate::generated::tables;
+use crate::opened::{count_again, Opened};
 use crate::sizes::{percent_of, refused};
 use alloc::boxed::Box;
 use std::borrow::{Borrow, BorrowMut};
