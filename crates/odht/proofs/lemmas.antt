@@ -47,6 +47,8 @@ pub mod DynFormers
 pub mod Plain
 -- a value of a table is stored in its bytes
 pub mod Stored
+-- lists of inserts into an owned table
+pub mod PlainLists
 -- what the clauses of an owned table say of its bytes
 pub mod PlainBytes
 -- room for more, of bytes and of their table
