@@ -53,3 +53,9 @@ pub mod PlainLists
 pub mod PlainBytes
 -- room for more, of bytes and of their table
 pub mod PlainReserves
+-- inserts in turn into the plain table of an owned table
+pub mod PlainRuns
+-- the owned table of lengths that are known at run time alone, as its plain table
+pub mod DynPlain
+-- what its clauses say of its bytes
+pub mod DynPlainBytes

@@ -1,6 +1,8 @@
 -- What calls of an owned table do. A contract sees it as the plain table whose image its bytes are.
 --     HasMapWith P p Q     the map of Q is that of P, except that the key of p has its value
 --     HasLastValuesIn c items Q   the map of Q has the last values of the items, as bytes
+--     IsRunOf F P ps Q     inserts of the pairs ps in turn into P leave Q. The map of Q is that of P, overwritten by their last
+--                          values. Where P has room for them, Q has its slots and load factor, and at most as many more pairs
 --     IsCollectedIn c p items Q   Q is the fresh table for as many items at p percent, after inserts of the items in turn.
 --                          It has not grown, and has their last values
 --     HasValuesOver P ps Q the map of Q is that of P, overwritten by the last values of the pairs ps
@@ -13,6 +15,7 @@
 --                          `reserved` of P (`table`), with the map of P and the room; it is `Capacity` exactly where the
 --                          room is lacking and no table is that large, and an error only where the room is lacking
 use Rattle.std.specs.Prelude.{◌≡◌, ◌↔◌, ◌≤◌, ◌+◌, ℕ, List, length, take, Option, Some, Result, Err, IsOk, OnOk, OnErr, bytes_eq, if◌then◌else◌}
+use Rattle.odht_base.specs.Format.{Format}
 use Rattle.odht_base.specs.Insert.{insert_owned, run}
 use Rattle.odht_base.specs.Load.{max_items}
 use Rattle.odht_base.specs.Map.{map_of, last, overwritten}
@@ -37,6 +40,11 @@ HasValuesOver P ps Q = (k : List ℕ) → map_of Q k ≡ overwritten (map_of P) 
 
 abbrev pub KeepsSize : Table → ℕ → Table → Type 0
 KeepsSize P n Q = count P + n ≤ max_items (slot_count P) P.factor → HasSizeOf P Q × (count Q ≤ count P + n)
+
+pub record IsRunOf (F : Format) (P : Table) (ps : List Pair) (Q : Table) : Type 0 where
+  pub runs : run (insert_owned F) P ps ≡ Some Q
+  pub maps : HasValuesOver P ps Q
+  pub stays : KeepsSize P (length ps) Q
 
 pub record IsPlainList {K V : Type 0} (c : Coding K V) (P Q : Table) (items : List (K × V)) (r : ℕ × Result Unit Error) : Type 0 where
   pub bound : r.0 ≤ length items

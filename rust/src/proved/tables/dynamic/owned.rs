@@ -17,7 +17,7 @@ mod stores;
 /// A table in memory of its own, of keys and values of lengths that were given when it was made.
 /// It grows where an absent key is inserted at the maximum. Its bytes are always valid.
 ///
-/// A contract speaks of it as of these lengths and the bytes.
+/// A contract sees it as these lengths and the plain table whose image its bytes are.
 pub struct DynTableOwned<H: HashFn> {
     table: DynTable<H, OwnedBytes>,
     alloc: Global,
