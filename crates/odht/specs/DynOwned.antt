@@ -1,6 +1,8 @@
--- The owned dynamic table. It stands for its lengths and its bytes.
---     IsDynWith kl vl S t  the table t has these lengths, and S holds of its bytes
+-- The owned dynamic table. A contract sees it as its lengths and the
+-- plain table whose image its bytes are.
+--     IsDynWith kl vl S t  the table t has these lengths, and S holds of its store: its bytes, or its plain table
 --     IsRejecting S r      r is a result of which S holds, with its error as a `Rejected`
+-- Of bytes:
 --     IsDynInsertOwned t h k v r B   an insert of the key k with the value v, which have the lengths of the table t, of
 --                          the hash h, returns r and leaves the bytes B: it does what an insert into a table that grows
 --                          does (`on_valid`), and its only error is `Memory` (`only_memory`), as a `Rejected`
@@ -19,10 +21,10 @@ use Rattle.odht.specs.NewTables.{IsCapacityOrMemory}
 use Rattle.odht.specs.Reserves.{IsReserve}
 use Rattle.odht.specs.Tables.{InTable}
 
-pub record IsDynWith (kl vl : ℕ) (S : List ℕ → Type 0) (t : DynStore (List ℕ)) : Type 0 where
+pub record IsDynWith {D : Type 0} (kl vl : ℕ) (S : D → Type 0) (t : DynStore D) : Type 0 where
   pub key_len : t.key_len ≡ kl
   pub value_len : t.value_len ≡ vl
-  pub bytes : S t.store
+  pub store : S t.store
 
 pub record IsRejecting {T : Type 0} (S : Result T Error → Type 0) (r : Result T DynError) : Type 0 where
   pub answer : Result T Error

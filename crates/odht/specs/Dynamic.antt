@@ -4,6 +4,8 @@
 --     dyn_format t h       the format of these lengths and of the hash h
 --     dyn_coding t h       the coding of this format that leaves lists of bytes as they are
 --     dyn_parts t h B      the lengths of t, and the parts of the bytes B
+--     dyn_plain t h        the lengths of t, and the plain table that its bytes decode to
+--     IsDynImage t h       the lengths of t fit the hash h, and its bytes are the image of that table
 --     IsOpened ml h bytes t  header and length of the table's bytes fit, and its keys are long enough for the hash h, which
 --                          needs ml bytes; its lengths are at most 255, and it has fewer than 2 ^ 64 bytes; `bytes` has
 --                          the bytes of a store
@@ -16,7 +18,10 @@
 use Rattle.std.specs.Prelude.{ℕ, ◌<◌, ◌≤◌, ◌^◌, nat_lt, List, length, slice_index, Option, option_map}
 use Rattle.std.specs.Bool.{then_some}
 use Rattle.std.specs.Option.{option_or}
-use Rattle.odht_base.specs.Format.{Format, format_of}
+use Rattle.odht_base.specs.Decoded.{decoded_table}
+use Rattle.odht_base.specs.Format.{Format, format_of, IsFormat}
+use Rattle.odht_base.specs.Table.{Table}
+use Rattle.odht_base.specs.Valid.{IsImage}
 use Rattle.odht_header.specs.Coding.{Coding}
 use Rattle.odht_header.specs.Refusals.{new_refusal, opening_refusal, view_refusal}
 use Rattle.odht_raw.specs.Dumps.{parts_of}
@@ -41,6 +46,13 @@ dyn_coding t h = bytes_coding (dyn_format t h)
 
 abbrev pub dyn_parts : {D : Type 0} → DynStore D → (List ℕ → ℕ) → List ℕ → DynParts
 dyn_parts t h B = record { key_len = t.key_len; value_len = t.value_len; parts = parts_of (dyn_format t h) B }
+
+abbrev pub dyn_plain : DynStore (List ℕ) → (List ℕ → ℕ) → DynStore Table
+dyn_plain t h = dyn_store t.key_len t.value_len (decoded_table (dyn_format t h) t.store)
+
+pub record IsDynImage (t : DynStore (List ℕ)) (h : List ℕ → ℕ) : Type 0 where
+  pub format : IsFormat (dyn_format t h)
+  pub image : IsImage (dyn_format t h) (decoded_table (dyn_format t h) t.store) t.store
 
 pub record IsOpened {D : Type 0} (ml : ℕ) (h : List ℕ → ℕ) (bytes : D → List ℕ) (t : DynStore D) : Type 0 where
   pub hashes : ml ≤ t.key_len

@@ -3,7 +3,6 @@ use Rattle.std.proofs.Common.{◌≡◌, ◌∙◌, ◌≤◌, ◌+◌, ◌*◌,
 use Rattle.std.specs.Prelude.{is_err, option_and_then, nat_lt, map, if◌then◌else◌}
 use Rattle.std.specs.List.{range_with_len}
 use Rattle.std.specs.Option.{option_map_or}
-use Rattle.std.specs.Result.{result_map_both}
 use Rattle.odht_base.specs.Decoded.{controls_of, decoded_cells, decoded_pairs, header_slots}
 use Rattle.odht_base.specs.Format.{Format, format_of}
 use Rattle.odht_base.specs.Image.{controls}
@@ -12,12 +11,8 @@ use Rattle.odht_base.specs.Table.{Pair, Table, fresh, slot_count}
 use Rattle.odht_base.specs.Valid.{IsImage}
 use Rattle.odht_base.proofs.lemmas.Fits.{IsSized-IsPlaced}
 use Rattle.odht_base.proofs.lemmas.Image.{controls_of-image}
-use Rattle.odht_header.specs.declared.error.Error.{Error}
 use Rattle.odht_header.proofs.lemmas.HeaderFits.{IsOpening, IsOpening-opening_refusal, opening_refusal-IsOpening}
 use Rattle.odht_raw.proofs.lemmas.Accepted.{IsAccepted-IsValidBytes}
-use Rattle.odht.specs.Dynamic.{DynStore, dyn_coding, dyn_format, dyn_store}
-use Rattle.odht.specs.DynOwned.{IsDynInsertOwned, IsOwnedAnswer}
-use Rattle.odht.specs.declared.dynamic.DynError.TheVariants.{Rejected}
 use Rattle.odht.proofs.lemmas.Moves.{slots_of_image}
 use Rattle.odht_tool_core.specs.GroupNumbers.{capped, groups_to_free}
 use Rattle.odht_tool_core.specs.InfoNumbers.{format_by, has_long_search, info_refusal, largest, file_parts}
@@ -81,17 +76,6 @@ module _ (F : Format) (P : Table) (p : Pair) (ps : List Pair) where
 pub ok_of : {X E : Type 0} (r : Result X E) → is_err r ≡ false → (x : X) × (r ≡ Ok x)
 ok_of (Ok x) e = (x, refl)
 ok_of (Err x) e = cc
-
--- what an accepted insert leaves
-pub one_insert : (h : List ℕ → ℕ) (t : DynStore (List ℕ)) (k v : List ℕ) (o : Option (List ℕ)) (C : List ℕ) → IsDynInsertOwned t h k v (Ok o) C
-    → (P : Table) → IsImage (dyn_format t h) P t.store
-    → (Q : Table) × (insert_owned (dyn_format t h) P (record { key = k; value = v }) ≡ Some Q) × IsImage (dyn_format t h) Q C
-one_insert h t k v o C one P is = go one.answer one.is one.holds
-  where
-    go : (r : Result (Option (List ℕ)) Error) → Ok o ≡ result_map_both (λ o. o) Rejected r → IsOwnedAnswer t h k v C r
-        → (Q : Table) × (insert_owned (dyn_format t h) P (record { key = k; value = v }) ≡ Some Q) × IsImage (dyn_format t h) Q C
-    go (Ok a) e holds = let into = (holds.on_valid P is).inserted in (into.table, into.inserted, into.image)
-    go (Err x) e holds = absurd (let both : Ok o ≡ Err (Rejected x) = e in cc)
 
 -- ---- the result
 -- a walk does not depend on the hash function

@@ -16,7 +16,7 @@
 --     taken_hash B         the hash function of B, where `odht rebuild` takes it, with `--whole` where a search is too long
 --     has_long B           header and length fit, and some search for an absent key is long
 --     advice B             the first help of a table that has a long search, where `odht rebuild` takes it
---     IsRunShort F P ps whole B   all pairs ps were inserted so, which left the bytes B; or they were not
+--     IsRunShort F P ps whole Q   all pairs ps were inserted so, which left the table Q; or they were not
 use Rattle.std.specs.Prelude.{◌≡◌, ℕ, ◌*◌, ◌/◌, [], ◌∷◌, Bool, true, false, not, ◌&&◌, is_none, nat_le, nat_lt, length, List, slice_index, Option, Some, None, option_and_then, if◌then◌else◌}
 use Rattle.std.specs.Bool.{then_some}
 use Rattle.std.specs.Option.{option_map_or}
@@ -26,7 +26,6 @@ use Rattle.odht_base.specs.Format.{Format, home}
 use Rattle.odht_base.specs.Image.{entries, controls}
 use Rattle.odht_base.specs.Insert.{insert_owned}
 use Rattle.odht_base.specs.Table.{Pair, Table, fresh, slot_count}
-use Rattle.odht_base.specs.Valid.{IsImage}
 use Rattle.odht_header.specs.Refusals.{check_refusal_by}
 use Rattle.odht_header.specs.declared.error.Error.{Error}
 use Rattle.odht_header.specs.declared.error.Error.TheVariants.{SearchTooLong}
@@ -99,6 +98,6 @@ abbrev pub advice : List ℕ → Option Advice
 advice B = if has_long B then option_and_then (first_help B) (taken_hash B) else None
 
 -- ---- while the pairs are inserted
-abbrev pub IsRunShort : Format → Table → List Pair → Bool → List ℕ → Type 0
-IsRunShort F P ps true B = (Q : Table) × (run_short F P ps ≡ Some Q) × IsImage F Q B
-IsRunShort F P ps false B = run_short F P ps ≡ None
+abbrev pub IsRunShort : Format → Table → List Pair → Bool → Table → Type 0
+IsRunShort F P ps true Q = run_short F P ps ≡ Some Q
+IsRunShort F P ps false Q = run_short F P ps ≡ None

@@ -6,7 +6,6 @@ ghost use Rattle.odht_base.specs.Table.{Table, slot_count};
 ghost use Rattle.odht_base.specs.Valid.{IsImage};
 ghost use Rattle.odht_raw.specs.DynParts.{HasLengthsOf};
 ghost use Rattle.odht.specs.Dynamic.{dyn_format, dyn_store};
-ghost use Rattle.odht.specs.Tables.{OfTable};
 ghost use Rattle.odht_tool_core.specs.GroupNumbers.{capped, groups_to_free};
 ghost use Rattle.odht_tool_core.specs.InfoNumbers.{has_long_search as has_long_in};
 ghost use Rattle.odht_tool_core.specs.declared.failure.Failure.TheVariants.{Memory};
@@ -26,9 +25,8 @@ pub(crate) fn insert_short<S: HashFn, H: HashFn>(
 ) -> Result<bool, Failure>
     requires lengths { All (HasLengthsOf table.old.key_len table.old.value_len) pairs }
     requires hashes { H.MIN_LEN ≤ table.old.key_len }
-    ensures short { let F = dyn_format table.old H.hash
-        in OfTable F table.old.store
-        (λ P. IfOk result (λ whole. IsRunShort F P pairs.entry whole table.new.store)) }
+    ensures short { let F = dyn_format table.old H.hash in IfOk result
+        (λ whole. IsRunShort F table.old.store pairs.entry whole table.new.store) }
     ensures lengths { table.new
         ≡ dyn_store table.old.key_len table.old.value_len table.new.store }
     ensures memory { OnErr result (result ≡ Err Memory) }

@@ -7,7 +7,7 @@ use Rattle.odht_base.specs.Format.{Format, format_of}
 use Rattle.odht_base.specs.Insert.{insert_owned}
 use Rattle.odht_base.specs.Load.{max_items}
 use Rattle.odht_base.specs.Map.{KeysApart, map_of, value_in}
-use Rattle.odht_base.specs.Table.{Pair, Table, slot_count, walk}
+use Rattle.odht_base.specs.Table.{Pair, Table, fresh, slot_count, walk}
 use Rattle.odht_base.specs.Valid.{IsValid}
 use Rattle.odht_base.proofs.lemmas.DistinctKeys.{last-apart, walk-KeysApart}
 use Rattle.odht_base.proofs.lemmas.FreeSlots.{count-empty, map_of-empty, map_of-fresh, slot_count-empty}
@@ -15,11 +15,8 @@ use Rattle.odht_base.proofs.lemmas.Keys.{same_bytes}
 use Rattle.odht_base.proofs.lemmas.Pairs.{value_in-cons}
 use Rattle.odht_header.specs.Refusals.{check_refusal_by}
 use Rattle.odht_header.specs.declared.error.Error.{Error}
-use Rattle.odht.specs.Dynamic.{DynStore, dyn_format}
-use Rattle.odht.specs.DynOwned.{IsDynInsertOwned}
-use Rattle.odht.specs.Inserts.{IsFresh}
 use Rattle.odht.specs.Lists.{IsAfterInserts}
-use Rattle.odht.proofs.lemmas.ListInserts.{inserted_none}
+use Rattle.odht.specs.Plain.{HasMapWith}
 use Rattle.odht.proofs.lemmas.NewRefusals.{default_fits}
 use Rattle.odht_tool_writes.specs.Deletes.{AreNamed, IsDeleted, IsDeleteFailure, are_keys, cleared, fails_by_words, is_among, is_fault, without}
 use Rattle.odht_tool_writes.specs.Rebuilds.{IsNewFailure}
@@ -37,7 +34,7 @@ use Rattle.odht_tool_core.specs.declared.shapes.Hash.{Hash}
 use Rattle.odht_tool_writes.proofs.AbsentKeys.{is_there}
 use Rattle.odht_tool_tables.proofs.Lines.{AllZip-length}
 use Rattle.odht_tool_tables.proofs.Formats.{format_is}
-use Rattle.odht_tool_writes.proofs.NewTables.{one_more, or_none}
+use Rattle.odht_tool_writes.proofs.NewTables.{or_none}
 
 -- ---- the pairs that are left
 module _ (ks : List (List ℕ)) where
@@ -131,34 +128,23 @@ is_among-push (x ∷ ks) k q = go (bytes_eq q x) (is_among-push ks k q)
     go false rest = rest
 
 -- a fresh table has none
-pub named_none : (F : Format) (B : List ℕ) → IsFresh F 12 87 B → AreNamed F [] B
-named_none F B new = record { table = new.table; image = new.image; names = λ k. ap is_some (map_of-fresh 12 87 new.table new.new k) }
+pub named_none : (P : Table) → fresh 12 87 ≡ Some P → AreNamed [] P
+named_none P new k = ap is_some (map_of-fresh 12 87 P new k)
 
 -- an insert adds its key
-pub named_more : (t : DynStore (List ℕ)) (h : List ℕ → ℕ) (ks : List (List ℕ)) (k : List ℕ) (o : Option (List ℕ)) (C : List ℕ)
-    → AreNamed (dyn_format t h) ks t.store → IsDynInsertOwned t h k [] (Ok o) C → AreNamed (dyn_format t h) (ks ++ k ∷ []) C
-named_more t h ks k o C named one =
-    let F = dyn_format t h in
-    let after = one_more h t named.table [] k [] o C (inserted_none F (insert_owned F) named.table t.store named.image) one in
-    record {
-      table = after.table;
-      image = after.image;
-      names = λ q. (
-          ap is_some (after.maps q ∙ ap (λ x. option_or x (map_of named.table q)) (value_in-cons (record { key = k; value = [] }) [] q))
-          ∙ go (map_of named.table q) (bytes_eq q k)
-          ∙ ap (λ b. b || bytes_eq q k) (named.names q)
-          ∙ sym (is_among-push ks k q));
-    }
+pub named_more : (P Q : Table) (ks : List (List ℕ)) (k : List ℕ) → AreNamed ks P → HasMapWith P (record { key = k; value = [] }) Q → AreNamed (ks ++ k ∷ []) Q
+named_more P Q ks k named maps q =
+    ap is_some (maps q) ∙ go (map_of P q) (bytes_eq q k) ∙ ap (λ b. b || bytes_eq q k) (named q) ∙ sym (is_among-push ks k q)
   where
-    go : (o : Option (List ℕ)) (b : Bool) → is_some (option_or (cond b (Some []) None) o) ≡ (is_some o || b)
+    go : (o : Option (List ℕ)) (b : Bool) → is_some (cond b (Some []) o) ≡ (is_some o || b)
     go None true = refl
     go None false = refl
     go (Some v) true = refl
     go (Some v) false = refl
 
 -- whether a key is one of them
-pub known : (F : Format) (ks : List (List ℕ)) (B k : List ℕ) (b : Bool) (named : AreNamed F ks B) → (IsTrue b ↔ IsSome (map_of named.table k)) → is_among ks k ≡ b
-known F ks B k b named is = sym (named.names k) ∙ is_there (map_of named.table k) b is
+pub known : (ks : List (List ℕ)) (P : Table) (k : List ℕ) (b : Bool) → AreNamed ks P → (IsTrue b ↔ IsSome (map_of P k)) → is_among ks k ≡ b
+known ks P k b named is = sym (named k) ∙ is_there (map_of P k) b is
 
 -- ---- failures
 -- a table for few items fails for want of memory alone

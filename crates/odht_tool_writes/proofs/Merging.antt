@@ -12,16 +12,14 @@ use Rattle.odht_base.proofs.lemmas.FreeSlots.{count-fresh, map_of-fresh, max_ite
 use Rattle.odht_base.proofs.lemmas.InsertRuns.{last-append, last-cons}
 use Rattle.odht_base.proofs.lemmas.Keys.{same_bytes}
 use Rattle.odht_base.proofs.lemmas.Pairs.{value_in-cons}
-use Rattle.odht.specs.Dynamic.{DynStore, dyn_format}
-use Rattle.odht.specs.DynOwned.{IsDynInsertOwned}
-use Rattle.odht.specs.Inserts.{IsFresh}
-use Rattle.odht.specs.Lists.{IsAfterInserts}
-use Rattle.odht.proofs.lemmas.ListInserts.{inserted_none}
+use Rattle.odht_base.specs.Valid.{IsImage}
+use Rattle.odht.specs.Plain.{HasMapWith, IsRunOf, KeepsSize}
+use Rattle.odht.proofs.lemmas.PlainRuns.{run_none, run_more}
 use Rattle.odht_tool_writes.specs.Merges.{HasKeysOf, IsFilled, IsMerged, all_of, all_pairs, first_in, firsts, is_in, kept, leaves_out, numbered, or_memory, others_pairs, repeat_from, repeat_in, repeat_of, shape_of_other, value_by, with_new, with_pairs}
 use Rattle.odht_tool_writes.specs.declared.dynamic.merges.MergeFailure.{MergeFailure}
 use Rattle.odht_tool_writes.specs.declared.dynamic.merges.MergeFailure.TheVariants.{Failed, OtherSizes, Twice, New}
 use Rattle.odht_tool_writes.proofs.AbsentKeys.{is_there}
-use Rattle.odht_tool_writes.proofs.NewTables.{one_more, or_none}
+use Rattle.odht_tool_writes.proofs.NewTables.{or_none}
 use Rattle.odht_tool_core.specs.AnyShapes.{any_format}
 use Rattle.odht_tool_core.specs.declared.any.AnyShape.{AnyShape}
 use Rattle.odht_tool_core.specs.declared.arguments.duplicates.Duplicates.{Duplicates}
@@ -100,74 +98,64 @@ last-kept Error ps k = refl
 
 -- ---- tables that are filled
 -- what a filled table has for a key
-pub filled_map : (F : Format) (d : Duplicates) (start : Table) (ps : List Pair) (B : List ℕ) (h : IsFilled F d start ps B) (k : List ℕ) → map_of h.inserted.table k ≡ last (kept d ps) k
-filled_map F d start ps B h k = h.inserted.maps k ∙ ap (option_or (last (kept d ps) k)) (h.begins_empty k) ∙ or_none (last (kept d ps) k)
+pub filled_map : (F : Format) (d : Duplicates) (start : Table) (ps : List Pair) (Q : Table) → IsFilled F d start ps Q → (k : List ℕ) → map_of Q k ≡ last (kept d ps) k
+filled_map F d start ps Q h k = h.ran.maps k ∙ ap (option_or (last (kept d ps) k)) (h.begins_empty k) ∙ or_none (last (kept d ps) k)
 
 -- a fresh table is filled with no pairs
-pub filled_none : (F : Format) (d : Duplicates) (n percent : ℕ) (B : List ℕ) (h : IsFresh F n percent B) → IsFilled F d h.table [] B
-filled_none F d n percent B h = record { inserted = go d; begins_empty = map_of-fresh n percent h.table h.new }
+pub filled_none : (F : Format) (d : Duplicates) (n percent : ℕ) (P : Table) → fresh n percent ≡ Some P → IsFilled F d P [] P
+filled_none F d n percent P new = record { ran = go d; begins_empty = map_of-fresh n percent P new }
   where
-    none : IsAfterInserts F (insert_owned F) h.table [] B
-    none = inserted_none F (insert_owned F) h.table B h.image
-
-    go : (d : Duplicates) → IsAfterInserts F (insert_owned F) h.table (kept d []) B
-    go Last = none
-    go First = none
-    go Error = none
+    go : (d : Duplicates) → IsRunOf F P (kept d []) P
+    go Last = run_none F P
+    go First = run_none F P
+    go Error = run_none F P
 
 -- one more pair, that is left out
-pub filled_same : (F : Format) (d : Duplicates) (start : Table) (ps : List Pair) (p : Pair) (B : List ℕ) → leaves_out d ps p.key ≡ true → IsFilled F d start ps B → IsFilled F d start (ps ++ p ∷ []) B
-filled_same F d start ps p B out h =
+pub filled_same : (F : Format) (d : Duplicates) (start : Table) (ps : List Pair) (p : Pair) (Q : Table) → leaves_out d ps p.key ≡ true → IsFilled F d start ps Q → IsFilled F d start (ps ++ p ∷ []) Q
+filled_same F d start ps p Q out h =
     let same : kept d (ps ++ p ∷ []) ≡ kept d ps = kept-more d ps p ∙ ap (λ b. cond b (kept d ps) (kept d ps ++ p ∷ [])) out in
     record {
-      inserted = subst (λ (xs : List Pair). IsAfterInserts F (insert_owned F) start xs B) (sym same) h.inserted;
+      ran = subst (λ (xs : List Pair). IsRunOf F start xs Q) (sym same) h.ran;
       begins_empty = h.begins_empty;
     }
 
 -- or inserted
-pub filled_more : (t : DynStore (List ℕ)) (h : List ℕ → ℕ) (d : Duplicates) (start : Table) (ps : List Pair) (k v : List ℕ) (o : Option (List ℕ)) (C : List ℕ) → leaves_out d ps k ≡ false
-    → IsFilled (dyn_format t h) d start ps t.store → IsDynInsertOwned t h k v (Ok o) C → IsFilled (dyn_format t h) d start (ps ++ record { key = k; value = v } ∷ []) C
-filled_more t h d start ps k v o C kept_one was one =
-    let F = dyn_format t h in
-    let p : Pair = record { key = k; value = v } in
+pub filled_more : (F : Format) (d : Duplicates) (start : Table) (ps : List Pair) (p : Pair) (Q R : Table) → leaves_out d ps p.key ≡ false → IsFilled F d start ps Q
+    → insert_owned F Q p ≡ Some R → HasMapWith Q p R → KeepsSize Q 1 R → IsFilled F d start (ps ++ p ∷ []) R
+filled_more F d start ps p Q R kept_one was one maps stays =
     let more : kept d (ps ++ p ∷ []) ≡ kept d ps ++ p ∷ [] = kept-more d ps p ∙ ap (λ b. cond b (kept d ps) (kept d ps ++ p ∷ [])) kept_one in
     record {
-      inserted = subst (λ (xs : List Pair). IsAfterInserts F (insert_owned F) start xs C) (sym more) (one_more h t start (kept d ps) k v o C was.inserted one);
+      ran = subst (λ (xs : List Pair). IsRunOf F start xs R) (sym more) (run_more F start (kept d ps) p Q R was.ran one maps stays);
       begins_empty = was.begins_empty;
     }
 
 -- whether a pair is left out
-pub left_out : (F : Format) (start : Table) (ps : List Pair) (B k : List ℕ) (b : Bool) (h : IsFilled F First start ps B) → (IsTrue b ↔ IsSome (map_of h.inserted.table k)) → b ≡ leaves_out First ps k
-left_out F start ps B k b h is = sym (is_there (map_of h.inserted.table k) b is) ∙ ap is_some (filled_map F First start ps B h k)
+pub left_out : (F : Format) (start : Table) (ps : List Pair) (Q : Table) (k : List ℕ) (b : Bool) → IsFilled F First start ps Q → (IsTrue b ↔ IsSome (map_of Q k)) → b ≡ leaves_out First ps k
+left_out F start ps Q k b h is = sym (is_there (map_of Q k) b is) ∙ ap is_some (filled_map F First start ps Q h k)
 
 -- where all pairs are kept, the table has their keys
-pub filled_keys : (F : Format) (start : Table) (ps : List Pair) (B : List ℕ) → IsFilled F Error start ps B → HasKeysOf F ps B
-filled_keys F start ps B h = record {
-  table = h.inserted.table;
-  image = h.inserted.image;
-  keys = λ k. ap is_some (filled_map F Error start ps B h k);
-}
+pub filled_keys : (F : Format) (start : Table) (ps : List Pair) (Q : Table) → IsFilled F Error start ps Q → HasKeysOf ps Q
+filled_keys F start ps Q h k = ap is_some (filled_map F Error start ps Q h k)
 
 -- whether the table has a key
-pub has_key_of : (F : Format) (ps : List Pair) (B k : List ℕ) (b : Bool) (h : HasKeysOf F ps B) → (IsTrue b ↔ IsSome (map_of h.table k)) → is_in ps k ≡ b
-has_key_of F ps B k b h is = sym (h.keys k) ∙ is_there (map_of h.table k) b is
+pub has_key_of : (ps : List Pair) (Q : Table) (k : List ℕ) (b : Bool) → HasKeysOf ps Q → (IsTrue b ↔ IsSome (map_of Q k)) → is_in ps k ≡ b
+has_key_of ps Q k b h is = sym (h k) ∙ is_there (map_of Q k) b is
 
 -- ---- the new table
-pub merged_anew : (F : Format) (d : Duplicates) (n percent : ℕ) (xss : List (List Pair)) (B C : List ℕ) (new : IsFresh F n percent C) → n ≡ length (all_of xss) → repeat_of d xss ≡ None
-    → IsFilled F d new.table (all_of xss) B → IsMerged F d percent xss B
-merged_anew F d n percent xss B C new many none filled =
+pub merged_anew : (F : Format) (d : Duplicates) (n percent : ℕ) (xss : List (List Pair)) (start Q : Table) (B : List ℕ) → fresh n percent ≡ Some start → n ≡ length (all_of xss) → repeat_of d xss ≡ None
+    → IsFilled F d start (all_of xss) Q → IsImage F Q B → IsMerged F d percent xss B
+merged_anew F d n percent xss start Q B new many none filled is =
     let ps = all_of xss in
-    let start = new.table in
     let few = length-kept d ps in
-    let room = max_items-fresh n percent start new.new in
-    let no_pairs = count-fresh n percent start new.new in
+    let room = max_items-fresh n percent start new in
+    let no_pairs = count-fresh n percent start new in
     record {
       start = start;
-      new = subst (λ m. fresh m percent ≡ Some start) many new.new;
+      new = subst (λ m. fresh m percent ≡ Some start) many new;
       repeats_none = none;
-      inserted = filled.inserted;
-      never_grown = (filled.inserted.stays (omega (arith, few, room, no_pairs, many))).0;
-      maps = λ k. (filled_map F d start ps B filled k ∙ last-kept d ps k);
+      inserted = record { table = Q; runs = filled.ran.runs; image = is; maps = filled.ran.maps; stays = filled.ran.stays };
+      never_grown = (filled.ran.stays (omega (arith, few, room, no_pairs, many))).0;
+      maps = λ k. (filled_map F d start ps Q filled k ∙ last-kept d ps k);
     }
 
 -- ---- keys of two files

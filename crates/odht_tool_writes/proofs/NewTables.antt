@@ -1,8 +1,7 @@
 -- The tables that `rebuild` makes, and their failures.
 use Rattle.std.proofs.Common.{◌≡◌, ◌∙◌, ◌++◌, ℕ, false, List, [], ◌∷◌, Option, Some, None, Result, Ok, Err, sym, ap, refl, subst, arith}
-use Rattle.std.specs.Prelude.{IfErr, IfOk, is_err}
+use Rattle.std.specs.Prelude.{IfErr, IfOk, OnOk, is_err}
 use Rattle.std.specs.Option.{option_or}
-use Rattle.std.specs.Result.{result_map_both}
 use Rattle.odht_base.specs.Decoded.{header_count}
 use Rattle.odht_base.specs.Format.{Format, format_of}
 use Rattle.odht_base.specs.Insert.{insert_owned}
@@ -12,16 +11,13 @@ use Rattle.odht_base.specs.Table.{Pair, Table, count, slot_count, fresh, walk}
 use Rattle.odht_base.specs.Valid.{IsPlaced}
 use Rattle.odht_base.proofs.lemmas.DistinctKeys.{last-apart, walk-KeysApart}
 use Rattle.odht_base.proofs.lemmas.FreeSlots.{fresh-slots, slot_count-empty, count-fresh, map_of-fresh, max_items-holds}
-use Rattle.odht_base.proofs.lemmas.FreshRuns.{insert_owned-PlacesBelow}
-use Rattle.odht_base.proofs.lemmas.TableInserts.{insert_owned-IsInsert}
 use Rattle.odht_header.specs.Refusals.{check_refusal_by}
-use Rattle.odht_header.specs.declared.error.Error.{Error}
-use Rattle.odht.specs.Dynamic.{DynStore, dyn_format, dyn_store}
-use Rattle.odht.specs.DynOwned.{IsDynInsertOwned, IsOwnedAnswer}
+use Rattle.odht_header.specs.Coding.{encoded}
+use Rattle.odht.specs.Dynamic.{DynStore, dyn_coding, dyn_format, dyn_store}
 use Rattle.odht.specs.Lists.{IsAfterInserts}
-use Rattle.odht.specs.Tables.{OfTable}
-use Rattle.odht.specs.declared.dynamic.DynError.TheVariants.{Rejected}
-use Rattle.odht.proofs.lemmas.ListInserts.{inserted_more}
+use Rattle.odht.specs.Plain.{HasMapWith, IsRunOf, KeepsSize}
+use Rattle.odht.specs.declared.dynamic.DynError.{DynError}
+use Rattle.odht.proofs.lemmas.PlainRuns.{run_more}
 use Rattle.odht_tool_tables.proofs.Formats.{format_is}
 use Rattle.odht_tool_writes.specs.Rebuilds.{IsNewFailure, IsRebuilt, IsLateFailure, IsRebuildFailure, is_failure, new_hash, rebuild_refusal, refusal_of_hash, refusal_of_shape, refused_by, rehashed}
 use Rattle.odht_tool_core.specs.AnyShapes.{any_format, any_hash, any_key, any_value, found_any}
@@ -59,30 +55,16 @@ made_anew F G percent P start B placed new inserted =
     }
 
 -- ---- one more pair
-module _ (h : List ℕ → ℕ) (t : DynStore (List ℕ)) where
-  -- an insert that was accepted
-  accepted : (k v : List ℕ) (C : List ℕ) (o : Option (List ℕ)) → IsDynInsertOwned t h k v (Ok o) C → (a : Option (List ℕ)) × IsOwnedAnswer t h k v C (Ok a)
-  accepted k v C o one = go one.answer one.is one.holds
-    where
-      go : (r : Result (Option (List ℕ)) Error) → Ok o ≡ result_map_both (λ o. o) Rejected r → IsOwnedAnswer t h k v C r → (a : Option (List ℕ)) × IsOwnedAnswer t h k v C (Ok a)
-      go (Ok a) e holds = (a, holds)
-      go (Err x) e holds = absurd (let both : Ok o ≡ Err (Rejected x) = e in cc)
-
-  pub one_more : (P : Table) (ps : List Pair) (k v : List ℕ) (o : Option (List ℕ)) (C : List ℕ) → (let F = dyn_format t h in IsAfterInserts F (insert_owned F) P ps t.store)
-      → IsDynInsertOwned t h k v (Ok o) C → (let F = dyn_format t h in IsAfterInserts F (insert_owned F) P (ps ++ record { key = k; value = v } ∷ []) C)
-  one_more P ps k v o C was one =
-      let F = dyn_format t h in
-      let into = ((accepted k v C o one).1.on_valid was.table was.image).inserted in
-      inserted_more F (insert_owned F) (insert_owned-IsInsert F) (insert_owned-PlacesBelow F) P ps (record { key = k; value = v }) t.store C was into.table into.inserted into.image
-
--- the same of a table of the lengths of another
-pub one_inserted : (h : List ℕ → ℕ) (before t : DynStore (List ℕ)) → t ≡ dyn_store before.key_len before.value_len t.store → (ps : List Pair) (k v : List ℕ) (o : Option (List ℕ)) (C : List ℕ)
-    → (let F = dyn_format before h in OfTable F before.store (λ P. IsAfterInserts F (insert_owned F) P ps t.store)) → IsDynInsertOwned t h k v (Ok o) C
-    → (let F = dyn_format before h in OfTable F before.store (λ P. IsAfterInserts F (insert_owned F) P (ps ++ record { key = k; value = v } ∷ []) C))
-one_inserted h before t same ps k v o C so_far one P is =
-    let formats : dyn_format t h ≡ dyn_format before h = ap (λ (s : DynStore (List ℕ)). dyn_format s h) same in
-    let was = subst (λ (X : Format). IsAfterInserts X (insert_owned X) P ps t.store) (sym formats) (so_far P is) in
-    subst (λ (X : Format). IsAfterInserts X (insert_owned X) P (ps ++ record { key = k; value = v } ∷ []) C) formats (one_more h t P ps k v o C was one)
+-- an insert that was accepted, into a table of the lengths of another
+pub one_inserted : (h : List ℕ → ℕ) (before t t' : DynStore Table) → t ≡ dyn_store before.key_len before.value_len t.store → (ps : List Pair) (k v : List ℕ)
+    → (r : Result (Option (List ℕ)) DynError) (o : Option (List ℕ)) → r ≡ Ok o → (let F = dyn_format before h in IsRunOf F before.store ps t.store)
+    → OnOk r (insert_owned (dyn_format t h) t.store (encoded (dyn_coding t h) k v) ≡ Some t'.store) → OnOk r (HasMapWith t.store (encoded (dyn_coding t h) k v) t'.store)
+    → OnOk r (KeepsSize t.store 1 t'.store) → (let F = dyn_format before h in IsRunOf F before.store (ps ++ record { key = k; value = v } ∷ []) t'.store)
+one_inserted h before t t' same ps k v (Err x) o was so_far inserted maps stays = absurd cc
+one_inserted h before t t' same ps k v (Ok x) o was so_far inserted maps stays =
+    let formats : dyn_format t h ≡ dyn_format before h = ap (λ (s : DynStore Table). dyn_format s h) same in
+    let p : Pair = record { key = k; value = v } in
+    run_more (dyn_format before h) before.store ps p t.store t'.store so_far (subst (λ (X : Format). insert_owned X t.store p ≡ Some t'.store) formats inserted) maps stays
 
 -- a result that is no error is a value
 pub ok_of : {X E : Type 0} (r : Result X E) → is_err r ≡ false → (x : X) × (r ≡ Ok x)

@@ -2,7 +2,7 @@
 --     are_keys f ws s ks   ks are the bytes of the keys of the shape s that the words ws are texts of, in the form f
 --     is_fault f ws s g    the failure g tells of the first of the words ws that is a text of no key, or there was no memory
 --     is_among ks k        k is one of the keys ks
---     AreNamed F ks B      B are the bytes of a table that has values for the keys ks alone
+--     AreNamed ks P        P has values for exactly the keys ks
 --     without ks ps        the pairs of ps whose keys are not among ks
 --     cleared P            the empty table of the slot count and the load factor of P
 --     IsDeleted F ks P B'  B' are the bytes of the cleared P after the pairs of P whose keys are not among ks, in slot order,
@@ -54,10 +54,8 @@ is_fault f ws s failure =
 abbrev pub is_among : List (List ℕ) → List ℕ → Bool
 is_among ks k = list_any (bytes_eq k) ks
 
-pub record AreNamed (F : Format) (ks : List (List ℕ)) (B : List ℕ) : Type 0 where
-  pub table : Table
-  pub image : IsImage F table B
-  pub names : (k : List ℕ) → is_some (map_of table k) ≡ is_among ks k
+abbrev pub AreNamed : List (List ℕ) → Table → Type 0
+AreNamed ks P = (k : List ℕ) → is_some (map_of P k) ≡ is_among ks k
 
 abbrev pub without : List (List ℕ) → List Pair → List Pair
 without ks ps = filter (λ (p : Pair). not (is_among ks p.key)) ps

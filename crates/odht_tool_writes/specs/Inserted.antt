@@ -12,27 +12,26 @@
 --                          was no memory
 --     copy_failure F o B   the first error of the check, by the bound o, of the bytes B of the format F; where there is none,
 --                          out of memory
-use Rattle.std.specs.Prelude.{◌≡◌, ⊤, ◌+◌, ◌≤◌, ℕ, List, Bool, true, false, IsSome, Option, Some, None, length, string_bytes}
+use Rattle.std.specs.Prelude.{◌≡◌, ⊤, ℕ, List, Bool, true, false, IsSome, Option, Some, None, length, string_bytes}
 use Rattle.std.specs.Option.{option_map_or}
 use Rattle.odht_base.specs.Format.{Format}
 use Rattle.odht_base.specs.Insert.{insert_owned, run}
-use Rattle.odht_base.specs.Load.{max_items}
-use Rattle.odht_base.specs.Map.{map_of, last, overwritten}
-use Rattle.odht_base.specs.Table.{Pair, Table, count, slot_count}
+use Rattle.odht_base.specs.Map.{map_of}
+use Rattle.odht_base.specs.Table.{Pair, Table}
 use Rattle.odht_header.specs.Coding.{Coding, encoded}
 use Rattle.odht_header.specs.Refusals.{check_refusal_by}
 use Rattle.odht_tool_core.specs.PairLines.{repeated_text}
 use Rattle.odht_tool_core.specs.declared.failure.Failure.{Failure}
 use Rattle.odht_tool_core.specs.declared.failure.Failure.TheVariants.{Refused, Memory, Misread}
-use Rattle.odht.specs.Lists.{encoded_all, HasSizeOf}
-use Rattle.odht.specs.Plain.{HasMapWith}
+use Rattle.odht.specs.Lists.{encoded_all}
+use Rattle.odht.specs.Plain.{HasMapWith, HasValuesOver, KeepsSize}
 
 pub record IsAfterRun (F : Format) (P : Table) (ps : List Pair) (S' : Table → Type 0) : Type 0 where
   pub table : Table
   pub runs : run (insert_owned F) P ps ≡ Some table
   pub holds : S' table
-  pub maps : (k : List ℕ) → map_of table k ≡ overwritten (map_of P) (last ps) k
-  pub stays : count P + length ps ≤ max_items (slot_count P) P.factor → HasSizeOf P table × (count table ≤ count P + length ps)
+  pub maps : HasValuesOver P ps table
+  pub stays : KeepsSize P (length ps) table
 
 abbrev pub AreInserted : {K V : Type 0} → Coding K V → (Table → Type 0) → List (K × V) → (Table → Type 0) → Type 0
 AreInserted c S ps S' = (P : Table) → S P → IsAfterRun c.format P (encoded_all c ps) S'

@@ -13,9 +13,8 @@
 --     input_pairs i        the pairs of the file i, in slot order
 --     IsTableOf kl vl s B  B are a valid table of the shape s, whose keys and values have these lengths
 --     IsInputOf kl vl i    the same of the shape and the bytes of the file i
---     HasKeysOf F ps B     B are those of a table that has values for the keys of the pairs ps alone
---     IsFilled F d P ps B  B are the bytes of the table P, which has no pairs, after those of ps that d keeps are inserted
---                          into it in turn
+--     HasKeysOf ps P       P has values for exactly the keys of the pairs ps
+--     IsFilled F d P ps Q  Q is the table P, which has no pairs, after those of ps that d keeps are inserted into it in turn
 --     IsMerged F d p xss B B are the bytes of the fresh table of F for as many items as the files have pairs, at p percent,
 --                          so filled, file after file. It has not grown, and each key has the value that counts
 --     IsStopped t ml F d p xss u   the new table fails by u: a key that a file before has, told in its text by t; or what
@@ -39,8 +38,9 @@ use Rattle.odht_base.specs.Format.{Format}
 use Rattle.odht_base.specs.Insert.{insert_owned}
 use Rattle.odht_base.specs.Map.{Values, last, map_of, value_in}
 use Rattle.odht_base.specs.Table.{Pair, Table, fresh}
-use Rattle.odht_base.specs.Valid.{IsImage, IsValidBytes}
+use Rattle.odht_base.specs.Valid.{IsValidBytes}
 use Rattle.odht.specs.Lists.{HasSizeOf, IsAfterInserts}
+use Rattle.odht.specs.Plain.{IsRunOf}
 use Rattle.odht_tool_tables.specs.Wholes.{have_same_sizes, sizes_of, whole_any}
 use Rattle.odht_tool_writes.specs.Rebuilds.{IsNewFailure}
 use Rattle.odht_tool_writes.specs.declared.dynamic.merges.Input.{Input}
@@ -122,13 +122,11 @@ pub record IsTableOf (kl vl : ℕ) (s : AnyShape) (B : List ℕ) : Type 0 where
 abbrev pub IsInputOf : ℕ → ℕ → Input → Type 0
 IsInputOf kl vl i = IsTableOf kl vl i.shape i.bytes.items
 
-pub record HasKeysOf (F : Format) (ps : List Pair) (B : List ℕ) : Type 0 where
-  pub table : Table
-  pub image : IsImage F table B
-  pub keys : (k : List ℕ) → is_some (map_of table k) ≡ is_in ps k
+abbrev pub HasKeysOf : List Pair → Table → Type 0
+HasKeysOf ps P = (k : List ℕ) → is_some (map_of P k) ≡ is_in ps k
 
-pub record IsFilled (F : Format) (d : Duplicates) (start : Table) (ps : List Pair) (B : List ℕ) : Type 0 where
-  pub inserted : IsAfterInserts F (insert_owned F) start (kept d ps) B
+pub record IsFilled (F : Format) (d : Duplicates) (start : Table) (ps : List Pair) (Q : Table) : Type 0 where
+  pub ran : IsRunOf F start (kept d ps) Q
   pub begins_empty : (k : List ℕ) → map_of start k ≡ None
 
 pub record IsMerged (F : Format) (d : Duplicates) (percent : ℕ) (xss : List (List Pair)) (B : List ℕ) : Type 0 where

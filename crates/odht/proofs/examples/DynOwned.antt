@@ -15,7 +15,7 @@ use Rattle.odht.specs.declared.dynamic.DynError.TheVariants.{WrongKeyLength, Rej
 
 -- a table of keys of two bytes and values of one has these lengths, whatever is said of its bytes
 pub lengths : (B : List ℕ) → IsDynWith 2 1 (λ b. b ≡ B) (dyn_store 2 1 B)
-lengths B = record { key_len = refl; value_len = refl; bytes = refl }
+lengths B = record { key_len = refl; value_len = refl; store = refl }
 
 pub other_lengths_refused : (B : List ℕ) → IsDynWith 3 1 (λ b. b ≡ B) (dyn_store 2 1 B) → ⊥
 other_lengths_refused B h = let same = h.key_len in cc

@@ -32,6 +32,7 @@ use Rattle.odht.specs.Tables.{OfTable}
 use Rattle.odht.specs.Walks.{IsWalk}
 use Rattle.odht.proofs.lemmas.ListInserts.{fresh_inserted, inserted_all}
 use Rattle.odht.proofs.lemmas.Plain.{the_table}
+use Rattle.odht.proofs.lemmas.PlainLists.{list_after, list_fresh, list_last_values}
 use Rattle.odht.proofs.lemmas.Stored.{decoded_stores, groups_few}
 
 -- ---- reads
@@ -96,36 +97,15 @@ pub plain_insert : {K V : Type 0} (c : Coding K V) (P Q : Table) (k : K) (v : V)
 plain_insert c P Q k v (Ok o) B is former inserted maps full = record { former = former; inserted = record { table = Q; inserted = inserted; image = is; maps = maps }; at_maximum = tt }
 plain_insert c P Q k v (Err e) B is former inserted maps full = record { former = tt; inserted = tt; at_maximum = full }
 
--- a list of inserts that leaves the image of Q
-module _ {K V : Type 0} (c : Coding K V) (P Q : Table) (items : List (K × V)) (r : ℕ × Result Unit Error) (p : ℕ) (B : List ℕ) (list : IsPlainList c P Q items r) where
-  pub list_after : IsImage c.format Q B → IsAfterInserts c.format (insert_owned c.format) P (encoded_all c (take r.0 items)) B
-  list_after is = record { table = Q; runs = list.inserted; image = is; maps = list.maps; stays = list.stays }
-
-  -- into the fresh table for as many items
-  pub list_fresh : fresh (length items) p ≡ Some P → IsImage c.format Q B → OnOk r.1 (IsFreshAfterInserts c p items B)
-  list_fresh new is = go r.1 refl
-    where
-      go : (a : Result Unit Error) → r.1 ≡ a → OnOk a (IsFreshAfterInserts c p items B)
-      go (Ok u) e = fresh_inserted c p items B P new (inserted_all c (insert_owned c.format) P items r.0 B (omega (arith, list.all.0 (subst IsOk (sym e) refl))) (list_after is))
-      go (Err x) e = tt
-
-  -- into a fresh table
-  pub list_last_values : (n : ℕ) → fresh n p ≡ Some P → IsImage c.format Q B → OnOk r.1 (HasLastValues c items B)
-  list_last_values n new is = go r.1 (list.last_values n p new)
-    where
-      go : (a : Result Unit Error) → OnOk a (HasLastValuesIn c items Q) → OnOk a (HasLastValues c items B)
-      go (Ok u) maps = record { table = Q; image = is; maps = maps }
-      go (Err x) none = tt
-
 -- what a list of inserts says of the bytes before and after it
 pub plain_list : {K V : Type 0} (c : Coding K V) (f : IsFormat c.format) (P Q : Table) (items : List (K × V)) (r : ℕ × Result Unit Error) (A B : List ℕ)
     → IsImage c.format P A → IsImage c.format Q B → IsPlainList c P Q items r → IsOwnedList c A B items r
 plain_list c f P Q items r A B before after list = record {
   bound = list.bound;
   all = list.all;
-  inserted = of_table c f P A before (λ X. IsAfterInserts c.format (insert_owned c.format) X (encoded_all c (take r.0 items)) B) (list_after c P Q items r 0 B list after);
-  fresh = λ p new. list_fresh c P Q items r p B list (new.new ∙ ap Some (same new.table new.image)) after;
-  last_values = λ n p new. list_last_values c P Q items r p B list n (new.new ∙ ap Some (same new.table new.image)) after;
+  inserted = of_table c f P A before (λ X. IsAfterInserts c.format (insert_owned c.format) X (encoded_all c (take r.0 items)) B) (list_after c P Q items r list B after);
+  fresh = λ p new. list_fresh c P Q items r list p B (new.new ∙ ap Some (same new.table new.image)) after;
+  last_values = λ n p new. list_last_values c P Q items r list n p B (new.new ∙ ap Some (same new.table new.image)) after;
   at_maximum = of_table c f Q B after (λ X. OnErr r.1 (IsRefusedAt c X items r.0)) list.at_maximum;
   memory = list.memory;
 }
@@ -134,26 +114,6 @@ plain_list c f P Q items r A B before after list = record {
     same X is = sym (the_table c.format X A f is) ∙ the_table c.format P A f before
 
 -- ---- a collected table
--- a fresh table for as many items has at most that many pairs after them
-pub fresh_few : {K V : Type 0} (c : Coding K V) (p : ℕ) (items : List (K × V)) (P Q : Table) (r : ℕ × Result Unit Error) → fresh (length items) p ≡ Some P → length items ≤ r.0
-    → IsPlainList c P Q items r → count Q ≤ length items
-fresh_few {K = K} {V = V} c p items P Q r new all list =
-    let room = fresh_room (length items) p P new in
-    let taken : length (encoded_all c (take r.0 items)) ≡ length items = ap (λ (xs : List (K × V)). length (encoded_all c xs)) (take_all r.0 items all) ∙ length-map items (λ (t : K × V). encoded c t.0 t.1) in
-    let few = (list.stays (omega (arith, room.1, taken))).1 in
-    omega (arith, few, taken, room.0)
-  where
-    -- it has no pairs, and room for the items
-    fresh_room : (n p : ℕ) (P : Table) → fresh n p ≡ Some P → (count P ≡ 0) × (count P + n ≤ max_items (slot_count P) P.factor)
-    fresh_room n p P new =
-        let s = fresh-slots n p P new in
-        let holds = max_items-holds n s.0 (factor_of p) s.1.holds in
-        let empty : count P ≡ 0 = ap count (sym s.2) ∙ count-empty s.0 (factor_of p) in
-        let slots : slot_count P ≡ s.0 = ap slot_count (sym s.2) ∙ slot_count-empty s.0 (factor_of p) in
-        let factor : P.factor ≡ factor_of p = ap (λ (X : Table). X.factor) (sym s.2) in
-        let most : max_items (slot_count P) P.factor ≡ max_items s.0 (factor_of p) = λ i. max_items (slots i) (factor i) in
-        (empty, omega (arith, holds, empty, most))
-
 -- its bytes are those of the fresh table for as many items, after these
 pub collected_bytes : {K V : Type 0} (c : Coding K V) (p : ℕ) (items : List (K × V)) (Q : Table) (B : List ℕ) → IsCollectedIn c p items Q → IsImage c.format Q B → IsCollected c p items B
 collected_bytes {K = K} {V = V} c p items Q B made is = record {

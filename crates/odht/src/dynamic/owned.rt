@@ -1,20 +1,19 @@
 //! The table that owns its bytes and grows, with key and value lengths that are known only at run
 //! time.
-ghost use Rattle.std.specs.Prelude.{◌≡◌, ◌≢◌, ◌≤◌, ◌<◌, None, All, length, IfOk, Err};
+ghost use Rattle.std.specs.Prelude.{◌≡◌, ◌≢◌, ◌≤◌, ◌<◌, ◌↔◌, None, Some, All, length, IfOk, Err};
+ghost use Rattle.std.specs.Prelude.{IsSome, IsTrue};
 ghost use Rattle.std.specs.Option.{option_copied};
 ghost use Rattle.odht_base.specs.Format.{format_of};
 ghost use Rattle.odht_base.specs.Load.{factor_of, IsPercent};
-ghost use Rattle.odht_base.specs.Table.{count};
-ghost use Rattle.odht_base.specs.Valid.{IsValidBytes};
+ghost use Rattle.odht_base.specs.Map.{map_of};
+ghost use Rattle.odht_base.specs.Search.{groups_read};
+ghost use Rattle.odht_base.specs.Table.{count, fresh, walk};
+ghost use Rattle.odht_base.specs.Valid.{IsImage};
 ghost use Rattle.odht_header.specs.Refusals.{check_refusal};
 ghost use Rattle.odht_raw.specs.DynParts.{HasLengthsOf, bytes_coding};
-ghost use Rattle.odht.specs.Dynamic.{dyn_coding, dyn_format, dyn_store};
+ghost use Rattle.odht.specs.Dynamic.{dyn_format};
 ghost use Rattle.odht.specs.DynOwned.{IsDynWith, IsRejecting};
-ghost use Rattle.odht.specs.Gets.{IsGet, IsCountedGet, IsKnown};
-ghost use Rattle.odht.specs.Inserts.{IsFresh};
 ghost use Rattle.odht.specs.NewTables.{FailsAsNew, FailsBy};
-ghost use Rattle.odht.specs.Tables.{OfTable};
-ghost use Rattle.odht.specs.Walks.{ArePairs};
 
 use super::{DynError, DynTable};
 use crate::bytes::OwnedBytes;
@@ -31,7 +30,7 @@ mod stores;
 /// A table that owns its bytes. The lengths of keys and values are given when it is created. It
 /// grows when an absent key is inserted at the maximum. Its bytes are always valid.
 ///
-/// In contracts its value consists of these lengths and the bytes.
+/// A contract sees it as these lengths and the plain table whose image its bytes are.
 #[derive(Drop)]
 pub struct DynTableOwned<H: HashFn> {
     table: DynTable<H, OwnedBytes>,
@@ -39,15 +38,14 @@ pub struct DynTableOwned<H: HashFn> {
 }
 
 impl<H: HashFn> Model for DynTableOwned<H> {
-    ghost use Rattle.std.specs.Prelude.{ℕ, List};
-    ghost use Rattle.odht_base.specs.Valid.{IsValidBytes};
-    ghost use Rattle.odht.specs.Dynamic.{DynStore, dyn_format};
+    ghost use Rattle.odht_base.specs.Table.{Table};
+    ghost use Rattle.odht.specs.Dynamic.{DynStore, dyn_plain, IsDynImage};
 
-    ghost Value = { DynStore (List ℕ) };
+    ghost Value = { DynStore Table };
 
-    ghost view = { λ t. t.table };
+    ghost view = { λ t. dyn_plain t.table H.hash };
 
-    ghost invariant = { λ t. IsValidBytes (dyn_format t.table H.hash) t.table.store };
+    ghost invariant = { λ t. IsDynImage t.table H.hash };
 }
 
 impl<H: HashFn> DynTableOwned<H> {
@@ -65,9 +63,8 @@ impl<H: HashFn> DynTableOwned<H> {
         max_load_factor_percent: u8,
     ) -> Result<Self, DynError>
         requires percent { IsPercent max_load_factor_percent }
-        ensures ok { let F = format_of layout.key_len layout.value_len H.hash
-            in IfOk result (IsDynWith layout.key_len layout.value_len
-            (IsFresh F max_item_count max_load_factor_percent)) }
+        ensures ok { IfOk result (IsDynWith layout.key_len layout.value_len
+            (λ P. fresh max_item_count max_load_factor_percent ≡ Some P)) }
         ensures short { layout.key_len < H.MIN_LEN
             → result ≡ Err (DynError.KeyTooShort layout.key_len H.MIN_LEN) }
         ensures err { let c = bytes_coding (format_of layout.key_len layout.value_len H.hash)
@@ -96,8 +93,9 @@ impl<H: HashFn> DynTableOwned<H> {
     /// before anything is allocated. Otherwise it is `Rejected` with `Memory` if allocation fails.
     /// The check never rejects valid bytes, and costs what that call costs.
     pub fn from_raw_bytes(alloc: Global, layout: Layout, raw_bytes: &[u8]) -> Result<Self, DynError>
-        ensures ok { IfOk result
-            (λ t. t ≡ dyn_store layout.key_len layout.value_len raw_bytes.now) }
+        ensures ok { let F = format_of layout.key_len layout.value_len H.hash
+            in IfOk result (IsDynWith layout.key_len layout.value_len
+            (λ P. IsImage F P raw_bytes.now)) }
         ensures short { layout.key_len < H.MIN_LEN
             → result ≡ Err (DynError.KeyTooShort layout.key_len H.MIN_LEN) }
         ensures err { let F = format_of layout.key_len layout.value_len H.hash
@@ -132,7 +130,8 @@ impl<H: HashFn> DynTableOwned<H> {
     /// The table as one that does not grow.
     #[inline]
     pub fn as_view(&self) -> &DynTable<H, OwnedBytes>
-        ensures { result.now ≡ self.now }
+        ensures { IsDynWith self.now.key_len self.now.value_len
+            (IsImage (dyn_format self.now H.hash) self.now.store) result.now }
     {
         &self.table
     }
@@ -142,7 +141,7 @@ impl<H: HashFn> DynTableOwned<H> {
     /// [`DynTableOwned::get_counted`] counts the groups that such a search reads.
     #[inline]
     pub fn get(&self, key: &[u8]) -> Option<&[u8]>
-        ensures { IsGet (dyn_coding self.now H.hash) self.now.store key.now (option_copied result) }
+        ensures { option_copied result ≡ map_of self.now.store key.now }
     {
         self.table.get(key)
     }
@@ -152,9 +151,9 @@ impl<H: HashFn> DynTableOwned<H> {
     /// "Search", defines the count. For a key of another length no group is read.
     #[inline]
     pub fn get_counted(&self, key: &[u8]) -> (Option<&[u8]>, usize)
-        ensures counted { length key.now ≡ self.now.key_len
-            → IsCountedGet (dyn_coding self.now H.hash) self.now.store key.now
-            (option_copied result.0, result.1) }
+        ensures value { option_copied result.0 ≡ map_of self.now.store key.now }
+        ensures groups { length key.now ≡ self.now.key_len
+            → result.1 ≡ groups_read (dyn_format self.now H.hash) self.now.store.cells key.now }
         ensures other { length key.now ≢ self.now.key_len → result ≡ (None, 0) }
     {
         self.table.get_counted(key)
@@ -163,7 +162,7 @@ impl<H: HashFn> DynTableOwned<H> {
     /// Whether the key has a value.
     #[inline]
     pub fn contains_key(&self, key: &[u8]) -> bool
-        ensures { IsKnown (dyn_coding self.now H.hash) self.now.store key.now result }
+        ensures { IsTrue result ↔ IsSome (map_of self.now.store key.now) }
     {
         self.table.contains_key(key)
     }
@@ -171,7 +170,7 @@ impl<H: HashFn> DynTableOwned<H> {
     /// The keys and values, each pair once, in slot order.
     #[inline]
     pub fn iter(&self) -> DynIter<'_, H>
-        ensures pairs { ArePairs (dyn_format self.now H.hash) self.now.store result }
+        ensures pairs { result ≡ walk self.now.store }
         ensures lengths { All (HasLengthsOf self.now.key_len self.now.value_len) result }
         ensures few { length result ≤ usize.MAX }
     {
@@ -181,7 +180,7 @@ impl<H: HashFn> DynTableOwned<H> {
     /// How many items there are.
     #[inline]
     pub fn len(&self) -> usize
-        ensures { OfTable (dyn_format self.now H.hash) self.now.store (λ P. result ≡ count P) }
+        ensures { result ≡ count self.now.store }
     {
         self.table.len()
     }
@@ -189,8 +188,7 @@ impl<H: HashFn> DynTableOwned<H> {
     /// All bytes. They are valid.
     #[inline]
     pub fn raw_bytes(&self) -> &[u8]
-        ensures bytes { result.now ≡ self.now.store }
-        ensures valid { IsValidBytes (dyn_format self.now H.hash) self.now.store }
+        ensures { IsImage (dyn_format self.now H.hash) self.now.store result.now }
     {
         self.table.raw_bytes()
     }
@@ -198,8 +196,7 @@ impl<H: HashFn> DynTableOwned<H> {
     /// Consumes the table, and returns its bytes without copying them. They are valid.
     #[inline]
     pub fn into_raw_bytes(self) -> Vec<u8>
-        ensures bytes { result.items ≡ self.store }
-        ensures valid { IsValidBytes (dyn_format self H.hash) self.store }
+        ensures { IsImage (dyn_format self H.hash) self.store result.items }
     {
         let DynTableOwned { table, alloc: _ } = self;
         table.into_data().into_vec()

@@ -1,51 +1,38 @@
 -- A table that grows while pairs are inserted into it, of keys and values that are bytes.
-use Rattle.std.proofs.Common.{◌≡◌, ◌∙◌, ◌++◌, ℕ, sym, subst, List, [], ◌∷◌, Option, Result, Ok, Err}
-use Rattle.std.specs.Result.{result_map_both}
+use Rattle.std.proofs.Common.{◌≡◌, ◌∙◌, ◌++◌, ℕ, sym, subst, List, [], ◌∷◌, Some}
 use Rattle.std.proofs.lemmas.List.{map-append}
 use Rattle.odht_base.specs.Format.{Format, format_of}
 use Rattle.odht_base.specs.Insert.{insert_owned}
-use Rattle.odht_base.specs.Table.{Pair}
+use Rattle.odht_base.specs.Table.{Pair, Table, fresh}
 use Rattle.odht_base.specs.Valid.{IsImage}
-use Rattle.odht_base.proofs.lemmas.FreshRuns.{insert_owned-PlacesBelow}
 use Rattle.odht_base.proofs.lemmas.Options.{some_same}
-use Rattle.odht_base.proofs.lemmas.TableInserts.{insert_owned-IsInsert}
 use Rattle.odht_header.specs.Coding.{Coding, encoded}
-use Rattle.odht_header.specs.declared.error.Error.{Error}
 use Rattle.odht_raw.specs.DynParts.{bytes_coding}
 use Rattle.odht.specs.Dynamic.{DynStore, dyn_coding, dyn_format}
-use Rattle.odht.specs.DynOwned.{IsDynInsertOwned}
-use Rattle.odht.specs.declared.dynamic.DynError.TheVariants.{Rejected}
-use Rattle.odht.specs.Inserts.{IsFresh, IsInserted, IsInsertOwned}
-use Rattle.odht.specs.Lists.{encoded_all, IsAfterInserts}
-use Rattle.odht.specs.Tables.{OfTable}
-use Rattle.odht.proofs.lemmas.ListInserts.{inserted_none, inserted_more}
+use Rattle.odht.specs.Lists.{encoded_all}
+use Rattle.odht.specs.Plain.{HasMapWith, IsRunOf, KeepsSize}
+use Rattle.odht.proofs.lemmas.PlainRuns.{run_none, run_more, run_bytes}
 use Rattle.odht_calls.specs.Builds.{IsGrownAfterInserts}
 
--- a new one has no pairs
-pub none_grown : {K V : Type 0} (c : Coding K V) (B : List ℕ) → IsFresh c.format 12 87 B → IsGrownAfterInserts c [] B
-none_grown c B start P new =
-    let same : start.table ≡ P = some_same start.table P (sym start.new ∙ new) in
-    inserted_none c.format (insert_owned c.format) P B (subst (λ Q. IsImage c.format Q B) same start.image)
+-- Q is the table that starts with sixteen slots at 87 percent, after the items are inserted
+abbrev pub IsGrownTable : {K V : Type 0} → Coding K V → List (K × V) → Table → Type 0
+IsGrownTable c items Q = (P : Table) → fresh 12 87 ≡ Some P → IsRunOf c.format P (encoded_all c items) Q
 
--- what an insert that was accepted leaves
-accepted_owned : (t : DynStore (List ℕ)) (h : List ℕ → ℕ) (k v B : List ℕ) (o : Option (List ℕ)) → IsDynInsertOwned t h k v (Ok o) B
-    → OfTable (dyn_format t h) t.store (λ P. IsInserted (dyn_format t h) (insert_owned (dyn_format t h)) P (encoded (dyn_coding t h) k v) B)
-accepted_owned t h k v B o r = go r.answer r.is r.holds.on_valid
-  where
-    go : (a : Result (Option (List ℕ)) Error) → Ok o ≡ result_map_both (λ o. o) Rejected a → OfTable (dyn_format t h) t.store (λ P. IsInsertOwned (dyn_coding t h) P k v a B)
-        → OfTable (dyn_format t h) t.store (λ P. IsInserted (dyn_format t h) (insert_owned (dyn_format t h)) P (encoded (dyn_coding t h) k v) B)
-    go (Ok a) e valid P is = (valid P is).inserted
-    go (Err x) e valid P is = absurd (let both : Ok o ≡ Err (Rejected x) = e in cc)
+-- a new one has no pairs
+pub none_grown : {K V : Type 0} (c : Coding K V) (Q : Table) → fresh 12 87 ≡ Some Q → IsGrownTable c [] Q
+none_grown c Q start P new = subst (λ R. IsRunOf c.format R [] Q) (some_same Q P (sym start ∙ new)) (run_none c.format Q)
 
 -- and one more pair
-pub one_more_grown : (kl vl : ℕ) (h : List ℕ → ℕ) (t : DynStore (List ℕ)) (items : List (List ℕ × List ℕ)) (k v B : List ℕ) (o : Option (List ℕ)) → t.key_len ≡ kl → t.value_len ≡ vl
-    → IsGrownAfterInserts (bytes_coding (format_of kl vl h)) items t.store → IsDynInsertOwned t h k v (Ok o) B → IsGrownAfterInserts (bytes_coding (format_of kl vl h)) (items ++ (k, v) ∷ []) B
-one_more_grown kl vl h t items k v B o key value so_far one P new =
+pub one_more_grown : (kl vl : ℕ) (h : List ℕ → ℕ) (t : DynStore Table) (items : List (List ℕ × List ℕ)) (k v : List ℕ) (R : Table) → t.key_len ≡ kl → t.value_len ≡ vl
+    → IsGrownTable (bytes_coding (format_of kl vl h)) items t.store → insert_owned (dyn_format t h) t.store (encoded (dyn_coding t h) k v) ≡ Some R
+    → HasMapWith t.store (encoded (dyn_coding t h) k v) R → KeepsSize t.store 1 R → IsGrownTable (bytes_coding (format_of kl vl h)) (items ++ (k, v) ∷ []) R
+one_more_grown kl vl h t items k v R key value so_far one maps stays P new =
     let F : Format = format_of kl vl h in
     let c = bytes_coding F in
-    let was = so_far P new in
-    let here = subst (λ (G : Format). OfTable G t.store (λ P. IsInserted G (insert_owned G) P (encoded (bytes_coding G) k v) B)) (λ i. format_of (key i) (value i) h) (accepted_owned t h k v B o one) in
-    let into = here was.table was.image in
+    let here : insert_owned F t.store (encoded c k v) ≡ Some R = subst (λ (G : Format). insert_owned G t.store (encoded c k v) ≡ Some R) (λ i. format_of (key i) (value i) h) one in
     let pairs : encoded_all c (items ++ (k, v) ∷ []) ≡ encoded_all c items ++ encoded c k v ∷ [] = map-append (λ (i : List ℕ × List ℕ). encoded c i.0 i.1) items ((k, v) ∷ []) in
-    subst (λ (ps : List Pair). IsAfterInserts F (insert_owned F) P ps B) (sym pairs)
-    (inserted_more F (insert_owned F) (insert_owned-IsInsert F) (insert_owned-PlacesBelow F) P (encoded_all c items) (encoded c k v) t.store B was into.table into.inserted into.image)
+    subst (λ (ps : List Pair). IsRunOf F P ps R) (sym pairs) (run_more F P (encoded_all c items) (encoded c k v) t.store R (so_far P new) here maps stays)
+
+-- so much of its bytes
+pub grown_bytes : {K V : Type 0} (c : Coding K V) (items : List (K × V)) (Q : Table) (B : List ℕ) → IsGrownTable c items Q → IsImage c.format Q B → IsGrownAfterInserts c items B
+grown_bytes c items Q B grown is P new = run_bytes c.format P (encoded_all c items) Q B (grown P new) is

@@ -13,7 +13,7 @@ use Rattle.odht_header.specs.declared.error.Error.TheVariants.{Memory, Capacity}
 use Rattle.odht.specs.Lists.{encoded_all, IsAfterInserts, IsFreshAfterInserts}
 use Rattle.odht.specs.Plain.{IsPlainList}
 use Rattle.odht.proofs.lemmas.ListInserts.{inserted_all}
-use Rattle.odht.proofs.lemmas.PlainBytes.{list_after}
+use Rattle.odht.proofs.lemmas.PlainLists.{list_after}
 use Rattle.odht_calls.specs.Builds.{IsHandedOut, IsGrownAfterInserts, BuildAnswers, BuildGrowingAnswers}
 use Rattle.odht_calls.specs.Statuses.{status_of, done, bad_percent, too_small}
 
@@ -47,7 +47,7 @@ module _ {K V : Type 0} (c : Coding K V) (keys : List K) (values : List V) (equa
   pub grown_inserted : (start Q : Table) (r : ℕ × Result Unit Error) → fresh 12 87 ≡ Some start → IsOk r.1 → IsPlainList c start Q (zip keys values) r → IsImage c.format Q T → IsGrownAfterInserts c (zip keys values) T
   grown_inserted start Q r new ok list is P same =
       let every = list.all.0 ok in
-      let whole = inserted_all c (insert_owned c.format) start (zip keys values) r.0 T (omega (arith, every)) (list_after c start Q (zip keys values) r 0 T list is) in
+      let whole = inserted_all c (insert_owned c.format) start (zip keys values) r.0 T (omega (arith, every)) (list_after c start Q (zip keys values) r list T is) in
       subst (λ (R : Table). IsAfterInserts c.format (insert_owned c.format) R (encoded_all c (zip keys values)) T) (some_same start P (sym new ∙ same)) whole
 
   -- so the call answers with it

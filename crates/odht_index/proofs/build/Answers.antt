@@ -1,6 +1,6 @@
 use Rattle.std.proofs.Common.{◌≡◌, ◌∙◌, subst, Ok, Result}
 use Rattle.std.specs.Prelude.{OnOk}
-use Rattle.odht.proofs.lemmas.PlainBytes.{list_fresh, list_last_values}
+use Rattle.odht.proofs.lemmas.PlainLists.{list_fresh}
 use Rattle.odht_index.proofs.build.Goals as goal
 
 -- what holds on success
@@ -10,9 +10,15 @@ at_ok {P = P} r x is holds = subst (λ q. OnOk q P) is holds
 pub returns-clause-inserted : goal.returns-clause-inserted
 returns-clause-inserted c =
     let same = c.in_ok-to_vec.ensures.items_if_clones_equal (λ y e h. h) in
-    at_ok _ _ c.in_ok-insert_all.was (list_fresh _ _ _ _ _ 87 _ c.insert_all.ensures c.in_ok-table.ensures.ok (record { valid = c.raw_bytes.ensures.valid; bytes = same ∙ c.raw_bytes.ensures.bytes }))
+    let said = c.insert_all.ensures in
+    at_ok _ _ c.in_ok-insert_all.was (list_fresh _ _ _ _ _
+    (record { bound = said.bound; all = said.all; inserted = said.inserted; maps = said.maps; stays = said.stays; last_values = said.last_values; at_maximum = said.at_maximum; memory = said.memory }) 87 _ c.in_ok-table.ensures.ok (record { valid = c.raw_bytes.ensures.valid; bytes = same ∙ c.raw_bytes.ensures.bytes }))
 
 pub returns-clause-last_numbers : goal.returns-clause-last_numbers
 returns-clause-last_numbers c =
     let same = c.in_ok-to_vec.ensures.items_if_clones_equal (λ y e h. h) in
-    at_ok _ _ c.in_ok-insert_all.was (list_last_values _ _ _ _ _ 87 _ c.insert_all.ensures _ c.in_ok-table.ensures.ok (record { valid = c.raw_bytes.ensures.valid; bytes = same ∙ c.raw_bytes.ensures.bytes }))
+    record {
+      table = _;
+      image = record { valid = c.raw_bytes.ensures.valid; bytes = same ∙ c.raw_bytes.ensures.bytes };
+      maps = at_ok _ _ c.in_ok-insert_all.was (c.insert_all.ensures.last_values _ 87 c.in_ok-table.ensures.ok);
+    }

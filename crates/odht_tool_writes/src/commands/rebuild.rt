@@ -2,11 +2,10 @@
 ghost use Rattle.std.specs.Prelude.{◌≡◌, ◌≤◌, All, IfErr, IfOk, Err, OnErr, OnOk};
 ghost use Rattle.odht_base.specs.Decoded.{header_count};
 ghost use Rattle.odht_base.specs.Format.{format_of};
-ghost use Rattle.odht_base.specs.Insert.{insert_owned};
 ghost use Rattle.odht_base.specs.Valid.{IsValidBytes};
 ghost use Rattle.odht_raw.specs.DynParts.{HasLengthsOf};
 ghost use Rattle.odht.specs.Dynamic.{dyn_format, dyn_store};
-ghost use Rattle.odht.specs.Lists.{IsAfterInserts};
+ghost use Rattle.odht.specs.Plain.{IsRunOf};
 ghost use Rattle.odht.specs.Tables.{OfTable};
 ghost use Rattle.odht_tool_core.specs.AnyShapes.{HasLongKeys, any_format};
 ghost use Rattle.odht_tool_core.specs.InfoNumbers.{least_key_len};
@@ -206,9 +205,8 @@ fn insert_pairs<S: HashFn, H: HashFn, R: Clock, E: Write>(
     errors: &mut E,
 ) -> Result<(), Failure>
     requires { All (HasLengthsOf table.old.key_len table.old.value_len) pairs }
-    ensures inserted { let F = dyn_format table.old H.hash
-        in OfTable F table.old.store
-        (λ P. OnOk result (IsAfterInserts F (insert_owned F) P pairs.entry table.new.store)) }
+    ensures inserted { OnOk result
+        (IsRunOf (dyn_format table.old H.hash) table.old.store pairs.entry table.new.store) }
     ensures lengths { table.new
         ≡ dyn_store table.old.key_len table.old.value_len table.new.store }
     ensures memory { OnErr result (result ≡ Err Memory) }

@@ -1,15 +1,15 @@
-//! `odht build` and `odht put` of dynamic tables.
-ghost use Rattle.std.specs.Prelude.{◌≡◌, ◌≤◌, None, IfErr, IfOk};
+//! `odht build` and `odht put` of tables of other sizes than the ready shapes have.
+ghost use Rattle.std.specs.Prelude.{◌≡◌, ◌≤◌, None, Some, IfErr, IfOk};
 ghost use Rattle.odht_base.specs.Format.{format_of};
+ghost use Rattle.odht_base.specs.Table.{fresh};
+ghost use Rattle.odht_base.specs.Valid.{IsImage};
 ghost use Rattle.odht_header.specs.Refusals.{check_refusal_by};
 ghost use Rattle.odht_tool_core.specs.InfoNumbers.{least_key_len};
 ghost use Rattle.odht_tool_core.specs.ReadyShapes.{typed_len};
 ghost use Rattle.odht_tool_core.specs.DynTexts.{dynamic_forms};
 ghost use Rattle.odht_tool_writes.specs.Inserted.{copy_failure};
 ghost use Rattle.odht_tool_writes.specs.Rebuilds.{IsNewFailure};
-ghost use Rattle.odht.specs.Dynamic.{dyn_store};
 ghost use Rattle.odht.specs.DynOwned.{IsDynWith};
-ghost use Rattle.odht.specs.Inserts.{IsFresh};
 
 use crate::inserts::insert_into_file;
 use crate::inserts::lines::{Place, check_lines, insert_lines, makes_no_table};
@@ -101,8 +101,8 @@ pub fn make_lengths<H: HashFn>(
     capacity: usize,
     percent: Percent,
 ) -> Result<DynTableOwned<H>, Failure>
-    ensures ok { let F = format_of layout.key_len layout.value_len H.hash
-        in IfOk result (IsDynWith layout.key_len layout.value_len (IsFresh F capacity percent)) }
+    ensures ok { IfOk result
+        (IsDynWith layout.key_len layout.value_len (λ P. fresh capacity percent ≡ Some P)) }
     ensures err { let F = format_of layout.key_len layout.value_len H.hash
         in IfErr result (IsNewFailure H.MIN_LEN F capacity percent) }
 {
@@ -174,8 +174,8 @@ fn copy_lengths<H: HashFn>(
     bound: Option<usize>,
 ) -> Result<DynTableOwned<H>, Failure>
     requires { H.MIN_LEN ≤ layout.key_len }
-    ensures ok { IfOk result
-        (λ table. table ≡ dyn_store layout.key_len layout.value_len bytes.items) }
+    ensures ok { let F = format_of layout.key_len layout.value_len H.hash in IfOk result
+        (IsDynWith layout.key_len layout.value_len (λ P. IsImage F P bytes.items)) }
     ensures valid { IfOk result (λ _. let F = format_of layout.key_len layout.value_len H.hash
         in check_refusal_by F bound bytes.items ≡ None) }
     ensures err { IfErr result (λ failure. let F = format_of layout.key_len layout.value_len H.hash

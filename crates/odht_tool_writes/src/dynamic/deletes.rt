@@ -3,13 +3,12 @@ ghost use Rattle.std.specs.Prelude.{◌≡◌, ◌≤◌, ◌++◌, ◌∷◌, [
 ghost use Rattle.std.specs.Prelude.{All, length, map};
 ghost use Rattle.std.specs.Io.KnownBytes.{Appends};
 ghost use Rattle.odht_base.specs.Format.{format_of};
-ghost use Rattle.odht_base.specs.Insert.{insert_owned};
 ghost use Rattle.odht_base.specs.Table.{Pair, Table};
-ghost use Rattle.odht_base.specs.Valid.{IsImage, IsValidBytes};
+ghost use Rattle.odht_base.specs.Valid.{IsValidBytes};
 ghost use Rattle.odht_raw.specs.DynParts.{HasLengthsOf};
 ghost use Rattle.odht.specs.Dynamic.{dyn_format, dyn_store};
 ghost use Rattle.odht.specs.DynOwned.{IsDynWith};
-ghost use Rattle.odht.specs.Lists.{IsAfterInserts};
+ghost use Rattle.odht.specs.Plain.{IsRunOf};
 ghost use Rattle.odht.specs.Tables.{OfTable};
 ghost use Rattle.odht_tool_core.specs.declared.failure.Failure.TheVariants.{Memory};
 ghost use Rattle.odht_tool_writes.specs.Deletes.{AreNamed, IsDeleted, IsLeft, absent_lines, cleared};
@@ -87,8 +86,7 @@ fn named_keys<H: HashFn>(
     keys: &[ShortBytes],
 ) -> Result<DynTableOwned<H>, Failure>
     requires { H.MIN_LEN ≤ key_len }
-    ensures ok { IfOk result
-        (IsDynWith key_len 0 (AreNamed (format_of key_len 0 H.hash) keys.now)) }
+    ensures ok { IfOk result (IsDynWith key_len 0 (AreNamed keys.now)) }
     ensures memory { OnErr result (result ≡ Err Memory) }
 {
     let mut named = no_keys::<H>(alloc, key_len)?;
@@ -102,7 +100,7 @@ fn named_keys<H: HashFn>(
 
 fn no_keys<H: HashFn>(alloc: Global, key_len: u8) -> Result<DynTableOwned<H>, Failure>
     requires { H.MIN_LEN ≤ key_len }
-    ensures ok { IfOk result (IsDynWith key_len 0 (AreNamed (format_of key_len 0 H.hash) [])) }
+    ensures ok { IfOk result (IsDynWith key_len 0 (AreNamed [])) }
     ensures memory { OnErr result (result ≡ Err Memory) }
 {
     let layout = Layout {
@@ -119,7 +117,7 @@ fn cleared<H: HashFn>(
 ) -> Result<DynTableOwned<H>, Failure>
     requires { IsValidBytes (dyn_format old.now H.hash) old.now.store.0.now }
     ensures ok { let t = old.now in let F = dyn_format t H.hash in OfTable F t.store.0.now
-        (λ P. IfOk result (IsDynWith t.key_len t.value_len (IsImage F (cleared P)))) }
+        (λ P. IfOk result (IsDynWith t.key_len t.value_len (λ Q. Q ≡ cleared P))) }
     ensures memory { OnErr result (result ≡ Err Memory) }
 {
     let (layout, bytes) = (old.layout(), old.raw_bytes());
@@ -148,10 +146,9 @@ fn insert_others<H: HashFn, R: Clock, E: Write>(
     errors: &mut E,
 ) -> Result<(), Failure>
     requires { All (HasLengthsOf table.old.key_len table.old.value_len) pairs }
-    ensures inserted { (ks : List (List ℕ))
-        → AreNamed (dyn_format named.now H.hash) ks named.now.store
-        → (let F = dyn_format table.old H.hash in OfTable F table.old.store (λ P. OnOk result
-        (IsAfterInserts F (insert_owned F) P (without ks pairs.entry) table.new.store))) }
+    ensures inserted { (ks : List (List ℕ)) → AreNamed ks named.now.store
+        → (let F = dyn_format table.old H.hash in OnOk result
+        (IsRunOf F table.old.store (without ks pairs.entry) table.new.store)) }
     ensures lengths { table.new
         ≡ dyn_store table.old.key_len table.old.value_len table.new.store }
     ensures memory { OnErr result (result ≡ Err Memory) }
@@ -175,11 +172,10 @@ fn insert_other<H: HashFn>(
     requires key { length key.now ≡ table.old.key_len }
     requires value { length value.now ≡ table.old.value_len }
     ensures inserted { (ks : List (List ℕ)) (P : Table) (ps : List Pair)
-        → AreNamed (dyn_format named.now H.hash) ks named.now.store
-        → (let F = dyn_format table.old H.hash
+        → AreNamed ks named.now.store → (let F = dyn_format table.old H.hash
         in let one : Pair = record { key = key.now; value = value.now }
-        in IsAfterInserts F (insert_owned F) P (without ks ps) table.old.store → OnOk result
-        (IsAfterInserts F (insert_owned F) P (without ks (ps ++ one ∷ [])) table.new.store)) }
+        in IsRunOf F P (without ks ps) table.old.store → OnOk result
+        (IsRunOf F P (without ks (ps ++ one ∷ [])) table.new.store)) }
     ensures lengths { table.new
         ≡ dyn_store table.old.key_len table.old.value_len table.new.store }
     ensures memory { OnErr result (result ≡ Err Memory) }

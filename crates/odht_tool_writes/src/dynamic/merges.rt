@@ -1,14 +1,13 @@
 //! `odht merge` of dynamic tables.
 ghost use Rattle.std.specs.Prelude.{◌≡◌, ◌≤◌, ◌++◌, ◌∷◌, [], List, IfErr, IfOk, IfSome, Err};
-ghost use Rattle.std.specs.Prelude.{OnErr, OnOk, All, length, map, option_map};
+ghost use Rattle.std.specs.Prelude.{OnErr, OnOk, All, Some, length, map, option_map};
 ghost use Rattle.odht_base.specs.Decoded.{decoded_pairs};
 ghost use Rattle.odht_base.specs.Format.{format_of};
-ghost use Rattle.odht_base.specs.Table.{Pair, Table};
+ghost use Rattle.odht_base.specs.Table.{Pair, Table, fresh};
 ghost use Rattle.odht_base.specs.Valid.{IsValidBytes};
 ghost use Rattle.odht_raw.specs.DynParts.{HasLengthsOf};
 ghost use Rattle.odht.specs.Dynamic.{dyn_format, dyn_store};
 ghost use Rattle.odht.specs.DynOwned.{IsDynWith};
-ghost use Rattle.odht.specs.Inserts.{IsFresh};
 ghost use Rattle.odht_tool_core.specs.ReadyShapes.{typed_len};
 ghost use Rattle.odht_tool_core.specs.StoredTexts.{key_text};
 ghost use Rattle.odht_tool_core.specs.declared.failure.Failure.TheVariants.{Memory};
@@ -108,9 +107,8 @@ fn merge_into<H: HashFn, R: AllocGlobal + Clock, E: Write>(
     errors: &mut E,
 ) -> Result<Vec<u8>, MergeFailure>
     requires inputs { All (IsInputOf (typed_len texts.key) (typed_len texts.value)) inputs.now }
-    requires fresh { let F = format_of (typed_len texts.key) (typed_len texts.value) H.hash
-        in IsDynWith (typed_len texts.key) (typed_len texts.value)
-        (IsFresh F (length (all_of (map input_pairs inputs.now))) percent) table }
+    requires fresh { IsDynWith (typed_len texts.key) (typed_len texts.value)
+        (λ P. fresh (length (all_of (map input_pairs inputs.now))) percent ≡ Some P) table }
     ensures ok { let F = format_of (typed_len texts.key) (typed_len texts.value) H.hash
         in IfOk result
         (λ new. IsMerged F duplicates percent (map input_pairs inputs.now) new.items) }
@@ -152,9 +150,8 @@ fn make_table<H: HashFn>(
     percent: Percent,
 ) -> Result<DynTableOwned<H>, Failure>
     requires { All (IsInputOf (typed_len texts.key) (typed_len texts.value)) inputs.now }
-    ensures ok { let F = format_of (typed_len texts.key) (typed_len texts.value) H.hash
-        in IfOk result (IsDynWith (typed_len texts.key) (typed_len texts.value)
-        (IsFresh F (length (all_of (map input_pairs inputs.now))) percent)) }
+    ensures ok { IfOk result (IsDynWith (typed_len texts.key) (typed_len texts.value)
+        (λ P. fresh (length (all_of (map input_pairs inputs.now))) percent ≡ Some P)) }
     ensures err { let F = format_of (typed_len texts.key) (typed_len texts.value) H.hash
         in IfErr result
         (IsNewFailure H.MIN_LEN F (length (all_of (map input_pairs inputs.now))) percent) }
@@ -250,7 +247,7 @@ fn repeated_key<S: HashFn, H: HashFn>(
     pairs: DynIter<'_, S>,
 ) -> Result<Option<Vec<u8>>, Failure>
     requires { All (HasLengthsOf (typed_len texts.key) (typed_len texts.value)) pairs }
-    ensures ok { (ps : List Pair) → HasKeysOf (dyn_format table.now H.hash) ps table.now.store
+    ensures ok { (ps : List Pair) → HasKeysOf ps table.now.store
         → IfOk result (λ found. option_map (λ text. text.items) found
         ≡ option_map (key_text texts) (first_in ps pairs.entry)) }
     ensures memory { OnErr result (result ≡ Err Memory) }

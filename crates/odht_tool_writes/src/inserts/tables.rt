@@ -1,7 +1,6 @@
 //! Inserts into the tables of configurations, and of lengths that are known only at run time.
 ghost use Rattle.std.specs.Prelude.{◌≡◌, Err, IfOk, OnErr, OnOk};
-ghost use Rattle.odht_base.specs.Valid.{IsImage};
-ghost use Rattle.odht.specs.Dynamic.{dyn_coding, dyn_format};
+ghost use Rattle.odht.specs.Dynamic.{dyn_coding};
 ghost use Rattle.odht_tool_core.specs.declared.failure.Failure.TheVariants.{Memory};
 ghost use Rattle.odht_tool_writes.specs.Inserted.{AreInserted, IsNewInsert};
 
@@ -84,12 +83,12 @@ impl<H: HashFn> Inserts for DynTableOwned<H> {
 
     type Value = ShortBytes;
 
-    ghost use Rattle.odht_base.specs.Valid.{IsImage};
-    ghost use Rattle.odht.specs.Dynamic.{dyn_coding, dyn_format};
+    ghost use Rattle.std.specs.Prelude.{◌≡◌};
+    ghost use Rattle.odht.specs.Dynamic.{dyn_coding};
 
     ghost coding = { λ table. dyn_coding table H.hash };
 
-    ghost stands_for = { λ table P. IsImage (dyn_format table H.hash) P table.store };
+    ghost stands_for = { λ table P. table.store ≡ P };
 
     fn insert_pairs(&mut self, pairs: &[(ShortBytes, ShortBytes)]) -> Result<(), Failure> {
         insert_each(self, pairs)
@@ -113,8 +112,7 @@ fn insert_each<H: HashFn>(
     pairs: &[(ShortBytes, ShortBytes)],
 ) -> Result<(), Failure>
     ensures inserted { OnOk result (AreInserted (dyn_coding table.old H.hash)
-        (λ P. IsImage (dyn_format table.old H.hash) P table.old.store) pairs.now
-        (λ P. IsImage (dyn_format table.new H.hash) P table.new.store)) }
+        (λ P. table.old.store ≡ P) pairs.now (λ P. table.new.store ≡ P)) }
     ensures memory { OnErr result (result ≡ Err Memory) }
 {
     for index in 0..pairs.len() {
@@ -135,8 +133,7 @@ fn insert_absent_bytes<H: HashFn>(
     value: &[u8],
 ) -> Result<bool, Failure>
     ensures new { IfOk result (λ new. IsNewInsert (dyn_coding table.old H.hash)
-        (λ P. IsImage (dyn_format table.old H.hash) P table.old.store) key.now value.now new
-        (λ P. IsImage (dyn_format table.new H.hash) P table.new.store)) }
+        (λ P. table.old.store ≡ P) key.now value.now new (λ P. table.new.store ≡ P)) }
     ensures memory { OnErr result (result ≡ Err Memory) }
 {
     let is_known = table.contains_key(key);

@@ -1,10 +1,13 @@
 //! Inserts into the owned dynamic table, and its growth.
-ghost use Rattle.std.specs.Prelude.{◌≡◌, ◌≢◌, length, IfSome, Err, OnErr};
-ghost use Rattle.odht_base.specs.Insert.{IsFullFor};
-ghost use Rattle.odht.specs.Dynamic.{dyn_format, dyn_store};
-ghost use Rattle.odht.specs.DynOwned.{IsDynWith, IsDynInsertOwned};
-ghost use Rattle.odht.specs.Growths.{IsGrownFrom};
-ghost use Rattle.odht.specs.Tables.{OfTable};
+ghost use Rattle.std.specs.Prelude.{◌≡◌, length, None, Some, IfSome, IfOk, Err, OnErr, OnOk};
+ghost use Rattle.odht_base.specs.Insert.{insert_owned, IsFullFor};
+ghost use Rattle.odht_base.specs.Map.{map_of};
+ghost use Rattle.odht_header.specs.Coding.{encoded};
+ghost use Rattle.odht.specs.Dynamic.{dyn_coding, dyn_format, dyn_store};
+ghost use Rattle.odht.specs.DynLists.{length_error};
+ghost use Rattle.odht.specs.DynOwned.{IsDynWith};
+ghost use Rattle.odht.specs.Growths.{IsGrownImage};
+ghost use Rattle.odht.specs.Plain.{HasMapWith, KeepsSize};
 
 use super::DynTableOwned;
 use crate::bytes::OwnedBytes;
@@ -26,19 +29,19 @@ impl<H: HashFn> DynTableOwned<H> {
     ///
     /// The key is hashed once, and again at a growth, which hashes and places each item again.
     pub fn insert(&mut self, key: &[u8], value: &[u8]) -> Result<Option<ShortBytes>, DynError>
-        // Of a key and a value of the table's lengths.
-        ensures inserted { length key.now ≡ self.old.key_len
-            → length value.now ≡ self.old.value_len
-            → IsDynInsertOwned self.old H.hash key.now value.now result self.new.store }
-        // Of others.
-        ensures key { length key.now ≢ self.old.key_len
-            → result ≡ Err (DynError.WrongKeyLength self.old.key_len (length key.now)) }
-        ensures value { length key.now ≡ self.old.key_len
-            → length value.now ≢ self.old.value_len
-            → result ≡ Err (DynError.WrongValueLength self.old.value_len (length value.now)) }
-        // Of any.
+        ensures former { IfOk result (λ former. former ≡ map_of self.old.store key.now) }
+        ensures inserted { let c = dyn_coding self.old H.hash in OnOk result (insert_owned
+            c.format self.old.store (encoded c key.now value.now) ≡ Some self.new.store) }
+        ensures maps { let c = dyn_coding self.old H.hash in OnOk result
+            (HasMapWith self.old.store (encoded c key.now value.now) self.new.store) }
+        ensures stays { OnOk result (KeepsSize self.old.store 1 self.new.store) }
+        ensures layout { self.new ≡ dyn_store self.old.key_len self.old.value_len self.new.store }
+        // On failure.
+        ensures lengths { IfSome (length_error self.old (key.now, value.now))
+            (λ e. result ≡ Err e) }
+        ensures full { length_error self.old (key.now, value.now) ≡ None → OnErr result
+            ((result ≡ Err (DynError.Rejected Error.Memory)) × IsFullFor self.old.store key.now) }
         ensures refused { OnErr result (self.new ≡ self.old) }
-        ensures lengths { self.new ≡ dyn_store self.old.key_len self.old.value_len self.new.store }
     {
         match self.table.insert(key, value) {
             Ok(former) => Ok(former),
@@ -53,12 +56,16 @@ impl<H: HashFn> DynTableOwned<H> {
     fn insert_grown(&mut self, key: &[u8], value: &[u8]) -> Result<Option<ShortBytes>, DynError>
         requires key { length key.now ≡ self.old.key_len }
         requires value { length value.now ≡ self.old.value_len }
-        requires full { OfTable (dyn_format self.old H.hash) self.old.store
-            (λ P. IsFullFor P key.now) }
-        ensures inserted { IsDynInsertOwned self.old H.hash key.now value.now result
-            self.new.store }
+        requires full { IsFullFor self.old.store key.now }
+        ensures former { IfOk result (λ former. former ≡ map_of self.old.store key.now) }
+        ensures inserted { let c = dyn_coding self.old H.hash in OnOk result (insert_owned
+            c.format self.old.store (encoded c key.now value.now) ≡ Some self.new.store) }
+        ensures maps { let c = dyn_coding self.old H.hash in OnOk result
+            (HasMapWith self.old.store (encoded c key.now value.now) self.new.store) }
+        ensures stays { OnOk result (KeepsSize self.old.store 1 self.new.store) }
+        ensures layout { self.new ≡ dyn_store self.old.key_len self.old.value_len self.new.store }
+        ensures memory { OnErr result (result ≡ Err (DynError.Rejected Error.Memory)) }
         ensures refused { OnErr result (self.new ≡ self.old) }
-        ensures lengths { self.new ≡ dyn_store self.old.key_len self.old.value_len self.new.store }
     {
         let Some(mut grown) = self.grown_table() else {
             return Err(DynError::Rejected(Error::Memory));
@@ -74,7 +81,7 @@ impl<H: HashFn> DynTableOwned<H> {
     #[inline(never)]
     fn grown_table(&self) -> Option<DynTable<H, OwnedBytes>>
         ensures { IfSome result (IsDynWith self.now.key_len self.now.value_len
-            (IsGrownFrom (dyn_format self.now H.hash) self.now.store)) }
+            (IsGrownImage (dyn_format self.now H.hash) self.now.store)) }
     {
         let len = self.table.grown_len()?;
         let Ok(mut bytes) = vec![in self.alloc; 0; len] else {

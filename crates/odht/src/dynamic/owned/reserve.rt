@@ -1,10 +1,12 @@
 //! Room for items that are still to come, of the owned dynamic table.
-ghost use Rattle.std.specs.Prelude.{◌≡◌, IfSome, OnErr};
+ghost use Rattle.std.specs.Prelude.{◌≡◌, ◌≤◌, IfSome, OnErr};
 ghost use Rattle.odht_base.specs.Image.{image_len};
-ghost use Rattle.odht_base.specs.Load.{IsSlotCount};
-ghost use Rattle.odht.specs.Dynamic.{dyn_format, dyn_store};
-ghost use Rattle.odht.specs.DynOwned.{IsDynWith, IsDynReserve};
-ghost use Rattle.odht.specs.Reserves.{IsMove};
+ghost use Rattle.odht_base.specs.Load.{IsSlotCount, max_items};
+ghost use Rattle.odht_base.specs.Table.{count};
+ghost use Rattle.odht.specs.Dynamic.{dyn_coding, dyn_format, dyn_store};
+ghost use Rattle.odht.specs.DynOwned.{IsDynWith, IsRejecting};
+ghost use Rattle.odht.specs.Plain.{IsPlainReserve};
+ghost use Rattle.odht.specs.Reserves.{IsMovedImage};
 
 use super::DynTableOwned;
 use crate::bytes::OwnedBytes;
@@ -26,9 +28,10 @@ impl<H: HashFn> DynTableOwned<H> {
     ///
     /// Where it moves, one pass over the slots; each item is hashed once. No key is compared.
     pub fn reserve(&mut self, additional: usize) -> Result<(), DynError>
-        ensures reserved { IsDynReserve self.old H.hash additional result self.new.store }
+        ensures reserved { let c = dyn_coding self.old H.hash in IsRejecting
+            (λ r. IsPlainReserve c self.old.store additional r self.new.store) result }
         ensures refused { OnErr result (self.new ≡ self.old) }
-        ensures lengths { self.new ≡ dyn_store self.old.key_len self.old.value_len self.new.store }
+        ensures layout { self.new ≡ dyn_store self.old.key_len self.old.value_len self.new.store }
     {
         let header = Header::of(self.table.raw_bytes());
         let sizes = match sizes_for_more::<H>(self.table.layout(), &header, additional) {
@@ -51,8 +54,9 @@ impl<H: HashFn> DynTableOwned<H> {
     fn moved(&self, slot_count: usize, len: usize) -> Option<DynTable<H, OwnedBytes>>
         requires slots { IsSlotCount slot_count }
         requires len { len ≡ image_len (dyn_format self.now H.hash) slot_count }
-        ensures { IfSome result (IsDynWith self.now.key_len self.now.value_len
-            (IsMove (dyn_format self.now H.hash) self.now.store slot_count)) }
+        ensures { let P = self.now.store in count P ≤ max_items slot_count P.factor
+            → IfSome result (IsDynWith self.now.key_len self.now.value_len
+            (IsMovedImage (dyn_format self.now H.hash) P slot_count)) }
     {
         let Ok(mut bytes) = vec![in self.alloc; 0; len] else {
             return None;

@@ -17,7 +17,7 @@ mod stores;
 /// A table that owns its bytes. The lengths of keys and values are given when it is created. It
 /// grows when an absent key is inserted at the maximum. Its bytes are always valid.
 ///
-/// In contracts its value consists of these lengths and the bytes.
+/// A contract sees it as these lengths and the plain table whose image its bytes are.
 pub struct DynTableOwned<H: HashFn> {
     table: DynTable<H, OwnedBytes>,
     alloc: Global,

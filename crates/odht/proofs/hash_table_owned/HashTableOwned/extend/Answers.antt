@@ -22,7 +22,10 @@ listed g c =
     let ran = c.in-Ok.ensures.ran in
     let after = ran.1.2 tt in
     let slice : c.as_slice.result.now ≡ ran.0 = c.as_slice.ensures.value ∙ ran.2.0 in
-    (ran.0, (after.0, (ran.1.0, ran.1.1, after.1)), subst (λ (xs : List (g.row.C-Key.Denot × g.row.C-Value.Denot)). IsPlainList K c.args.self.now c.insert_all.new.self xs c.insert_all.result) slice c.insert_all.ensures)
+    let said = c.insert_all.ensures in
+    let list : IsPlainList K c.args.self.now c.insert_all.new.self c.as_slice.result.now c.insert_all.result =
+    record { bound = said.bound; all = said.all; inserted = said.inserted; maps = said.maps; stays = said.stays; last_values = said.last_values; at_maximum = said.at_maximum; memory = said.memory } in
+    (ran.0, (after.0, (ran.1.0, ran.1.1, after.1)), subst (λ (xs : List (g.row.C-Key.Denot × g.row.C-Value.Denot)). IsPlainList K c.args.self.now c.insert_all.new.self xs c.insert_all.result) slice list)
 
 pub returns-clause-ok : goal.returns-clause-ok
 returns-clause-ok g c = on_ok c.insert_all.result.1 (listed g (goal.at.returns-clause-ok g c).After-insert_all)

@@ -8,8 +8,8 @@ use Rattle.std.proofs.lemmas.List.{take_all}
 use Rattle.odht_base.specs.Insert.{insert_owned, run}
 use Rattle.odht_base.specs.Table.{fresh}
 use Rattle.odht.specs.Lists.{encoded_all, HasSizeOf}
-use Rattle.odht.specs.Plain.{HasLastValuesIn, IsCollectedIn}
-use Rattle.odht.proofs.lemmas.PlainBytes.{fresh_few}
+use Rattle.odht.specs.Plain.{HasLastValuesIn, IsCollectedIn, IsPlainList}
+use Rattle.odht.proofs.lemmas.PlainLists.{list_fits, list_few}
 use Rattle.odht.proofs.hash_table_owned.HashTableOwned.from_iterator.Goals as goal
 
 pub returns-clause-ok : goal.returns-clause-ok
@@ -22,15 +22,17 @@ returns-clause-ok g c =
     let long : c.len.result ≡ length c.as_slice.result.now = c.len.ensures ∙ ran.2.1 ∙ ap length (sym slice) in
     let xs = c.as_slice.result.now in
     let made : fresh (length xs) p ≡ Some c.in_ok-table.table = subst (λ n. fresh n p ≡ Some c.in_ok-table.table) long c.in_ok-table.ensures.ok in
-    let list = c.insert_all.ensures in
+    let said = c.insert_all.ensures in
+    let list : IsPlainList K c.in_ok-table.table c.insert_all.new.self xs c.insert_all.result =
+    record { bound = said.bound; all = said.all; inserted = said.inserted; maps = said.maps; stays = said.stays; last_values = said.last_values; at_maximum = said.at_maximum; memory = said.memory } in
     let whole = list.all.0 (subst IsOk (sym c.in_ok-insert_all.was) refl) in
     let taken : take c.insert_all.result.0 xs ≡ xs = take_all c.insert_all.result.0 xs (omega (arith, whole)) in
     let all : IsCollectedIn K p xs c.insert_all.new.self = record {
       start = c.in_ok-table.table;
       new = made;
       inserted = subst (λ (ys : List (g.row.C-Key.Denot × g.row.C-Value.Denot)). run (insert_owned K.format) c.in_ok-table.table (encoded_all K ys) ≡ Some c.insert_all.new.self) taken list.inserted;
-      never_grown = subst (λ r. OnOk r (HasSizeOf c.in_ok-table.table c.insert_all.new.self)) c.in_ok-insert_all.was (list.fits p made);
-      few = fresh_few K p xs c.in_ok-table.table c.insert_all.new.self _ made (omega (arith, whole)) list;
+      never_grown = subst (λ r. OnOk r (HasSizeOf c.in_ok-table.table c.insert_all.new.self)) c.in_ok-insert_all.was (list_fits K _ _ xs _ list p made);
+      few = list_few K _ _ xs _ list p made whole;
       last_values = subst (λ r. OnOk r (HasLastValuesIn K xs c.insert_all.new.self)) c.in_ok-insert_all.was (list.last_values (length xs) p made);
     } in
     (ran.0, (after.0, (ran.1.0, ran.1.1, after.1)), subst (λ (xs : List (g.row.C-Key.Denot × g.row.C-Value.Denot)). IsCollectedIn K p xs c.insert_all.new.self) slice all)

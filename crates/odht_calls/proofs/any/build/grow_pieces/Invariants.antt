@@ -3,7 +3,7 @@ use Rattle.std.specs.List.{zip}
 use Rattle.odht_base.specs.Format.{format_of}
 use Rattle.odht_raw.specs.DynParts.{bytes_coding}
 use Rattle.odht.specs.DynOwned.{IsDynWith}
-use Rattle.odht_calls.specs.Builds.{IsGrownAfterInserts}
+use Rattle.odht_calls.proofs.lemmas.GrownBuilds.{IsGrownTable}
 use Rattle.odht_calls.specs.Pieces.{pieces}
 use Rattle.odht_calls.proofs.any.build.grow_pieces.Given as goal
 
@@ -13,4 +13,4 @@ invariant-loop-index g l =
     let kl = l.fn.layout.key_len in
     let vl = l.fn.layout.value_len in
     let c = bytes_coding (format_of kl vl g.H.HashFn.hash) in
-    IsDynWith kl vl (IsGrownAfterInserts c (take l.index (zip (pieces kl l.fn.count l.fn.keys) (pieces vl l.fn.count l.fn.values)))) l.table
+    IsDynWith kl vl (IsGrownTable c (take l.index (zip (pieces kl l.fn.count l.fn.keys) (pieces vl l.fn.count l.fn.values)))) l.table

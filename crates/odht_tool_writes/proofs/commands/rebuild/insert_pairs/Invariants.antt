@@ -1,9 +1,7 @@
 use Rattle.std.proofs.Common.{◌≡◌, ◌++◌, List, map}
-use Rattle.odht_base.specs.Insert.{insert_owned}
 use Rattle.odht_base.specs.Table.{Pair}
 use Rattle.odht.specs.Dynamic.{dyn_format, dyn_store}
-use Rattle.odht.specs.Lists.{IsAfterInserts}
-use Rattle.odht.specs.Tables.{OfTable}
+use Rattle.odht.specs.Plain.{IsRunOf}
 use Rattle.odht_tool_writes.proofs.commands.rebuild.insert_pairs.Given as goal
 
 -- the pairs so far are inserted, and these and what is left are the pairs
@@ -14,5 +12,5 @@ invariant-loop-key g l =
     record {
       lengths : l.table ≡ dyn_store l.fn.table.key_len l.fn.table.value_len l.table.store;
       pairs : l.fn.pairs ≡ done ++ l.key-iterator;
-      inserted : OfTable F l.fn.table.store (λ P. IsAfterInserts F (insert_owned F) P done l.table.store);
+      ran : IsRunOf F l.fn.table.store done l.table.store;
     }

@@ -1,13 +1,13 @@
-use Rattle.std.proofs.Common.{rules, ◌≡◌, ◌∙◌, List, Some, All, sym, subst}
+use Rattle.std.proofs.Common.{rules, ◌≡◌, ◌∙◌, List, Some, All, sym, ap, subst}
 use Rattle.odht_base.specs.Format.{Format, format_of}
-use Rattle.odht_base.specs.Insert.{insert_owned}
-use Rattle.odht_base.specs.Table.{Pair, count, fresh, walk}
+use Rattle.odht_base.specs.Table.{Pair, Table, count, fresh, walk}
 use Rattle.odht_base.specs.Valid.{IsImage}
 use Rattle.odht_raw.specs.Frame.{IsAccepted}
 use Rattle.odht_raw.specs.DynParts.{HasLengthsOf}
 use Rattle.odht_raw.proofs.lemmas.Accepted.{IsAccepted-IsValidBytes}
-use Rattle.odht.specs.Dynamic.{dyn_format}
-use Rattle.odht.specs.Lists.{IsAfterInserts}
+use Rattle.odht.specs.Dynamic.{DynStore, dyn_format}
+use Rattle.odht.specs.Plain.{IsRunOf}
+use Rattle.odht.proofs.lemmas.PlainRuns.{run_bytes}
 use Rattle.odht_tool_writes.proofs.NewTables.{made_anew}
 use Rattle.odht_tool_writes.proofs.commands.rebuild.rebuilt_as.Goals as goal
 
@@ -41,15 +41,14 @@ returns-clause-ok g c P is =
     let pairs : c.iter.result ≡ walk P = c.iter.ensures.pairs.on_valid P is' in
     let many : c.len.result ≡ count P = c.len.ensures.on_valid P is' in
     let with_lengths = c.in_ok-table.ensures.ok in
-    let made = with_lengths.bytes in
+    let start = t.store in
+    let t' = c.insert_pairs.new.table in
+    let made : fresh c.len.result c.args.percent ≡ Some start = with_lengths.store in
     let same : dyn_format t g.H.HashFn.hash ≡ F = λ i. format_of (with_lengths.key_len i) (with_lengths.value_len i) g.H.HashFn.hash in
-    let begun : IsImage (dyn_format t g.H.HashFn.hash) made.table t.store = subst (λ (X : Format). IsImage X made.table t.store) (sym same) made.image in
-    let stored : c.insert_pairs.new.table.store ≡ c.into_raw_bytes.result.items = sym c.into_raw_bytes.ensures.bytes in
-    let ran = c.in_ok-insert_pairs.ensures.inserted made.table begun in
-    let anew : IsAfterInserts F (insert_owned F) made.table c.iter.result c.insert_pairs.new.table.store =
-    subst (λ (X : Format). IsAfterInserts X (insert_owned X) made.table c.iter.result c.insert_pairs.new.table.store) same ran in
-    let walked : IsAfterInserts F (insert_owned F) made.table (walk P) c.insert_pairs.new.table.store =
-    subst (λ (ps : List Pair). IsAfterInserts F (insert_owned F) made.table ps c.insert_pairs.new.table.store) pairs anew in
-    made_anew F G c.args.percent P made.table c.into_raw_bytes.result.items is.valid.placed
-    (subst (λ n. fresh n c.args.percent ≡ Some made.table) many made.new)
-    (subst (λ B. IsAfterInserts F (insert_owned F) made.table (walk P) B) stored walked)
+    let after : dyn_format t' g.H.HashFn.hash ≡ F = ap (λ (s : DynStore Table). dyn_format s g.H.HashFn.hash) c.insert_pairs.ensures.lengths ∙ same in
+    let ran : IsRunOf F start c.iter.result t'.store = subst (λ (X : Format). IsRunOf X start c.iter.result t'.store) same c.in_ok-insert_pairs.ensures.inserted in
+    let walked : IsRunOf F start (walk P) t'.store = subst (λ (ps : List Pair). IsRunOf F start ps t'.store) pairs ran in
+    let image : IsImage F t'.store c.into_raw_bytes.result.items = subst (λ (X : Format). IsImage X t'.store c.into_raw_bytes.result.items) after c.into_raw_bytes.ensures in
+    made_anew F G c.args.percent P start c.into_raw_bytes.result.items is.valid.placed
+    (subst (λ n. fresh n c.args.percent ≡ Some start) many made)
+    (run_bytes F start (walk P) t'.store c.into_raw_bytes.result.items walked image)

@@ -1,8 +1,8 @@
-use Rattle.std.proofs.Common.{rules, ◌≡◌, ◌∙◌, ◌+◌, ◌*◌, List, ℕ, sym, ap, subst, arith, length, replicate, take_at}
+use Rattle.std.proofs.Common.{rules, ◌≡◌, ◌∙◌, ◌+◌, ◌*◌, ◌≤◌, List, ℕ, sym, ap, subst, arith, length, replicate, take_at}
 use Rattle.std.proofs.lemmas.List.{length-replicate}
 use Rattle.std.specs.Prelude.{IfOk}
-use Rattle.odht_base.specs.Decoded.{header_factor, header_slots}
-use Rattle.odht_base.specs.Format.{format_of}
+use Rattle.odht_base.specs.Decoded.{decoded_table, header_factor, header_slots}
+use Rattle.odht_base.specs.Format.{Format, IsFormat, format_of}
 use Rattle.odht_base.specs.Image.{image, image_len}
 use Rattle.odht_base.specs.Load.{IsSlotCount}
 use Rattle.odht_base.specs.Table.{empty, slot_count}
@@ -10,7 +10,10 @@ use Rattle.odht_base.specs.Valid.{IsImage}
 use Rattle.odht_base.proofs.lemmas.Fits.{IsSized-IsPlaced}
 use Rattle.odht_base.proofs.lemmas.Image.{length-image}
 use Rattle.odht_raw.proofs.lemmas.NewTables.{with_count-new}
-use Rattle.odht.specs.Dynamic.{DynStore, dyn_format, dyn_store}
+use Rattle.odht.specs.Dynamic.{dyn_format}
+use Rattle.odht.specs.DynOwned.{IsDynWith}
+use Rattle.odht_header.proofs.lemmas.Formats.{IsFormat-format_of}
+use Rattle.odht.proofs.lemmas.Plain.{the_table}
 use Rattle.odht.proofs.lemmas.Moves.{cleared_image, slots_of_image}
 use Rattle.odht_tool_writes.specs.Deletes.{cleared}
 use Rattle.odht_tool_writes.proofs.NewTables.{on_value}
@@ -50,19 +53,25 @@ returns-clause-ok g c P is =
     let formats : format_of layout.key_len layout.value_len h ≡ F = λ i. format_of (key i) (value i) h in
     let header = c.of-header.ensures ∙ c.raw_bytes-bytes.ensures.bytes in
     let s = c.slot_count.result in
-    let f = c.max_load_factor.result.0 in
+    let load = c.max_load_factor.result.0 in
     let slots : s ≡ header_slots B = c.slot_count.ensures ∙ ap header_slots header in
-    let factor : f ≡ header_factor B = c.max_load_factor.ensures ∙ ap header_factor header in
+    let factor : load ≡ header_factor B = c.max_load_factor.ensures ∙ ap header_factor header in
     let count : IsSlotCount s = subst IsSlotCount (sym (slots ∙ slots_of_image F P B is)) is.valid.placed.slots in
     let out = c.init_parts.new.bytes in
     let long : length out ≡ c.in-Ok.empty.len = omega (arith, c.init_parts.auto.bytes, c.as_mut_slice.ensures.len) in
     let written : c.as_slice.result.now ≡ image F (empty (header_slots B) (header_factor B)) =
-    c.as_slice.ensures.value ∙ take_at out _ c.in-Ok.empty.len long ∙ c.init_parts.ensures h ∙ with_count-new (format_of layout.key_len layout.value_len h) s 0 f count
+    c.as_slice.ensures.value ∙ take_at out _ c.in-Ok.empty.len long ∙ c.init_parts.ensures h ∙ with_count-new (format_of layout.key_len layout.value_len h) s 0 load count
     ∙ (λ i. image (formats i) (empty (slots i) (factor i))) in
     let image : IsImage F (cleared P) c.as_slice.result.now = cleared_image F P B is c.as_slice.result.now written in
-    let copied : IfOk c.map_err.result (λ t. t ≡ dyn_store layout.key_len layout.value_len c.as_slice.result.now) = search rules in
-    on_value c.map_err.result _ _ (λ t e. record {
-      key_len = ap (λ (u : DynStore (List ℕ)). u.key_len) e ∙ key;
-      value_len = ap (λ (u : DynStore (List ℕ)). u.value_len) e ∙ value;
-      bytes = subst (IsImage F (cleared P)) (sym (ap (λ (u : DynStore (List ℕ)). u.store) e)) image;
+    let G : Format = format_of layout.key_len layout.value_len h in
+    let key_short : layout.key_len ≤ 255 = omega arith in
+    let value_short : layout.value_len ≤ 255 = omega arith in
+    let f : IsFormat G = IsFormat-format_of _ _ _ _ key_short value_short c.layout-layout.ensures.hashes g.met.H.HashFn.fits in
+    let out_bytes = c.as_slice.result.now in
+    let here : decoded_table G out_bytes ≡ cleared P = the_table G (cleared P) out_bytes f (subst (λ (X : Format). IsImage X (cleared P) out_bytes) (sym formats) image) in
+    let copied : IfOk c.map_err.result (IsDynWith layout.key_len layout.value_len (λ Q. IsImage G Q out_bytes)) = search rules in
+    on_value c.map_err.result _ _ (λ t made. record {
+      key_len = made.key_len ∙ key;
+      value_len = made.value_len ∙ value;
+      store = sym (the_table G t.store out_bytes f made.store) ∙ here;
     }) copied

@@ -1,9 +1,7 @@
 use Rattle.std.proofs.Common.{◌≡◌, ◌++◌, ℕ, List, map}
-use Rattle.odht_base.specs.Insert.{insert_owned}
 use Rattle.odht_base.specs.Table.{Pair}
 use Rattle.odht.specs.Dynamic.{dyn_format, dyn_store}
-use Rattle.odht.specs.Lists.{IsAfterInserts}
-use Rattle.odht.specs.Tables.{OfTable}
+use Rattle.odht.specs.Plain.{IsRunOf}
 use Rattle.odht_tool_writes.specs.Deletes.{AreNamed, without}
 use Rattle.odht_tool_writes.proofs.dynamic.deletes.insert_others.Given as goal
 
@@ -15,6 +13,5 @@ invariant-loop-key g l =
     record {
       lengths : l.table ≡ dyn_store l.fn.table.key_len l.fn.table.value_len l.table.store;
       pairs : l.fn.pairs ≡ done ++ l.key-iterator;
-      inserted : (ks : List (List ℕ)) → AreNamed (dyn_format l.named g.H.HashFn.hash) ks l.named.store
-          → OfTable F l.fn.table.store (λ P. IsAfterInserts F (insert_owned F) P (without ks done) l.table.store);
+      ran : (ks : List (List ℕ)) → AreNamed ks l.named.store → IsRunOf F l.fn.table.store (without ks done) l.table.store;
     }

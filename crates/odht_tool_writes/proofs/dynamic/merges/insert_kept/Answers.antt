@@ -1,7 +1,7 @@
 use Rattle.std.proofs.Common.{◌≡◌, ◌∙◌, ◌++◌, ◌∷◌, [], Bor, List, ℕ, map, sym, ap, subst, append_assoc}
 use Rattle.std.proofs.lemmas.List.{map-append}
 use Rattle.odht_base.specs.Format.{Format}
-use Rattle.odht_base.specs.Table.{Pair}
+use Rattle.odht_base.specs.Table.{Pair, Table}
 use Rattle.odht.specs.Dynamic.{DynStore, dyn_format, dyn_store}
 use Rattle.odht_tool_writes.specs.Merges.{IsFilled}
 use Rattle.odht_tool_writes.proofs.dynamic.merges.insert_kept.Goals as goal
@@ -23,9 +23,9 @@ loop-key-preserved g c =
     let here : Pair = record { key = c.in-Some.key.now; value = c.in-Some.value.now } in
     let done : List Pair = map pair_of items in
     let all : map pair_of (items ++ item ∷ []) ≡ done ++ here ∷ [] = map-append pair_of items (item ∷ []) in
-    let formats : dyn_format t h ≡ F = ap (λ (s : DynStore (List ℕ)). dyn_format s h) c.loop-key.invariant.lengths in
+    let formats : dyn_format t h ≡ F = ap (λ (s : DynStore Table). dyn_format s h) c.loop-key.invariant.lengths in
     record {
-      lengths = c.insert_one.ensures.lengths ∙ ap (λ (s : DynStore (List ℕ)). dyn_store s.key_len s.value_len t'.store) c.loop-key.invariant.lengths;
+      lengths = c.insert_one.ensures.lengths ∙ ap (λ (s : DynStore Table). dyn_store s.key_len s.value_len t'.store) c.loop-key.invariant.lengths;
       pairs = c.loop-key.invariant.pairs ∙ ap (λ xs. done ++ xs) c.in-Some.ensures.steps
           ∙ sym (append_assoc done (here ∷ []) c.next.new.self) ∙ ap (λ xs. xs ++ c.next.new.self) (sym all);
       filled = λ start ps was. (

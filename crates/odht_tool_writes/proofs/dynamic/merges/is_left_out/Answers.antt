@@ -12,5 +12,5 @@ returns-in-First g c start ps was =
     let F = dyn_format t g.H.HashFn.hash in
     let d = c.args.duplicates in
     let filled : IsFilled F First start ps t.store = subst (λ (x : Duplicates). IsFilled F x start ps t.store) c.in-First.is was in
-    left_out F start ps t.store c.args.key.now c.contains_key.result filled (c.contains_key.ensures.on_valid filled.inserted.table filled.inserted.image)
+    left_out F start ps t.store c.args.key.now c.contains_key.result filled c.contains_key.ensures
     ∙ ap (λ (x : Duplicates). leaves_out x ps c.args.key.now) (sym c.in-First.is)

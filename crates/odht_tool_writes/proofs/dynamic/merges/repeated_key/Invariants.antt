@@ -1,6 +1,5 @@
 use Rattle.std.proofs.Common.{◌≡◌, ◌++◌, List, None, map}
 use Rattle.odht_base.specs.Table.{Pair}
-use Rattle.odht.specs.Dynamic.{dyn_format}
 use Rattle.odht_tool_writes.specs.Merges.{HasKeysOf, first_in}
 use Rattle.odht_tool_writes.proofs.dynamic.merges.repeated_key.Given as goal
 
@@ -10,5 +9,5 @@ invariant-loop-key g l =
     let done : List Pair = map (λ x. record { key = x.0.now; value = x.1.now }) l.yielded in
     record {
       pairs : l.fn.pairs ≡ done ++ l.key-iterator;
-      none : (ps : List Pair) → HasKeysOf (dyn_format l.table g.H.HashFn.hash) ps l.table.store → first_in ps done ≡ None;
+      none : (ps : List Pair) → HasKeysOf ps l.table.store → first_in ps done ≡ None;
     }

@@ -1,5 +1,5 @@
 // Generated from crates/odht_tool_writes/src/dynamic/builds.rt by make generate.
-//! `odht build` and `odht put` of dynamic tables.
+//! `odht build` and `odht put` of tables of other sizes than the ready shapes have.
 
 use crate::generated::core::any::OtherShape;
 use crate::generated::core::arguments::BuildOptions;

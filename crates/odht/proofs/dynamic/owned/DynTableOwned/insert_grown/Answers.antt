@@ -1,28 +1,34 @@
-use Rattle.std.proofs.Common.{◌≡◌, ◌∙◌, sym, ap, refl, subst, cond, bytes_eq, Some, [], Ok, Err, ℕ, List}
-use Rattle.std.specs.Prelude.{option_map}
-use Rattle.odht_base.specs.Format.{Format}
-use Rattle.odht_base.specs.Table.{Pair}
-use Rattle.odht_base.specs.Valid.{IsValidBytes}
-use Rattle.odht_header.specs.declared.error.Error.TheVariants.{Memory}
+use Rattle.std.proofs.Common.{◌≡◌, ◌∙◌, sym, ap, subst, cond, bytes_eq, Some, [], Ok, Err, ℕ, List, Option}
+use Rattle.odht_base.specs.Decoded.{decoded_table}
+use Rattle.odht_base.specs.Format.{Format, IsFormat, format_of}
+use Rattle.odht_base.specs.Map.{map_of}
+use Rattle.odht_base.specs.Table.{Pair, Table}
+use Rattle.odht_base.specs.Valid.{IsImage, IsValid}
 use Rattle.odht.specs.Dynamic.{DynStore, dyn_coding, dyn_format}
 use Rattle.odht.specs.DynInserts.{IsDynInsert}
+use Rattle.odht.specs.Inserts.{IsInsertInto}
 use Rattle.odht.specs.declared.dynamic.DynError.{DynError}
 use Rattle.odht.proofs.lemmas.DynOwned.{took, found_full}
+use Rattle.odht.proofs.lemmas.DynPlain.{same_value}
 use Rattle.odht.proofs.lemmas.Growths.{insert_owned-grown, grown_below, grown_maps}
+use Rattle.odht.proofs.lemmas.Plain.{the_table, decoded_image}
 use Rattle.odht.proofs.dynamic.owned.DynTableOwned.insert_grown.Given.{Over}
 use Rattle.odht.proofs.dynamic.owned.DynTableOwned.insert_grown.Goals.{After-insert}
 use Rattle.odht.proofs.dynamic.owned.DynTableOwned.insert_grown.Goals as goal
 
-pub returns-in_default-clause-inserted : goal.returns-in_default-clause-inserted
-returns-in_default-clause-inserted g c = record {
-  answer = Err Memory;
-  is = refl;
-  holds = record { on_valid = λ P is. record { former = tt; inserted = tt; at_maximum = c.requires.full P is }; only_memory = refl };
-}
-
 module _ (g : Over) (c : After-insert g) where
   abbrev F : Format
   F = dyn_format c.args.self.now g.H.HashFn.hash
+
+  abbrev pair : Pair
+  pair = record { key = c.args.key.now; value = c.args.value.now }
+
+  -- the table is valid, and its lengths fit
+  valid : IsValid F c.args.self.now.store
+  valid = subst (λ (t : DynStore Table). IsValid (dyn_format t g.H.HashFn.hash) t.store) c.self.view_is c.self.invariant.image.valid
+
+  fits : IsFormat F
+  fits = subst (λ (t : DynStore Table). IsFormat (dyn_format t g.H.HashFn.hash)) c.self.view_is c.self.invariant.format
 
   -- the insert into the grown table, which has the lengths of the table
   into : IsDynInsert (dyn_coding c.args.self.now g.H.HashFn.hash) c.in-Some.grown.store c.args.key.now c.args.value.now c.insert.result c.insert.new.self.store
@@ -30,44 +36,59 @@ module _ (g : Over) (c : After-insert g) where
       rw (c.in-Some.ensures.key_len, c.in-Some.ensures.value_len) at
       (c.insert.ensures.inserted (c.requires.key ∙ sym c.in-Some.ensures.key_len) (c.requires.value ∙ sym c.in-Some.ensures.value_len))
 
-  -- the table
-  table : IsValidBytes F c.args.self.now.store
-  table = subst (λ (t : DynStore (List ℕ)). IsValidBytes (dyn_format t g.H.HashFn.hash) t.store) c.self.view_is c.self.invariant
+  -- so does the table afterwards
+  formats : dyn_format c.insert.new.self g.H.HashFn.hash ≡ F
+  formats =
+      let grown = c.in-Some.ensures in
+      ap (λ (t : DynStore (List ℕ)). dyn_format t g.H.HashFn.hash) c.insert.ensures.same_store ∙ (λ i. format_of (grown.key_len i) (grown.value_len i) g.H.HashFn.hash)
 
   -- which the grown table takes
   never : (e : DynError) → c.insert.result ≡ Err e → ⊥
   never e was =
-      let P = table.0 in
-      let grown = c.in-Some.ensures.bytes.on_valid P table.1 in
-      grown_below F P (record { key = []; value = [] }) table.1.valid grown.0 grown.1 c.args.key.now (found_full _ _ _ _ _ c.insert.result into grown.0 grown.2 e was)
+      let grown = c.in-Some.ensures.store in
+      grown_below F c.args.self.now.store (record { key = []; value = [] }) valid grown.0 grown.1 c.args.key.now (found_full _ _ _ _ _ c.insert.result into grown.0 grown.2 e was)
 
-pub returns-in_err-former-clause-inserted : goal.returns-in_err-former-clause-inserted
-returns-in_err-former-clause-inserted g c = absurd (never g (goal.at.returns-in_err-former-clause-inserted g c).After-insert _ c.in_err-former.was)
+  module _ (former : Option (List ℕ)) (was : c.insert.result ≡ Ok former) where
+    landed : IsInsertInto (dyn_coding c.args.self.now g.H.HashFn.hash) c.in-Some.ensures.store.0 c.args.key.now c.args.value.now (Ok former) c.insert.new.self.store
+    landed = let grown = c.in-Some.ensures.store in took _ _ _ _ _ c.insert.result into grown.0 grown.2 former was
+
+    -- the table afterwards
+    stands : landed.inserted.table ≡ decoded_table (dyn_format c.insert.new.self g.H.HashFn.hash) c.insert.new.self.store
+    stands = sym (the_table F landed.inserted.table c.insert.new.self.store fits landed.inserted.image) ∙ ap (λ (X : Format). decoded_table X c.insert.new.self.store) (sym formats)
+
+pub returns-in_err-former-clause-memory : goal.returns-in_err-former-clause-memory
+returns-in_err-former-clause-memory g c = absurd (never g (goal.at.returns-in_err-former-clause-memory g c).After-insert _ c.in_err-former.was)
+
+pub invariant_of-self : goal.invariant_of-self
+invariant_of-self g c =
+    let at = (goal.at.invariant_of-self g c).After-insert in
+    let insert = (landed g at c.in_ok-former.former c.in_ok-former.was).inserted in
+    let back = sym (formats g at) in
+    let format = subst IsFormat back (fits g at) in
+    record {
+      format = format;
+      image = decoded_image _ c.insert.new.self.store format (insert.table, subst (λ (X : Format). IsImage X insert.table c.insert.new.self.store) back insert.image);
+    }
+
+pub returns-clause-former : goal.returns-clause-former
+returns-clause-former g c =
+    let at = (goal.at.returns-clause-former g c).After-insert in
+    let grown = c.in-Some.ensures.store in
+    (landed g at c.in_ok-former.former c.in_ok-former.was).former ∙ same_value (map_of grown.0 c.args.key.now)
+    ∙ grown_maps (F g at) c.args.self.now.store (pair g at) (valid g at) grown.0 grown.1 c.args.key.now
 
 pub returns-clause-inserted : goal.returns-clause-inserted
 returns-clause-inserted g c =
     let at = (goal.at.returns-clause-inserted g c).After-insert in
-    let F = dyn_format c.args.self.now g.H.HashFn.hash in
-    let p : Pair = record { key = c.args.key.now; value = c.args.value.now } in
-    record {
-      answer = Ok c.in_ok-former.former;
-      is = refl;
-      holds = record {
-        on_valid = λ P is. (
-            let grown = c.in-Some.ensures.bytes.on_valid P is in
-            let into = took _ _ _ _ _ c.insert.result (into g at) grown.0 grown.2 c.in_ok-former.former c.in_ok-former.was in
-            let insert = into.inserted in
-            let maps = grown_maps F P p is.valid grown.0 grown.1 in
-            record {
-              former = into.former ∙ ap (option_map (λ (b : List ℕ). b)) (maps p.key);
-              inserted = record {
-                table = insert.table;
-                inserted = insert_owned-grown F P p is.valid grown.0 (c.requires.full P is) grown.1 ∙ insert.inserted;
-                image = insert.image;
-                maps = λ q. insert.maps q ∙ ap (cond (bytes_eq q p.key) (Some p.value)) (maps q);
-              };
-              at_maximum = tt;
-            });
-        only_memory = tt;
-      };
-    }
+    let grown = c.in-Some.ensures.store in
+    let insert = (landed g at c.in_ok-former.former c.in_ok-former.was).inserted in
+    insert_owned-grown (F g at) c.args.self.now.store (pair g at) (valid g at) grown.0 c.requires.full grown.1 ∙ insert.inserted
+    ∙ ap Some (stands g at c.in_ok-former.former c.in_ok-former.was)
+
+pub returns-clause-maps : goal.returns-clause-maps
+returns-clause-maps g c q =
+    let at = (goal.at.returns-clause-maps g c).After-insert in
+    let grown = c.in-Some.ensures.store in
+    let insert = (landed g at c.in_ok-former.former c.in_ok-former.was).inserted in
+    sym (ap (λ (Q : Table). map_of Q q) (stands g at c.in_ok-former.former c.in_ok-former.was)) ∙ insert.maps q
+    ∙ ap (cond (bytes_eq q c.args.key.now) (Some c.args.value.now)) (grown_maps (F g at) c.args.self.now.store (pair g at) (valid g at) grown.0 grown.1 q)
