@@ -1,5 +1,5 @@
 -- Tables that are rebuilt in memory while their searches are short.
-use Rattle.std.proofs.Common.{◌≡◌, ◌∙◌, ◌≤◌, ◌+◌, ◌*◌, ℕ, Bool, true, false, cond, List, [], ◌∷◌, Option, Some, None, Result, Ok, Err, length, drop, sym, ap, ap₂, refl, subst, slice_index}
+use Rattle.std.proofs.Common.{◌≡◌, ◌∙◌, ◌+◌, ◌*◌, ℕ, true, false, List, ◌∷◌, Option, Some, None, Result, Ok, Err, length, drop, sym, ap, ap₂, refl, slice_index}
 use Rattle.std.specs.Prelude.{is_err, option_and_then, nat_lt, map, if◌then◌else◌}
 use Rattle.std.specs.List.{range_with_len}
 use Rattle.std.specs.Option.{option_map_or}
@@ -15,7 +15,7 @@ use Rattle.odht_base.proofs.lemmas.Image.{controls_of-image}
 use Rattle.odht_header.specs.declared.error.Error.{Error}
 use Rattle.odht_header.proofs.lemmas.HeaderFits.{IsOpening, IsOpening-opening_refusal, opening_refusal-IsOpening}
 use Rattle.odht_raw.proofs.lemmas.Accepted.{IsAccepted-IsValidBytes}
-use Rattle.odht.specs.Dynamic.{DynStore, dyn_coding, dyn_format, dyn_store}
+use Rattle.odht.specs.Dynamic.{DynStore, dyn_format}
 use Rattle.odht.specs.DynOwned.{IsDynInsertOwned, IsOwnedAnswer}
 use Rattle.odht.specs.declared.dynamic.DynError.TheVariants.{Rejected}
 use Rattle.odht.proofs.lemmas.Moves.{slots_of_image}

@@ -3,7 +3,7 @@ use super::delimiters::delimiter_named;
 use super::topics::{Setting, Topic};
 use super::{
     BuildOptions, Command, CommandMisuse, DeleteOptions, DiffOptions, Duplicates, Keys,
-    MergeOptions, Misuse, Reading, RebuildOptions, Request, is_stream,
+    MergeOptions, Misuse, PutOptions, Reading, RebuildOptions, Request, is_stream,
 };
 use crate::any::AnyShape;
 use crate::digits::parse_number;
@@ -31,8 +31,9 @@ pub(super) struct Draft {
     kinds: Kinds,
     duplicates: Duplicates,
     delimiter: u8,
-    percent: Percent,
+    percent: Option<Percent>,
     capacity: usize,
+    is_checked: bool,
     is_help: bool,
     is_slots: bool,
     is_json: bool,
@@ -59,8 +60,9 @@ impl Draft {
             },
             duplicates: Duplicates::Last,
             delimiter: b'\t',
-            percent: Percent::new(87).unwrap(),
+            percent: None,
             capacity: 12,
+            is_checked: false,
             is_help: false,
             is_slots: false,
             is_json: false,
@@ -115,6 +117,7 @@ impl Draft {
             Setting::Slots => self.is_slots = true,
             Setting::Json => self.is_json = true,
             Setting::Whole => self.is_whole = true,
+            Setting::Check => self.is_checked = true,
             Setting::CheckOnly => self.is_check = true,
             Setting::Progress => self.has_progress = true,
             Setting::BreakLinks => self.allowed.breaks_links = true,
@@ -143,7 +146,7 @@ impl Draft {
             Setting::Value => self.kinds.value = Some(Kind::named(value)?),
             Setting::Duplicates => self.duplicates = Duplicates::named(value)?,
             Setting::Delimiter => self.delimiter = delimiter_named(value)?,
-            Setting::Percent => self.percent = parse_percent(value)?,
+            Setting::Percent => self.percent = Some(parse_percent(value)?),
             Setting::Capacity => self.capacity = parse_number(value.as_bytes())? as usize,
             _ => return None,
         }
@@ -194,13 +197,7 @@ impl Draft {
             ),
             Topic::Delete => self.delete(),
             Topic::Rebuild => Ok(Command::Rebuild(self.rebuilding())),
-            Topic::Put => Ok(Command::Put {
-                hash: self.hash,
-                kinds: self.kinds,
-                bound: bound_of(self.is_whole),
-                breaks_links: self.allowed.breaks_links,
-                watch: Watch::of(self.has_progress),
-            }),
+            Topic::Put => Ok(Command::Put(self.putting())),
             Topic::Get => self.get(is_stream),
             Topic::Diff => self.diff(is_stream),
             Topic::Merge => self.merge(),
@@ -231,6 +228,19 @@ impl Draft {
         }))
     }
 
+    // What is said to `put`.
+    fn putting(&self) -> PutOptions {
+        PutOptions {
+            hash: self.hash,
+            kinds: self.kinds,
+            duplicates: self.duplicates,
+            delimiter: self.delimiter,
+            bound: bound_of(self.is_whole),
+            breaks_links: self.allowed.breaks_links,
+            watch: Watch::of(self.has_progress),
+        }
+    }
+
     // What is said to `rebuild`.
     fn rebuilding(&self) -> RebuildOptions {
         RebuildOptions {
@@ -256,6 +266,11 @@ impl Draft {
         false
     }
 
+    // Whether `count` checks the files: so it does with each option that says how.
+    fn is_checking(&self) -> bool {
+        self.is_checked || self.is_whole || self.hash.is_some()
+    }
+
     // What is read of each file, where all words name files.
     fn reading(&self) -> Reading {
         let (hash, kinds, bound) = (self.hash, self.kinds, bound_of(self.is_whole));
@@ -270,7 +285,11 @@ impl Draft {
                 bound,
                 is_json: self.is_json,
             },
-            Topic::Count => Reading::Count { hash, bound },
+            Topic::Count => Reading::Count {
+                hash,
+                bound,
+                is_checked: self.is_checking(),
+            },
             Topic::Dump => Reading::Dump {
                 hash,
                 kinds,
@@ -371,7 +390,7 @@ impl Draft {
             delimiter: self.delimiter,
             is_check: self.is_check,
             capacity: self.capacity,
-            percent: self.percent,
+            percent: self.percent.unwrap_or(Percent::new(87).unwrap()),
             allowed: self.allowed,
             watch: Watch::of(self.has_progress),
         }))

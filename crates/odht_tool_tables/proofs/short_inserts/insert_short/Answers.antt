@@ -1,10 +1,10 @@
-use Rattle.std.proofs.Common.{rules, arith, ◌≡◌, ◌∙◌, ◌%◌, ◌≤◌, ℕ, false, true, List, [], ◌∷◌, Option, Some, Ok, All, sym, ap, refl, subst, length}
+use Rattle.std.proofs.Common.{rules, arith, ◌≡◌, ◌∙◌, ◌%◌, ℕ, false, true, List, [], Some, Ok, All, sym, ap, refl, subst, length}
 use Rattle.std.specs.Prelude.{is_err, nat_lt}
 use Rattle.std.proofs.lemmas.List.Elements.{All-head, All-tail}
 use Rattle.odht_base.specs.Format.{Format}
 use Rattle.odht_base.specs.Image.{controls}
 use Rattle.odht_base.specs.Insert.{insert_owned}
-use Rattle.odht_base.specs.Table.{Pair, Table, slot_count}
+use Rattle.odht_base.specs.Table.{Pair, slot_count}
 use Rattle.odht_base.specs.Valid.{IsImage}
 use Rattle.odht_raw.specs.Sized.{HasLengthsOf}
 use Rattle.odht.specs.Dynamic.{DynStore, dyn_format, dyn_store}

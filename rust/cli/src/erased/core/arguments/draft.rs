@@ -4,7 +4,7 @@ use super::delimiters::delimiter_named;
 use super::topics::{Setting, Topic};
 use super::{
     is_stream, BuildOptions, Command, CommandMisuse, DeleteOptions, DiffOptions, Duplicates, Keys,
-    MergeOptions, Misuse, Reading, RebuildOptions, Request,
+    MergeOptions, Misuse, PutOptions, Reading, RebuildOptions, Request,
 };
 use crate::erased::core::any::AnyShape;
 use crate::erased::core::digits::parse_number;
@@ -32,8 +32,9 @@ pub(super) struct Draft {
     kinds: Kinds,
     duplicates: Duplicates,
     delimiter: u8,
-    percent: Percent,
+    percent: Option<Percent>,
     capacity: usize,
+    is_checked: bool,
     is_help: bool,
     is_slots: bool,
     is_json: bool,
@@ -56,8 +57,9 @@ impl Draft {
             kinds: Kinds { key: None, value: None, hash: None },
             duplicates: Duplicates::Last,
             delimiter: b'\t',
-            percent: Percent::new(87).unwrap(),
+            percent: None,
             capacity: 12,
+            is_checked: false,
             is_help: false,
             is_slots: false,
             is_json: false,
@@ -112,6 +114,7 @@ impl Draft {
             Setting::Slots => self.is_slots = true,
             Setting::Json => self.is_json = true,
             Setting::Whole => self.is_whole = true,
+            Setting::Check => self.is_checked = true,
             Setting::CheckOnly => self.is_check = true,
             Setting::Progress => self.has_progress = true,
             Setting::BreakLinks => self.allowed.breaks_links = true,
@@ -140,7 +143,7 @@ impl Draft {
             Setting::Value => self.kinds.value = Some(Kind::named(value)?),
             Setting::Duplicates => self.duplicates = Duplicates::named(value)?,
             Setting::Delimiter => self.delimiter = delimiter_named(value)?,
-            Setting::Percent => self.percent = parse_percent(value)?,
+            Setting::Percent => self.percent = Some(parse_percent(value)?),
             Setting::Capacity => self.capacity = parse_number(value.as_bytes())? as usize,
             _ => return None,
         }
@@ -191,13 +194,7 @@ impl Draft {
             }
             Topic::Delete => self.delete(),
             Topic::Rebuild => Ok(Command::Rebuild(self.rebuilding())),
-            Topic::Put => Ok(Command::Put {
-                hash: self.hash,
-                kinds: self.kinds,
-                bound: bound_of(self.is_whole),
-                breaks_links: self.allowed.breaks_links,
-                watch: Watch::of(self.has_progress),
-            }),
+            Topic::Put => Ok(Command::Put(self.putting())),
             Topic::Get => self.get(is_stream),
             Topic::Diff => self.diff(is_stream),
             Topic::Merge => self.merge(),
@@ -222,6 +219,19 @@ impl Draft {
             breaks_links: self.allowed.breaks_links,
             has_progress: self.has_progress,
         }))
+    }
+
+    // What is said to `put`.
+    fn putting(&self) -> PutOptions {
+        PutOptions {
+            hash: self.hash,
+            kinds: self.kinds,
+            duplicates: self.duplicates,
+            delimiter: self.delimiter,
+            bound: bound_of(self.is_whole),
+            breaks_links: self.allowed.breaks_links,
+            watch: Watch::of(self.has_progress),
+        }
     }
 
     // What is said to `rebuild`.
@@ -249,6 +259,11 @@ impl Draft {
         false
     }
 
+    // Whether `count` checks the files: so it does with each option that says how.
+    fn is_checking(&self) -> bool {
+        self.is_checked || self.is_whole || self.hash.is_some()
+    }
+
     // What is read of each file, where all words name files.
     fn reading(&self) -> Reading {
         let (hash, kinds, bound) = (self.hash, self.kinds, bound_of(self.is_whole));
@@ -256,7 +271,7 @@ impl Draft {
             // begin readings: made of commands.txt by tools/commands; `make manual` makes it anew
             Topic::Info => Reading::Info { bound, is_json: self.is_json },
             Topic::Check => Reading::Check { hash, bound, is_json: self.is_json },
-            Topic::Count => Reading::Count { hash, bound },
+            Topic::Count => Reading::Count { hash, bound, is_checked: self.is_checking() },
             Topic::Dump => {
                 Reading::Dump { hash, kinds, is_slots: self.is_slots, is_json: self.is_json }
             }
@@ -348,7 +363,7 @@ impl Draft {
             delimiter: self.delimiter,
             is_check: self.is_check,
             capacity: self.capacity,
-            percent: self.percent,
+            percent: self.percent.unwrap_or(Percent::new(87).unwrap()),
             allowed: self.allowed,
             watch: Watch::of(self.has_progress),
         }))

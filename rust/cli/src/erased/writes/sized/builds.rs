@@ -2,16 +2,16 @@
 //! `odht build` and `odht put` of tables of other sizes than the ready shapes have.
 
 use crate::erased::core::any::OtherShape;
-use crate::erased::core::arguments::BuildOptions;
+use crate::erased::core::arguments::{BuildOptions, PutOptions};
 use crate::erased::core::failure::Failure;
 use crate::erased::core::forms::{GivenForms, LineForms};
 use crate::erased::core::new_file::NewFile;
-use crate::erased::core::progress::Watch;
 use crate::erased::core::shapes::Hash;
 use crate::erased::core::status::Status;
 use crate::erased::tables::sized::{check_lengths, lengths_of};
-use crate::erased::writes::inserts::insert_into_file;
-use crate::erased::writes::inserts::lines::{check_lines, insert_lines, makes_no_table, Place};
+use crate::erased::writes::inserts::lines::{
+    check_lines, insert_into_file, insert_lines, makes_no_table, Place,
+};
 use crate::host::prelude::*;
 use crate::host::rt::{Clock, Files};
 use crate::proved::tables::dynamic::{DynError, DynTableOwned, Layout, ShortBytes};
@@ -104,24 +104,24 @@ pub fn put_other<R: Files + AllocGlobal + Clock, I: BufRead, E: Write>(
     shape: OtherShape,
     forms: GivenForms,
     bytes: Vec<u8>,
-    bound: Option<usize>,
-    watch: Watch,
+    options: PutOptions,
     input: &mut I,
     errors: &mut E,
 ) -> Result<Status, Failure>
 where
     R::File: AsFd,
 {
-    let (layout, forms) = (lengths_of(shape.key, shape.value), forms.of(shape));
+    let layout = lengths_of(shape.key, shape.value);
+    let forms = line_forms(shape, forms, options.delimiter);
     match shape.hash {
-        Hash::Fx => put_lengths::<FxHashFn, R, I, E>(
-            rt, new, layout, forms, bytes, bound, watch, input, errors,
-        ),
-        Hash::Unhash => put_lengths::<UnHashFn, R, I, E>(
-            rt, new, layout, forms, bytes, bound, watch, input, errors,
-        ),
+        Hash::Fx => {
+            put_lengths::<FxHashFn, R, I, E>(rt, new, layout, forms, bytes, options, input, errors)
+        }
+        Hash::Unhash => {
+            put_lengths::<UnHashFn, R, I, E>(rt, new, layout, forms, bytes, options, input, errors)
+        }
         Hash::Xxh64 => put_lengths::<Xxh64HashFn, R, I, E>(
-            rt, new, layout, forms, bytes, bound, watch, input, errors,
+            rt, new, layout, forms, bytes, options, input, errors,
         ),
     }
 }
@@ -131,18 +131,17 @@ fn put_lengths<H: HashFn, R: Files + AllocGlobal + Clock, I: BufRead, E: Write>(
     rt: &R,
     new: &mut NewFile<R::File>,
     layout: Layout,
-    forms: GivenForms,
+    forms: LineForms,
     bytes: Vec<u8>,
-    bound: Option<usize>,
-    watch: Watch,
+    options: PutOptions,
     input: &mut I,
     errors: &mut E,
 ) -> Result<Status, Failure>
 where
     R::File: AsFd,
 {
-    let table = copy_lengths::<H>(rt.alloc(), layout, bytes, bound)?;
-    insert_into_file(rt, new, table, forms, watch, input, errors)
+    let table = copy_lengths::<H>(rt.alloc(), layout, bytes, options.bound)?;
+    insert_into_file(rt, new, table, forms, options, input, errors)
 }
 
 fn copy_lengths<H: HashFn>(
