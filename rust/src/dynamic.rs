@@ -39,8 +39,8 @@ use crate::opened::Opened;
 use crate::proved::base::bytes::{Borrowed, ByteArray};
 use crate::proved::header::error::Error;
 use crate::proved::header::layout;
-use crate::proved::raw::memory_layout::{check_sized, check_sized_within, sized_parts, Header};
-use crate::proved::raw::raw_table::SizedTable;
+use crate::proved::raw::memory_layout::{check_dynamic, check_dynamic_within, dynamic_parts, Header};
+use crate::proved::raw::raw_table::DynRawTable;
 use crate::proved::tables::dynamic;
 use std::borrow::Borrow;
 use std::fmt;
@@ -181,8 +181,8 @@ impl<H: HashFn, D: Borrow<[u8]>> DynTable<H, D> {
 
     // The proved parts of the table. That their header fits is known from when the bytes were opened.
     #[inline(always)]
-    fn parts(&self) -> SizedTable<'_, Hash<H>> {
-        sized_parts(self.bytes(), self.layout.proved())
+    fn parts(&self) -> DynRawTable<'_, Hash<H>> {
+        dynamic_parts(self.bytes(), self.layout.proved())
     }
 
     /// The lengths of keys and values.
@@ -265,7 +265,7 @@ impl<H: HashFn, D: Borrow<[u8]>> DynTable<H, D> {
     ///
     /// The first that `check_all` finds behind those of opening.
     pub fn check_rest(&self) -> Result<(), Error> {
-        check_sized::<Hash<H>>(self.bytes(), self.layout.proved())
+        check_dynamic::<Hash<H>>(self.bytes(), self.layout.proved())
     }
 
     /// Whether all of the bytes are those of a table: whether [`check_rest`](DynTable::check_rest) finds no error.
@@ -290,7 +290,7 @@ impl<H: HashFn, D: Borrow<[u8]>> DynTable<H, D> {
     ///
     /// The first that [`check_all_within`](crate::check_all_within) finds behind those of opening.
     pub fn check_rest_within(&self, groups: usize) -> Result<(), Error> {
-        check_sized_within::<Hash<H>>(self.bytes(), self.layout.proved(), groups)
+        check_dynamic_within::<Hash<H>>(self.bytes(), self.layout.proved(), groups)
     }
 
     /// [`verify`](DynTable::verify) for bytes of strangers: whether

@@ -21,7 +21,7 @@ use Rattle.odht_header.specs.Coding.{Coding}
 use Rattle.odht_header.specs.Refusals.{new_refusal, opening_refusal, view_refusal}
 use Rattle.odht_raw.specs.Dumps.{parts_of}
 use Rattle.odht_raw.specs.Frame.{IsAccepted}
-use Rattle.odht_raw.specs.Sized.{SizedParts, bytes_coding}
+use Rattle.odht_raw.specs.DynParts.{DynParts, bytes_coding}
 use Rattle.odht.specs.declared.dynamic.DynError.{DynError}
 use Rattle.odht.specs.declared.dynamic.DynError.TheVariants.{KeyTooShort, Rejected}
 
@@ -39,7 +39,7 @@ dyn_format t h = format_of t.key_len t.value_len h
 abbrev pub dyn_coding : {D : Type 0} → DynStore D → (List ℕ → ℕ) → Coding (List ℕ) (List ℕ)
 dyn_coding t h = bytes_coding (dyn_format t h)
 
-abbrev pub dyn_parts : {D : Type 0} → DynStore D → (List ℕ → ℕ) → List ℕ → SizedParts
+abbrev pub dyn_parts : {D : Type 0} → DynStore D → (List ℕ → ℕ) → List ℕ → DynParts
 dyn_parts t h B = record { key_len = t.key_len; value_len = t.value_len; parts = parts_of (dyn_format t h) B }
 
 pub record IsOpened {D : Type 0} (ml : ℕ) (h : List ℕ → ℕ) (bytes : D → List ℕ) (t : DynStore D) : Type 0 where

@@ -28,7 +28,7 @@ use Rattle.odht_header.specs.Coding.{Coding}
 use Rattle.odht_raw.specs.Frame.{IsAccepted}
 use Rattle.odht_raw.specs.Parts.{TableParts, entry_format}
 use Rattle.odht_raw.specs.Reads.{read_controls, read_entries}
-use Rattle.odht_raw.specs.Sized.{bytes_coding}
+use Rattle.odht_raw.specs.DynParts.{bytes_coding}
 use Rattle.odht_raw.specs.declared.raw_table.read_search.ReadPlace.{ReadPlace}
 use Rattle.odht_raw.specs.declared.read_at.ReadError.{ReadError}
 use Rattle.odht.specs.declared.dynamic.DynError.{DynError}

@@ -8,7 +8,7 @@ ghost use Rattle.odht_base.specs.Format.{format_of, IsFormat};
 ghost use Rattle.odht_base.specs.Valid.{IsValidBytes};
 ghost use Rattle.odht_header.specs.declared.error.Error.TheVariants.{TooShort};
 ghost use Rattle.odht_raw.specs.Frame.{IsAccepted};
-ghost use Rattle.odht_raw.specs.Sized.{HasLengthsOf};
+ghost use Rattle.odht_raw.specs.DynParts.{HasLengthsOf};
 ghost use Rattle.odht.specs.Dynamic.{dyn_coding, dyn_format, dyn_refusal, stated_refusal};
 ghost use Rattle.odht.specs.Gets.{IsGet, IsCountedGet, IsKnown};
 ghost use Rattle.odht.specs.Walks.{IsItemCount, ArePairs, AreSlots};
@@ -21,10 +21,10 @@ use crate::error::Error;
 use crate::hash::HashFn;
 pub use crate::layout::Layout;
 use crate::memory_layout::{
-    self, Header, check_by_header, check_opening, check_sized, check_sized_within, sized_parts,
+    self, Header, check_by_header, check_opening, check_dynamic, check_dynamic_within, dynamic_parts,
 };
 pub use crate::raw_table::ShortBytes;
-use crate::raw_table::{SizedIter, SizedSlots, SizedTable};
+use crate::raw_table::{DynIter, DynSlots, DynRawTable};
 use std::marker::{Model, PhantomData};
 
 mod file;
@@ -208,7 +208,7 @@ impl<H: HashFn, D: ByteStore> DynTable<H, D> {
         if !self.takes(key) {
             return None;
         }
-        self.as_sized().find(key)
+        self.as_dynamic().find(key)
     }
 
     /// `get`, and how many groups of control bytes it read: on valid bytes those up to the first
@@ -224,7 +224,7 @@ impl<H: HashFn, D: ByteStore> DynTable<H, D> {
         if !self.takes(key) {
             return (None, 0);
         }
-        self.as_sized().find_counted(key)
+        self.as_dynamic().find_counted(key)
     }
 
     // Whether the key has the length of the table's keys.
@@ -245,22 +245,22 @@ impl<H: HashFn, D: ByteStore> DynTable<H, D> {
 
     /// The keys and values of the slots whose own control byte is below 128, in slot order: on
     /// valid bytes each pair of the table once.
-    pub fn iter(&self) -> SizedIter<'_, H>
+    pub fn iter(&self) -> DynIter<'_, H>
         ensures pairs { ArePairs (dyn_format self.now H.hash) (D.bytes self.now.store) result }
         ensures lengths { All (HasLengthsOf self.now.key_len self.now.value_len) result }
         ensures few { length result ≤ usize.MAX }
     {
-        self.as_sized().iter()
+        self.as_dynamic().iter()
     }
 
     /// The slots from slot `from` on whose own control byte is below 128, in slot order, each with
     /// its key and value: on valid bytes each pair in these slots once. Nothing where `from` is
     /// past the last slot.
-    pub fn iter_from(&self, from: usize) -> SizedSlots<'_, H>
+    pub fn iter_from(&self, from: usize) -> DynSlots<'_, H>
         ensures slots { AreSlots (dyn_format self.now H.hash) (D.bytes self.now.store) from result }
         ensures few { length result ≤ usize.MAX }
     {
-        self.as_sized().iter_from(from)
+        self.as_dynamic().iter_from(from)
     }
 
     /// The item count of the header. On valid bytes it is the number of items.
@@ -275,13 +275,13 @@ impl<H: HashFn, D: ByteStore> DynTable<H, D> {
     /// (docs/FORMAT.md, "Valid bytes"). On valid bytes each lookup returns what a map would.
     ///
     /// All of the bytes are checked. It takes no memory, and costs what
-    /// [`crate::memory_layout::check_all`] does. [`crate::memory_layout::check_sized`] returns the
+    /// [`crate::memory_layout::check_all`] does. [`crate::memory_layout::check_dynamic`] returns the
     /// error.
     pub fn verify(&self) -> bool
         ensures { IsTrue result
             ↔ IsValidBytes (dyn_format self.now H.hash) (D.bytes self.now.store) }
     {
-        check_sized::<H>(self.store.bytes(), self.layout).is_ok()
+        check_dynamic::<H>(self.store.bytes(), self.layout).is_ok()
     }
 
     /// Whether the bytes are valid and each home has, among the first `groups` groups of its probe
@@ -290,13 +290,13 @@ impl<H: HashFn, D: ByteStore> DynTable<H, D> {
     /// of hashes that vary keep.
     ///
     /// It is for bytes of strangers: whatever they are it costs no more than
-    /// [`crate::memory_layout::check_all_within`]. [`crate::memory_layout::check_sized_within`]
+    /// [`crate::memory_layout::check_all_within`]. [`crate::memory_layout::check_dynamic_within`]
     /// returns the error.
     pub fn verify_within(&self, groups: usize) -> bool
         ensures { IsTrue result
             ↔ IsValidWithin (dyn_coding self.now H.hash) (D.bytes self.now.store) groups }
     {
-        check_sized_within::<H>(self.store.bytes(), self.layout, groups).is_ok()
+        check_dynamic_within::<H>(self.store.bytes(), self.layout, groups).is_ok()
     }
 
     /// Whether each home has, among the first `groups` groups of its probe order, a control byte
@@ -305,7 +305,7 @@ impl<H: HashFn, D: ByteStore> DynTable<H, D> {
     pub fn searches_within(&self, groups: usize) -> bool
         ensures { IsBound (dyn_coding self.now H.hash) (D.bytes self.now.store) groups result }
     {
-        self.as_sized().searches_within(groups)
+        self.as_dynamic().searches_within(groups)
     }
 
     /// All bytes. Their header and length fit.
@@ -334,12 +334,12 @@ impl<H: HashFn, D: ByteStore> DynTable<H, D> {
 
     /// The parts of the table. A caller that looks up many keys calls this once.
     #[inline]
-    pub fn as_sized(&self) -> SizedTable<'_, H>
+    pub fn as_dynamic(&self) -> DynRawTable<'_, H>
         ensures parts { result ≡ dyn_parts self.now H.hash (D.bytes self.now.store) }
         ensures on_valid { HasParts (dyn_format self.now H.hash) (D.bytes self.now.store) }
         ensures format { IsFormat (dyn_format self.now H.hash) }
         ensures few { result.parts.entries.slots ≤ usize.MAX }
     {
-        sized_parts::<H>(self.store.bytes(), self.layout)
+        dynamic_parts::<H>(self.store.bytes(), self.layout)
     }
 }

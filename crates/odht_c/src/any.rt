@@ -8,7 +8,7 @@ ghost use Rattle.std.specs.Prelude.{◌≡◌, length, Some};
 ghost use Rattle.odht_header.specs.Refusals.{view_refusal, check_refusal, check_refusal_by};
 ghost use Rattle.odht_raw.specs.Frame.{IsAccepted};
 ghost use Rattle.odht_calls.specs.Statuses.{status_or_ok};
-ghost use Rattle.odht_calls.specs.Layouts.{AnyAnswers, SizedAnswers};
+ghost use Rattle.odht_calls.specs.Layouts.{AnyAnswers, DynAnswers};
 ghost use Rattle.odht_calls.specs.Layouts.{ContainsAnswers, LayoutAnswers, any_coding};
 ghost use Rattle.odht_calls.specs.Orders.{ScratchAnswers};
 ghost use Rattle.odht_calls.specs.Places.{PlaceAnswers};
@@ -196,7 +196,7 @@ pub extern "C" fn odht_any_get(
     ensures { let Long = (length key.now ≡ layout.now.key_len)
         × (length value.old ≡ layout.now.value_len)
         in AnyAnswers layout.now result (value.new ≡ value.old)
-        (λ c. SizedAnswers Long result (value.new ≡ value.old)
+        (λ c. DynAnswers Long result (value.new ≡ value.old)
         (GetAnswers c bytes.now key.now value.old result value.new)) }
 {
     read::get(*layout, bytes, key, value)
@@ -207,7 +207,7 @@ pub extern "C" fn odht_any_get(
 #[unsafe(no_mangle)]
 pub extern "C" fn odht_any_contains(layout: &AnyLayout, bytes: &[u8], key: &[u8]) -> u32
     ensures { AnyAnswers layout.now result (Unit {0})
-        (λ c. SizedAnswers (length key.now ≡ layout.now.key_len) result (Unit {0})
+        (λ c. DynAnswers (length key.now ≡ layout.now.key_len) result (Unit {0})
         (ContainsAnswers c bytes.now key.now result)) }
 {
     read::contains(*layout, bytes, key)
@@ -296,7 +296,7 @@ pub extern "C" fn odht_any_insert(
         × (length value.now ≡ layout.now.value_len)
         × (length former.old ≡ layout.now.value_len)
         in let Same = (bytes.new ≡ bytes.old) × (former.new ≡ former.old)
-        in AnyAnswers layout.now result Same (λ c. SizedAnswers Long result Same
+        in AnyAnswers layout.now result Same (λ c. DynAnswers Long result Same
         (InsertAnswers c bytes.old key.now value.now former.old result bytes.new former.new)) }
     ensures accepted { let F = (any_coding layout.now).format
         in IsAccepted F bytes.old → IsAccepted F bytes.new }

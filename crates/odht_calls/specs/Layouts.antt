@@ -4,7 +4,7 @@
 --     IsLayout l          l names a hash function, and its keys are long enough for it
 --     any_coding l        the coding of keys and values of the lengths of l as they are, by the hash function of l
 --     bad_layout          the status of a layout that is none
---     SizedAnswers Long s Same A   a call whose keys and values have to be as long as the layout says (`Long`): where
+--     DynAnswers Long s Same A   a call whose keys and values have to be as long as the layout says (`Long`): where
 --                          they are not it answers bad_lengths, and what `Same` says is unchanged; else A
 --     AnyAnswers l s Same A   a call with the layout l: where l is none it answers bad_layout, and what `Same` says is
 --                          unchanged; else A of the coding of l
@@ -23,7 +23,7 @@ use Rattle.odht_header.specs.Coding.{Coding, value_for, HasStored}
 use Rattle.odht_header.specs.Refusals.{opening_refusal}
 use Rattle.odht_header.specs.declared.error.Error.{Error}
 use Rattle.odht_raw.specs.Frame.{IsAccepted}
-use Rattle.odht_raw.specs.Sized.{bytes_coding}
+use Rattle.odht_raw.specs.DynParts.{bytes_coding}
 use Rattle.odht.specs.Dynamic.{stated_format}
 use Rattle.odht_calls.specs.declared.any.AnyLayout.{AnyLayout}
 use Rattle.odht_calls.specs.Statuses.{status_of, status_or_ok, done, absent, bad_lengths}
@@ -49,7 +49,7 @@ any_coding l = bytes_coding (format_of l.key_len l.value_len (hash_of l.hash))
 abbrev pub bad_layout : ℕ
 bad_layout = 38
 
-pub record SizedAnswers (Long : Type 0) (s : ℕ) (Same : Type 0) (A : Type 0) : Type 0 where
+pub record DynAnswers (Long : Type 0) (s : ℕ) (Same : Type 0) (A : Type 0) : Type 0 where
   pub lengths : (Long → ⊥) → (s ≡ bad_lengths) × Same
   pub answers : Long → A
 

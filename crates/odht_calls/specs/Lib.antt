@@ -26,4 +26,4 @@ pub mod Layouts
 -- keys and values that lie one after the other in bytes
 pub mod Pieces
 -- the status of an insert that tells whether the key had a value
-pub mod Told
+pub mod InsertedStatus

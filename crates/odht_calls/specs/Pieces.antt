@@ -9,14 +9,14 @@
 --     PiecesInsertAllAnswers F B n ks vs m s B' m'          inserts of n pairs in turn
 --     PiecesBuildAnswers F n ks vs p out len s out' len'    a table of n pairs at p percent
 --     PiecesBuildGrowingAnswers F n ks vs out len s out' len'   a table of n pairs that grows
---     Where there are more or fewer bytes it answers bad_lengths, and nothing is written (`Sized..`); and before that,
+--     Where there are more or fewer bytes it answers bad_lengths, and nothing is written (`Dyn..`); and before that,
 --     where the layout l is none, bad_layout, and nothing is written (`Any..`).
 use Rattle.std.specs.Prelude.{◌≡◌, ℕ, ◌*◌, zero, suc, List, [], ◌∷◌, length, take, drop}
 use Rattle.odht_base.specs.Format.{Format}
-use Rattle.odht_raw.specs.Sized.{bytes_coding}
+use Rattle.odht_raw.specs.DynParts.{bytes_coding}
 use Rattle.odht_calls.specs.Builds.{BuildAnswers, BuildGrowingAnswers}
 use Rattle.odht_calls.specs.declared.any.AnyLayout.{AnyLayout}
-use Rattle.odht_calls.specs.Layouts.{AnyAnswers, SizedAnswers}
+use Rattle.odht_calls.specs.Layouts.{AnyAnswers, DynAnswers}
 use Rattle.odht_calls.specs.Reads.{GetAllAnswers}
 use Rattle.odht_calls.specs.Views.{ViewGetAllAnswers}
 use Rattle.odht_calls.specs.Walks.{WalkAnswers}
@@ -35,76 +35,76 @@ abbrev pub PiecesWalkAnswers : Format → List ℕ → ℕ → ℕ → List ℕ 
 PiecesWalkAnswers F B at n ks vs m s at' ks' vs' m' =
     WalkAnswers (bytes_coding F) B at (pieces F.key_len n ks) (pieces F.value_len n vs) m s at' (pieces F.key_len n ks') (pieces F.value_len n vs') m'
 
-abbrev pub SizedWalkAnswers : Format → List ℕ → ℕ → ℕ → List ℕ → List ℕ → ℕ → ℕ → ℕ → List ℕ → List ℕ → ℕ → Type 0
-SizedWalkAnswers F B at n ks vs m s at' ks' vs' m' =
-    SizedAnswers (ArePieces F.key_len F.value_len n ks vs) s ((at' ≡ at) × (ks' ≡ ks) × (vs' ≡ vs) × (m' ≡ m))
+abbrev pub DynWalkAnswers : Format → List ℕ → ℕ → ℕ → List ℕ → List ℕ → ℕ → ℕ → ℕ → List ℕ → List ℕ → ℕ → Type 0
+DynWalkAnswers F B at n ks vs m s at' ks' vs' m' =
+    DynAnswers (ArePieces F.key_len F.value_len n ks vs) s ((at' ≡ at) × (ks' ≡ ks) × (vs' ≡ vs) × (m' ≡ m))
     (PiecesWalkAnswers F B at n ks vs m s at' ks' vs' m')
 
 abbrev pub AnyWalkAnswers : AnyLayout → List ℕ → ℕ → ℕ → List ℕ → List ℕ → ℕ → ℕ → ℕ → List ℕ → List ℕ → ℕ → Type 0
 AnyWalkAnswers l B at n ks vs m s at' ks' vs' m' =
-    AnyAnswers l s ((at' ≡ at) × (ks' ≡ ks) × (vs' ≡ vs) × (m' ≡ m)) (λ c. SizedWalkAnswers c.format B at n ks vs m s at' ks' vs' m')
+    AnyAnswers l s ((at' ≡ at) × (ks' ≡ ks) × (vs' ≡ vs) × (m' ≡ m)) (λ c. DynWalkAnswers c.format B at n ks vs m s at' ks' vs' m')
 
 -- ---- lookups of many keys
 abbrev pub PiecesGetAllAnswers : Format → List ℕ → ℕ → List ℕ → List ℕ → List ℕ → ℕ → List ℕ → List ℕ → Type 0
 PiecesGetAllAnswers F B n ks vs fs s vs' fs' =
     GetAllAnswers (bytes_coding F) B (pieces F.key_len n ks) (pieces F.value_len n vs) fs s (pieces F.value_len n vs') fs'
 
-abbrev pub SizedGetAllAnswers : Format → List ℕ → ℕ → List ℕ → List ℕ → List ℕ → ℕ → List ℕ → List ℕ → Type 0
-SizedGetAllAnswers F B n ks vs fs s vs' fs' =
-    SizedAnswers (ArePieces F.key_len F.value_len n ks vs × (length fs ≡ n)) s ((vs' ≡ vs) × (fs' ≡ fs)) (PiecesGetAllAnswers F B n ks vs fs s vs' fs')
+abbrev pub DynGetAllAnswers : Format → List ℕ → ℕ → List ℕ → List ℕ → List ℕ → ℕ → List ℕ → List ℕ → Type 0
+DynGetAllAnswers F B n ks vs fs s vs' fs' =
+    DynAnswers (ArePieces F.key_len F.value_len n ks vs × (length fs ≡ n)) s ((vs' ≡ vs) × (fs' ≡ fs)) (PiecesGetAllAnswers F B n ks vs fs s vs' fs')
 
 abbrev pub AnyGetAllAnswers : AnyLayout → List ℕ → ℕ → List ℕ → List ℕ → List ℕ → ℕ → List ℕ → List ℕ → Type 0
 AnyGetAllAnswers l B n ks vs fs s vs' fs' =
-    AnyAnswers l s ((vs' ≡ vs) × (fs' ≡ fs)) (λ c. SizedGetAllAnswers c.format B n ks vs fs s vs' fs')
+    AnyAnswers l s ((vs' ≡ vs) × (fs' ≡ fs)) (λ c. DynGetAllAnswers c.format B n ks vs fs s vs' fs')
 
 -- ---- the same in an opened table
 abbrev pub PiecesViewGetAllAnswers : Format → List ℕ → ℕ → List ℕ → List ℕ → List ℕ → ℕ → List ℕ → List ℕ → Type 0
 PiecesViewGetAllAnswers F B n ks vs fs s vs' fs' =
     ViewGetAllAnswers (bytes_coding F) B (pieces F.key_len n ks) (pieces F.value_len n vs) fs s (pieces F.value_len n vs') fs'
 
-abbrev pub SizedViewGetAllAnswers : Format → List ℕ → ℕ → List ℕ → List ℕ → List ℕ → ℕ → List ℕ → List ℕ → Type 0
-SizedViewGetAllAnswers F B n ks vs fs s vs' fs' =
-    SizedAnswers (ArePieces F.key_len F.value_len n ks vs × (length fs ≡ n)) s ((vs' ≡ vs) × (fs' ≡ fs)) (PiecesViewGetAllAnswers F B n ks vs fs s vs' fs')
+abbrev pub DynViewGetAllAnswers : Format → List ℕ → ℕ → List ℕ → List ℕ → List ℕ → ℕ → List ℕ → List ℕ → Type 0
+DynViewGetAllAnswers F B n ks vs fs s vs' fs' =
+    DynAnswers (ArePieces F.key_len F.value_len n ks vs × (length fs ≡ n)) s ((vs' ≡ vs) × (fs' ≡ fs)) (PiecesViewGetAllAnswers F B n ks vs fs s vs' fs')
 
 abbrev pub AnyViewGetAllAnswers : AnyLayout → List ℕ → ℕ → List ℕ → List ℕ → List ℕ → ℕ → List ℕ → List ℕ → Type 0
 AnyViewGetAllAnswers l B n ks vs fs s vs' fs' =
-    AnyAnswers l s ((vs' ≡ vs) × (fs' ≡ fs)) (λ c. SizedViewGetAllAnswers c.format B n ks vs fs s vs' fs')
+    AnyAnswers l s ((vs' ≡ vs) × (fs' ≡ fs)) (λ c. DynViewGetAllAnswers c.format B n ks vs fs s vs' fs')
 
 -- ---- inserts of many pairs
 abbrev pub PiecesInsertAllAnswers : Format → List ℕ → ℕ → List ℕ → List ℕ → ℕ → ℕ → List ℕ → ℕ → Type 0
 PiecesInsertAllAnswers F B n ks vs m s B' m' =
     InsertAllAnswers (bytes_coding F) B (pieces F.key_len n ks) (pieces F.value_len n vs) m s B' m'
 
-abbrev pub SizedInsertAllAnswers : Format → List ℕ → ℕ → List ℕ → List ℕ → ℕ → ℕ → List ℕ → ℕ → Type 0
-SizedInsertAllAnswers F B n ks vs m s B' m' =
-    SizedAnswers (ArePieces F.key_len F.value_len n ks vs) s ((B' ≡ B) × (m' ≡ m)) (PiecesInsertAllAnswers F B n ks vs m s B' m')
+abbrev pub DynInsertAllAnswers : Format → List ℕ → ℕ → List ℕ → List ℕ → ℕ → ℕ → List ℕ → ℕ → Type 0
+DynInsertAllAnswers F B n ks vs m s B' m' =
+    DynAnswers (ArePieces F.key_len F.value_len n ks vs) s ((B' ≡ B) × (m' ≡ m)) (PiecesInsertAllAnswers F B n ks vs m s B' m')
 
 abbrev pub AnyInsertAllAnswers : AnyLayout → List ℕ → ℕ → List ℕ → List ℕ → ℕ → ℕ → List ℕ → ℕ → Type 0
 AnyInsertAllAnswers l B n ks vs m s B' m' =
-    AnyAnswers l s ((B' ≡ B) × (m' ≡ m)) (λ c. SizedInsertAllAnswers c.format B n ks vs m s B' m')
+    AnyAnswers l s ((B' ≡ B) × (m' ≡ m)) (λ c. DynInsertAllAnswers c.format B n ks vs m s B' m')
 
 -- ---- builds
 abbrev pub PiecesBuildAnswers : Format → ℕ → List ℕ → List ℕ → ℕ → List ℕ → ℕ → ℕ → List ℕ → ℕ → Type 0
 PiecesBuildAnswers F n ks vs p out len s out' len' =
     BuildAnswers (bytes_coding F) (pieces F.key_len n ks) (pieces F.value_len n vs) p out len s out' len'
 
-abbrev pub SizedBuildAnswers : Format → ℕ → List ℕ → List ℕ → ℕ → List ℕ → ℕ → ℕ → List ℕ → ℕ → Type 0
-SizedBuildAnswers F n ks vs p out len s out' len' =
-    SizedAnswers (ArePieces F.key_len F.value_len n ks vs) s ((out' ≡ out) × (len' ≡ len)) (PiecesBuildAnswers F n ks vs p out len s out' len')
+abbrev pub DynBuildAnswers : Format → ℕ → List ℕ → List ℕ → ℕ → List ℕ → ℕ → ℕ → List ℕ → ℕ → Type 0
+DynBuildAnswers F n ks vs p out len s out' len' =
+    DynAnswers (ArePieces F.key_len F.value_len n ks vs) s ((out' ≡ out) × (len' ≡ len)) (PiecesBuildAnswers F n ks vs p out len s out' len')
 
 abbrev pub AnyBuildAnswers : AnyLayout → ℕ → List ℕ → List ℕ → ℕ → List ℕ → ℕ → ℕ → List ℕ → ℕ → Type 0
 AnyBuildAnswers l n ks vs p out len s out' len' =
-    AnyAnswers l s ((out' ≡ out) × (len' ≡ len)) (λ c. SizedBuildAnswers c.format n ks vs p out len s out' len')
+    AnyAnswers l s ((out' ≡ out) × (len' ≡ len)) (λ c. DynBuildAnswers c.format n ks vs p out len s out' len')
 
 -- ---- builds of tables that grow
 abbrev pub PiecesBuildGrowingAnswers : Format → ℕ → List ℕ → List ℕ → List ℕ → ℕ → ℕ → List ℕ → ℕ → Type 0
 PiecesBuildGrowingAnswers F n ks vs out len s out' len' =
     BuildGrowingAnswers (bytes_coding F) (pieces F.key_len n ks) (pieces F.value_len n vs) out len s out' len'
 
-abbrev pub SizedBuildGrowingAnswers : Format → ℕ → List ℕ → List ℕ → List ℕ → ℕ → ℕ → List ℕ → ℕ → Type 0
-SizedBuildGrowingAnswers F n ks vs out len s out' len' =
-    SizedAnswers (ArePieces F.key_len F.value_len n ks vs) s ((out' ≡ out) × (len' ≡ len)) (PiecesBuildGrowingAnswers F n ks vs out len s out' len')
+abbrev pub DynBuildGrowingAnswers : Format → ℕ → List ℕ → List ℕ → List ℕ → ℕ → ℕ → List ℕ → ℕ → Type 0
+DynBuildGrowingAnswers F n ks vs out len s out' len' =
+    DynAnswers (ArePieces F.key_len F.value_len n ks vs) s ((out' ≡ out) × (len' ≡ len)) (PiecesBuildGrowingAnswers F n ks vs out len s out' len')
 
 abbrev pub AnyBuildGrowingAnswers : AnyLayout → ℕ → List ℕ → List ℕ → List ℕ → ℕ → ℕ → List ℕ → ℕ → Type 0
 AnyBuildGrowingAnswers l n ks vs out len s out' len' =
-    AnyAnswers l s ((out' ≡ out) × (len' ≡ len)) (λ c. SizedBuildGrowingAnswers c.format n ks vs out len s out' len')
+    AnyAnswers l s ((out' ≡ out) × (len' ≡ len)) (λ c. DynBuildGrowingAnswers c.format n ks vs out len s out' len')

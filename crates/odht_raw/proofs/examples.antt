@@ -20,7 +20,7 @@ pub mod MutInserts
 -- what placing a key through borrowed parts may not do
 pub mod MutPlacings
 -- the same where lengths are numbers
-pub mod SizedInserts
+pub mod DynRawInserts
 -- the first free slot, and a pair that is written there
 pub mod FreePlacings
 -- inserts into any parts

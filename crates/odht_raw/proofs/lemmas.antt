@@ -32,7 +32,7 @@ pub mod NewTables
 -- a walk over the slots
 pub mod Walks
 -- the same where lengths of keys and values are numbers
-pub mod SizedWalks
+pub mod DynWalks
 -- the lines of a dump, joined as they are written
 pub mod Dumps
 -- the probe order, a piece of a group at a time

@@ -25,7 +25,7 @@ former_or (Ok o) f = value_or o f
 former_or (Err e) f = f
 
 pub record IsFormerTo {E : Type 0} (a : Result (Option (List ℕ)) E) (f : List ℕ) (r : Result Bool E) (f' : List ℕ) : Type 0 where
-  pub told : r ≡ result_map_both is_some (λ e. e) a
+  pub answered : r ≡ result_map_both is_some (λ e. e) a
   pub former : f' ≡ former_or a f
 
 pub record IsOneInto (c : Coding (List ℕ) (List ℕ)) (B k v f : List ℕ) (r : Result Bool Error) (B' f' : List ℕ) : Type 0 where

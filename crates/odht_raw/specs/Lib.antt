@@ -53,9 +53,9 @@ pub mod Frontiers
 -- where a search is expected to end
 pub mod Expected
 -- the parts of a table whose lengths of keys and values are numbers
-pub mod Sized
+pub mod DynParts
 -- such parts that are borrowed to be written
-pub mod SizedMut
+pub mod PartsMutChanges
 -- the passes in which an order of inserts takes the slots, as they are found by walks
 pub mod Passes
 -- a search in the parts of a table that are read by position

@@ -12,14 +12,14 @@ mod prefix;
 
 pub use crate::raw_table::{Entries, EntryMetadata};
 pub use allocation::Allocation;
-pub(crate) use allocation::hold_bytes;
+pub(crate) use allocation::prove_bytes;
 pub use check::{
-    DEFAULT_GROUPS, check_all, check_all_within, check_parts, check_sized, check_sized_within,
+    DEFAULT_GROUPS, check_all, check_all_within, check_parts, check_dynamic, check_dynamic_within,
 };
-pub use cuts::{parts_in, sized_parts};
-pub use inserts::{insert_sized, insert_sized_into};
+pub use cuts::{parts_in, dynamic_parts};
+pub use inserts::{insert_dynamic, insert_dynamic_into};
 pub use new_tables::{allocate, clear_entries, init_in_place, init_parts, write_empty};
 pub use odht_header::header::{HEADER_SIZE, Header, LEAST_FACTOR, is_accepted, write_header};
 pub use odht_header::sizes::{bytes_needed, entry_at, layout_for};
 pub use opening::{check_by_header, check_opening, check_opening_in, stated_layout};
-pub use prefix::{sized_table_len, table_len};
+pub use prefix::{dynamic_table_len, table_len};

@@ -27,7 +27,7 @@ pub mod GroupBounds
 -- what is written slot by slot
 pub mod Counting
 -- the slots of a table of any sizes
-pub mod SizedSlots
+pub mod DynSlots
 -- the stretches of a table's slots
 pub mod StretchCounts
 -- counts of numbers of groups

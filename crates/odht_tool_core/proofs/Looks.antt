@@ -6,11 +6,11 @@ use Rattle.std.proofs.lemmas.List.{map-append}
 use Rattle.std.proofs.lemmas.List.Folds.{list_all-append}
 use Rattle.odht_base.specs.Decoded.{counts_as_free}
 use Rattle.odht_tool_core.specs.Evidence.{looks, part_at, parts_to}
-use Rattle.odht_tool_core.specs.InfoNumbers.{SizedParts, occupied}
+use Rattle.odht_tool_core.specs.InfoNumbers.{DynParts, occupied}
 use Rattle.odht_tool_core.specs.declared.evidence.Look.{Look}
 use Rattle.odht_tool_core.specs.declared.evidence.Side.{Side}
 use Rattle.odht_tool_core.specs.declared.shapes.Hash.TheVariants.{Fx}
-use Rattle.odht_tool_core.proofs.SizedSlots.{occupied_more}
+use Rattle.odht_tool_core.proofs.DynSlots.{occupied_more}
 
 -- true changes nothing
 pub and_true : (b : Bool) → (b && true) ≡ b
@@ -26,7 +26,7 @@ all_pass p xs b both = go b (list_all p xs) both (λ e. AllPass-from_list_all p 
     go false true both f g = both.1 (f refl)
     go false false both f g = refl
 
-module _ (side : Side) (T : SizedParts) (look : Look) (n : ℕ) where
+module _ (side : Side) (T : DynParts) (look : Look) (n : ℕ) where
   -- one slot more
   pub all_more : list_all (looks look) (parts_to side T (n + 1)) ≡ (list_all (looks look) (parts_to side T n) && (counts_as_free (slice_index T.control n) || looks look (part_at side T n)))
   all_more = go (counts_as_free (slice_index T.control n)) refl

@@ -28,7 +28,7 @@ pub mod JsonTexts
 -- the texts of stored bytes
 pub mod StoredTexts
 -- those of bytes of a length that is known at run time alone
-pub mod SizedTexts
+pub mod DynTexts
 -- lines of a key and a value, and the words that say how they are read
 pub mod Pairs
 -- the load factor of a table that is made of another, and what is written of a word that is no key

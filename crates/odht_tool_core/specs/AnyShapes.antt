@@ -29,9 +29,9 @@ use Rattle.std.specs.Option.{unwrap_or}
 use Rattle.std.specs.Result.{result_ok}
 use Rattle.odht_base.specs.Format.{Format, format_of}
 use Rattle.odht_header.specs.Coding.{Coding}
-use Rattle.odht_raw.specs.Sized.{bytes_coding}
+use Rattle.odht_raw.specs.DynParts.{bytes_coding}
 use Rattle.odht_tool_core.specs.FoundShapes.{has_items, first_hash, said_hash, settled_hash}
-use Rattle.odht_tool_core.specs.InfoNumbers.{sized_parts, least_key_len}
+use Rattle.odht_tool_core.specs.InfoNumbers.{file_parts, least_key_len}
 use Rattle.odht_tool_core.specs.ReadAs.{form_for}
 use Rattle.odht_tool_core.specs.ReadyShapes.{default_hash, hash_of, own_key, own_value, shape_format, shape_of_parts, shape_of_sizes, typed_len, early_refusal}
 use Rattle.odht_tool_core.specs.ShapeList.{key_part, value_part, shape_hash}
@@ -104,7 +104,7 @@ of_hash B None = Err (NoHash (slice_index B 5) (slice_index B 6))
 of_hash B (Some h) = any_of_sizes (Bytes (slice_index B 5)) (Bytes (slice_index B 6)) (Some (settled_hash B h))
 
 abbrev pub fitting_any : List ℕ → Result AnyShape Failure
-fitting_any B = of_hash B (first_hash (slice_index B 5) (slice_index B 6) (sized_parts B))
+fitting_any B = of_hash B (first_hash (slice_index B 5) (slice_index B 6) (file_parts B))
 
 abbrev pub found_any : List ℕ → Option Hash → Result AnyShape Failure
 found_any B h =

@@ -12,7 +12,7 @@ use Rattle.odht_base.specs.Table.{Pair}
 use Rattle.odht_header.specs.Refusals.{view_refusal}
 use Rattle.odht_raw.specs.Dumps.{parts_of}
 use Rattle.odht_raw.specs.Parts.{TableParts}
-use Rattle.odht_raw.specs.Sized.{bytes_coding}
+use Rattle.odht_raw.specs.DynParts.{bytes_coding}
 use Rattle.odht_tool_core.specs.Endings.{Outcome, opened_outcome}
 use Rattle.odht_tool_core.specs.Json.{pair_objects}
 use Rattle.odht_tool_core.specs.JsonSlots.{slot_object_at}

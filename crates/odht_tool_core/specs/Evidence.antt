@@ -22,7 +22,7 @@ use Rattle.std.specs.Prelude.{ℕ, Bool, not, ◌&&◌, ◌||◌, ◌==◌, nat_
 use Rattle.std.specs.List.{list_all}
 use Rattle.odht_base.specs.Decoded.{slot_key, slot_value}
 use Rattle.odht_tool_core.specs.AnyShapes.{any_hash}
-use Rattle.odht_tool_core.specs.InfoNumbers.{SizedParts, info_refusal, occupied, sized_format, sized_parts}
+use Rattle.odht_tool_core.specs.InfoNumbers.{DynParts, info_refusal, occupied, file_format, file_parts}
 use Rattle.odht_tool_core.specs.PlainTexts.{is_plain, plain_text}
 use Rattle.odht_tool_core.specs.declared.any.AnyShape.{AnyShape}
 use Rattle.odht_tool_core.specs.declared.evidence.Look.{Look}
@@ -35,17 +35,17 @@ use Rattle.odht_tool_core.specs.declared.forms.Kinds.{Kinds}
 use Rattle.odht_tool_core.specs.declared.shapes.Hash.{Hash}
 use Rattle.odht_tool_core.specs.declared.shapes.Hash.TheVariants.{Fx, Unhash, Xxh64}
 
-abbrev pub part_at : Side → SizedParts → ℕ → List ℕ
-part_at Keys T i = slot_key (sized_format T Fx) T.entries i
-part_at Values T i = slot_value (sized_format T Fx) T.entries i
+abbrev pub part_at : Side → DynParts → ℕ → List ℕ
+part_at Keys T i = slot_key (file_format T Fx) T.entries i
+part_at Values T i = slot_value (file_format T Fx) T.entries i
 
-abbrev pub parts_to : Side → SizedParts → ℕ → List (List ℕ)
+abbrev pub parts_to : Side → DynParts → ℕ → List (List ℕ)
 parts_to side T n = map (part_at side T) (occupied T n)
 
-abbrev pub keys_of : SizedParts → List (List ℕ)
+abbrev pub keys_of : DynParts → List (List ℕ)
 keys_of T = parts_to Keys T T.slots
 
-abbrev pub values_of : SizedParts → List (List ℕ)
+abbrev pub values_of : DynParts → List (List ℕ)
 values_of T = parts_to Values T T.slots
 
 abbrev pub is_number_len : ℕ → Bool
@@ -87,20 +87,20 @@ key_by_hash n Fx = n == 0 || is_number_len n
 key_by_hash n Unhash = n == 0 || (n == 4 || (nat_le 8 n && nat_le n 32))
 key_by_hash n Xxh64 = n == 0
 
-abbrev pub shows_key : SizedParts → Hash → Bool
+abbrev pub shows_key : DynParts → Hash → Bool
 shows_key T h = key_by_hash T.key_len h || (not (is_number_len T.key_len) && not (list_all is_padded_text (keys_of T)))
 
-abbrev pub shows_value : SizedParts → Bool
+abbrev pub shows_value : DynParts → Bool
 shows_value T =
     T.value_len == 0
     || (if is_number_len T.value_len then not (are_texts (values_of T)) && not (are_swapped (values_of T))
     else not (list_all is_padded_text (values_of T)))
 
-abbrev pub asked_value : SizedParts → Kinds → Result (Unit {0}) Failure
+abbrev pub asked_value : DynParts → Kinds → Result (Unit {0}) Failure
 asked_value T ks = if is_none ks.value && not (shows_value T) then Err (UnknownValue T.value_len) else Ok tt
 
-abbrev pub asked : SizedParts → Hash → Kinds → Result (Unit {0}) Failure
+abbrev pub asked : DynParts → Hash → Kinds → Result (Unit {0}) Failure
 asked T h ks = if is_none ks.key && not (shows_key T h) then Err (UnknownKey T.key_len) else asked_value T ks
 
 abbrev pub asked_kinds : List ℕ → AnyShape → Kinds → Result (Unit {0}) Failure
-asked_kinds B s ks = if is_none (info_refusal B) then asked (sized_parts B) (any_hash s) ks else Ok tt
+asked_kinds B s ks = if is_none (info_refusal B) then asked (file_parts B) (any_hash s) ks else Ok tt

@@ -4,7 +4,7 @@
 use Rattle.std.specs.Prelude.{ℕ, ◌*◌, ◌/◌, max, List, [], ◌∷◌, length, ◌++◌, slice_index, codes}
 use Rattle.odht_base.specs.Decoded.{header_count, header_slots}
 use Rattle.odht_tool_core.specs.Finds.{fits_word}
-use Rattle.odht_tool_core.specs.InfoNumbers.{sized_parts}
+use Rattle.odht_tool_core.specs.InfoNumbers.{file_parts}
 use Rattle.odht_tool_core.specs.Json.{json_object, number_field, string_field}
 
 abbrev pub size_fields : ℕ → ℕ → ℕ → List (List ℕ × List ℕ)
@@ -24,4 +24,4 @@ unfoldable pub table_object : ℕ → List ℕ → List ℕ → List ℕ
 table_object at B checked =
     json_object
     (number_field (codes "offset") at
-    ∷ (size_fields (length B) (slice_index B 5) (slice_index B 6) ++ (counts_of B ++ word_fields (fits_word (sized_parts B)) checked)))
+    ∷ (size_fields (length B) (slice_index B 5) (slice_index B 6) ++ (counts_of B ++ word_fields (fits_word (file_parts B)) checked)))

@@ -21,7 +21,7 @@ use Rattle.odht_base.specs.Bytes.{bytes_at}
 use Rattle.odht_base.specs.Decoded.{header_count, header_slots}
 use Rattle.odht_header.specs.Refusals.{factor_refusal, padding_refusal, room_refusal}
 use Rattle.odht_tool_core.specs.Fronts.{stated_len, front_refusal}
-use Rattle.odht_tool_core.specs.InfoNumbers.{SizedParts, sized_parts, info_refusal, occupied, agrees, found_hash}
+use Rattle.odht_tool_core.specs.InfoNumbers.{DynParts, file_parts, info_refusal, occupied, agrees, found_hash}
 use Rattle.odht_tool_core.specs.declared.failure.Failure.{Failure}
 use Rattle.odht_tool_core.specs.declared.failure.Failure.TheVariants.{Memory, Forged, Output, Refused}
 use Rattle.odht_tool_core.specs.declared.shapes.Hash.TheVariants.{Fx, Unhash, Xxh64}
@@ -34,12 +34,12 @@ has_fields B = is_none (factor_refusal B) && is_none (padding_refusal B) && is_n
 abbrev pub has_front : List ℕ → Bool
 has_front B = is_none (front_refusal B) && has_fields B
 
-abbrev pub has_mirror : SizedParts → Bool
+abbrev pub has_mirror : DynParts → Bool
 has_mirror T = bytes_eq (bytes_at T.control T.slots 16) (bytes_at T.control 0 16)
 
 abbrev pub has_controls : List ℕ → Bool
 has_controls B =
-    let T = sized_parts B in
+    let T = file_parts B in
     is_none (info_refusal B) && has_mirror T && length (occupied T T.slots) == header_count B && is_some (found_hash T)
 
 unfoldable pub is_table : List ℕ → Bool
@@ -89,7 +89,7 @@ IsRowFailure B (Refused error) = info_refusal B ≡ Some error
 IsRowFailure B _ = ⊥
 
 -- the line of the table B at the offset `at`, of which the check says `checked`
-abbrev pub fits_word : SizedParts → List ℕ
+abbrev pub fits_word : DynParts → List ℕ
 fits_word T =
     if agrees T Fx then
     (if agrees T Unhash then (if agrees T Xxh64 then codes "fx,unhash,xxh64" else codes "fx,unhash")
@@ -101,7 +101,7 @@ abbrev pub row_text : ℕ → List ℕ → List ℕ → List ℕ
 row_text at B checked =
     (sizes_row at (length B) (slice_index B 5) (slice_index B 6)
     ++ counts_row (header_count B) (header_slots B) (header_count B * 100 / max (header_slots B) 1))
-    ++ words_row (fits_word (sized_parts B)) checked
+    ++ words_row (fits_word (file_parts B)) checked
 
 abbrev pub IsSeen : List ℕ → Look → Type 0
 IsSeen B (Table n) = (is_table B ≡ true) × (n ≡ stated_len B) × (n ≤ length B)

@@ -19,7 +19,7 @@ use Rattle.std.specs.Bool.{then_some}
 use Rattle.std.specs.Option.{option_or, unwrap_or}
 use Rattle.odht_base.specs.Decoded.{header_count}
 use Rattle.odht_header.specs.Refusals.{check_refusal_by}
-use Rattle.odht_tool_core.specs.InfoNumbers.{SizedParts, sized_parts, info_refusal, agrees, format_by, found_hash, least_key_len}
+use Rattle.odht_tool_core.specs.InfoNumbers.{DynParts, file_parts, info_refusal, agrees, format_by, found_hash, least_key_len}
 use Rattle.odht_tool_core.specs.ReadyShapes.{hashes, is_shape_of, same_hash}
 use Rattle.odht_tool_core.specs.ShapeList.{shape_hash, ready_shapes}
 use Rattle.odht_tool_core.specs.declared.shapes.Hash.{Hash}
@@ -29,19 +29,19 @@ abbrev pub has_items : List ℕ → Bool
 has_items B = is_none (info_refusal B) && not (header_count B == 0)
 
 -- ---- by the control bytes
-abbrev pub fits : ℕ → ℕ → SizedParts → Shape → Bool
+abbrev pub fits : ℕ → ℕ → DynParts → Shape → Bool
 fits k v T s = is_shape_of k v None s && agrees T (shape_hash s)
 
-abbrev pub fitting_shape : ℕ → ℕ → SizedParts → Option Shape
+abbrev pub fitting_shape : ℕ → ℕ → DynParts → Option Shape
 fitting_shape k v T = find (fits k v T) ready_shapes
 
-abbrev pub first_hash : ℕ → ℕ → SizedParts → Option Hash
+abbrev pub first_hash : ℕ → ℕ → DynParts → Option Hash
 first_hash k v T = option_or (option_map shape_hash (fitting_shape k v T)) (found_hash T)
 
-abbrev pub is_other : Hash → SizedParts → Hash → Bool
+abbrev pub is_other : Hash → DynParts → Hash → Bool
 is_other h T g = not (same_hash g h) && agrees T g
 
-abbrev pub other_hash : SizedParts → Hash → Option Hash
+abbrev pub other_hash : DynParts → Hash → Option Hash
 other_hash T h = find (is_other h T) hashes
 
 -- ---- by all bytes, where several fit
@@ -53,11 +53,11 @@ abbrev pub valid_hash : List ℕ → Option Hash
 valid_hash B = find (is_valid_by B) hashes
 
 abbrev pub settled_hash : List ℕ → Hash → Hash
-settled_hash B h = if is_none (other_hash (sized_parts B) h) || is_valid_by B h then h else unwrap_or (valid_hash B) h
+settled_hash B h = if is_none (other_hash (file_parts B) h) || is_valid_by B h then h else unwrap_or (valid_hash B) h
 
 -- ---- by what is said
 abbrev pub agreed_hash : List ℕ → Hash → Option Hash
-agreed_hash B d = then_some (is_none (info_refusal B) && agrees (sized_parts B) d) (settled_hash B d)
+agreed_hash B d = then_some (is_none (info_refusal B) && agrees (file_parts B) d) (settled_hash B d)
 
 abbrev pub said_hash : List ℕ → Option Hash → Option Hash → Option Hash
 said_hash B (Some h) d = Some h
@@ -66,4 +66,4 @@ said_hash B None (Some d) = agreed_hash B d
 
 -- ---- the hint of `check`
 abbrev pub hinted_hash : List ℕ → Hash → Option Hash
-hinted_hash B h = if has_items B then other_hash (sized_parts B) h else None
+hinted_hash B h = if has_items B then other_hash (file_parts B) h else None

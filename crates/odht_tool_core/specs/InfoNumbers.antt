@@ -1,8 +1,8 @@
 -- What `info` reports of the bytes B of a table, whose key and value sizes are those in its header.
---     SizedParts           the parts of a table, and the sizes of its keys and values
+--     DynParts           the parts of a table, and the sizes of its keys and values
 --     format_by B h        the format of the sizes in the header of B, and of the hash function h
---     sized_parts B        the parts of B
---     sized_format T h     the format of the sizes of the parts T, and of the hash function h
+--     file_parts B        the parts of B
+--     file_format T h     the format of the sizes of the parts T, and of the hash function h
 --     info_refusal B       the error of opening by header and length for the header's sizes, if there is one
 --     least_key_len h      how many bytes the hash function h needs at least
 --     agrees T h           keys are long enough for h, and no control byte below 128 differs from the tag of its key
@@ -40,7 +40,7 @@ use Rattle.odht_tool_core.specs.declared.numbers.Numbers.{Numbers}
 use Rattle.odht_tool_core.specs.declared.shapes.Hash.{Hash}
 use Rattle.odht_tool_core.specs.declared.shapes.Hash.TheVariants.{Fx, Unhash, Xxh64}
 
-pub record SizedParts : Type 0 where
+pub record DynParts : Type 0 where
   pub key_len : ℕ
   pub value_len : ℕ
   pub slots : ℕ
@@ -50,8 +50,8 @@ pub record SizedParts : Type 0 where
 abbrev pub format_by : List ℕ → Hash → Format
 format_by B h = format_of (slice_index B 5) (slice_index B 6) (hash_of h)
 
-abbrev pub sized_parts : List ℕ → SizedParts
-sized_parts B = record {
+abbrev pub file_parts : List ℕ → DynParts
+file_parts B = record {
   key_len = slice_index B 5;
   value_len = slice_index B 6;
   slots = header_slots B;
@@ -59,8 +59,8 @@ sized_parts B = record {
   control = controls_of (format_by B Fx) B;
 }
 
-abbrev pub sized_format : SizedParts → Hash → Format
-sized_format T h = format_of T.key_len T.value_len (hash_of h)
+abbrev pub file_format : DynParts → Hash → Format
+file_format T h = format_of T.key_len T.value_len (hash_of h)
 
 -- ---- opening; the sizes of keys and values are as expected, whatever they are
 abbrev pub info_refusal : List ℕ → Option Error
@@ -72,25 +72,25 @@ least_key_len Fx = 0
 least_key_len Unhash = 4
 least_key_len Xxh64 = 0
 
-abbrev pub agrees : SizedParts → Hash → Bool
+abbrev pub agrees : DynParts → Hash → Bool
 agrees T h =
-    nat_le (least_key_len h) T.key_len && is_none (first_slot (control_mismatch (sized_format T h) T.entries T.control) T.slots)
+    nat_le (least_key_len h) T.key_len && is_none (first_slot (control_mismatch (file_format T h) T.entries T.control) T.slots)
 
-abbrev pub found_hash : SizedParts → Option Hash
+abbrev pub found_hash : DynParts → Option Hash
 found_hash T = find (agrees T) hashes
 
 -- ---- the histogram
-abbrev pub occupied_in : SizedParts → ℕ → ℕ → List ℕ
+abbrev pub occupied_in : DynParts → ℕ → ℕ → List ℕ
 occupied_in T a n = filter (λ i. not (counts_as_free (slice_index T.control i))) (range_with_len a n)
 
-abbrev pub occupied : SizedParts → ℕ → List ℕ
+abbrev pub occupied : DynParts → ℕ → List ℕ
 occupied T n = occupied_in T 0 n
 
-abbrev pub group_numbers : SizedParts → Hash → Option ℕ → ℕ → List ℕ
+abbrev pub group_numbers : DynParts → Hash → Option ℕ → ℕ → List ℕ
 group_numbers T h o n =
-    map (λ i. capped o (groups_to (hash_of h (slot_key (sized_format T h) T.entries i)) T.slots i)) (occupied T n)
+    map (λ i. capped o (groups_to (hash_of h (slot_key (file_format T h) T.entries i)) T.slots i)) (occupied T n)
 
-abbrev pub found_groups : SizedParts → Option ℕ → List ℕ
+abbrev pub found_groups : DynParts → Option ℕ → List ℕ
 found_groups T o = option_map_or (λ h. group_numbers T h o T.slots) (found_hash T) []
 
 unfoldable pub tallies : List ℕ → List ℕ
@@ -99,13 +99,13 @@ tallies xs = map (λ g. count_by (λ x. min x 64 == g) xs) (range_with_len 1 64)
 unfoldable pub largest : List ℕ → ℕ
 largest xs = fold max 0 xs
 
-abbrev pub miss_numbers : SizedParts → Option ℕ → ℕ → List ℕ
+abbrev pub miss_numbers : DynParts → Option ℕ → ℕ → List ℕ
 miss_numbers T o n = map (λ b. capped o (groups_to_free T.control b)) (range_with_len 0 n)
 
-abbrev pub longest_miss : SizedParts → Option ℕ → ℕ
+abbrev pub longest_miss : DynParts → Option ℕ → ℕ
 longest_miss T o = largest (miss_numbers T o T.slots)
 
-abbrev pub has_long_search : SizedParts → Bool
+abbrev pub has_long_search : DynParts → Bool
 has_long_search T = nat_lt 24 (longest_miss T (Some 24))
 
 pub record IsHistogram (xs : List ℕ) (h : Histogram) : Type 0 where
@@ -116,10 +116,10 @@ pub record IsHistogram (xs : List ℕ) (h : Histogram) : Type 0 where
 abbrev pub stretch_len : ℕ → ℕ
 stretch_len s = max 1 (s / 64)
 
-abbrev pub stretch_count : SizedParts → ℕ → ℕ
+abbrev pub stretch_count : DynParts → ℕ → ℕ
 stretch_count T p = length (occupied_in T (p * stretch_len T.slots) (stretch_len T.slots))
 
-abbrev pub stretch_counts : SizedParts → List ℕ
+abbrev pub stretch_counts : DynParts → List ℕ
 stretch_counts T = map (stretch_count T) (range_with_len 0 (min T.slots 64))
 
 -- ---- all numbers
@@ -136,11 +136,11 @@ pub record AreNumbers (B : List ℕ) (o : Option ℕ) (a : Option Advice) (n : N
   pub maximum : n.max_item_count ≡ max_items (header_slots B) (header_factor B)
   pub load : n.load ≡ header_count B * 100 / header_slots B
   pub max_load : n.max_load ≡ nearest_percent (header_factor B)
-  pub stretches : n.stretches.items ≡ stretch_counts (sized_parts B)
-  pub hash : n.hash ≡ found_hash (sized_parts B)
+  pub stretches : n.stretches.items ≡ stretch_counts (file_parts B)
+  pub hash : n.hash ≡ found_hash (file_parts B)
   pub bound : n.bound ≡ o
-  pub histogram : IsHistogram (found_groups (sized_parts B) o) n.histogram
-  pub miss : n.longest_miss ≡ longest_miss (sized_parts B) o
+  pub histogram : IsHistogram (found_groups (file_parts B) o) n.histogram
+  pub miss : n.longest_miss ≡ longest_miss (file_parts B) o
   pub advice : n.advice ≡ a
 
 abbrev pub IsInfoFailure : List ℕ → Failure → Type 0

@@ -56,7 +56,7 @@ pub mod PlainTexts
 -- texts of stored bytes
 pub mod StoredTexts
 -- those of bytes of a length that is known at run time alone
-pub mod SizedTexts
+pub mod DynTexts
 -- texts that are no key or no value
 pub mod Misreads
 -- texts of JSON

@@ -8,7 +8,7 @@ ghost use Rattle.odht_tool_core.specs.Finds.{AreTables, IsFindFailure, IsRowFail
 ghost use Rattle.odht_tool_core.specs.Finds.{row_text, fits_word};
 ghost use Rattle.odht_tool_core.specs.Finds.{sizes_row, counts_row, words_row};
 ghost use Rattle.std.specs.Io.KnownBytes.{Appends};
-ghost use Rattle.odht_tool_core.specs.InfoNumbers.{occupied, sized_parts};
+ghost use Rattle.odht_tool_core.specs.InfoNumbers.{occupied, file_parts};
 ghost use Rattle.odht_tool_core.specs.declared.failure.Failure.TheVariants.{Memory};
 ghost use Rattle.odht_tool_core.specs.Fronts.{stated_len};
 
@@ -108,7 +108,7 @@ fn write_columns<O: Write>(
     output: &mut O,
 ) -> io::Result<()>
     requires long { 32 ≤ length table.now }
-    requires parts { parts.now ≡ sized_parts table.now }
+    requires parts { parts.now ≡ file_parts table.now }
     ensures { OnOk result (Appends (O.contents output.old) (O.contents output.new)
         (row_text at table.now checked.now)) }
 {

@@ -3,7 +3,7 @@ ghost use Rattle.std.specs.Prelude.{◌≡◌, ◌≤◌, IfErr, OnOk, length, s
 ghost use Rattle.std.specs.Io.KnownBytes.{Appends};
 ghost use Rattle.odht_tool_core.specs.Finds.{IsRowFailure};
 ghost use Rattle.odht_tool_core.specs.FindJson.{count_fields, counts_of, size_fields, table_object, word_fields};
-ghost use Rattle.odht_tool_core.specs.InfoNumbers.{sized_parts};
+ghost use Rattle.odht_tool_core.specs.InfoNumbers.{file_parts};
 ghost use Rattle.odht_tool_core.specs.Json.{more_fields};
 
 use crate::failure::Failure;
@@ -36,7 +36,7 @@ fn write_fields<O: Write>(
     output: &mut O,
 ) -> io::Result<()>
     requires long { 32 ≤ length table.now }
-    requires parts { parts.now ≡ sized_parts table.now }
+    requires parts { parts.now ≡ file_parts table.now }
     ensures { OnOk result (Appends (O.contents output.old) (O.contents output.new)
         (table_object at table.now checked.now)) }
 {

@@ -3,7 +3,7 @@ ghost use Rattle.std.specs.Prelude.{◌≡◌, IsTrue};
 ghost use Rattle.odht_tool_core.specs.Forms.{bytes_form, form_in, form_of_bytes, number_type_of_32, number_type_of_64};
 ghost use Rattle.odht_tool_core.specs.Forms.{number_form, number_part, part_in};
 ghost use Rattle.odht_tool_core.specs.ReadAs.{form_for};
-ghost use Rattle.odht_tool_core.specs.SizedTexts.{sized_forms};
+ghost use Rattle.odht_tool_core.specs.DynTexts.{dynamic_forms};
 
 use crate::any::OtherShape;
 use crate::shapes::{Hash, Part};
@@ -125,7 +125,7 @@ impl Form {
     }
 
     /// The form of what is of that type.
-    pub(crate) fn inner(self) -> Form
+    pub(crate) fn part_form(self) -> Form
         ensures { result ≡ form_in self }
     {
         match self {
@@ -242,7 +242,7 @@ impl Forms for LineForms {
 impl GivenForms {
     /// The forms of stored bytes of these types that are written in these forms.
     pub fn of(self, shape: OtherShape) -> GivenForms
-        ensures { result ≡ sized_forms shape self }
+        ensures { result ≡ dynamic_forms shape self }
     {
         GivenForms {
             key: self.key.of(shape.key),

@@ -3,7 +3,7 @@ ghost use Rattle.std.specs.Prelude.{◌≡◌, ◌≤◌, ◌&&◌, length, slic
 ghost use Rattle.std.specs.Prelude.{IfOk, IfSome, OnSome, Some};
 ghost use Rattle.odht_base.specs.Format.{format_of};
 ghost use Rattle.odht_header.specs.Refusals.{check_refusal_by, checked};
-ghost use Rattle.odht_tool_core.specs.InfoNumbers.{info_refusal, sized_parts};
+ghost use Rattle.odht_tool_core.specs.InfoNumbers.{info_refusal, file_parts};
 ghost use Rattle.odht_tool_core.specs.FoundShapes.{fits, first_hash, fitting_shape, has_items};
 ghost use Rattle.odht_tool_core.specs.FoundShapes.{agreed_hash, is_valid_by, settled_hash};
 ghost use Rattle.odht_tool_core.specs.FoundShapes.{hinted_hash, is_other, other_hash, said_hash};
@@ -18,7 +18,7 @@ use odht_base::hash::{FxHashFn, HashFn, UnHashFn, Xxh64HashFn};
 use odht_header::error::Error;
 use odht_header::header::Header;
 use odht_header::layout::Layout;
-use odht_raw::memory_layout::{DEFAULT_GROUPS, check_opening, check_sized_within};
+use odht_raw::memory_layout::{DEFAULT_GROUPS, check_opening, check_dynamic_within};
 
 // The first shape of these sizes with whose hash function all control bytes agree.
 fn fitting_shape(key_size: u8, value_size: u8, table: &StoredTable<'_>) -> Option<Shape>
@@ -55,7 +55,7 @@ pub fn found_any(bytes: &[u8], hash: Option<Hash>) -> Result<AnyShape, Failure>
 // A shape of the header's sizes that fits the parts of the table.
 fn fitting_any(bytes: &[u8], table: &StoredTable<'_>) -> Result<AnyShape, Failure>
     requires long { 32 ≤ length bytes.now }
-    requires parts { table.now ≡ sized_parts bytes.now }
+    requires parts { table.now ≡ file_parts bytes.now }
     ensures shape { result ≡ fitting_any bytes.now }
     ensures long { IfOk result HasLongKeys }
 {
@@ -88,7 +88,7 @@ fn first_hash(key_size: u8, value_size: u8, table: &StoredTable<'_>) -> Option<H
 // decides: `first` where there is no other, or where the bytes are valid by it, so that every key
 // is reached; else the first one by which they are valid; and `first` again where there is none.
 fn settled_hash(bytes: &[u8], table: &StoredTable<'_>, first: Hash) -> Hash
-    requires parts { table.now ≡ sized_parts bytes.now }
+    requires parts { table.now ≡ file_parts bytes.now }
     ensures { result ≡ settled_hash bytes.now first }
 {
     if other_hash(table, first).is_none() || is_valid_by(bytes, first) {
@@ -143,13 +143,13 @@ fn check_within<H: HashFn>(bytes: &[u8], layout: Layout) -> Result<(), Error>
         in result ≡ checked (check_refusal_by F (Some 128) bytes.now) }
 {
     check_opening::<H>(bytes, layout)?;
-    check_sized_within::<H>(bytes, layout, DEFAULT_GROUPS)
+    check_dynamic_within::<H>(bytes, layout, DEFAULT_GROUPS)
 }
 
 // The parts of a table whose header and length fit, and whose header counts items.
 fn open_with_items(bytes: &[u8]) -> Option<StoredTable<'_>>
     ensures some { is_some result ≡ has_items bytes.now }
-    ensures parts { IfSome result (λ t. t ≡ sized_parts bytes.now) }
+    ensures parts { IfSome result (λ t. t ≡ file_parts bytes.now) }
     ensures long { OnSome result (32 ≤ length bytes.now) }
 {
     let table = StoredTable::open(bytes).ok()?;

@@ -7,7 +7,7 @@ ghost use Rattle.odht_tool_core.specs.InfoNumbers.{info_refusal};
 
 use crate::failure::Failure;
 use odht_header::error::Error;
-use odht_raw::memory_layout::{sized_table_len, stated_layout};
+use odht_raw::memory_layout::{dynamic_table_len, stated_layout};
 
 /// The table that begins at this byte of a file and ends where its header says; bytes after it are
 /// not looked at. `PastEnd` where the file ends before that byte. Where opening by the header
@@ -47,6 +47,6 @@ pub fn front_of(bytes: &[u8]) -> Result<&[u8], Error>
     ensures enough { OnOk result (stated_len bytes.now ≤ length bytes.now) }
 {
     let layout = stated_layout(bytes)?;
-    let len = sized_table_len(bytes, layout)?;
+    let len = dynamic_table_len(bytes, layout)?;
     Ok(&bytes[..len])
 }

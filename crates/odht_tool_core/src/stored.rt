@@ -4,7 +4,7 @@ ghost use Rattle.std.specs.Prelude.{IfOk, IfSome, OnOk, Some, nat_lt, slice_inde
 ghost use Rattle.std.specs.Result.{result_err};
 ghost use Rattle.odht_base.specs.Decoded.{counts_as_free, slot_key, slot_value};
 ghost use Rattle.odht_header.specs.Refusals.{control_mismatch};
-ghost use Rattle.odht_tool_core.specs.InfoNumbers.{sized_format, sized_parts};
+ghost use Rattle.odht_tool_core.specs.InfoNumbers.{file_format, file_parts};
 ghost use Rattle.odht_tool_core.specs.InfoNumbers.{info_refusal, least_key_len};
 ghost use Rattle.odht_tool_core.specs.InfoNumbers.{agrees, found_hash, group_numbers, IsHistogram, occupied};
 ghost use Rattle.odht_tool_core.specs.InfoNumbers.{occupied_in, stretch_counts};
@@ -23,7 +23,7 @@ use odht_base::swisstable_group_query::is_empty_or_deleted;
 use odht_header::error::Error;
 use odht_header::layout::Layout;
 use odht_raw::memory_layout::{self, check_by_header, stated_layout};
-use odht_raw::raw_table::{SizedTable, tag_of};
+use odht_raw::raw_table::{DynRawTable, tag_of};
 use std::alloc::{AllocError, Global};
 use std::marker::Model;
 
@@ -37,14 +37,14 @@ const LONG_SEARCH: usize = 24;
 /// `FxHashFn` stands for any hash function here, since it takes keys of every length.
 #[derive(Drop)]
 pub struct StoredTable<'a> {
-    table: SizedTable<'a, FxHashFn>,
+    table: DynRawTable<'a, FxHashFn>,
 }
 
 impl<'a> Model for StoredTable<'a> {
     ghost use Rattle.std.specs.Prelude.{◌≡◌};
-    ghost use Rattle.odht_tool_core.specs.InfoNumbers.{SizedParts};
+    ghost use Rattle.odht_tool_core.specs.InfoNumbers.{DynParts};
 
-    ghost Value = { SizedParts };
+    ghost Value = { DynParts };
 
     ghost view = { λ t. record {
       key_len = t.table.key_len;
@@ -60,13 +60,13 @@ impl<'a> StoredTable<'a> {
     /// [`check_by_header`] does for the key and value sizes in the header.
     pub fn open(bytes: &'a [u8]) -> Result<Self, Error>
         ensures err { result_err result ≡ info_refusal bytes.now }
-        ensures parts { IfOk result (λ t. t ≡ sized_parts bytes.now) }
+        ensures parts { IfOk result (λ t. t ≡ file_parts bytes.now) }
         ensures long { OnOk result (32 ≤ length bytes.now) }
     {
         let layout = stated_layout(bytes)?;
         check_by_header(bytes, layout)?;
         Ok(StoredTable {
-            table: memory_layout::sized_parts(bytes, layout),
+            table: memory_layout::dynamic_parts(bytes, layout),
         })
     }
 
@@ -143,9 +143,9 @@ impl<'a> StoredTable<'a> {
         requires { slot < self.now.slots }
         ensures some { is_some result ≡ not (counts_as_free (slice_index self.now.control slot)) }
         ensures key { let T = self.now
-            in IfSome result (λ p. p.0.now ≡ slot_key (sized_format T Fx) T.entries slot) }
+            in IfSome result (λ p. p.0.now ≡ slot_key (file_format T Fx) T.entries slot) }
         ensures value { let T = self.now
-            in IfSome result (λ p. p.1.now ≡ slot_value (sized_format T Fx) T.entries slot) }
+            in IfSome result (λ p. p.1.now ≡ slot_value (file_format T Fx) T.entries slot) }
         ensures key_len { IfSome result (λ p. length p.0.now ≡ self.now.key_len) }
         ensures value_len { IfSome result (λ p. length p.1.now ≡ self.now.value_len) }
     {
@@ -208,7 +208,7 @@ impl<'a> StoredTable<'a> {
         requires slot { slot < self.now.slots }
         requires long { least_key_len hash ≤ self.now.key_len }
         ensures { let T = self.now
-            in result ≡ is_some (control_mismatch (sized_format T hash) T.entries T.control slot) }
+            in result ≡ is_some (control_mismatch (file_format T hash) T.entries T.control slot) }
     {
         self.is_occupied(slot) && self.table.control(slot) != tag_of(self.hash_at(slot, hash))
     }
@@ -225,7 +225,7 @@ impl<'a> StoredTable<'a> {
     fn hash_at(&self, slot: usize, hash: Hash) -> u32
         requires slot { slot < self.now.slots }
         requires long { least_key_len hash ≤ self.now.key_len }
-        ensures { result ≡ hash_of hash (slot_key (sized_format self.now hash) self.now.entries
+        ensures { result ≡ hash_of hash (slot_key (file_format self.now hash) self.now.entries
             slot) }
     {
         hash_key(self.table.key(slot), hash)

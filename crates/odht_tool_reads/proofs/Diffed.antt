@@ -11,9 +11,9 @@ use Rattle.odht_base.specs.Table.{walk}
 use Rattle.odht_base.specs.Valid.{IsValidBytes}
 use Rattle.odht_base.proofs.lemmas.Pairs.{value_in-Some}
 use Rattle.odht_raw.proofs.lemmas.Walks.{decoded_pairs-image}
-use Rattle.odht_raw.specs.Sized.{bytes_coding}
+use Rattle.odht_raw.specs.DynParts.{bytes_coding}
 use Rattle.odht_header.specs.Coding.{value_for}
-use Rattle.odht_tool_reads.specs.Diffs.{diff_of, pairs_diff, same_text, told}
+use Rattle.odht_tool_reads.specs.Diffs.{diff_of, pairs_diff, same_text, compared}
 use Rattle.odht_tool_tables.specs.Wholes.{have_same_sizes}
 use Rattle.odht_tool_tables.proofs.Formats.{format_is}
 use Rattle.odht_tool_core.specs.AnyShapes.{any_format, any_hash, any_key, any_value}
@@ -68,19 +68,19 @@ no_lines [] b = refl
 no_lines (x ∷ a) b = not_zero (length (a ++ b)) ∙ sym (ap (λ t. t && (length b == 0)) (not_zero (length a)))
 
 -- where there are none it is said whether the bytes are the same
-pub told_same : (A B lines : List ℕ) (old new : Option (List ℕ)) → (length lines == 0) ≡ true → Appends old new (lines ++ same_text A B) → IsDone (told A B lines) old new (Ok Done)
-told_same A B [] old new e written = (refl, written)
-told_same A B (b ∷ lines) old new e written = absurd (true≢false (sym e ∙ not_zero (length lines)))
+pub compared_same : (A B lines : List ℕ) (old new : Option (List ℕ)) → (length lines == 0) ≡ true → Appends old new (lines ++ same_text A B) → IsDone (compared A B lines) old new (Ok Done)
+compared_same A B [] old new e written = (refl, written)
+compared_same A B (b ∷ lines) old new e written = absurd (true≢false (sym e ∙ not_zero (length lines)))
 
 -- else they are all
-pub told_lines : (A B lines : List ℕ) (old new : Option (List ℕ)) → (length lines == 0) ≡ false → Appends old new lines → IsDone (told A B lines) old new (Ok NotDone)
-told_lines A B [] old new e written = absurd (true≢false e)
-told_lines A B (b ∷ lines) old new e written = (refl, written)
+pub compared_lines : (A B lines : List ℕ) (old new : Option (List ℕ)) → (length lines == 0) ≡ false → Appends old new lines → IsDone (compared A B lines) old new (Ok NotDone)
+compared_lines A B [] old new e written = absurd (true≢false e)
+compared_lines A B (b ∷ lines) old new e written = (refl, written)
 
 -- unless the writer fails
-pub told_failed : (A B lines : List ℕ) (old new : Option (List ℕ)) (f : Failure) → IsOutputFailure f → IsDone (told A B lines) old new (Err f)
-told_failed A B [] old new f is = is
-told_failed A B (b ∷ lines) old new f is = is
+pub compared_failed : (A B lines : List ℕ) (old new : Option (List ℕ)) (f : Failure) → IsOutputFailure f → IsDone (compared A B lines) old new (Err f)
+compared_failed A B [] old new f is = is
+compared_failed A B (b ∷ lines) old new f is = is
 
 -- ---- of the shapes of two files
 both : (a b : Bool) → (a && b) ≡ true → (a ≡ true) × (b ≡ true)
@@ -95,10 +95,10 @@ same_sizes s u e =
     ((Decides-eqb (typed_len (any_key s)) (typed_len (any_key u))).0 parts.0, (Decides-eqb (typed_len (any_value s)) (typed_len (any_value u))).0 parts.1)
 
 -- what is told of tables of these lengths is told of these shapes
-pub told_of : (s u : AnyShape) (fs : GivenForms) (A B : List ℕ) (t : Texts) (h k : Hash) → t ≡ texts_of s fs → any_hash s ≡ h → any_hash u ≡ k → have_same_sizes s u ≡ true
+pub compared_of : (s u : AnyShape) (fs : GivenForms) (A B : List ℕ) (t : Texts) (h k : Hash) → t ≡ texts_of s fs → any_hash s ≡ h → any_hash u ≡ k → have_same_sizes s u ≡ true
     → pairs_diff (key_text t) (value_text t) A B (decoded_pairs (format_of (typed_len t.key) (typed_len t.value) (hash_of h)) A) (decoded_pairs (format_of (typed_len t.key) (typed_len t.value) (hash_of k)) B)
     ≡ diff_of s fs A u B
-told_of s u fs A B t h k texts first second sizes =
+compared_of s u fs A B t h k texts first second sizes =
     let T : Texts = texts_of s fs in
     let first' = sym first in
     let second' = sym second in

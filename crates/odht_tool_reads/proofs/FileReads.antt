@@ -21,7 +21,7 @@ use Rattle.odht_header.specs.declared.error.Error.TheVariants.{ControlMismatch, 
 use Rattle.odht_header.specs.declared.error.Part.TheVariants.{EntryMetadata}
 use Rattle.odht_header.proofs.lemmas.HeaderFits.{IsHeader-header_refusal}
 use Rattle.odht_header.proofs.lemmas.FirstErrors.{Ok-checked, gives_both-None, None-gives_both, differs-false, false-differs, not-true, first_slot-None}
-use Rattle.odht_tool_core.specs.InfoNumbers.{SizedParts, agrees, found_hash, info_refusal, sized_format, sized_parts, least_key_len}
+use Rattle.odht_tool_core.specs.InfoNumbers.{DynParts, agrees, found_hash, info_refusal, file_format, file_parts, least_key_len}
 use Rattle.odht_tool_core.specs.AnyShapes.{any_of_sizes, fitting_any, found_any, named_any, of_hash}
 use Rattle.odht_tool_core.specs.ReadyShapes.{early_refusal, hash_of, is_shape_of, same_hash, typed_len}
 use Rattle.odht_tool_core.specs.ShapeList.{key_part, value_part, shape_hash, ready_shapes}
@@ -36,7 +36,7 @@ use Rattle.odht_tool_core.specs.declared.shapes.ready.Shape.{Shape}
 use Rattle.odht_tool_core.specs.declared.shapes.Part.TheVariants.{Bytes}
 use Rattle.odht_tool_core.specs.declared.shapes.ready.Shape.TheVariants.{U32ToU32, DirectU32ToU32, U64ToU32, U64ToU64, U64Set, Bytes8ToU32, Bytes8ToU64, Bytes16ToU32, Bytes16ToU64, Bytes20ToU64, Bytes32ToU64, Bytes16ToBytes16, Bytes32ToBytes32, Bytes8Set, Bytes16Set, Bytes20Set, Bytes32Set}
 use Rattle.odht_tool_core.specs.declared.shapes.Hash.{Hash}
-use Rattle.odht_tool_core.proofs.SizedSlots.{all_agree}
+use Rattle.odht_tool_core.proofs.DynSlots.{all_agree}
 use Rattle.odht.specs.Files.{table_place}
 use Rattle.odht_raw.specs.declared.raw_table.read_search.ReadPlace.{ReadPlace}
 use Rattle.std.specs.Io.KnownBytes.{Keeps}
@@ -55,16 +55,16 @@ use Rattle.odht_tool_reads.specs.declared.positions.names.Fitting.{Fitting}
 
 -- ---- the tags of slots
 -- slot i has the tag of its key, where it is occupied
-abbrev pub Fits : SizedParts → Hash → ℕ → Type 0
-Fits T h i = counts_as_free (slice_index T.control i) ≡ false → slice_index T.control i ≡ tag (sized_format T h) (slot_key (sized_format T h) T.entries i)
+abbrev pub Fits : DynParts → Hash → ℕ → Type 0
+Fits T h i = counts_as_free (slice_index T.control i) ≡ false → slice_index T.control i ≡ tag (file_format T h) (slot_key (file_format T h) T.entries i)
 
 none_here : (o : Option Error) → is_none o ≡ true → o ≡ None
 none_here None e = refl
 none_here (Some x) e = cc
 
-module _ (T : SizedParts) (h : Hash) where
+module _ (T : DynParts) (h : Hash) where
   abbrev mismatch : ℕ → Option Error
-  mismatch i = control_mismatch (sized_format T h) T.entries T.control i
+  mismatch i = control_mismatch (file_format T h) T.entries T.control i
 
   fits_all : agrees T h ≡ true → (i : ℕ) → i < T.slots → Fits T h i
   fits_all e i low f =
@@ -79,11 +79,11 @@ module _ (T : SizedParts) (h : Hash) where
 
 -- sixteen slots of a table fit where all do
 module _ (T : List ℕ) (w s first : ℕ) (is : header_slots T ≡ s) (wide : slice_index T 5 + slice_index T 6 ≡ w) (low : first + 16 ≤ s) where
-  abbrev group : SizedParts
+  abbrev group : DynParts
   group = slots_parts (slice_index T 5) (slice_index T 6) (bytes_at T (32 + first * w) (16 * w)) (bytes_at T (32 + s * w + first) 16)
 
-  abbrev whole : SizedParts
-  whole = sized_parts T
+  abbrev whole : DynParts
+  whole = file_parts T
 
   control_same : (j : ℕ) → j < 16 → slice_index group.control j ≡ slice_index whole.control (first + j)
   control_same j l =
@@ -105,16 +105,16 @@ module _ (T : List ℕ) (w s first : ℕ) (is : header_slots T ≡ s) (wide : sl
       λ j l f.
       control_same j l
       ∙ fits_all whole h t (first + j) (omega (arith, l, low, is)) (ap counts_as_free (sym (control_same j l)) ∙ f)
-      ∙ ap (λ (n : ℕ). tag (sized_format whole h) (take (slice_index T 5) (bytes_at whole.entries ((first + j) * n) n))) wide
-      ∙ ap (λ b. tag (sized_format whole h) (take (slice_index T 5) b)) (sym (entry_same j l))
-      ∙ ap (λ (n : ℕ). tag (sized_format whole h) (take (slice_index T 5) (bytes_at group.entries (j * n) n))) (sym wide) in
+      ∙ ap (λ (n : ℕ). tag (file_format whole h) (take (slice_index T 5) (bytes_at whole.entries ((first + j) * n) n))) wide
+      ∙ ap (λ b. tag (file_format whole h) (take (slice_index T 5) b)) (sym (entry_same j l))
+      ∙ ap (λ (n : ℕ). tag (file_format whole h) (take (slice_index T 5) (bytes_at group.entries (j * n) n))) (sym wide) in
       true≢false (sym (all_fit group h (long_enough whole h t) fit) ∙ e))
 
 -- what is read of a table's start and of sixteen slots tells the same of the table
 pub left_alone : (B : List ℕ) (start : Start) (s k v first : ℕ) (h : Hash) → IsStartOf B start
     → s ≡ header_slots start.header → k ≡ slice_index start.header 5 → v ≡ slice_index start.header 6 → 32 + s * (k + v) + s + 16 ≡ start.len → first + 16 ≤ s
     → agrees (slots_parts k v (bytes_at B (start.at + 32 + first * (k + v)) (16 * (k + v))) (bytes_at B (start.at + 32 + s * (k + v) + first) 16)) h ≡ false
-    → agrees (sized_parts (bytes_at B start.at start.len)) h ≡ false
+    → agrees (file_parts (bytes_at B start.at start.len)) h ≡ false
 left_alone B start s k v first h is slots key value long low e =
     let T : List ℕ = bytes_at B start.at start.len in
     let w : ℕ = k + v in
@@ -140,22 +140,22 @@ pub left_place : (B : List ℕ) (start : Start) (p : ReadPlace) (first : ℕ) (h
     → p ≡ table_place start.at (header_slots start.header) (slice_index start.header 5) (slice_index start.header 6)
     → 32 + p.slots * (p.layout.key_len + p.layout.value_len) + p.slots + 16 ≡ start.len → first + 16 ≤ p.slots
     → agrees (slots_parts p.layout.key_len p.layout.value_len (bytes_at B (p.entries_at + first * (p.layout.key_len + p.layout.value_len)) (16 * (p.layout.key_len + p.layout.value_len))) (bytes_at B (p.control_at + first) 16)) h ≡ false
-    → agrees (sized_parts (bytes_at B start.at start.len)) h ≡ false
+    → agrees (file_parts (bytes_at B start.at start.len)) h ≡ false
 left_place B start p first h is e =
     subst
     (λ (q : ReadPlace). 32 + q.slots * (q.layout.key_len + q.layout.value_len) + q.slots + 16 ≡ start.len → first + 16 ≤ q.slots
     → agrees (slots_parts q.layout.key_len q.layout.value_len (bytes_at B (q.entries_at + first * (q.layout.key_len + q.layout.value_len)) (16 * (q.layout.key_len + q.layout.value_len))) (bytes_at B (q.control_at + first) 16)) h ≡ false
-    → agrees (sized_parts (bytes_at B start.at start.len)) h ≡ false)
+    → agrees (file_parts (bytes_at B start.at start.len)) h ≡ false)
     (sym e)
     (left_alone B start (header_slots start.header) (slice_index start.header 5) (slice_index start.header 6) first h is refl refl refl)
 
 -- each of the hash functions that some slots do not fit disagrees with the slots P
-pub record Excluded (P : SizedParts) (fx unhash xxh64 : Bool) : Type 0 where
+pub record Excluded (P : DynParts) (fx unhash xxh64 : Bool) : Type 0 where
   pub by_fx : fx ≡ false → agrees P Fx ≡ false
   pub by_unhash : unhash ≡ false → agrees P Unhash ≡ false
   pub by_xxh64 : xxh64 ≡ false → agrees P Xxh64 ≡ false
 
-pub none_excluded : (P : SizedParts) → Excluded P true true true
+pub none_excluded : (P : DynParts) → Excluded P true true true
 none_excluded P = record {
   by_fx = λ e. absurd (true≢false e);
   by_unhash = λ e. absurd (true≢false e);
@@ -163,7 +163,7 @@ none_excluded P = record {
 }
 
 -- the parts of the sixteen slots from one on
-abbrev group_parts : List ℕ → ReadPlace → ℕ → SizedParts
+abbrev group_parts : List ℕ → ReadPlace → ℕ → DynParts
 group_parts B p first =
     slots_parts p.layout.key_len p.layout.value_len (bytes_at B (p.entries_at + first * (p.layout.key_len + p.layout.value_len)) (16 * (p.layout.key_len + p.layout.value_len))) (bytes_at B (p.control_at + first) 16)
 
@@ -178,7 +178,7 @@ pub more_excluded : (B : List ℕ) (start : Start) (p : ReadPlace) (first : ℕ)
     → 32 + p.slots * (p.layout.key_len + p.layout.value_len) + p.slots + 16 ≡ start.len → first + 16 ≤ p.slots
     → (m.fx ≡ agrees (group_parts B p first) Fx) × (m.unhash ≡ agrees (group_parts B p first) Unhash) × (m.xxh64 ≡ agrees (group_parts B p first) Xxh64)
     → n.fx ≡ (l.fx && m.fx) → n.unhash ≡ (l.unhash && m.unhash) → n.xxh64 ≡ (l.xxh64 && m.xxh64)
-    → Excluded (sized_parts (bytes_at B start.at start.len)) l.fx l.unhash l.xxh64 → Excluded (sized_parts (bytes_at B start.at start.len)) n.fx n.unhash n.xxh64
+    → Excluded (file_parts (bytes_at B start.at start.len)) l.fx l.unhash l.xxh64 → Excluded (file_parts (bytes_at B start.at start.len)) n.fx n.unhash n.xxh64
 more_excluded B start p first l m n is place long low fitting fx unhash xxh64 before = record {
   by_fx = either_false l.fx m.fx n.fx fx before.by_fx (λ e. left_place B start p first Fx is place long low (sym fitting.0 ∙ e));
   by_unhash = either_false l.unhash m.unhash n.unhash unhash before.by_unhash (λ e. left_place B start p first Unhash is place long low (sym fitting.1 ∙ e));
@@ -186,17 +186,17 @@ more_excluded B start p first l m n is place long low fitting fx unhash xxh64 be
 }
 
 -- the one that is left, where the others are excluded
-pub left_fx : (P : SizedParts) (a b c : Bool) → Excluded P a b c → b ≡ false → c ≡ false → (g : Hash) → same_hash g Fx ≡ false → agrees P g ≡ false
+pub left_fx : (P : DynParts) (a b c : Bool) → Excluded P a b c → b ≡ false → c ≡ false → (g : Hash) → same_hash g Fx ≡ false → agrees P g ≡ false
 left_fx P a b c x e f Fx s = absurd (true≢false s)
 left_fx P a b c x e f Unhash s = x.by_unhash e
 left_fx P a b c x e f Xxh64 s = x.by_xxh64 f
 
-pub left_unhash : (P : SizedParts) (a b c : Bool) → Excluded P a b c → a ≡ false → c ≡ false → (g : Hash) → same_hash g Unhash ≡ false → agrees P g ≡ false
+pub left_unhash : (P : DynParts) (a b c : Bool) → Excluded P a b c → a ≡ false → c ≡ false → (g : Hash) → same_hash g Unhash ≡ false → agrees P g ≡ false
 left_unhash P a b c x e f Fx s = x.by_fx e
 left_unhash P a b c x e f Unhash s = absurd (true≢false s)
 left_unhash P a b c x e f Xxh64 s = x.by_xxh64 f
 
-pub left_xxh64 : (P : SizedParts) (a b c : Bool) → Excluded P a b c → a ≡ false → b ≡ false → (g : Hash) → same_hash g Xxh64 ≡ false → agrees P g ≡ false
+pub left_xxh64 : (P : DynParts) (a b c : Bool) → Excluded P a b c → a ≡ false → b ≡ false → (g : Hash) → same_hash g Xxh64 ≡ false → agrees P g ≡ false
 left_xxh64 P a b c x e f Fx s = x.by_fx e
 left_xxh64 P a b c x e f Unhash s = x.by_unhash f
 left_xxh64 P a b c x e f Xxh64 s = absurd (true≢false s)
@@ -281,11 +281,11 @@ named_words B start is long h name ks j ws old new x named found r said = go r s
 
 -- ---- valid bytes
 -- no other hash function agrees
-abbrev Excludes : SizedParts → Hash → Type 0
+abbrev Excludes : DynParts → Hash → Type 0
 Excludes P h = (g : Hash) → same_hash g h ≡ false → agrees P g ≡ false
 
 -- a hash function that agrees is the one that is left
-left_same : (P : SizedParts) (h g : Hash) → agrees P g ≡ true → Excludes P h → g ≡ h
+left_same : (P : DynParts) (h g : Hash) → agrees P g ≡ true → Excludes P h → g ≡ h
 left_same P Fx Fx fit unfit = refl
 left_same P Fx Unhash fit unfit = absurd (true≢false (sym fit ∙ unfit Unhash refl))
 left_same P Fx Xxh64 fit unfit = absurd (true≢false (sym fit ∙ unfit Xxh64 refl))
@@ -297,7 +297,7 @@ left_same P Xxh64 Unhash fit unfit = absurd (true≢false (sym fit ∙ unfit Unh
 left_same P Xxh64 Xxh64 fit unfit = refl
 
 -- the shape that fits first is one of it
-module _ (P : SizedParts) (k v : ℕ) (h : Hash) (fit : agrees P h ≡ true) (unfit : Excludes P h) where
+module _ (P : DynParts) (k v : ℕ) (h : Hash) (fit : agrees P h ≡ true) (unfit : Excludes P h) where
   found_left : (h : Hash) → agrees P h ≡ true → Excludes P h → found_hash P ≡ Some h
   found_left Fx fit unfit = ap (λ b. cond b (Some Fx) (find (agrees P) (Unhash ∷ Xxh64 ∷ []))) fit
   found_left Unhash fit unfit =
@@ -322,21 +322,21 @@ module _ (P : SizedParts) (k v : ℕ) (h : Hash) (fit : agrees P h ≡ true) (un
       go (Some s) e = ap Some (left_same P h (shape_hash s) (and_parts (is_shape_of k v None s) _ (found_fits ready_shapes s e)).1 unfit)
 
 -- and it decides
-no_other : (P : SizedParts) (h : Hash) → Excludes P h → other_hash P h ≡ None
+no_other : (P : DynParts) (h : Hash) → Excludes P h → other_hash P h ≡ None
 no_other P Fx unfit = ap (λ b. cond b (Some Unhash) (find (is_other Fx P) (Xxh64 ∷ []))) (unfit Unhash refl) ∙ ap (λ b. cond b (Some Xxh64) None) (unfit Xxh64 refl)
 no_other P Unhash unfit = ap (λ b. cond b (Some Fx) (find (is_other Unhash P) (Unhash ∷ Xxh64 ∷ []))) (unfit Fx refl) ∙ ap (λ b. cond b (Some Xxh64) None) (unfit Xxh64 refl)
 no_other P Xxh64 unfit = ap (λ b. cond b (Some Fx) (find (is_other Xxh64 P) (Unhash ∷ Xxh64 ∷ []))) (unfit Fx refl) ∙ ap (λ b. cond b (Some Unhash) (find (is_other Xxh64 P) (Xxh64 ∷ []))) (unfit Unhash refl)
 
-settled : (T : List ℕ) (h : Hash) → Excludes (sized_parts T) h → settled_hash T h ≡ h
-settled T h unfit = ap (λ o. if is_none o || is_valid_by T h then h else unwrap_or (valid_hash T) h) (no_other (sized_parts T) h unfit)
+settled : (T : List ℕ) (h : Hash) → Excludes (file_parts T) h → settled_hash T h ≡ h
+settled T h unfit = ap (λ o. if is_none o || is_valid_by T h then h else unwrap_or (valid_hash T) h) (no_other (file_parts T) h unfit)
 
-left_shape : (T : List ℕ) (h : Hash) → agrees (sized_parts T) h ≡ true → Excludes (sized_parts T) h → fitting_any T ≡ any_of_sizes (Bytes (slice_index T 5)) (Bytes (slice_index T 6)) (Some h)
+left_shape : (T : List ℕ) (h : Hash) → agrees (file_parts T) h ≡ true → Excludes (file_parts T) h → fitting_any T ≡ any_of_sizes (Bytes (slice_index T 5)) (Bytes (slice_index T 6)) (Some h)
 left_shape T h fit unfit =
-    ap (of_hash T) (first_left (sized_parts T) (slice_index T 5) (slice_index T 6) h fit unfit)
+    ap (of_hash T) (first_left (file_parts T) (slice_index T 5) (slice_index T 6) h fit unfit)
     ∙ ap (λ g. any_of_sizes (Bytes (slice_index T 5)) (Bytes (slice_index T 6)) (Some g)) (settled T h unfit)
 
 -- all slots of valid bytes have the tags of their keys
-pub valid_agrees : (T : List ℕ) (k v : ℕ) (h : Hash) → IsFormat (format_of k v (hash_of h)) → least_key_len h ≤ k → IsValidBytes (format_of k v (hash_of h)) T → agrees (sized_parts T) h ≡ true
+pub valid_agrees : (T : List ℕ) (k v : ℕ) (h : Hash) → IsFormat (format_of k v (hash_of h)) → least_key_len h ≤ k → IsValidBytes (format_of k v (hash_of h)) T → agrees (file_parts T) h ≡ true
 valid_agrees T k v h f long valid =
     let F : Format = format_of k v (hash_of h) in
     let accepted = IsAccepted-IsValidBytes F T valid in
@@ -368,22 +368,22 @@ module _ (T : List ℕ) (k v : ℕ) (g : Hash) (f : IsFormat (format_of k v (has
   valid_found None d None none = refl
   valid_found None d (Some h) left = go (header_count T == 0) refl ∙ by_default d
     where
-      unfit : Excludes (sized_parts T) h
+      unfit : Excludes (file_parts T) h
       unfit = left.1 opens
 
       same : g ≡ h
-      same = left_same (sized_parts T) h g (valid_agrees T k v g f long valid) unfit
+      same = left_same (file_parts T) h g (valid_agrees T k v g f long valid) unfit
 
-      fit : agrees (sized_parts T) h ≡ true
-      fit = subst (λ x. agrees (sized_parts T) x ≡ true) same (valid_agrees T k v g f long valid)
+      fit : agrees (file_parts T) h ≡ true
+      fit = subst (λ x. agrees (file_parts T) x ≡ true) same (valid_agrees T k v g f long valid)
 
       named : named_any T (Some h) ≡ any_of_sizes (Bytes (slice_index T 5)) (Bytes (slice_index T 6)) (Some h)
       named = ap (λ o. if is_some o then Ok (Ready U64ToU32) else any_of_sizes (Bytes (slice_index T 5)) (Bytes (slice_index T 6)) (Some h)) early
 
-      chosen : (d : Hash) (b : Bool) → (is_none (info_refusal T) && agrees (sized_parts T) d) ≡ b → found_any T None ≡ found_any T (Some h) → found_any T None ≡ found_any T (then_some b (settled_hash T d))
+      chosen : (d : Hash) (b : Bool) → (is_none (info_refusal T) && agrees (file_parts T) d) ≡ b → found_any T None ≡ found_any T (Some h) → found_any T None ≡ found_any T (then_some b (settled_hash T d))
       chosen d false e same_shape = refl
       chosen d true e same_shape =
-          let is = left_same (sized_parts T) h d (and_parts _ _ e).1 unfit in
+          let is = left_same (file_parts T) h d (and_parts _ _ e).1 unfit in
           same_shape ∙ ap (λ x. found_any T (Some x)) (sym (ap (settled_hash T) is ∙ settled T h unfit))
 
       go : (b : Bool) → (header_count T == 0) ≡ b → found_any T (Some h) ≡ found_any T None
@@ -395,7 +395,7 @@ module _ (T : List ℕ) (k v : ℕ) (g : Hash) (f : IsFormat (format_of k v (has
 
       by_default : (d : Option Hash) → found_any T None ≡ found_any T (said_hash T None d)
       by_default None = refl
-      by_default (Some d) = chosen d (is_none (info_refusal T) && agrees (sized_parts T) d) refl (sym (go (header_count T == 0) refl))
+      by_default (Some d) = chosen d (is_none (info_refusal T) && agrees (file_parts T) d) refl (sym (go (header_count T == 0) refl))
 
 -- ready shapes have keys that are long enough
 pub ready_long : (s : Shape) → least_key_len (shape_hash s) ≤ typed_len (key_part s)

@@ -192,7 +192,7 @@ module _ {K V : Type 0} (c : Coding K V) (l : K × Option V → List ℕ) (R : L
               place = r.place ∙ ap (λ ls. r.words ++ ls) n.2;
               fault = a.fault;
               more = λ e. subst AreLeft n.1 (a.more e);
-              told = a.told ∙ ap (λ k. misread_text (Some k) Key p a.line) r.counted;
+              misread = a.misread ∙ ap (λ k. misread_text (Some k) Key p a.line) r.counted;
               status = found_status (a.every && all);
               answered = all_answered a.every r.words r.texts a.answered;
             }

@@ -8,7 +8,7 @@
 --     side_text f g side ys xs   the lines of the pairs xs of this side, in their order
 --     diff_text f g xs ys  the lines of the first side, which has the pairs xs, and then of the second, which has ys
 --     same_text A B        the one line where no pair differs: whether the bytes are the same
---     told A B lines       these lines are written, with the status `NotDone`; where there are none, that one line, with `Done`
+--     compared A B lines       these lines are written, with the status `NotDone`; where there are none, that one line, with `Done`
 --     pairs_diff f g A B xs ys   what is told of the two files, which have the pairs xs and ys
 --     diff_of s fs A u B   of bytes A of the shape s, and bytes B of the shape u, in the texts of s in the forms fs
 --     IsDiffed s fs A x B old new r    a call that took a writer from the bytes old to new and returned r told that of the
@@ -19,8 +19,8 @@ use Rattle.std.specs.Io.KnownBytes.{Keeps}
 use Rattle.odht_base.specs.Decoded.{decoded_pairs}
 use Rattle.odht_base.specs.Map.{value_in}
 use Rattle.odht_base.specs.Table.{Pair}
-use Rattle.odht_tool_reads.specs.declared.sized.diffs.Side.{Side}
-use Rattle.odht_tool_reads.specs.declared.sized.diffs.Side.TheVariants.{First, Second}
+use Rattle.odht_tool_reads.specs.declared.dynamic.diffs.Side.{Side}
+use Rattle.odht_tool_reads.specs.declared.dynamic.diffs.Side.TheVariants.{First, Second}
 use Rattle.odht_tool_core.specs.AnyShapes.{any_format}
 use Rattle.odht_tool_core.specs.Endings.{IsDone, Outcome}
 use Rattle.odht_tool_core.specs.Endings.Outcome.{writes}
@@ -61,12 +61,12 @@ abbrev pub same_text : List ℕ → List ℕ → List ℕ
 same_text A B = if bytes_eq A B then codes "same bytes\n" else codes "same pairs, other bytes\n"
 
 -- ---- of two tables
-abbrev pub told : List ℕ → List ℕ → List ℕ → Outcome
-told A B [] = writes (same_text A B) Done
-told A B (b ∷ bs) = writes (b ∷ bs) NotDone
+abbrev pub compared : List ℕ → List ℕ → List ℕ → Outcome
+compared A B [] = writes (same_text A B) Done
+compared A B (b ∷ bs) = writes (b ∷ bs) NotDone
 
 abbrev pub pairs_diff : (List ℕ → List ℕ) → (List ℕ → List ℕ) → List ℕ → List ℕ → List Pair → List Pair → Outcome
-pairs_diff f g A B xs ys = told A B (diff_text f g xs ys)
+pairs_diff f g A B xs ys = compared A B (diff_text f g xs ys)
 
 abbrev pub diff_of : AnyShape → GivenForms → List ℕ → AnyShape → List ℕ → Outcome
 diff_of s fs A u B =

@@ -38,7 +38,7 @@ use Rattle.odht_tool_core.specs.Misreads.{misread_text, typed_wanted}
 use Rattle.odht_tool_core.specs.ReadyShapes.{typed_text, shape_coding}
 use Rattle.odht_tool_core.specs.ShapeList.{key_part, value_part}
 use Rattle.odht_tool_core.specs.Forms.{bytes_form}
-use Rattle.odht_tool_core.specs.SizedTexts.{IsSizedOf, sized_text, sized_wanted}
+use Rattle.odht_tool_core.specs.DynTexts.{IsDynamicOf, dynamic_text, dynamic_wanted}
 use Rattle.odht_tool_reads.specs.declared.lookups.TheConstants.{BATCH}
 use Rattle.odht_tool_core.specs.declared.any.AnyShape.{AnyShape}
 use Rattle.odht_tool_core.specs.declared.any.AnyShape.TheVariants.{Ready, Other}
@@ -78,7 +78,7 @@ pub record IsLineFault {K V : Type 0} (c : Coding K V) (l : K × Option V → Li
   pub place : ws ≡ before ++ (word ∷ after)
   pub fault : IsTextOfNone R word
   pub more : word ≡ [] → after ≢ []
-  pub told : text ≡ misread_text (Some (length before + 1)) Key p word
+  pub misread : text ≡ misread_text (Some (length before + 1)) Key p word
   pub status : Status
   pub answered : IsAnswered c l R B before old new status
 
@@ -121,7 +121,7 @@ lines_of_shape fs j B input old new r s =
 abbrev pub lines_of_other : Form × Form → Bool → List ℕ → Option (List ℕ) → Option (List ℕ) → Option (List ℕ) → Result Status Failure → OtherShape → Type 0
 lines_of_other fs j B input old new r o =
     let k = bytes_form fs.0 o.key in
-    AreLinesGot (other_coding o) (answer_in j (sized_text k) (sized_text (bytes_form fs.1 o.value))) (IsSizedOf k) (sized_wanted k) B input old new r
+    AreLinesGot (other_coding o) (answer_in j (dynamic_text k) (dynamic_text (bytes_form fs.1 o.value))) (IsDynamicOf k) (dynamic_wanted k) B input old new r
 
 abbrev pub lines_of_any : Form × Form → Bool → List ℕ → Option (List ℕ) → Option (List ℕ) → Option (List ℕ) → Result Status Failure → AnyShape → Type 0
 lines_of_any fs j B input old new r (Ready s) = lines_of_shape fs j B input old new r s

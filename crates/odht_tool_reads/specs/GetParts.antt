@@ -71,7 +71,7 @@ module _ {K V : Type 0} (c : Coding K V) (l : K × Option V → List ℕ) (R : L
     pub next : IsNextLine bytes then line
     pub fault : IsTextOfNone R line
     pub more : line ≡ [] → AreLeft then
-    pub told : text ≡ misread_text (Some number) Key p line
+    pub misread : text ≡ misread_text (Some number) Key p line
     pub every : Bool
     pub answered : AreKeysAnswered c l B ks old new every
 

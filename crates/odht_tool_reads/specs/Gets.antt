@@ -27,7 +27,7 @@ use Rattle.odht_tool_core.specs.JsonAnswers.{answer_in, no_key_line}
 use Rattle.odht_tool_core.specs.Keys.{IsTextOfNone}
 use Rattle.odht_tool_core.specs.AnyShapes.{read_any, other_coding, types_of}
 use Rattle.odht_tool_core.specs.Forms.{bytes_form}
-use Rattle.odht_tool_core.specs.SizedTexts.{IsSizedOf, sized_text}
+use Rattle.odht_tool_core.specs.DynTexts.{IsDynamicOf, dynamic_text}
 use Rattle.odht_tool_core.specs.Texts.{answers_by}
 use Rattle.odht_tool_core.specs.declared.any.AnyShape.{AnyShape}
 use Rattle.odht_tool_core.specs.declared.any.OtherShape.{OtherShape}
@@ -104,7 +104,7 @@ module _ {K V : Type 0} (c : Coding K V) (l : K × Option V → List ℕ) (m : L
 abbrev pub words_of_types : Form × Form → Bool → List ℕ → List (List ℕ) → Option (List ℕ) → Option (List ℕ) → Result Status Failure → OtherShape → Type 0
 words_of_types fs j B ws old new r o =
     let k = bytes_form fs.0 o.key in
-    AreWordsGot (other_coding o) (answer_in j (sized_text k) (sized_text (bytes_form fs.1 o.value))) (no_key_line j) (IsSizedOf k) B ws old new r
+    AreWordsGot (other_coding o) (answer_in j (dynamic_text k) (dynamic_text (bytes_form fs.1 o.value))) (no_key_line j) (IsDynamicOf k) B ws old new r
 
 -- with no shape there is its failure
 abbrev pub by_shape : List ℕ → Option Hash → Kinds → Option (List ℕ) → Option (List ℕ) → Result Status Failure → (AnyShape × GivenForms → Type 0) → Type 0

@@ -27,7 +27,7 @@ use Rattle.odht_tool_core.specs.AnyShapes.{HasLongKeys, any_format}
 use Rattle.odht_tool_core.specs.declared.any.AnyShape.{AnyShape}
 use Rattle.odht_tool_core.specs.Fronts.{stated_len}
 use Rattle.odht_tool_core.specs.ReadyShapes.{same_hash}
-use Rattle.odht_tool_core.specs.InfoNumbers.{SizedParts, agrees, info_refusal, sized_parts}
+use Rattle.odht_tool_core.specs.InfoNumbers.{DynParts, agrees, info_refusal, file_parts}
 use Rattle.odht_tool_reads.specs.Gets.{AreFileWordsGot}
 use Rattle.odht_tool_core.specs.declared.forms.Kinds.{Kinds}
 use Rattle.odht_tool_core.specs.declared.failure.Failure.{Failure}
@@ -48,7 +48,7 @@ pub record IsTableAt {S : Type 0} (gives : S → List ℕ → Type 0) (h : List 
   pub key : t.key_len ≡ k
   pub value : t.value_len ≡ v
 
-abbrev pub slots_parts : ℕ → ℕ → List ℕ → List ℕ → SizedParts
+abbrev pub slots_parts : ℕ → ℕ → List ℕ → List ℕ → DynParts
 slots_parts k v es cs = record { key_len = k; value_len = v; slots = 16; entries = es; control = cs }
 
 pub record IsStartOf (B : List ℕ) (s : Start) : Type 0 where
@@ -63,7 +63,7 @@ abbrev pub table_read : List ℕ → Option ℕ → List ℕ
 table_read B at = bytes_at B (unwrap_or at 0) (len_by at (length B) (bytes_at B (unwrap_or at 0) 32))
 
 abbrev pub IsLeft : List ℕ → Hash → Type 0
-IsLeft T h = info_refusal T ≡ None → (g : Hash) → same_hash g h ≡ false → agrees (sized_parts T) g ≡ false
+IsLeft T h = info_refusal T ≡ None → (g : Hash) → same_hash g h ≡ false → agrees (file_parts T) g ≡ false
 
 abbrev pub IsNamed : List ℕ → Option Hash → Option Hash → Option Hash → Type 0
 IsNamed T (Some h) d g = g ≡ Some h

@@ -5,4 +5,4 @@ pub mod commands;
 mod lookups;
 pub mod positions;
 mod shapes;
-mod sized;
+mod dynamic;

@@ -27,7 +27,7 @@ mod names;
 mod shaped;
 mod source;
 
-use names::found_name;
+use names::named_or_left_hash;
 use shaped::words_of;
 pub use source::FileSource;
 
@@ -159,7 +159,7 @@ fn get_table_words<S: ReadAt + Drop, O: Write>(
         (AreFileWordsGot T hash kinds is_json (map string_bytes words.now)
         (O.contents output.old) (O.contents output.new)) result) }
 {
-    let Some(name) = found_name(&source, start, hash, kinds.hash) else {
+    let Some(name) = named_or_left_hash(&source, start, hash, kinds.hash) else {
         return Ok(None);
     };
     let Ok(found) = read_any(&start.header, name, kinds) else {

@@ -20,7 +20,7 @@ use Rattle.odht.specs.DynOwned.{IsDynInsertOwned, IsOwnedAnswer}
 use Rattle.odht.specs.declared.dynamic.DynError.TheVariants.{Rejected}
 use Rattle.odht.proofs.lemmas.Moves.{slots_of_image}
 use Rattle.odht_tool_core.specs.GroupNumbers.{capped, groups_to_free}
-use Rattle.odht_tool_core.specs.InfoNumbers.{format_by, has_long_search, info_refusal, largest, sized_parts}
+use Rattle.odht_tool_core.specs.InfoNumbers.{format_by, has_long_search, info_refusal, largest, file_parts}
 use Rattle.odht_tool_core.specs.declared.shapes.Hash.TheVariants.{Fx}
 use Rattle.odht_tool_tables.specs.Trials.{has_short_searches, is_long_from, is_short, plain_parts, rebuilt, run_short}
 
@@ -52,7 +52,7 @@ module _ (F : Format) (P : Table) (B : List ℕ) (is : IsImage F P B) where
   })
 
   -- the control bytes
-  pub image_controls : (sized_parts B).control ≡ controls F P.cells
+  pub image_controls : (file_parts B).control ≡ controls F P.cells
   image_controls =
       ap₂ (λ k v. drop (32 + header_slots B * (k + v)) B) key value
       ∙ ap (controls_of F) is.bytes ∙ controls_of-image F P (IsSized-IsPlaced F P is.valid.placed)
@@ -62,7 +62,7 @@ module _ (F : Format) (P : Table) (B : List ℕ) (is : IsImage F P B) where
   image_slots = slots_of_image F P B is
 
   -- so the searches are
-  pub image_long : has_long_search (sized_parts B) ≡ has_long_search (plain_parts F P)
+  pub image_long : has_long_search (file_parts B) ≡ has_long_search (plain_parts F P)
   image_long = ap₂ (λ c s. nat_lt 24 (largest (map (λ b. capped (Some 24) (groups_to_free c b)) (range_with_len 0 s)))) image_controls image_slots
 
 -- ---- inserts, one after the other

@@ -32,7 +32,7 @@ use Rattle.odht_header.specs.declared.error.Error.{Error}
 use Rattle.odht_header.specs.declared.error.Error.TheVariants.{SearchTooLong}
 use Rattle.odht_tool_core.specs.AnyShapes.{any_format, any_hash, found_any}
 use Rattle.odht_tool_core.specs.GroupNumbers.{capped, groups_to_free}
-use Rattle.odht_tool_core.specs.InfoNumbers.{SizedParts, format_by, has_long_search, info_refusal, least_key_len, occupied, sized_parts}
+use Rattle.odht_tool_core.specs.InfoNumbers.{DynParts, format_by, has_long_search, info_refusal, least_key_len, occupied, file_parts}
 use Rattle.odht_tool_core.specs.Percents.{kept_percent}
 use Rattle.odht_tool_core.specs.ReadyShapes.{same_hash}
 use Rattle.odht_tool_core.specs.declared.advice.Advice.{Advice}
@@ -41,7 +41,7 @@ use Rattle.odht_tool_core.specs.declared.shapes.Hash.{Hash}
 use Rattle.odht_tool_core.specs.declared.shapes.Hash.TheVariants.{Xxh64}
 
 -- ---- a rebuild
-abbrev pub plain_parts : Format → Table → SizedParts
+abbrev pub plain_parts : Format → Table → DynParts
 plain_parts F P = record {
   key_len = F.key_len;
   value_len = F.value_len;
@@ -71,11 +71,11 @@ abbrev pub helps : List ℕ → Hash → ℕ → Bool
 helps B h percent = nat_le (least_key_len h) (slice_index B 5) && is_short (format_by B h) percent (decoded_pairs (format_by B h) B)
 
 -- ---- which one is named
-abbrev pub has_high_load : SizedParts → Bool
+abbrev pub has_high_load : DynParts → Bool
 has_high_load T = nat_lt 50 (length (occupied T T.slots) * 100 / T.slots)
 
 abbrev pub lower_load_helps : List ℕ → Hash → Bool
-lower_load_helps B h = has_high_load (sized_parts B) && helps B h 50
+lower_load_helps B h = has_high_load (file_parts B) && helps B h 50
 
 abbrev pub mixing_helps : List ℕ → Hash → Bool
 mixing_helps B h = not (same_hash h Xxh64) && helps B Xxh64 (kept_percent B)
@@ -94,7 +94,7 @@ taken_hash B =
     option_and_then (λ s. then_some (is_taken (check_refusal_by (any_format s) (Some 128) B)) (any_hash s)) (result_ok (found_any B None))
 
 abbrev pub has_long : List ℕ → Bool
-has_long B = is_none (info_refusal B) && has_long_search (sized_parts B)
+has_long B = is_none (info_refusal B) && has_long_search (file_parts B)
 
 abbrev pub advice : List ℕ → Option Advice
 advice B = if has_long B then option_and_then (first_help B) (taken_hash B) else None

@@ -4,7 +4,7 @@ ghost use Rattle.odht_base.specs.Valid.{IsValidBytes};
 ghost use Rattle.odht_header.specs.Refusals.{checked, check_refusal_by};
 ghost use Rattle.odht_tool_core.specs.AnyShapes.{HasLongKeys, any_format};
 
-use crate::sized::{check_lengths, lengths_of};
+use crate::dynamic::{check_lengths, lengths_of};
 use odht::error::Error;
 use odht::{FxHashFn, UnHashFn, Xxh64HashFn};
 use odht_tool_core::any::AnyShape;

@@ -5,6 +5,6 @@
 pub mod checks;
 pub mod files;
 mod short_inserts;
-pub mod sized;
+pub mod dynamic;
 pub mod trials;
 pub mod whole;

@@ -4,7 +4,7 @@ ghost use Rattle.odht_base.specs.Format.{Format};
 ghost use Rattle.odht_base.specs.Image.{controls};
 ghost use Rattle.odht_base.specs.Table.{Table, slot_count};
 ghost use Rattle.odht_base.specs.Valid.{IsImage};
-ghost use Rattle.odht_raw.specs.Sized.{HasLengthsOf};
+ghost use Rattle.odht_raw.specs.DynParts.{HasLengthsOf};
 ghost use Rattle.odht.specs.Dynamic.{dyn_format, dyn_store};
 ghost use Rattle.odht.specs.Tables.{OfTable};
 ghost use Rattle.odht_tool_core.specs.GroupNumbers.{capped, groups_to_free};
@@ -14,7 +14,7 @@ ghost use Rattle.odht_tool_tables.specs.Trials.{IsRunShort, plain_parts};
 
 use odht::dynamic::DynTableOwned;
 use odht::hash::HashFn;
-use odht::raw_table::SizedIter;
+use odht::raw_table::DynIter;
 use odht_tool_core::failure::Failure;
 use odht_tool_core::stored::StoredTable;
 
@@ -22,7 +22,7 @@ use odht_tool_core::stored::StoredTable;
 /// none.
 pub(crate) fn insert_short<S: HashFn, H: HashFn>(
     table: &mut DynTableOwned<H>,
-    pairs: SizedIter<'_, S>,
+    pairs: DynIter<'_, S>,
 ) -> Result<bool, Failure>
     requires lengths { All (HasLengthsOf table.old.key_len table.old.value_len) pairs }
     requires hashes { H.MIN_LEN ≤ table.old.key_len }

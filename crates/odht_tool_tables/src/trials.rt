@@ -5,7 +5,7 @@ ghost use Rattle.odht_base.specs.Decoded.{decoded_pairs};
 ghost use Rattle.odht_base.specs.Format.{format_of};
 ghost use Rattle.odht_base.specs.Hashes.{fx};
 ghost use Rattle.odht_raw.specs.Frame.{IsAccepted};
-ghost use Rattle.odht_tool_core.specs.InfoNumbers.{info_refusal, sized_parts};
+ghost use Rattle.odht_tool_core.specs.InfoNumbers.{info_refusal, file_parts};
 ghost use Rattle.odht_tool_core.specs.declared.failure.Failure.TheVariants.{Memory};
 ghost use Rattle.odht_tool_tables.specs.Trials.{advice, first_help, has_high_load, has_long, helps};
 ghost use Rattle.odht_tool_tables.specs.Trials.{is_short, is_taken, lower_load_helps};
@@ -19,7 +19,7 @@ use odht::error::Error;
 use odht::hash::HashFn;
 use odht::load::Percent;
 use odht::memory_layout::DEFAULT_GROUPS;
-use odht::raw_table::SizedIter;
+use odht::raw_table::DynIter;
 use odht::{FxHashFn, UnHashFn, Xxh64HashFn};
 use odht_tool_core::advice::Advice;
 use odht_tool_core::failure::Failure;
@@ -131,7 +131,7 @@ fn mixing_helps(alloc: Global, bytes: &[u8], hash: Hash) -> Result<bool, Failure
 // Whether more than half of the slots are occupied, in percent rounded down.
 fn has_high_load(bytes: &[u8]) -> bool
     requires { info_refusal bytes.now ≡ None }
-    ensures { result ≡ has_high_load (sized_parts bytes.now) }
+    ensures { result ≡ has_high_load (file_parts bytes.now) }
 {
     match StoredTable::open(bytes) {
         Ok(table) => table.has_high_load(),
@@ -202,7 +202,7 @@ fn is_rebuilt_short<H: HashFn>(
 }
 
 // How many pairs a walk gives.
-fn count_of<H: HashFn>(pairs: SizedIter<'_, H>) -> usize
+fn count_of<H: HashFn>(pairs: DynIter<'_, H>) -> usize
     requires { length pairs ≤ usize.MAX }
     ensures { result ≡ length pairs.entry }
 {

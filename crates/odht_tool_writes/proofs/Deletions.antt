@@ -25,7 +25,7 @@ use Rattle.odht_tool_writes.specs.Deletes.{AreNamed, IsDeleted, IsDeleteFailure,
 use Rattle.odht_tool_writes.specs.Rebuilds.{IsNewFailure}
 use Rattle.odht_tool_core.specs.AnyShapes.{any_format, any_hash, any_key, any_value, read_any}
 use Rattle.odht_tool_core.specs.Forms.{bytes_form}
-use Rattle.odht_tool_core.specs.SizedTexts.{IsSizedOf}
+use Rattle.odht_tool_core.specs.DynTexts.{IsDynamicOf}
 use Rattle.odht_tool_core.specs.ReadyShapes.{hash_of, typed_len}
 use Rattle.odht_tool_core.specs.declared.any.AnyShape.{AnyShape}
 use Rattle.odht_tool_core.specs.declared.failure.Failure.{Failure}
@@ -191,7 +191,7 @@ memory_alone {X = X} (Err failure) ml F long key value h = go failure h
 -- ---- the keys of the words
 -- there are as many as words
 pub as_many : (f : Form) (ws : List (List ℕ)) (s : AnyShape) (ks : List (List ℕ)) → are_keys f ws s ks → length ws ≡ length ks
-as_many f ws s ks are = AllZip-length (IsSizedOf (bytes_form f (any_key s))) ws ks are
+as_many f ws s ks are = AllZip-length (IsDynamicOf (bytes_form f (any_key s))) ws ks are
 
 -- ---- of a file
 -- the format of a shape

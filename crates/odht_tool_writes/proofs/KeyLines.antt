@@ -30,10 +30,10 @@ lines_are_keys f input ws s ks h = h.0
 
 -- the next line is no key
 pub no_key : {K : Type 0} (R : List ℕ → K → Type 0) (p : Wanted) (n : ℕ) (old new : Option (List ℕ)) (line : List ℕ) (f : Failure) → IsNoKeyLine R old new line → TellsNumbered p n line f → IsNextFailure R p n old f
-no_key R p n old new line (Misread message) k told = record { then = k.0; line = line; next = k.1; fault = k.2; more = k.3.0; told = told }
-no_key R p n old new line (Input error) k told = tt
-no_key R p n old new line Memory k told = (k.0, line, k.1)
-no_key R p n old new line _ k told = absurd told
+no_key R p n old new line (Misread message) k misread = record { then = k.0; line = line; next = k.1; fault = k.2; more = k.3.0; misread = misread }
+no_key R p n old new line (Input error) k misread = tt
+no_key R p n old new line Memory k misread = (k.0, line, k.1)
+no_key R p n old new line _ k misread = absurd misread
 
 -- the lines before the one of this number are `ws`, texts of the keys `ks`, and the input has the bytes of the others left
 pub record AreLinesRead {K : Type 0} (R : List ℕ → K → Type 0) (input now : Option (List ℕ)) (number : ℕ) (ws : List (List ℕ)) (ks : List K) : Type 0 where
@@ -93,7 +93,7 @@ module _ {K : Type 0} (R : List ℕ → K → Type 0) (input : Option (List ℕ)
               earlier = h.texts;
               fault = k.fault;
               more = λ e. subst AreLeft n.1 (k.more e);
-              told = k.told ∙ ap (λ j. misread_text (Some j) Key p k.line) h.counted;
+              misread = k.misread ∙ ap (λ j. misread_text (Some j) Key p k.line) h.counted;
             }
     next_failed p (Input error) k = tt
     next_failed p Memory k = tt

@@ -18,8 +18,8 @@ use Rattle.odht.specs.Inserts.{IsFresh}
 use Rattle.odht.specs.Lists.{IsAfterInserts}
 use Rattle.odht.proofs.lemmas.ListInserts.{inserted_none}
 use Rattle.odht_tool_writes.specs.Merges.{HasKeysOf, IsFilled, IsMerged, all_of, all_pairs, first_in, firsts, is_in, kept, leaves_out, numbered, or_memory, others_pairs, repeat_from, repeat_in, repeat_of, shape_of_other, value_by, with_new, with_pairs}
-use Rattle.odht_tool_writes.specs.declared.sized.merges.Unmerged.{Unmerged}
-use Rattle.odht_tool_writes.specs.declared.sized.merges.Unmerged.TheVariants.{Failed, OtherSizes, Twice, New}
+use Rattle.odht_tool_writes.specs.declared.dynamic.merges.MergeFailure.{MergeFailure}
+use Rattle.odht_tool_writes.specs.declared.dynamic.merges.MergeFailure.TheVariants.{Failed, OtherSizes, Twice, New}
 use Rattle.odht_tool_writes.proofs.AbsentKeys.{is_there}
 use Rattle.odht_tool_writes.proofs.NewTables.{one_more, or_none}
 use Rattle.odht_tool_core.specs.AnyShapes.{any_format}
@@ -241,24 +241,24 @@ same_ok : {X E : Type 0} (a b : X) → ◌≡◌ {A = Result X E} (Ok a) (Ok b) 
 same_ok a b e = cc
 
 -- one pair list more behind the first
-with_more : (B : List ℕ) (r : Result AnyShape Unmerged) (later more : Result (List (List Pair)) Unmerged) (xss : List (List Pair)) (ys : List Pair) → with_pairs B r later ≡ Ok xss
+with_more : (B : List ℕ) (r : Result AnyShape MergeFailure) (later more : Result (List (List Pair)) MergeFailure) (xss : List (List Pair)) (ys : List Pair) → with_pairs B r later ≡ Ok xss
     → ((yss : List (List Pair)) → later ≡ Ok yss → more ≡ Ok (yss ++ ys ∷ [])) → with_pairs B r more ≡ Ok (xss ++ ys ∷ [])
 with_more B (Ok t) (Ok yss) more xss ys e h =
     let front : List (List Pair) → List (List Pair) = λ zss. decoded_pairs (any_format t) B ∷ zss in
     let all : front yss ≡ xss = same_ok (front yss) xss e in
-    let lifted : Result (List (List Pair)) Unmerged → Result (List (List Pair)) Unmerged = λ r. with_pairs B (Ok t) r in
+    let lifted : Result (List (List Pair)) MergeFailure → Result (List (List Pair)) MergeFailure = λ r. with_pairs B (Ok t) r in
     ap lifted (h yss refl) ∙ (λ i. Ok (all i ++ ys ∷ []))
-with_more B (Ok t) (Err u) more xss ys e h = absurd (let wrong : ◌≡◌ {A = Result (List (List Pair)) Unmerged} (Err u) (Ok xss) = e in cc)
-with_more B (Err u) later more xss ys e h = absurd (let wrong : ◌≡◌ {A = Result (List (List Pair)) Unmerged} (Err u) (Ok xss) = e in cc)
+with_more B (Ok t) (Err u) more xss ys e h = absurd (let wrong : ◌≡◌ {A = Result (List (List Pair)) MergeFailure} (Err u) (Ok xss) = e in cc)
+with_more B (Err u) later more xss ys e h = absurd (let wrong : ◌≡◌ {A = Result (List (List Pair)) MergeFailure} (Err u) (Ok xss) = e in cc)
 
 -- or a failure behind it
-with_failed : (B : List ℕ) (r : Result AnyShape Unmerged) (later more : Result (List (List Pair)) Unmerged) (xss : List (List Pair)) (v : Unmerged) → with_pairs B r later ≡ Ok xss
+with_failed : (B : List ℕ) (r : Result AnyShape MergeFailure) (later more : Result (List (List Pair)) MergeFailure) (xss : List (List Pair)) (v : MergeFailure) → with_pairs B r later ≡ Ok xss
     → ((yss : List (List Pair)) → later ≡ Ok yss → more ≡ Err v) → with_pairs B r more ≡ Err v
 with_failed B (Ok t) (Ok yss) more xss v e h =
-    let lifted : Result (List (List Pair)) Unmerged → Result (List (List Pair)) Unmerged = λ r. with_pairs B (Ok t) r in
+    let lifted : Result (List (List Pair)) MergeFailure → Result (List (List Pair)) MergeFailure = λ r. with_pairs B (Ok t) r in
     ap lifted (h yss refl)
-with_failed B (Ok t) (Err u) more xss v e h = absurd (let wrong : ◌≡◌ {A = Result (List (List Pair)) Unmerged} (Err u) (Ok xss) = e in cc)
-with_failed B (Err u) later more xss v e h = absurd (let wrong : ◌≡◌ {A = Result (List (List Pair)) Unmerged} (Err u) (Ok xss) = e in cc)
+with_failed B (Ok t) (Err u) more xss v e h = absurd (let wrong : ◌≡◌ {A = Result (List (List Pair)) MergeFailure} (Err u) (Ok xss) = e in cc)
+with_failed B (Err u) later more xss v e h = absurd (let wrong : ◌≡◌ {A = Result (List (List Pair)) MergeFailure} (Err u) (Ok xss) = e in cc)
 
 module _ (s : AnyShape) (h : Option Hash) (o : Option ℕ) where
   others-snoc : (n : ℕ) (Bs : List (List ℕ)) (C : List ℕ) (xss : List (List Pair)) (u : AnyShape) → others_pairs s h o n Bs ≡ Ok xss → shape_of_other s h o (n + length Bs) C ≡ Ok u
@@ -272,7 +272,7 @@ module _ (s : AnyShape) (h : Option Hash) (o : Option ℕ) where
       with_more B (shape_of_other s h o n B) (others_pairs s h o (suc n) Bs) (others_pairs s h o (suc n) (Bs ++ C ∷ [])) xss (decoded_pairs (any_format u) C) e
       (λ yss later. others-snoc (suc n) Bs C yss u later (ap (λ m. shape_of_other s h o m C) (sym at) ∙ f))
 
-  others-failed : (n : ℕ) (Bs : List (List ℕ)) (C : List ℕ) (Cs : List (List ℕ)) (xss : List (List Pair)) (v : Unmerged) → others_pairs s h o n Bs ≡ Ok xss
+  others-failed : (n : ℕ) (Bs : List (List ℕ)) (C : List ℕ) (Cs : List (List ℕ)) (xss : List (List Pair)) (v : MergeFailure) → others_pairs s h o n Bs ≡ Ok xss
       → shape_of_other s h o (n + length Bs) C ≡ Err v → others_pairs s h o n (Bs ++ C ∷ Cs) ≡ Err v
   others-failed n [] C Cs xss v e f =
       let at : n + 0 ≡ n = omega arith in
@@ -291,7 +291,7 @@ module _ (s : AnyShape) (h : Option Hash) (o : Option ℕ) where
       (λ yss later. others-snoc 1 Bs C yss u later (ap (λ m. shape_of_other s h o m C) at ∙ f))
 
   -- or one that fails
-  pub all_failed : (B : List ℕ) (Bs : List (List ℕ)) (C : List ℕ) (Cs : List (List ℕ)) (xss : List (List Pair)) (v : Unmerged) → all_pairs s h o B Bs ≡ Ok xss
+  pub all_failed : (B : List ℕ) (Bs : List (List ℕ)) (C : List ℕ) (Cs : List (List ℕ)) (xss : List (List Pair)) (v : MergeFailure) → all_pairs s h o B Bs ≡ Ok xss
       → shape_of_other s h o (suc (length Bs)) C ≡ Err v → all_pairs s h o B (Bs ++ C ∷ Cs) ≡ Err v
   all_failed B Bs C Cs xss v e f =
       let at : 1 + length Bs ≡ suc (length Bs) = omega arith in
@@ -318,14 +318,14 @@ split_at (y ∷ xs) (suc i) x l e = ap (λ zs. y ∷ zs) (split_at xs i x (omega
 
 -- ---- failures
 -- a failure that is said is one, with or without memory
-pub said : (u : Unmerged) (X : Type 0) → X → or_memory u X
+pub said : (u : MergeFailure) (X : Type 0) → X → or_memory u X
 said (Failed n failure) X x = x
 said (OtherSizes n found first) X x = x
 said (Twice n text) X x = x
 said (New failure) X x = inr x
 
 -- what follows of a failure follows where it may be that of memory
-pub said_of : (u : Unmerged) (X Y : Type 0) → (X → Y) → or_memory u X → or_memory u Y
+pub said_of : (u : MergeFailure) (X Y : Type 0) → (X → Y) → or_memory u X → or_memory u Y
 said_of (Failed n failure) X Y f x = f x
 said_of (OtherSizes n found first) X Y f x = f x
 said_of (Twice n text) X Y f x = f x
@@ -333,6 +333,6 @@ said_of (New failure) X Y f (inl e) = inl e
 said_of (New failure) X Y f (inr x) = inr (f x)
 
 -- what holds of each failure
-pub on_unmerged : {X : Type 0} (r : Result X Unmerged) (S T : Unmerged → Type 0) → ((u : Unmerged) → S u → T u) → IfErr r S → IfErr r T
+pub on_unmerged : {X : Type 0} (r : Result X MergeFailure) (S T : MergeFailure → Type 0) → ((u : MergeFailure) → S u → T u) → IfErr r S → IfErr r T
 on_unmerged (Ok x) S T f h = tt
 on_unmerged (Err u) S T f h = f u h

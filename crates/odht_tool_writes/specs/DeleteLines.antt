@@ -34,7 +34,7 @@ use Rattle.odht_tool_core.specs.InputLines.{AreLeft, IsNextLine}
 use Rattle.odht_tool_core.specs.Keys.{IsLeftOut, IsTextOfNone}
 use Rattle.odht_tool_core.specs.Forms.{bytes_form}
 use Rattle.odht_tool_core.specs.Misreads.{misread_text}
-use Rattle.odht_tool_core.specs.SizedTexts.{IsSizedOf, sized_wanted}
+use Rattle.odht_tool_core.specs.DynTexts.{IsDynamicOf, dynamic_wanted}
 use Rattle.odht_tool_core.specs.declared.any.AnyShape.{AnyShape}
 use Rattle.odht_tool_core.specs.declared.arguments.Keys.{Keys}
 use Rattle.odht_tool_core.specs.declared.arguments.Keys.TheVariants.{Words, Lines}
@@ -52,7 +52,7 @@ abbrev pub AreLinesKeys : {K : Type 0} → (List ℕ → K → Type 0) → Optio
 AreLinesKeys R input ws ks = AllZip R ws ks × IfSome input (λ bytes. AreLinesOf R bytes ws)
 
 abbrev pub are_lines_keys : Form → Option (List ℕ) → List (List ℕ) → AnyShape → List (List ℕ) → Type 0
-are_lines_keys f input ws s ks = AreLinesKeys (IsSizedOf (bytes_form f (any_key s))) input ws ks
+are_lines_keys f input ws s ks = AreLinesKeys (IsDynamicOf (bytes_form f (any_key s))) input ws ks
 
 pub record IsFirstNoKey {K : Type 0} (R : List ℕ → K → Type 0) (p : Wanted) (bytes text : List ℕ) : Type 0 where
   pub before : List (List ℕ)
@@ -63,7 +63,7 @@ pub record IsFirstNoKey {K : Type 0} (R : List ℕ → K → Type 0) (p : Wanted
   pub earlier : AllZip R before keys
   pub fault : IsTextOfNone R line
   pub more : line ≡ [] → after ≢ []
-  pub told : text ≡ misread_text (Some (length before + 1)) Key p line
+  pub misread : text ≡ misread_text (Some (length before + 1)) Key p line
 
 abbrev pub TellsLine : {K : Type 0} → (List ℕ → K → Type 0) → Wanted → Option (List ℕ) → Failure → Type 0
 TellsLine R p input (Misread message) = IfSome input (λ bytes. IsFirstNoKey R p bytes (string_bytes message))
@@ -74,7 +74,7 @@ TellsLine R p input _ = ⊥
 abbrev pub is_line_fault : Form → Option (List ℕ) → AnyShape → Failure → Type 0
 is_line_fault f input s failure =
     let k = bytes_form f (any_key s) in
-    TellsLine (IsSizedOf k) (sized_wanted k) input failure
+    TellsLine (IsDynamicOf k) (dynamic_wanted k) input failure
 
 -- ---- of a file
 pub record IsDeletedByLines (B : List ℕ) (h : Option Hash) (ks : Kinds) (o : Option ℕ) (input : Option (List ℕ)) (B' : List ℕ) (status : Status) : Type 0 where
@@ -126,7 +126,7 @@ pub record IsNextNoKey {K : Type 0} (R : List ℕ → K → Type 0) (p : Wanted)
   pub next : IsNextLine old then line
   pub fault : IsTextOfNone R line
   pub more : line ≡ [] → AreLeft then
-  pub told : text ≡ misread_text (Some number) Key p line
+  pub misread : text ≡ misread_text (Some number) Key p line
 
 abbrev pub IsNextFailure : {K : Type 0} → (List ℕ → K → Type 0) → Wanted → ℕ → Option (List ℕ) → Failure → Type 0
 IsNextFailure R p n old (Misread message) = IsNextNoKey R p n old (string_bytes message)

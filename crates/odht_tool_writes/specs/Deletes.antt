@@ -31,7 +31,7 @@ use Rattle.odht_tool_core.specs.AnyShapes.{any_format, any_key, read_any}
 use Rattle.odht_tool_core.specs.Forms.{bytes_form}
 use Rattle.odht_tool_core.specs.Keys.{TellsFault}
 use Rattle.odht_tool_core.specs.Misreads.{absent_line}
-use Rattle.odht_tool_core.specs.SizedTexts.{IsSizedOf, sized_wanted}
+use Rattle.odht_tool_core.specs.DynTexts.{IsDynamicOf, dynamic_wanted}
 use Rattle.odht_tool_core.specs.declared.any.AnyShape.{AnyShape}
 use Rattle.odht_tool_core.specs.declared.failure.Failure.{Failure}
 use Rattle.odht_tool_core.specs.declared.failure.Failure.TheVariants.{Refused}
@@ -43,12 +43,12 @@ use Rattle.odht_tool_core.specs.declared.status.Status.{Status}
 
 -- ---- the keys of the words
 abbrev pub are_keys : Form → List (List ℕ) → AnyShape → List (List ℕ) → Type 0
-are_keys f ws s ks = AllZip (IsSizedOf (bytes_form f (any_key s))) ws ks
+are_keys f ws s ks = AllZip (IsDynamicOf (bytes_form f (any_key s))) ws ks
 
 abbrev pub is_fault : Form → List (List ℕ) → AnyShape → Failure → Type 0
 is_fault f ws s failure =
     let k = bytes_form f (any_key s) in
-    TellsFault (IsSizedOf k) (sized_wanted k) ws failure
+    TellsFault (IsDynamicOf k) (dynamic_wanted k) ws failure
 
 -- ---- the new table
 abbrev pub is_among : List (List ℕ) → List ℕ → Bool

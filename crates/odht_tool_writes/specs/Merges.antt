@@ -43,9 +43,9 @@ use Rattle.odht_base.specs.Valid.{IsImage, IsValidBytes}
 use Rattle.odht.specs.Lists.{HasSizeOf, IsAfterInserts}
 use Rattle.odht_tool_tables.specs.Wholes.{have_same_sizes, sizes_of, whole_any}
 use Rattle.odht_tool_writes.specs.Rebuilds.{IsNewFailure}
-use Rattle.odht_tool_writes.specs.declared.sized.merges.Input.{Input}
-use Rattle.odht_tool_writes.specs.declared.sized.merges.Unmerged.{Unmerged}
-use Rattle.odht_tool_writes.specs.declared.sized.merges.Unmerged.TheVariants.{Failed, OtherSizes, Twice, New}
+use Rattle.odht_tool_writes.specs.declared.dynamic.merges.Input.{Input}
+use Rattle.odht_tool_writes.specs.declared.dynamic.merges.MergeFailure.{MergeFailure}
+use Rattle.odht_tool_writes.specs.declared.dynamic.merges.MergeFailure.TheVariants.{Failed, OtherSizes, Twice, New}
 use Rattle.odht_tool_core.specs.AnyShapes.{HasLongKeys, any_format, any_hash, any_key, any_value}
 use Rattle.odht_tool_core.specs.InfoNumbers.{least_key_len}
 use Rattle.odht_tool_core.specs.ReadyShapes.{typed_len}
@@ -142,29 +142,29 @@ pub record IsMerged (F : Format) (d : Duplicates) (percent : ℕ) (xss : List (L
 abbrev pub told_key : Texts → ℕ × List ℕ → ℕ × List ℕ
 told_key t x = (x.0, key_text t x.1)
 
-abbrev pub IsStopped : Texts → ℕ → Format → Duplicates → ℕ → List (List Pair) → Unmerged → Type 0
+abbrev pub IsStopped : Texts → ℕ → Format → Duplicates → ℕ → List (List Pair) → MergeFailure → Type 0
 IsStopped t ml F d percent xss (Twice n text) = option_map (told_key t) (repeat_of d xss) ≡ Some (n, text.items)
 IsStopped t ml F d percent xss (New failure) = IsNewFailure ml F (length (all_of xss)) percent failure
 IsStopped t ml F d percent xss (Failed n failure) = ⊥
 IsStopped t ml F d percent xss (OtherSizes n found first) = ⊥
 
 -- ---- of files
-abbrev pub shape_beside : AnyShape → ℕ → Result (AnyShape × GivenForms) Failure → Result AnyShape Unmerged
+abbrev pub shape_beside : AnyShape → ℕ → Result (AnyShape × GivenForms) Failure → Result AnyShape MergeFailure
 shape_beside s n (Ok x) = if have_same_sizes s x.0 then Ok x.0 else Err (OtherSizes n (sizes_of x.0) (sizes_of s))
 shape_beside s n (Err failure) = Err (Failed n failure)
 
-abbrev pub shape_of_other : AnyShape → Option Hash → Option ℕ → ℕ → List ℕ → Result AnyShape Unmerged
+abbrev pub shape_of_other : AnyShape → Option Hash → Option ℕ → ℕ → List ℕ → Result AnyShape MergeFailure
 shape_of_other s h o n B = shape_beside s n (whole_any B h (record { key = None; value = None; hash = None }) o)
 
-abbrev pub with_pairs : List ℕ → Result AnyShape Unmerged → Result (List (List Pair)) Unmerged → Result (List (List Pair)) Unmerged
+abbrev pub with_pairs : List ℕ → Result AnyShape MergeFailure → Result (List (List Pair)) MergeFailure → Result (List (List Pair)) MergeFailure
 with_pairs B (Ok s) later = result_map_both (λ xss. decoded_pairs (any_format s) B ∷ xss) (λ u. u) later
 with_pairs B (Err u) later = Err u
 
-abbrev pub others_pairs : AnyShape → Option Hash → Option ℕ → ℕ → List (List ℕ) → Result (List (List Pair)) Unmerged
+abbrev pub others_pairs : AnyShape → Option Hash → Option ℕ → ℕ → List (List ℕ) → Result (List (List Pair)) MergeFailure
 others_pairs s h o n [] = Ok []
 others_pairs s h o n (B ∷ Bs) = with_pairs B (shape_of_other s h o n B) (others_pairs s h o (suc n) Bs)
 
-abbrev pub all_pairs : AnyShape → Option Hash → Option ℕ → List ℕ → List (List ℕ) → Result (List (List Pair)) Unmerged
+abbrev pub all_pairs : AnyShape → Option Hash → Option ℕ → List ℕ → List (List ℕ) → Result (List (List Pair)) MergeFailure
 all_pairs s h o B Bs = with_pairs B (Ok s) (others_pairs s h o 1 Bs)
 
 abbrev pub IsMergedFrom : List ℕ → List (List ℕ) → Option Hash → Option ℕ → Duplicates → ℕ → List ℕ → AnyShape → Type 0
@@ -174,20 +174,20 @@ abbrev pub IsMergedOf : List ℕ → List (List ℕ) → Option Hash → Kinds �
 IsMergedOf B Bs h ks o d percent B' = MatchResult (whole_any B h ks o) (λ x. IsMergedFrom B Bs h o d percent B' x.0) (λ f. ⊥)
 
 -- ---- failures of files
-abbrev pub or_memory : Unmerged → Type 0 → Type 0
+abbrev pub or_memory : MergeFailure → Type 0 → Type 0
 or_memory (Failed n failure) holds = holds
 or_memory (OtherSizes n found first) holds = holds
 or_memory (Twice n text) holds = holds
 or_memory (New failure) holds = (failure ≡ Memory) ⊎ holds
 
-abbrev pub IsReadFailure : Result (List (List Pair)) Unmerged → Unmerged → Type 0
+abbrev pub IsReadFailure : Result (List (List Pair)) MergeFailure → MergeFailure → Type 0
 IsReadFailure r u = or_memory u (r ≡ Err u)
 
-abbrev pub IsStoppedOf : AnyShape × GivenForms → Duplicates → ℕ → Unmerged → List (List Pair) → Type 0
+abbrev pub IsStoppedOf : AnyShape × GivenForms → Duplicates → ℕ → MergeFailure → List (List Pair) → Type 0
 IsStoppedOf x d percent u xss = IsStopped (texts_of x.0 x.1) (least_key_len (any_hash x.0)) (any_format x.0) d percent xss u
 
-abbrev pub IsLateStop : List ℕ → List (List ℕ) → Option Hash → Option ℕ → Duplicates → ℕ → Unmerged → AnyShape × GivenForms → Type 0
+abbrev pub IsLateStop : List ℕ → List (List ℕ) → Option Hash → Option ℕ → Duplicates → ℕ → MergeFailure → AnyShape × GivenForms → Type 0
 IsLateStop B Bs h o d percent u x = or_memory u (MatchResult (all_pairs x.0 h o B Bs) (IsStoppedOf x d percent u) (λ v. u ≡ v))
 
-abbrev pub IsMergeFailure : List ℕ → List (List ℕ) → Option Hash → Kinds → Option ℕ → Duplicates → ℕ → Unmerged → Type 0
+abbrev pub IsMergeFailure : List ℕ → List (List ℕ) → Option Hash → Kinds → Option ℕ → Duplicates → ℕ → MergeFailure → Type 0
 IsMergeFailure B Bs h ks o d percent u = MatchResult (whole_any B h ks o) (IsLateStop B Bs h o d percent u) (λ f. u ≡ Failed 0 f)

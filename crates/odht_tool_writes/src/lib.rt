@@ -4,5 +4,5 @@
 pub mod commands;
 mod inserts;
 mod shapes;
-mod sized;
+mod dynamic;
 mod warnings;

@@ -83,7 +83,7 @@ impl<H: HashFn, D: Borrow<[u8]>> DynTable<H, D> {
     fn counted(&self, numbers: usize) -> dynamic::DynTable<Hash<H>, Borrowed<'_>> {
         let table = self.view();
         assert_eq!(numbers, table.len(), "`out` has a number for each item");
-        let parts = table.as_sized();
+        let parts = table.as_dynamic();
         let there = occupied_in(&parts.controls()[..parts.len()]);
         assert_eq!(there, numbers, "the item count is that of the occupied slots");
         table

@@ -2,7 +2,7 @@
 use Rattle.std.proofs.Common.{◌≡◌, ℕ, List, [], ◌∷◌, ◌++◌, refl, arith, lit<, length, replicate, Some, None, Ok, Err}
 use Rattle.odht_base.specs.Format.{format_of}
 use Rattle.odht_base.specs.Load.{IsSlotCount}
-use Rattle.odht_raw.specs.Sized.{bytes_coding}
+use Rattle.odht_raw.specs.DynParts.{bytes_coding}
 use Rattle.odht_raw.specs.declared.read_at.ReadError.{ReadError}
 use Rattle.odht_raw.specs.declared.read_at.ReadError.TheVariants.{EarlyEnd}
 use Rattle.odht.specs.Files.{FileStore, file_format, file_coding, file_len, file_bytes, table_place, read_parts, read_slot_value, IsFileOpened, IsFileOf, IsOver, IsFileResult, key_refusal}

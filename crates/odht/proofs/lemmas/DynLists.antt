@@ -17,7 +17,7 @@ use Rattle.odht_header.specs.Coding.{Coding, encoded}
 use Rattle.odht_header.specs.declared.error.Error.{Error}
 use Rattle.odht_header.specs.declared.error.Error.TheVariants.{Full}
 use Rattle.odht_raw.specs.Frame.{IsAccepted, IsFramed}
-use Rattle.odht_raw.specs.Sized.{HasLengthsOf}
+use Rattle.odht_raw.specs.DynParts.{HasLengthsOf}
 use Rattle.odht.specs.Dynamic.{DynStore, dyn_coding, dyn_format, dyn_store}
 use Rattle.odht.specs.DynInserts.{IsDynInsert}
 use Rattle.odht.specs.DynLists.{length_error, IsDynStop}

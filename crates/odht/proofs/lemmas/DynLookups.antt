@@ -7,7 +7,7 @@ use Rattle.odht_base.specs.Table.{Table}
 use Rattle.odht_base.specs.Valid.{IsPlaced}
 use Rattle.odht_base.proofs.lemmas.Pairs.{value_in-Some}
 use Rattle.odht_header.specs.Coding.{value_for}
-use Rattle.odht_raw.specs.Sized.{bytes_coding}
+use Rattle.odht_raw.specs.DynParts.{bytes_coding}
 
 -- a table has no value for a key of another length
 pub other_length : (F : Format) (P : Table) (k : List ℕ) → IsPlaced F P → (length k ≡ F.key_len → ⊥) → map_of P k ≡ None

@@ -29,7 +29,7 @@ use Rattle.odht_raw.specs.Parts.{TableParts, entry_format}
 use Rattle.odht_raw.specs.Reads.{entry_size, read_entries, read_controls, read_groups, IsHeldBy, IsPlaceFitting}
 use Rattle.odht_raw.specs.SearchEnds.{IsBesideKey}
 use Rattle.odht_raw.specs.Searches.{IsSearch}
-use Rattle.odht_raw.specs.Sized.{bytes_coding}
+use Rattle.odht_raw.specs.DynParts.{bytes_coding}
 use Rattle.odht_raw.specs.declared.raw_table.read_search.ReadPlace.{ReadPlace}
 use Rattle.odht_raw.specs.declared.read_at.ReadError.{ReadError}
 use Rattle.odht_raw.specs.declared.raw_table.search_result.Search.{Search}

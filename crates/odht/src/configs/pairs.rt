@@ -5,7 +5,7 @@ use crate::config::{Config, Lossless};
 use crate::hash::{FxHashFn, HashFn, UnHashFn};
 use std::marker::PhantomData;
 
-/// From keys to values that are stored as `Stored` says; where values are `()` the table is a set.
+/// From keys to values that are stored as `FixedBytes` says; where values are `()` the table is a set.
 ///
 /// `H` hashes the bytes of a key:
 /// - `FxHashFn` is for numbers that count up. It uses the low 32 bits of each eight bytes.

@@ -9,7 +9,7 @@ use crate::hash::{FxHashFn, HashFn, UnHashFn, Xxh64HashFn};
 
 /// A type that is stored as a fixed number of bytes: an integer, little-endian, bytes, or `()`,
 /// which has none.
-pub trait Stored: Drop {
+pub trait FixedBytes: Drop {
     type Bytes: ByteArray;
 
     ghost to_bytes: { Self → Self.Bytes };
@@ -29,7 +29,7 @@ pub trait Stored: Drop {
         ensures { of_bytes (to_bytes self.now) ≡ self.now };
 }
 
-impl Stored for u32 {
+impl FixedBytes for u32 {
     type Bytes = [u8; 4];
 
     ghost to_bytes = { to_le_bytes w32 };
@@ -51,7 +51,7 @@ impl Stored for u32 {
     }
 }
 
-impl Stored for u64 {
+impl FixedBytes for u64 {
     type Bytes = [u8; 8];
 
     ghost to_bytes = { to_le_bytes w64 };
@@ -73,7 +73,7 @@ impl Stored for u64 {
     }
 }
 
-impl Stored for () {
+impl FixedBytes for () {
     ghost use Rattle.std.specs.Prelude.{[]};
 
     type Bytes = [u8; 0];
@@ -93,7 +93,7 @@ impl Stored for () {
     fn kept(&self) {}
 }
 
-impl<const N: usize> Stored for [u8; N] {
+impl<const N: usize> FixedBytes for [u8; N] {
     type Bytes = [u8; N];
 
     ghost to_bytes = { λ b. b };
@@ -114,7 +114,7 @@ impl<const N: usize> Stored for [u8; N] {
 }
 
 /// A type whose bytes are no more than an entry takes: at most 255.
-pub trait Fits: Stored {
+pub trait Fits: FixedBytes {
     ghost fits: { Self.Bytes.LEN ≤ 255 };
 }
 

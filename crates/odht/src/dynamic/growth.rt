@@ -10,7 +10,7 @@ ghost use Rattle.odht_base.specs.Table.{Table};
 ghost use Rattle.odht_base.specs.Valid.{IsPartsOf};
 ghost use Rattle.odht_raw.specs.PartLengths.{ArePartLengths};
 ghost use Rattle.odht_raw.specs.PartsPlacings.{IsNewTo};
-ghost use Rattle.odht_raw.specs.Sized.{HasLengthsOf};
+ghost use Rattle.odht_raw.specs.DynParts.{HasLengthsOf};
 ghost use Rattle.odht.specs.Dynamic.{dyn_coding, dyn_format};
 ghost use Rattle.odht.specs.Growths.{grown_len, table_len, IsGrownFrom, IsWritten};
 ghost use Rattle.odht.specs.Reserves.{IsMove};
@@ -23,7 +23,7 @@ use crate::hash::HashFn;
 use crate::layout::Layout;
 use crate::load::Factor;
 use crate::memory_layout::{HEADER_SIZE, Header, init_parts};
-use crate::raw_table::{SizedIter, SizedTableMut};
+use crate::raw_table::{DynIter, DynRawTableMut};
 
 impl<H: HashFn, D: ByteStore> DynTable<H, D> {
     /// The length in bytes of the table that this one grows into, as
@@ -83,7 +83,7 @@ fn write_walked<H: HashFn>(
     slot_count: usize,
     item_count: usize,
     max_load_factor: Factor,
-    walk: SizedIter<'_, H>,
+    walk: DynIter<'_, H>,
 )
     requires slots { IsSlotCount slot_count }
     requires len { length bytes.old
@@ -106,7 +106,7 @@ fn place_walk<H: HashFn>(
     control: &mut [u8],
     entries: &mut [u8],
     layout: Layout,
-    walk: SizedIter<'_, H>,
+    walk: DynIter<'_, H>,
 )
     requires parts { ArePartLengths H.MIN_LEN layout.key_len layout.value_len
         (length entries.old) (length control.old) }
@@ -119,7 +119,7 @@ fn place_walk<H: HashFn>(
         → place_all F P walk.entry ≡ Some Q
         → IsPartsOf F Q entries.new control.new }
 {
-    let mut table: SizedTableMut<'_, '_, H> = SizedTableMut::new(control, entries, layout);
+    let mut table: DynRawTableMut<'_, '_, H> = DynRawTableMut::new(control, entries, layout);
     for (key, value) in walk {
         // There is room for each item of a valid table.
         let _ = table.place(key, value);

@@ -31,7 +31,7 @@ impl<H: HashFn, D: ByteStore> DynTable<H, D> {
         ensures made { let F = dyn_format self.now H.hash
             in OfTable F (D.bytes self.now.store) (λ P. IsTrue result ↔ IsMade F P) }
     {
-        self.as_sized().insert_order(out)
+        self.as_dynamic().insert_order(out)
     }
 
     /// `insert_order` for tables of strangers, where it has `scratch` to write to: it returns the
@@ -53,13 +53,13 @@ impl<H: HashFn, D: ByteStore> DynTable<H, D> {
         ensures made { let F = dyn_format self.now H.hash
             in OfTable F (D.bytes self.now.store) (λ P. IsTrue result ↔ IsMade F P) }
     {
-        self.as_sized().insert_order_with(out, scratch)
+        self.as_dynamic().insert_order_with(out, scratch)
     }
 
     /// How many numbers of scratch `insert_order_with` takes for this table: three for each slot.
     pub fn insert_order_scratch(&self) -> usize
         ensures { result ≡ min (3 * header_slots (D.bytes self.now.store)) (2 ^ 64 - 1) }
     {
-        self.as_sized().insert_order_scratch()
+        self.as_dynamic().insert_order_scratch()
     }
 }

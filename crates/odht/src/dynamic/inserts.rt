@@ -2,7 +2,7 @@
 ghost use Rattle.std.specs.Prelude.{◌≡◌, ◌≢◌, length, Err, OnErr};
 ghost use Rattle.odht_base.specs.Format.{format_of};
 ghost use Rattle.odht_raw.specs.Frame.{IsAccepted};
-ghost use Rattle.odht_raw.specs.Sized.{bytes_coding};
+ghost use Rattle.odht_raw.specs.DynParts.{bytes_coding};
 ghost use Rattle.odht.specs.Dynamic.{dyn_coding, dyn_format, dyn_store, IsOpened};
 ghost use Rattle.odht.specs.DynInserts.{IsDynInsert, IsStoreInsert};
 
@@ -11,7 +11,7 @@ use crate::bytes::ByteStoreMut;
 use crate::error::Error;
 use crate::hash::HashFn;
 use crate::layout::Layout;
-use crate::memory_layout::insert_sized;
+use crate::memory_layout::insert_dynamic;
 use crate::raw_table::ShortBytes;
 
 impl<H: HashFn, D: ByteStoreMut> DynTable<H, D> {
@@ -80,5 +80,5 @@ fn insert_store<H: HashFn, D: ByteStoreMut>(
         (D.bytes store.new) }
     ensures len { length (D.bytes store.new) ≡ length (D.bytes store.old) }
 {
-    insert_sized::<H>(store.bytes_mut(), layout, key, value)
+    insert_dynamic::<H>(store.bytes_mut(), layout, key, value)
 }

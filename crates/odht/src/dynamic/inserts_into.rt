@@ -3,7 +3,7 @@
 ghost use Rattle.std.specs.Prelude.{◌≡◌, ◌≢◌, length, Err, OnErr};
 ghost use Rattle.odht_base.specs.Format.{format_of};
 ghost use Rattle.odht_raw.specs.Frame.{IsAccepted};
-ghost use Rattle.odht_raw.specs.Sized.{bytes_coding};
+ghost use Rattle.odht_raw.specs.DynParts.{bytes_coding};
 ghost use Rattle.odht.specs.Dynamic.{dyn_coding, dyn_format, dyn_store, IsOpened};
 ghost use Rattle.odht.specs.DynFormers.{IsDynInsertInto, IsStoreInsertInto};
 
@@ -12,7 +12,7 @@ use crate::bytes::ByteStoreMut;
 use crate::error::Error;
 use crate::hash::HashFn;
 use crate::layout::Layout;
-use crate::memory_layout::insert_sized_into;
+use crate::memory_layout::insert_dynamic_into;
 
 impl<H: HashFn, D: ByteStoreMut> DynTable<H, D> {
     /// [`DynTable::insert`], which writes the former value to `former`, and returns whether there is one: no
@@ -96,5 +96,5 @@ fn insert_store_into<H: HashFn, D: ByteStoreMut>(
         (D.bytes store.new) }
     ensures len { length (D.bytes store.new) ≡ length (D.bytes store.old) }
 {
-    insert_sized_into::<H>(store.bytes_mut(), layout, key, value, former)
+    insert_dynamic_into::<H>(store.bytes_mut(), layout, key, value, former)
 }

@@ -7,7 +7,7 @@ ghost use Rattle.odht_base.specs.Load.{factor_of, IsPercent};
 ghost use Rattle.odht_base.specs.Table.{count};
 ghost use Rattle.odht_base.specs.Valid.{IsValidBytes};
 ghost use Rattle.odht_header.specs.Refusals.{check_refusal};
-ghost use Rattle.odht_raw.specs.Sized.{HasLengthsOf, bytes_coding};
+ghost use Rattle.odht_raw.specs.DynParts.{HasLengthsOf, bytes_coding};
 ghost use Rattle.odht.specs.Dynamic.{dyn_coding, dyn_format, dyn_store};
 ghost use Rattle.odht.specs.DynOwned.{IsDynWith, IsRejecting};
 ghost use Rattle.odht.specs.Gets.{IsGet, IsCountedGet, IsKnown};
@@ -20,7 +20,7 @@ use super::{DynError, DynTable};
 use crate::bytes::OwnedBytes;
 use crate::hash::HashFn;
 use crate::layout::Layout;
-use crate::raw_table::SizedIter;
+use crate::raw_table::DynIter;
 use std::alloc::Global;
 use std::marker::Model;
 
@@ -169,7 +169,7 @@ impl<H: HashFn> DynTableOwned<H> {
 
     /// The keys and values, each pair once, in slot order.
     #[inline]
-    pub fn iter(&self) -> SizedIter<'_, H>
+    pub fn iter(&self) -> DynIter<'_, H>
         ensures pairs { ArePairs (dyn_format self.now H.hash) self.now.store result }
         ensures lengths { All (HasLengthsOf self.now.key_len self.now.value_len) result }
         ensures few { length result ≤ usize.MAX }

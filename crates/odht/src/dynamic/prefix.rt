@@ -13,7 +13,7 @@ use crate::bytes::Borrowed;
 use crate::error::Error;
 use crate::hash::HashFn;
 use crate::layout::Layout;
-use crate::memory_layout::sized_table_len;
+use crate::memory_layout::dynamic_table_len;
 
 /// How many bytes the table of these lengths at the front of `bytes` has, by its header. What
 /// follows is not looked at, nor is any slot, and the hash function does not matter.
@@ -27,7 +27,7 @@ pub fn table_len(layout: Layout, bytes: &[u8]) -> Result<usize, Error>
     ensures err { (hash : List ℕ → ℕ) → result_err result
         ≡ prefix_refusal (format_of layout.key_len layout.value_len hash) bytes.now }
 {
-    sized_table_len(bytes, layout)
+    dynamic_table_len(bytes, layout)
 }
 
 impl<'a, H: HashFn> DynTable<H, Borrowed<'a>> {

@@ -9,7 +9,7 @@ use crate::config::{Coded, Config};
 use crate::dynamic::DynTable;
 use crate::hash_table::HashTable;
 use crate::iter::Iter;
-use crate::raw_table::SizedIter;
+use crate::raw_table::DynIter;
 
 /// What both tables have for a key: the first the value, the second its bytes. On valid bytes
 /// these bytes decode to that value, or both have none.
@@ -47,7 +47,7 @@ pub fn same_len<C: Config, D: ByteStore, E: ByteStore>(
 pub fn same_walk<'a, C: Config, D: ByteStore, E: ByteStore>(
     typed: &'a HashTable<C, D>,
     dynamic: &'a DynTable<C::H, E>,
-) -> (Iter<'a, C>, SizedIter<'a, C::H>)
+) -> (Iter<'a, C>, DynIter<'a, C::H>)
     requires bytes { E.bytes dynamic.now.store ≡ D.bytes typed.now }
     requires keys { dynamic.now.key_len ≡ C.EncodedKey.LEN }
     requires values { dynamic.now.value_len ≡ C.EncodedValue.LEN }

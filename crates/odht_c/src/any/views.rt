@@ -4,7 +4,7 @@
 //! after `open_view` with the same lengths. `BAD_LAYOUT` as of the other exports.
 ghost use Rattle.std.specs.Prelude.{◌≡◌, ◌≤◌, length};
 ghost use Rattle.odht_raw.specs.Frame.{IsAccepted};
-ghost use Rattle.odht_calls.specs.Layouts.{AnyAnswers, SizedAnswers, ViewContainsAnswers};
+ghost use Rattle.odht_calls.specs.Layouts.{AnyAnswers, DynAnswers, ViewContainsAnswers};
 ghost use Rattle.odht_calls.specs.Layouts.{AnyViewLenAnswers, IsLayout, any_coding};
 ghost use Rattle.odht_calls.specs.Pieces.{AnyViewGetAllAnswers};
 ghost use Rattle.odht_calls.specs.Views.{OpenViewAnswers, ViewGetAnswers};
@@ -41,7 +41,7 @@ pub extern "C" fn odht_any_view_get(
     ensures { let Long = (length key.now ≡ layout.now.key_len)
         × (length value.old ≡ layout.now.value_len)
         in AnyAnswers layout.now result (value.new ≡ value.old)
-        (λ c. SizedAnswers Long result (value.new ≡ value.old)
+        (λ c. DynAnswers Long result (value.new ≡ value.old)
         (ViewGetAnswers c view.now.bytes.now key.now value.old result value.new)) }
 {
     view::get(*layout, view, key, value)
@@ -54,7 +54,7 @@ pub extern "C" fn odht_any_view_contains(layout: &AnyLayout, view: &View<'_>, ke
     requires accepted { IsLayout layout.now
         → IsAccepted (any_coding layout.now).format view.now.bytes.now }
     ensures { AnyAnswers layout.now result (Unit {0})
-        (λ c. SizedAnswers (length key.now ≡ layout.now.key_len) result (Unit {0})
+        (λ c. DynAnswers (length key.now ≡ layout.now.key_len) result (Unit {0})
         (ViewContainsAnswers c view.now.bytes.now key.now result)) }
 {
     view::contains(*layout, view, key)

@@ -4,7 +4,7 @@ use Rattle.odht_base.specs.Table.{Table}
 use Rattle.odht_base.specs.Valid.{IsImage}
 use Rattle.odht_header.specs.Coding.{Coding, HasStored, value_for}
 use Rattle.odht_calls.specs.declared.any.AnyLayout.{AnyLayout}
-use Rattle.odht_calls.specs.Layouts.{IsLayout, IsFoundBy, ViewContainsAnswers, SizedAnswers, AnyAnswers, LayoutAnswers}
+use Rattle.odht_calls.specs.Layouts.{IsLayout, IsFoundBy, ViewContainsAnswers, DynAnswers, AnyAnswers, LayoutAnswers}
 use Rattle.odht_calls.proofs.lemmas.Layouts.{by_none}
 
 abbrev layout : ℕ → ℕ → ℕ → AnyLayout
@@ -45,7 +45,7 @@ other_status_in_view_refused c B k h = go h.on_any.0 h.on_any.1
     go None e = absurd (omega (arith, e))
     go (Some v) e = absurd (omega (arith, e))
 
--- ---- SizedAnswers, AnyAnswers
+-- ---- DynAnswers, AnyAnswers
 -- so many bytes are as many as the layout says
 abbrev IsLong : ℕ → ℕ → Type 0
 IsLong found said = found ≡ said
@@ -59,11 +59,11 @@ pub bad_layout_done_refused : (A : Coding (List ℕ) (List ℕ) → Type 0) → 
 bad_layout_done_refused A h = absurd (let status = (h.layout short_key_refused).0 in omega (arith, status))
 
 -- lengths that do not fit are answered with ODHT_BAD_LENGTHS
-pub bad_lengths_answer : (A : Type 0) → SizedAnswers (IsLong 7 8) 35 (Unit {0}) A
+pub bad_lengths_answer : (A : Type 0) → DynAnswers (IsLong 7 8) 35 (Unit {0}) A
 bad_lengths_answer A = record { lengths = λ other. (refl, tt); answers = λ long. absurd (omega (arith, long)) }
 
 -- and not with ODHT_OK
-pub bad_lengths_done_refused : (A : Type 0) → SizedAnswers (IsLong 7 8) 0 (Unit {0}) A → ⊥
+pub bad_lengths_done_refused : (A : Type 0) → DynAnswers (IsLong 7 8) 0 (Unit {0}) A → ⊥
 bad_lengths_done_refused A h = absurd (let status = (h.lengths (λ long. absurd (omega (arith, long)))).0 in omega (arith, status))
 
 -- ---- LayoutAnswers

@@ -19,9 +19,9 @@ use Rattle.odht_header.specs.Coding.{Coding, HasStored, encoded}
 use Rattle.odht_header.specs.declared.error.Error.{Error}
 use Rattle.odht_raw.specs.Frame.{IsAccepted, IsFramed}
 use Rattle.odht_raw.specs.Runs.{IsOnePlaced, encoded_all}
-use Rattle.odht_raw.specs.Sized.{HasLengthsOf, bytes_coding, sized_parts}
+use Rattle.odht_raw.specs.DynParts.{HasLengthsOf, bytes_coding, dynamic_parts}
 use Rattle.odht_raw.proofs.lemmas.Accepted.{accepted_len}
-use Rattle.odht_raw.proofs.lemmas.SizedWalks.{walk_sized}
+use Rattle.odht_raw.proofs.lemmas.DynWalks.{walk_dynamic}
 use Rattle.odht.specs.DynInserts.{IsStoreInsert}
 use Rattle.odht.specs.Gets.{IsGet}
 use Rattle.odht.proofs.lemmas.Lookups.{slice_get-set_same, slice_get-set_other}
@@ -98,9 +98,9 @@ answer_len F B accepted k None stored = tt
 answer_len F B accepted k (Some v) stored = stored_len F B accepted k v.now stored
 
 -- ---- an insert of a key and a value of the lengths of the format is what a table's insert is
-pub sized_insert : (F : Format) → IsFormat F → (B k v : List ℕ) (r : Result (Option (List ℕ)) Error) (B' : List ℕ)
+pub dynamic_insert : (F : Format) → IsFormat F → (B k v : List ℕ) (r : Result (Option (List ℕ)) Error) (B' : List ℕ)
     → ((P : Table) → IsImage F P B → IfOk r (λ old. IsOnePlaced (bytes_coding F) P k v old B')) → IsFramed (bytes_coding F) B k v r B' → IsStoreInsert (bytes_coding F) B k v r B'
-sized_insert F fits B k v r B' placed framed =
+dynamic_insert F fits B k v r B' placed framed =
     let K = bytes_coding F in
     record {
       on_valid = λ P is. record {
@@ -129,14 +129,14 @@ module _ (T : Pair → Type 0) where
   numbered_from i (suc n) (Some p ∷ cs) h = numbered_from i n cs (All-tail T p (filter_map (λ c. c) cs) h)
 
 -- so those from a slot on
-pub slots_sized : (kl vl : ℕ) (h : List ℕ → ℕ) (B : List ℕ) (at : ℕ) → IsAccepted (format_of kl vl h) B → All (λ (x : ℕ × Pair). HasLengthsOf kl vl x.1) (slots_from (decoded_table (format_of kl vl h) B) at)
-slots_sized kl vl h B at accepted =
+pub slots_dynamic : (kl vl : ℕ) (h : List ℕ → ℕ) (B : List ℕ) (at : ℕ) → IsAccepted (format_of kl vl h) B → All (λ (x : ℕ × Pair). HasLengthsOf kl vl x.1) (slots_from (decoded_table (format_of kl vl h) B) at)
+slots_dynamic kl vl h B at accepted =
     let F : Format = format_of kl vl h in
-    let S = sized_parts kl vl (header_slots B) (entries_of F B) (controls_of F B) in
+    let S = dynamic_parts kl vl (header_slots B) (entries_of F B) (controls_of F B) in
     let whole = accepted_len F B accepted in
     let long : length (entries_of F B) ≡ header_slots B * (kl + vl) = length-bytes_at B 32 (header_slots B * (kl + vl)) (omega (arith, whole)) in
     let mirrored : length (controls_of F B) ≡ header_slots B + 16 = length-drop (32 + header_slots B * (kl + vl)) B ∙ omega (arith, whole) in
-    numbered_from (HasLengthsOf kl vl) at at (decoded_cells F (entries_of F B) (controls_of F B)) (walk_sized S h long mirrored)
+    numbered_from (HasLengthsOf kl vl) at at (decoded_cells F (entries_of F B) (controls_of F B)) (walk_dynamic S h long mirrored)
 
 -- ---- walks
 -- the bytes of an item of a walk

@@ -19,7 +19,7 @@ use Rattle.odht_base.proofs.lemmas.SearchEnds.{search_end-IsTarget, search_end-N
 use Rattle.odht_base.proofs.lemmas.TableInserts.{there, insert_view-takes, insert_owned-takes, insert_view-IsInsert, insert_owned-IsInsert}
 use Rattle.odht_header.specs.Coding.{encoded}
 use Rattle.odht_raw.specs.Frame.{IsAccepted, IsFramed, InsertFrame}
-use Rattle.odht_raw.specs.Sized.{bytes_coding}
+use Rattle.odht_raw.specs.DynParts.{bytes_coding}
 use Rattle.odht_raw.proofs.lemmas.Accepted.{accepted_slots}
 use Rattle.odht.specs.Lists.{encoded_all, IsAfterInserts, IsFramedRun}
 use Rattle.odht.proofs.lemmas.DynLists.{take_next}

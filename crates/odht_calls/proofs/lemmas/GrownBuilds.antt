@@ -11,7 +11,7 @@ use Rattle.odht_base.proofs.lemmas.Options.{some_same}
 use Rattle.odht_base.proofs.lemmas.TableInserts.{insert_owned-IsInsert}
 use Rattle.odht_header.specs.Coding.{Coding, encoded}
 use Rattle.odht_header.specs.declared.error.Error.{Error}
-use Rattle.odht_raw.specs.Sized.{bytes_coding}
+use Rattle.odht_raw.specs.DynParts.{bytes_coding}
 use Rattle.odht.specs.Dynamic.{DynStore, dyn_coding, dyn_format}
 use Rattle.odht.specs.DynOwned.{IsDynInsertOwned}
 use Rattle.odht.specs.declared.dynamic.DynError.TheVariants.{Rejected}

@@ -8,20 +8,20 @@ use Rattle.odht_header.specs.declared.error.Error.TheVariants.{Full}
 use Rattle.odht_raw.specs.FormerWrites.{IsFormerTo, IsOneInto}
 use Rattle.odht_raw.specs.Frame.{IsFramed}
 use Rattle.odht_raw.specs.Runs.{IsOnePlaced}
-use Rattle.odht_raw.specs.Sized.{bytes_coding}
+use Rattle.odht_raw.specs.DynParts.{bytes_coding}
 use Rattle.odht.proofs.lemmas.ViewInserts.{one_inserted, framed-full, full-framed, framed-only_full, framed-refused}
 use Rattle.odht_calls.specs.Statuses.{status_of}
-use Rattle.odht_calls.specs.Told.{told_status}
+use Rattle.odht_calls.specs.InsertedStatus.{inserted_status}
 use Rattle.odht_calls.specs.Writes.{InsertAnswers, IsFormer}
 use Rattle.odht_calls.proofs.lemmas.Inserted.{accepted_insert, full_insert}
 
 module _ (F : Format) (f : IsFormat F) (B C k v old new : List ℕ) (accepted : None ≡ opening_refusal F B) where
   -- a former value, or none
-  former_told : (o : Option (List ℕ)) (r : Result Bool Error) (s : ℕ) → IsFormerTo (Ok o) old r new → s ≡ told_status r → IsFormer o old s new
-  former_told None r s tells status = (status ∙ ap told_status tells.told, tells.former)
-  former_told (Some x) r s tells status = (status ∙ ap told_status tells.told, tells.former)
+  former_told : (o : Option (List ℕ)) (r : Result Bool Error) (s : ℕ) → IsFormerTo (Ok o) old r new → s ≡ inserted_status r → IsFormer o old s new
+  former_told None r s tells status = (status ∙ ap inserted_status tells.answered, tells.former)
+  former_told (Some x) r s tells status = (status ∙ ap inserted_status tells.answered, tells.former)
 
-  pub into_answers : (r : Result Bool Error) (s : ℕ) → IsOneInto (bytes_coding F) B k v old r C new → s ≡ told_status r → InsertAnswers (bytes_coding F) B k v old s C new
+  pub into_answers : (r : Result Bool Error) (s : ℕ) → IsOneInto (bytes_coding F) B k v old r C new → s ≡ inserted_status r → InsertAnswers (bytes_coding F) B k v old s C new
   into_answers r s into status = go into.answer refl
     where
       go : (a : Result (Option (List ℕ)) Error) → into.answer ≡ a → InsertAnswers (bytes_coding F) B k v old s C new
@@ -40,5 +40,5 @@ module _ (F : Format) (f : IsFormat F) (B C k v old new : List ℕ) (accepted : 
           let only = framed-only_full K B k v (Err e) C framed in
           let full : e ≡ Full = cc in
           let stays = framed-refused K B k v (Err e) C framed in
-          full_insert K B B C C k v old s new accepted refl refl (Err e) only stays (status ∙ ap told_status tells.told ∙ ap status_of full) tells.former
+          full_insert K B B C C k v old s new accepted refl refl (Err e) only stays (status ∙ ap inserted_status tells.answered ∙ ap status_of full) tells.former
           (λ P at. (λ is_full. framed-full K B k v f P at (Err e) C is_full framed, λ is_full. full-framed K B k v f P at (Err e) C (subst (λ (a : Result (Option (List ℕ)) Error). IfOk a (λ x. IsOnePlaced K P k v x C)) is (into.placed P at)) framed is_full)) framed

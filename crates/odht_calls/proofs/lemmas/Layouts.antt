@@ -13,14 +13,14 @@ use Rattle.odht_header.specs.Coding.{Coding, HasStored, encoded}
 use Rattle.odht_header.specs.declared.error.Error.{Error}
 use Rattle.odht_raw.specs.Frame.{IsAccepted, IsFramed, InsertFrame}
 use Rattle.odht_raw.proofs.lemmas.Accepted.{accepted_len}
-use Rattle.odht_raw.specs.Sized.{bytes_coding}
+use Rattle.odht_raw.specs.DynParts.{bytes_coding}
 use Rattle.odht.specs.Dynamic.{DynStore, dyn_format}
 use Rattle.odht_calls.specs.declared.any.AnyLayout.{AnyLayout}
 use Rattle.odht_calls.specs.Layouts.{AnyAnswers, IsLayout, any_coding, bad_layout, hash_of, least_of}
 
 -- the coding of the lengths of l with a hash function
-abbrev by_hash : AnyLayout → (List ℕ → ℕ) → Coding (List ℕ) (List ℕ)
-by_hash l h = bytes_coding (format_of l.key_len l.value_len h)
+abbrev with_hash : AnyLayout → (List ℕ → ℕ) → Coding (List ℕ) (List ℕ)
+with_hash l h = bytes_coding (format_of l.key_len l.value_len h)
 
 -- the hash function of the number 1
 is_un : (h : ℕ) → h ≡ 1 → hash_of h ≡ un
@@ -54,24 +54,24 @@ no_hash (suc (suc (suc h))) k a b d low long = absurd (omega (arith, low))
 
 module _ (l : AnyLayout) (s : ℕ) (Same : Type 0) (A : Coding (List ℕ) (List ℕ) → Type 0) where
   -- the hash function of rustc-hash is picked
-  pub by_fx : (l.hash ≡ 0) × (0 ≤ l.key_len) → A (by_hash l fx) → AnyAnswers l s Same A
+  pub by_fx : (l.hash ≡ 0) × (0 ≤ l.key_len) → A (with_hash l fx) → AnyAnswers l s Same A
   by_fx is answer = record {
     layout = λ other. absurd (other (record { hash = omega (arith, is.0); key = subst (λ h. least_of h ≤ l.key_len) (sym is.0) is.1 }));
-    answers = λ ok. subst A (ap (λ h. by_hash l (hash_of h)) (sym is.0)) answer;
+    answers = λ ok. subst A (ap (λ h. with_hash l (hash_of h)) (sym is.0)) answer;
   }
 
   -- that of keys that are hashes
-  pub by_un : (l.hash ≡ 1) × (4 ≤ l.key_len) → A (by_hash l un) → AnyAnswers l s Same A
+  pub by_un : (l.hash ≡ 1) × (4 ≤ l.key_len) → A (with_hash l un) → AnyAnswers l s Same A
   by_un is answer = record {
     layout = λ other. absurd (other (record { hash = omega (arith, is.0); key = subst (λ n. n ≤ l.key_len) (sym (least_un l.hash is.0)) is.1 }));
-    answers = λ ok. subst A (ap (by_hash l) (sym (is_un l.hash is.0))) answer;
+    answers = λ ok. subst A (ap (with_hash l) (sym (is_un l.hash is.0))) answer;
   }
 
   -- XXH64
-  pub by_xxh64 : (l.hash ≡ 2) × (0 ≤ l.key_len) → A (by_hash l xxh64_low) → AnyAnswers l s Same A
+  pub by_xxh64 : (l.hash ≡ 2) × (0 ≤ l.key_len) → A (with_hash l xxh64_low) → AnyAnswers l s Same A
   by_xxh64 is answer = record {
     layout = λ other. absurd (other (record { hash = omega (arith, is.0); key = subst (λ n. n ≤ l.key_len) (sym (least_xxh64 l.hash is.0)) is.1 }));
-    answers = λ ok. subst A (ap (by_hash l) (sym (is_xxh64 l.hash is.0))) answer;
+    answers = λ ok. subst A (ap (with_hash l) (sym (is_xxh64 l.hash is.0))) answer;
   }
 
   -- or none
@@ -83,28 +83,28 @@ module _ (l : AnyLayout) (s : ℕ) (Same : Type 0) (A : Coding (List ℕ) (List 
 
 -- bytes that fit the lengths of a layout fit them with the hash function that is picked
 module _ (l : AnyLayout) (B : List ℕ) where
-  pub accepted_fx : (l.hash ≡ 0) × (0 ≤ l.key_len) → (IsLayout l → IsAccepted (any_coding l).format B) → IsAccepted (by_hash l fx).format B
+  pub accepted_fx : (l.hash ≡ 0) × (0 ≤ l.key_len) → (IsLayout l → IsAccepted (any_coding l).format B) → IsAccepted (with_hash l fx).format B
   accepted_fx is fit =
-      subst (λ h. IsAccepted (by_hash l (hash_of h)).format B) is.0 (fit (record { hash = omega (arith, is.0); key = subst (λ h. least_of h ≤ l.key_len) (sym is.0) is.1 }))
+      subst (λ h. IsAccepted (with_hash l (hash_of h)).format B) is.0 (fit (record { hash = omega (arith, is.0); key = subst (λ h. least_of h ≤ l.key_len) (sym is.0) is.1 }))
 
-  pub accepted_un : (l.hash ≡ 1) × (4 ≤ l.key_len) → (IsLayout l → IsAccepted (any_coding l).format B) → IsAccepted (by_hash l un).format B
+  pub accepted_un : (l.hash ≡ 1) × (4 ≤ l.key_len) → (IsLayout l → IsAccepted (any_coding l).format B) → IsAccepted (with_hash l un).format B
   accepted_un is fit =
-      subst (λ h. IsAccepted (by_hash l h).format B) (is_un l.hash is.0) (fit (record { hash = omega (arith, is.0); key = subst (λ n. n ≤ l.key_len) (sym (least_un l.hash is.0)) is.1 }))
+      subst (λ h. IsAccepted (with_hash l h).format B) (is_un l.hash is.0) (fit (record { hash = omega (arith, is.0); key = subst (λ n. n ≤ l.key_len) (sym (least_un l.hash is.0)) is.1 }))
 
-  pub accepted_xxh64 : (l.hash ≡ 2) × (0 ≤ l.key_len) → (IsLayout l → IsAccepted (any_coding l).format B) → IsAccepted (by_hash l xxh64_low).format B
+  pub accepted_xxh64 : (l.hash ≡ 2) × (0 ≤ l.key_len) → (IsLayout l → IsAccepted (any_coding l).format B) → IsAccepted (with_hash l xxh64_low).format B
   accepted_xxh64 is fit =
-      subst (λ h. IsAccepted (by_hash l h).format B) (is_xxh64 l.hash is.0) (fit (record { hash = omega (arith, is.0); key = subst (λ n. n ≤ l.key_len) (sym (least_xxh64 l.hash is.0)) is.1 }))
+      subst (λ h. IsAccepted (with_hash l h).format B) (is_xxh64 l.hash is.0) (fit (record { hash = omega (arith, is.0); key = subst (λ n. n ≤ l.key_len) (sym (least_xxh64 l.hash is.0)) is.1 }))
 
 -- and those that stay accepted with it stay so
 module _ (l : AnyLayout) (B C : List ℕ) where
-  pub stays_fx : l.hash ≡ 0 → (IsAccepted (by_hash l fx).format B → IsAccepted (by_hash l fx).format C) → IsAccepted (any_coding l).format B → IsAccepted (any_coding l).format C
-  stays_fx is stays = subst (λ h. IsAccepted (by_hash l (hash_of h)).format B → IsAccepted (by_hash l (hash_of h)).format C) (sym is) stays
+  pub stays_fx : l.hash ≡ 0 → (IsAccepted (with_hash l fx).format B → IsAccepted (with_hash l fx).format C) → IsAccepted (any_coding l).format B → IsAccepted (any_coding l).format C
+  stays_fx is stays = subst (λ h. IsAccepted (with_hash l (hash_of h)).format B → IsAccepted (with_hash l (hash_of h)).format C) (sym is) stays
 
-  pub stays_un : l.hash ≡ 1 → (IsAccepted (by_hash l un).format B → IsAccepted (by_hash l un).format C) → IsAccepted (any_coding l).format B → IsAccepted (any_coding l).format C
-  stays_un is stays = subst (λ h. IsAccepted (by_hash l h).format B → IsAccepted (by_hash l h).format C) (sym (is_un l.hash is)) stays
+  pub stays_un : l.hash ≡ 1 → (IsAccepted (with_hash l un).format B → IsAccepted (with_hash l un).format C) → IsAccepted (any_coding l).format B → IsAccepted (any_coding l).format C
+  stays_un is stays = subst (λ h. IsAccepted (with_hash l h).format B → IsAccepted (with_hash l h).format C) (sym (is_un l.hash is)) stays
 
-  pub stays_xxh64 : l.hash ≡ 2 → (IsAccepted (by_hash l xxh64_low).format B → IsAccepted (by_hash l xxh64_low).format C) → IsAccepted (any_coding l).format B → IsAccepted (any_coding l).format C
-  stays_xxh64 is stays = subst (λ h. IsAccepted (by_hash l h).format B → IsAccepted (by_hash l h).format C) (sym (is_xxh64 l.hash is)) stays
+  pub stays_xxh64 : l.hash ≡ 2 → (IsAccepted (with_hash l xxh64_low).format B → IsAccepted (with_hash l xxh64_low).format C) → IsAccepted (any_coding l).format B → IsAccepted (any_coding l).format C
+  stays_xxh64 is stays = subst (λ h. IsAccepted (with_hash l h).format B → IsAccepted (with_hash l h).format C) (sym (is_xxh64 l.hash is)) stays
 
 -- what holds of the table that was opened holds of the bytes and the lengths
 pub opened : {D : Type 0} (t : DynStore D) (key_len value_len : ℕ) (h : List ℕ → ℕ) (T B : List ℕ) → t.key_len ≡ key_len → t.value_len ≡ value_len → T ≡ B

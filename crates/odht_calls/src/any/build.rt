@@ -5,17 +5,17 @@ ghost use Rattle.std.specs.List.{zip};
 ghost use Rattle.odht_base.specs.Format.{format_of};
 ghost use Rattle.odht_base.specs.Load.{factor_of, IsPercent};
 ghost use Rattle.odht_header.specs.Refusals.{new_refusal};
-ghost use Rattle.odht_raw.specs.Sized.{bytes_coding};
+ghost use Rattle.odht_raw.specs.DynParts.{bytes_coding};
 ghost use Rattle.odht.specs.Lists.{IsFreshAfterInserts};
 ghost use Rattle.odht_calls.specs.Pieces.{pieces, ArePieces, PiecesBuildAnswers};
-ghost use Rattle.odht_calls.specs.Pieces.{SizedBuildAnswers, AnyBuildAnswers};
-ghost use Rattle.odht_calls.specs.Pieces.{PiecesBuildGrowingAnswers, SizedBuildGrowingAnswers};
+ghost use Rattle.odht_calls.specs.Pieces.{DynBuildAnswers, AnyBuildAnswers};
+ghost use Rattle.odht_calls.specs.Pieces.{PiecesBuildGrowingAnswers, DynBuildGrowingAnswers};
 ghost use Rattle.odht_calls.specs.Pieces.{AnyBuildGrowingAnswers};
 
 use super::lists::insert_pieces;
 use super::pieces::{are_pieces, deciding_pairs, piece};
 use super::write::init_by;
-use super::{AnyLayout, by_hash};
+use super::{AnyLayout, with_hash};
 use crate::build::hand_out;
 use crate::status::{BAD_LENGTHS, BAD_PERCENT, CAPACITY, MEMORY, OK, TOO_SMALL};
 use odht::bytes::Borrowed;
@@ -96,7 +96,7 @@ fn build_by<H: HashFn>(
     len: &mut usize,
 ) -> u32
     requires { H.MIN_LEN ≤ layout.key_len }
-    ensures { SizedBuildAnswers (format_of layout.key_len layout.value_len H.hash) count keys.now
+    ensures { DynBuildAnswers (format_of layout.key_len layout.value_len H.hash) count keys.now
         values.now max_load_factor_percent out.old len.old result out.new len.new }
 {
     if !are_pieces(layout, count, keys, values) {
@@ -129,7 +129,7 @@ pub fn build(
         out.old len.old result out.new len.new }
 {
     let percent = max_load_factor_percent;
-    by_hash!(layout, build_by(count, keys, values, percent, out, len))
+    with_hash!(layout, build_by(count, keys, values, percent, out, len))
 }
 
 // The build of `count` pairs in memory of its own.
@@ -173,7 +173,7 @@ fn build_growing_by<H: HashFn>(
     len: &mut usize,
 ) -> u32
     requires { H.MIN_LEN ≤ layout.key_len }
-    ensures { SizedBuildGrowingAnswers (format_of layout.key_len layout.value_len H.hash) count
+    ensures { DynBuildGrowingAnswers (format_of layout.key_len layout.value_len H.hash) count
         keys.now values.now out.old len.old result out.new len.new }
 {
     if !are_pieces(layout, count, keys, values) {
@@ -197,7 +197,7 @@ pub fn build_growing(
     ensures { AnyBuildGrowingAnswers layout count keys.now values.now out.old len.old result
         out.new len.new }
 {
-    by_hash!(
+    with_hash!(
         layout,
         build_growing_by(alloc, count, keys, values, out, len)
     )

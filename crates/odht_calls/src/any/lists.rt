@@ -3,19 +3,19 @@ ghost use Rattle.std.specs.Prelude.{◌≡◌, ◌≤◌, length};
 ghost use Rattle.odht_base.specs.Format.{format_of};
 ghost use Rattle.odht_raw.specs.Frame.{IsAccepted};
 ghost use Rattle.odht_calls.specs.Layouts.{any_coding};
-ghost use Rattle.odht_calls.specs.Pieces.{ArePieces, PiecesGetAllAnswers, SizedGetAllAnswers};
+ghost use Rattle.odht_calls.specs.Pieces.{ArePieces, PiecesGetAllAnswers, DynGetAllAnswers};
 ghost use Rattle.odht_calls.specs.Pieces.{AnyGetAllAnswers};
-ghost use Rattle.odht_calls.specs.Pieces.{PiecesInsertAllAnswers, SizedInsertAllAnswers};
+ghost use Rattle.odht_calls.specs.Pieces.{PiecesInsertAllAnswers, DynInsertAllAnswers};
 ghost use Rattle.odht_calls.specs.Pieces.{AnyInsertAllAnswers};
 
 use super::pieces::{are_pieces, deciding_pairs, piece};
 use super::read::view;
 use super::view::look_up;
-use super::{AnyLayout, by_hash};
+use super::{AnyLayout, with_hash};
 use crate::status::{BAD_LENGTHS, OK, status_of};
 use odht::hash::HashFn;
 use odht::layout::Layout;
-use odht::memory_layout::insert_sized;
+use odht::memory_layout::insert_dynamic;
 
 // The lookups of `count` keys.
 fn get_pieces<H: HashFn>(
@@ -47,7 +47,7 @@ fn get_all_by<H: HashFn>(
     found: &mut [u8],
 ) -> u32
     requires { H.MIN_LEN ≤ layout.key_len }
-    ensures { SizedGetAllAnswers (format_of layout.key_len layout.value_len H.hash) bytes.now
+    ensures { DynGetAllAnswers (format_of layout.key_len layout.value_len H.hash) bytes.now
         count keys.now values.old found.old result values.new found.new }
 {
     if !are_pieces(layout, count, keys, values) || found.len() != count {
@@ -70,7 +70,7 @@ pub fn get_all(
     ensures { AnyGetAllAnswers layout bytes.now
         count keys.now values.old found.old result values.new found.new }
 {
-    by_hash!(layout, get_all_by(bytes, count, keys, values, found))
+    with_hash!(layout, get_all_by(bytes, count, keys, values, found))
 }
 
 // The inserts of `count` pairs.
@@ -96,7 +96,7 @@ pub(crate) fn insert_pieces<H: HashFn>(
     for index in 0..deciding {
         let key = piece(keys, layout.key_len, index);
         let value = piece(values, layout.value_len, index);
-        if let Err(refused) = insert_sized::<H>(bytes, layout, key, value) {
+        if let Err(refused) = insert_dynamic::<H>(bytes, layout, key, value) {
             *accepted = index;
             return status_of(&refused);
         }
@@ -114,7 +114,7 @@ fn insert_all_by<H: HashFn>(
     accepted: &mut usize,
 ) -> u32
     requires { H.MIN_LEN ≤ layout.key_len }
-    ensures answers { SizedInsertAllAnswers (format_of layout.key_len layout.value_len H.hash)
+    ensures answers { DynInsertAllAnswers (format_of layout.key_len layout.value_len H.hash)
         bytes.old count keys.now values.now accepted.old result bytes.new accepted.new }
     ensures accepted { let F = format_of layout.key_len layout.value_len H.hash
         in IsAccepted F bytes.old → IsAccepted F bytes.new }
@@ -141,5 +141,5 @@ pub fn insert_all(
     ensures accepted { let F = (any_coding layout).format
         in IsAccepted F bytes.old → IsAccepted F bytes.new }
 {
-    by_hash!(layout, insert_all_by(bytes, count, keys, values, accepted))
+    with_hash!(layout, insert_all_by(bytes, count, keys, values, accepted))
 }

@@ -1,12 +1,12 @@
 //! The call for an order of inserts that makes a table of any lengths.
 ghost use Rattle.std.specs.Prelude.{◌≡◌, ◌≤◌};
 ghost use Rattle.odht_base.specs.Format.{format_of};
-ghost use Rattle.odht_raw.specs.Sized.{bytes_coding};
+ghost use Rattle.odht_raw.specs.DynParts.{bytes_coding};
 ghost use Rattle.odht_calls.specs.Layouts.{AnyAnswers};
 ghost use Rattle.odht_calls.specs.Orders.{ScratchAnswers};
 
 use super::read::whole;
-use super::{AnyLayout, by_hash};
+use super::{AnyLayout, with_hash};
 use crate::status::{BAD_LENGTHS, OK, UNMADE, status_of};
 use odht::bytes::Borrowed;
 use odht::dynamic::DynTable;
@@ -53,5 +53,5 @@ pub fn insert_order(
     ensures { AnyAnswers layout result ((out.new ≡ out.old) × (scratch.new ≡ scratch.old))
         (λ c. ScratchAnswers c bytes.now out.old scratch.old result out.new scratch.new) }
 {
-    by_hash!(layout, insert_order_by(bytes, out, scratch))
+    with_hash!(layout, insert_order_by(bytes, out, scratch))
 }

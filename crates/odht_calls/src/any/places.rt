@@ -6,7 +6,7 @@ ghost use Rattle.odht_calls.specs.Layouts.{AnyAnswers};
 ghost use Rattle.odht_calls.specs.Places.{PlaceAnswers};
 
 use super::read::{whole, whole_within};
-use super::{AnyLayout, by_hash};
+use super::{AnyLayout, with_hash};
 use crate::places::{NO_SLOT, refused_at};
 use crate::status::OK;
 use odht::hash::HashFn;
@@ -35,7 +35,7 @@ pub fn open_at(layout: AnyLayout, bytes: &[u8], slot: &mut usize) -> u32
     ensures { AnyAnswers layout result (slot.new ≡ slot.old)
         (λ c. PlaceAnswers (view_refusal c.format bytes.now) result slot.new) }
 {
-    by_hash!(layout, open_at_by(bytes, slot))
+    with_hash!(layout, open_at_by(bytes, slot))
 }
 
 fn check_at_by<H: HashFn>(layout: Layout, bytes: &[u8], slot: &mut usize) -> u32
@@ -59,7 +59,7 @@ pub fn check_at(layout: AnyLayout, bytes: &[u8], slot: &mut usize) -> u32
     ensures { AnyAnswers layout result (slot.new ≡ slot.old)
         (λ c. PlaceAnswers (check_refusal c.format bytes.now) result slot.new) }
 {
-    by_hash!(layout, check_at_by(bytes, slot))
+    with_hash!(layout, check_at_by(bytes, slot))
 }
 
 fn check_within_at_by<H: HashFn>(
@@ -87,5 +87,5 @@ pub fn check_within_at(layout: AnyLayout, bytes: &[u8], groups: usize, slot: &mu
     ensures { AnyAnswers layout result (slot.new ≡ slot.old)
         (λ c. PlaceAnswers (check_refusal_by c.format (Some groups) bytes.now) result slot.new) }
 {
-    by_hash!(layout, check_within_at_by(bytes, groups, slot))
+    with_hash!(layout, check_within_at_by(bytes, groups, slot))
 }

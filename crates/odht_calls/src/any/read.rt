@@ -4,14 +4,14 @@ ghost use Rattle.std.specs.Result.{result_err};
 ghost use Rattle.odht_base.specs.Format.{format_of};
 ghost use Rattle.odht_header.specs.Refusals.{opening_refusal, view_refusal, check_refusal};
 ghost use Rattle.odht_header.specs.Refusals.{check_refusal_by, checked};
-ghost use Rattle.odht_raw.specs.Sized.{bytes_coding};
+ghost use Rattle.odht_raw.specs.DynParts.{bytes_coding};
 ghost use Rattle.odht_calls.specs.Statuses.{status_or_ok};
-ghost use Rattle.odht_calls.specs.Layouts.{AnyAnswers, SizedAnswers};
+ghost use Rattle.odht_calls.specs.Layouts.{AnyAnswers, DynAnswers};
 ghost use Rattle.odht_calls.specs.Layouts.{ContainsAnswers, LayoutAnswers};
 ghost use Rattle.odht_calls.specs.Prefixes.{TableLenAnswers};
 ghost use Rattle.odht_calls.specs.Reads.{GetAnswers, LenAnswers, SizesAnswers};
 
-use super::{AnyLayout, by_hash};
+use super::{AnyLayout, with_hash};
 use crate::status::{ABSENT, BAD_LAYOUT, BAD_LENGTHS, OK, status_of};
 use odht::bytes::Borrowed;
 use odht::dynamic::{self, DynTable};
@@ -20,7 +20,7 @@ use odht::hash::HashFn;
 use odht::layout::Layout;
 use odht::load::max_item_count_for;
 use odht::memory_layout::{
-    Header, check_by_header, check_opening, check_sized, check_sized_within, stated_layout,
+    Header, check_by_header, check_opening, check_dynamic, check_dynamic_within, stated_layout,
 };
 
 // Opens the bytes by their header and length. Reads no slot.
@@ -57,7 +57,7 @@ pub fn open(layout: AnyLayout, bytes: &[u8]) -> u32
     ensures { AnyAnswers layout result (Unit {0})
         (λ c. result ≡ status_or_ok (view_refusal c.format bytes.now)) }
 {
-    by_hash!(layout, open_by(bytes))
+    with_hash!(layout, open_by(bytes))
 }
 
 // The first error of the whole check.
@@ -67,7 +67,7 @@ pub(crate) fn whole<H: HashFn>(layout: Layout, bytes: &[u8]) -> Result<(), Error
         in result ≡ checked (check_refusal F bytes.now) }
 {
     check_opening::<H>(bytes, layout)?;
-    check_sized::<H>(bytes, layout)
+    check_dynamic::<H>(bytes, layout)
 }
 
 fn check_by<H: HashFn>(layout: Layout, bytes: &[u8]) -> u32
@@ -86,7 +86,7 @@ pub fn check(layout: AnyLayout, bytes: &[u8]) -> u32
     ensures { AnyAnswers layout result (Unit {0})
         (λ c. result ≡ status_or_ok (check_refusal c.format bytes.now)) }
 {
-    by_hash!(layout, check_by(bytes))
+    with_hash!(layout, check_by(bytes))
 }
 
 // The first error of the whole check with a bound of searches.
@@ -100,7 +100,7 @@ pub(crate) fn whole_within<H: HashFn>(
         in result ≡ checked (check_refusal_by F (Some groups) bytes.now) }
 {
     check_opening::<H>(bytes, layout)?;
-    check_sized_within::<H>(bytes, layout, groups)
+    check_dynamic_within::<H>(bytes, layout, groups)
 }
 
 fn check_within_by<H: HashFn>(layout: Layout, bytes: &[u8], groups: usize) -> u32
@@ -121,7 +121,7 @@ pub fn check_within(layout: AnyLayout, bytes: &[u8], groups: usize) -> u32
     ensures { AnyAnswers layout result (Unit {0})
         (λ c. result ≡ status_or_ok (check_refusal_by c.format (Some groups) bytes.now)) }
 {
-    by_hash!(layout, check_within_by(bytes, groups))
+    with_hash!(layout, check_within_by(bytes, groups))
 }
 
 fn len_by<H: HashFn>(layout: Layout, bytes: &[u8], item_count: &mut usize) -> u32
@@ -143,7 +143,7 @@ pub fn len(layout: AnyLayout, bytes: &[u8], item_count: &mut usize) -> u32
     ensures { AnyAnswers layout result (item_count.new ≡ item_count.old)
         (λ c. LenAnswers c bytes.now item_count.old result item_count.new) }
 {
-    by_hash!(layout, len_by(bytes, item_count))
+    with_hash!(layout, len_by(bytes, item_count))
 }
 
 fn sizes_by<H: HashFn>(
@@ -186,7 +186,7 @@ pub fn sizes(
         slot_count.old max_item_count.old max_load_factor_percent.old result
         slot_count.new max_item_count.new max_load_factor_percent.new) }
 {
-    by_hash!(
+    with_hash!(
         layout,
         sizes_by(bytes, slot_count, max_item_count, max_load_factor_percent)
     )
@@ -212,14 +212,14 @@ pub fn table_len(layout: AnyLayout, bytes: &[u8], len: &mut usize) -> u32
     ensures { AnyAnswers layout result (len.new ≡ len.old)
         (λ c. TableLenAnswers c.format bytes.now len.old result len.new) }
 {
-    by_hash!(layout, table_len_by(bytes, len))
+    with_hash!(layout, table_len_by(bytes, len))
 }
 
 fn get_by<H: HashFn>(layout: Layout, bytes: &[u8], key: &[u8], value: &mut [u8]) -> u32
     requires { H.MIN_LEN ≤ layout.key_len }
     ensures { let c = bytes_coding (format_of layout.key_len layout.value_len H.hash)
         in let Long = (length key.now ≡ layout.key_len) × (length value.old ≡ layout.value_len)
-        in SizedAnswers Long result (value.new ≡ value.old)
+        in DynAnswers Long result (value.new ≡ value.old)
         (GetAnswers c bytes.now key.now value.old result value.new) }
 {
     if key.len() != layout.key_len as usize || value.len() != layout.value_len as usize {
@@ -243,16 +243,16 @@ fn get_by<H: HashFn>(layout: Layout, bytes: &[u8], key: &[u8], value: &mut [u8])
 pub fn get(layout: AnyLayout, bytes: &[u8], key: &[u8], value: &mut [u8]) -> u32
     ensures { let Long = (length key.now ≡ layout.key_len) × (length value.old ≡ layout.value_len)
         in AnyAnswers layout result (value.new ≡ value.old)
-        (λ c. SizedAnswers Long result (value.new ≡ value.old)
+        (λ c. DynAnswers Long result (value.new ≡ value.old)
         (GetAnswers c bytes.now key.now value.old result value.new)) }
 {
-    by_hash!(layout, get_by(bytes, key, value))
+    with_hash!(layout, get_by(bytes, key, value))
 }
 
 fn contains_by<H: HashFn>(layout: Layout, bytes: &[u8], key: &[u8]) -> u32
     requires { H.MIN_LEN ≤ layout.key_len }
     ensures { let c = bytes_coding (format_of layout.key_len layout.value_len H.hash)
-        in SizedAnswers (length key.now ≡ layout.key_len) result (Unit {0})
+        in DynAnswers (length key.now ≡ layout.key_len) result (Unit {0})
         (ContainsAnswers c bytes.now key.now result) }
 {
     if key.len() != layout.key_len as usize {
@@ -272,10 +272,10 @@ fn contains_by<H: HashFn>(layout: Layout, bytes: &[u8], key: &[u8]) -> u32
 /// the layout says.
 pub fn contains(layout: AnyLayout, bytes: &[u8], key: &[u8]) -> u32
     ensures { AnyAnswers layout result (Unit {0})
-        (λ c. SizedAnswers (length key.now ≡ layout.key_len) result (Unit {0})
+        (λ c. DynAnswers (length key.now ≡ layout.key_len) result (Unit {0})
         (ContainsAnswers c bytes.now key.now result)) }
 {
-    by_hash!(layout, contains_by(bytes, key))
+    with_hash!(layout, contains_by(bytes, key))
 }
 
 /// Writes to `layout` the lengths that the header states, where header and length of the bytes

@@ -2,15 +2,15 @@
 ghost use Rattle.std.specs.Prelude.{◌≡◌, ◌≤◌, length};
 ghost use Rattle.odht_base.specs.Format.{format_of};
 ghost use Rattle.odht_raw.specs.Frame.{IsAccepted};
-ghost use Rattle.odht_raw.specs.Sized.{bytes_coding};
-ghost use Rattle.odht_calls.specs.Layouts.{AnyAnswers, SizedAnswers, ViewContainsAnswers};
+ghost use Rattle.odht_raw.specs.DynParts.{bytes_coding};
+ghost use Rattle.odht_calls.specs.Layouts.{AnyAnswers, DynAnswers, ViewContainsAnswers};
 ghost use Rattle.odht_calls.specs.Layouts.{AnyViewLenAnswers, IsLayout, any_coding};
 ghost use Rattle.odht_calls.specs.Pieces.{ArePieces, PiecesViewGetAllAnswers};
-ghost use Rattle.odht_calls.specs.Pieces.{SizedViewGetAllAnswers, AnyViewGetAllAnswers};
+ghost use Rattle.odht_calls.specs.Pieces.{DynViewGetAllAnswers, AnyViewGetAllAnswers};
 ghost use Rattle.odht_calls.specs.Views.{OpenViewAnswers, ViewGetAnswers};
 
 use super::pieces::{are_pieces, piece, put_answer};
-use super::{AnyLayout, by_hash};
+use super::{AnyLayout, with_hash};
 use crate::status::{ABSENT, BAD_LENGTHS, OK, status_of};
 use crate::view::View;
 use odht::bytes::Borrowed;
@@ -39,7 +39,7 @@ pub fn open<'a>(layout: AnyLayout, bytes: &'a [u8], view: &mut View<'a>) -> u32
     ensures { AnyAnswers layout result (view.new.bytes ≡ view.old.bytes)
         (λ c. OpenViewAnswers c.format bytes.entry view.old.bytes result view.new.bytes) }
 {
-    by_hash!(layout, open_by(bytes, view))
+    with_hash!(layout, open_by(bytes, view))
 }
 
 // The table of bytes whose header and length fit. Reads none of them.
@@ -58,7 +58,7 @@ fn get_by<H: HashFn>(layout: Layout, bytes: &[u8], key: &[u8], value: &mut [u8])
     requires accepted { IsAccepted (format_of layout.key_len layout.value_len H.hash) bytes.now }
     ensures { let c = bytes_coding (format_of layout.key_len layout.value_len H.hash)
         in let Long = (length key.now ≡ layout.key_len) × (length value.old ≡ layout.value_len)
-        in SizedAnswers Long result (value.new ≡ value.old)
+        in DynAnswers Long result (value.new ≡ value.old)
         (ViewGetAnswers c bytes.now key.now value.old result value.new) }
 {
     if key.len() != layout.key_len as usize || value.len() != layout.value_len as usize {
@@ -81,17 +81,17 @@ pub fn get(layout: AnyLayout, view: &View<'_>, key: &[u8], value: &mut [u8]) -> 
         → IsAccepted (any_coding layout).format view.now.bytes.now }
     ensures { let Long = (length key.now ≡ layout.key_len) × (length value.old ≡ layout.value_len)
         in AnyAnswers layout result (value.new ≡ value.old)
-        (λ c. SizedAnswers Long result (value.new ≡ value.old)
+        (λ c. DynAnswers Long result (value.new ≡ value.old)
         (ViewGetAnswers c view.now.bytes.now key.now value.old result value.new)) }
 {
-    by_hash!(layout, get_by(view.bytes, key, value))
+    with_hash!(layout, get_by(view.bytes, key, value))
 }
 
 fn contains_by<H: HashFn>(layout: Layout, bytes: &[u8], key: &[u8]) -> u32
     requires hashes { H.MIN_LEN ≤ layout.key_len }
     requires accepted { IsAccepted (format_of layout.key_len layout.value_len H.hash) bytes.now }
     ensures { let c = bytes_coding (format_of layout.key_len layout.value_len H.hash)
-        in SizedAnswers (length key.now ≡ layout.key_len) result (Unit {0})
+        in DynAnswers (length key.now ≡ layout.key_len) result (Unit {0})
         (ViewContainsAnswers c bytes.now key.now result) }
 {
     if key.len() != layout.key_len as usize {
@@ -110,10 +110,10 @@ pub fn contains(layout: AnyLayout, view: &View<'_>, key: &[u8]) -> u32
     requires accepted { IsLayout layout
         → IsAccepted (any_coding layout).format view.now.bytes.now }
     ensures { AnyAnswers layout result (Unit {0})
-        (λ c. SizedAnswers (length key.now ≡ layout.key_len) result (Unit {0})
+        (λ c. DynAnswers (length key.now ≡ layout.key_len) result (Unit {0})
         (ViewContainsAnswers c view.now.bytes.now key.now result)) }
 {
-    by_hash!(layout, contains_by(view.bytes, key))
+    with_hash!(layout, contains_by(view.bytes, key))
 }
 
 // The lookups of `count` keys in bytes whose header and length fit.
@@ -150,7 +150,7 @@ fn get_all_by<H: HashFn>(
 ) -> u32
     requires hashes { H.MIN_LEN ≤ layout.key_len }
     requires accepted { IsAccepted (format_of layout.key_len layout.value_len H.hash) bytes.now }
-    ensures { SizedViewGetAllAnswers (format_of layout.key_len layout.value_len H.hash) bytes.now
+    ensures { DynViewGetAllAnswers (format_of layout.key_len layout.value_len H.hash) bytes.now
         count keys.now values.old found.old result values.new found.new }
 {
     if !are_pieces(layout, count, keys, values) || found.len() != count {
@@ -175,7 +175,7 @@ pub fn get_all(
     ensures { AnyViewGetAllAnswers layout view.now.bytes.now
         count keys.now values.old found.old result values.new found.new }
 {
-    by_hash!(layout, get_all_by(view.bytes, count, keys, values, found))
+    with_hash!(layout, get_all_by(view.bytes, count, keys, values, found))
 }
 
 /// The item count in the header of an opened table, whatever its lengths.

@@ -1,12 +1,12 @@
 //! Walks over a table of any lengths that write its pairs to arrays, a part at a time.
 ghost use Rattle.std.specs.Prelude.{◌≤◌};
 ghost use Rattle.odht_base.specs.Format.{format_of};
-ghost use Rattle.odht_calls.specs.Pieces.{ArePieces, PiecesWalkAnswers, SizedWalkAnswers};
+ghost use Rattle.odht_calls.specs.Pieces.{ArePieces, PiecesWalkAnswers, DynWalkAnswers};
 ghost use Rattle.odht_calls.specs.Pieces.{AnyWalkAnswers};
 
 use super::pieces::{are_pieces, put_piece};
 use super::read::view;
-use super::{AnyLayout, by_hash};
+use super::{AnyLayout, with_hash};
 use crate::status::{BAD_LENGTHS, OK, TOO_SMALL, status_of};
 use odht::hash::HashFn;
 use odht::layout::Layout;
@@ -58,7 +58,7 @@ fn walk_by<H: HashFn>(
     item_count: &mut usize,
 ) -> u32
     requires { H.MIN_LEN ≤ layout.key_len }
-    ensures { SizedWalkAnswers (format_of layout.key_len layout.value_len H.hash) bytes.now
+    ensures { DynWalkAnswers (format_of layout.key_len layout.value_len H.hash) bytes.now
         cursor.old room keys.old values.old item_count.old result cursor.new keys.new values.new
         item_count.new }
 {
@@ -85,7 +85,7 @@ pub fn walk(
         cursor.old room keys.old values.old item_count.old result cursor.new keys.new values.new
         item_count.new }
 {
-    by_hash!(
+    with_hash!(
         layout,
         walk_by(bytes, cursor, room, keys, values, item_count)
     )

@@ -1,15 +1,15 @@
 //! The calls that write a table of any lengths.
 ghost use Rattle.std.specs.Prelude.{◌≡◌, ◌≤◌, length};
 ghost use Rattle.odht_base.specs.Format.{format_of};
-ghost use Rattle.odht_raw.specs.Sized.{bytes_coding};
+ghost use Rattle.odht_raw.specs.DynParts.{bytes_coding};
 ghost use Rattle.odht_raw.specs.Frame.{IsAccepted};
-ghost use Rattle.odht_calls.specs.Layouts.{AnyAnswers, SizedAnswers, any_coding};
-ghost use Rattle.odht_calls.specs.Told.{told_status};
+ghost use Rattle.odht_calls.specs.Layouts.{AnyAnswers, DynAnswers, any_coding};
+ghost use Rattle.odht_calls.specs.InsertedStatus.{inserted_status};
 ghost use Rattle.odht_calls.specs.Writes.{BytesNeededAnswers, InitAnswers, InsertAnswers};
 ghost use Rattle.odht_calls.specs.Grows.{GrowAnswers};
 
 use super::read::view;
-use super::{AnyLayout, by_hash};
+use super::{AnyLayout, with_hash};
 use crate::status::{
     BAD_LAYOUT, BAD_LENGTHS, BAD_PERCENT, CAPACITY, LOAD_FACTOR_TOO_SMALL, OK, REPLACED, TOO_SMALL,
     status_of,
@@ -20,7 +20,7 @@ use odht::error::Error;
 use odht::hash::HashFn;
 use odht::layout::Layout;
 use odht::load::Percent;
-use odht::memory_layout::{Header, LEAST_FACTOR, insert_sized_into};
+use odht::memory_layout::{Header, LEAST_FACTOR, insert_dynamic_into};
 
 fn bytes_needed_by<H: HashFn>(
     layout: Layout,
@@ -54,7 +54,7 @@ pub fn bytes_needed(
     ensures { AnyAnswers layout result (len.new ≡ len.old)
         (λ c. BytesNeededAnswers c max_item_count max_load_factor_percent len.old result len.new) }
 {
-    by_hash!(
+    with_hash!(
         layout,
         bytes_needed_by(max_item_count, max_load_factor_percent, len)
     )
@@ -97,7 +97,7 @@ pub fn init(
     ensures { AnyAnswers layout result (bytes.new ≡ bytes.old)
         (λ c. InitAnswers c max_item_count max_load_factor_percent bytes.old result bytes.new) }
 {
-    by_hash!(
+    with_hash!(
         layout,
         init_by(bytes, max_item_count, max_load_factor_percent)
     )
@@ -114,7 +114,7 @@ fn insert_by<H: HashFn>(
     ensures answers { let c = bytes_coding (format_of layout.key_len layout.value_len H.hash)
         in let Long = (length key.now ≡ layout.key_len) × (length value.now ≡ layout.value_len)
         × (length former.old ≡ layout.value_len)
-        in SizedAnswers Long result ((bytes.new ≡ bytes.old) × (former.new ≡ former.old))
+        in DynAnswers Long result ((bytes.new ≡ bytes.old) × (former.new ≡ former.old))
         (InsertAnswers c bytes.old key.now value.now former.old result bytes.new former.new) }
     ensures accepted { let F = format_of layout.key_len layout.value_len H.hash
         in IsAccepted F bytes.old → IsAccepted F bytes.new }
@@ -129,12 +129,12 @@ fn insert_by<H: HashFn>(
     if let Err(refused) = view::<H>(layout, bytes) {
         return status_of(&refused);
     }
-    told_status(insert_sized_into::<H>(bytes, layout, key, value, former))
+    inserted_status(insert_dynamic_into::<H>(bytes, layout, key, value, former))
 }
 
 // The status of an insert that tells whether the key had a value.
-fn told_status(told: Result<bool, Error>) -> u32
-    ensures { result ≡ told_status told }
+fn inserted_status(told: Result<bool, Error>) -> u32
+    ensures { result ≡ inserted_status told }
 {
     match told {
         Ok(true) => REPLACED,
@@ -156,12 +156,12 @@ pub fn insert(
     ensures answers { let Long = (length key.now ≡ layout.key_len)
         × (length value.now ≡ layout.value_len) × (length former.old ≡ layout.value_len)
         in let Same = (bytes.new ≡ bytes.old) × (former.new ≡ former.old)
-        in AnyAnswers layout result Same (λ c. SizedAnswers Long result Same
+        in AnyAnswers layout result Same (λ c. DynAnswers Long result Same
         (InsertAnswers c bytes.old key.now value.now former.old result bytes.new former.new)) }
     ensures accepted { let F = (any_coding layout).format
         in IsAccepted F bytes.old → IsAccepted F bytes.new }
 {
-    by_hash!(layout, insert_by(bytes, key, value, former))
+    with_hash!(layout, insert_by(bytes, key, value, former))
 }
 
 fn grow_by<H: HashFn>(layout: Layout, bytes: &[u8], out: &mut [u8], len: &mut usize) -> u32
@@ -194,5 +194,5 @@ pub fn grow(layout: AnyLayout, bytes: &[u8], out: &mut [u8], len: &mut usize) ->
     ensures { AnyAnswers layout result ((out.new ≡ out.old) × (len.new ≡ len.old))
         (λ c. GrowAnswers c bytes.now out.old len.old result out.new len.new) }
 {
-    by_hash!(layout, grow_by(bytes, out, len))
+    with_hash!(layout, grow_by(bytes, out, len))
 }

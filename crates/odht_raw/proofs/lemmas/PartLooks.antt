@@ -35,12 +35,12 @@ module _ (F : Format) (T : TableParts) (mirrored : length T.control ≡ T.entrie
 
   module _ (n : ℕ) (few : n ≤ 16) where
     -- they are passed where no free byte is before them, and no match among them has the key
-    pub are_passed : n ≤ unwrap_or q.free 16 → ((x : ℕ) → Contains q.matches x → x < n → slot_key F es ((b + x) % s) ≡ k → ⊥) → ArePassed F T k b n
-    are_passed after others = passes F es ctrl s mirrored least mirror b from k q.matches look.report tags within n few (subst (λ o. n ≤ unwrap_or o 16) look.free after) others
+    pub hold_other_keys : n ≤ unwrap_or q.free 16 → ((x : ℕ) → Contains q.matches x → x < n → slot_key F es ((b + x) % s) ≡ k → ⊥) → ArePassed F T k b n
+    hold_other_keys after others = passes F es ctrl s mirrored least mirror b from k q.matches look.report tags within n few (subst (λ o. n ≤ unwrap_or o 16) look.free after) others
 
     -- so they are where no match is before them
     pub are_clear : n ≤ unwrap_or q.free 16 → n ≤ unwrap_or (slice_get q.matches 0) 16 → ArePassed F T k b n
-    are_clear after unmatched = are_passed after (λ x c l same. go q.matches look.report.rising unmatched c l)
+    are_clear after unmatched = hold_other_keys after (λ x c l same. go q.matches look.report.rising unmatched c l)
       where
         go : (xs : List ℕ) → IsStrictlyIncreasing xs → n ≤ unwrap_or (slice_get xs 0) 16 → {x : ℕ} → Contains xs x → x < n → ⊥
         go [] h u c l = omega (arith, c.1)

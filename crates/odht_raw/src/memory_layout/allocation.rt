@@ -171,6 +171,6 @@ impl<C: Config, M: ByteStore> Allocation<C, M> {
 
 // Does nothing: its contract gives the proof that each item of a slice of bytes is below 256.
 #[inline(always)]
-pub(crate) fn hold_bytes(bytes: &[u8])
+pub(crate) fn prove_bytes(bytes: &[u8])
     ensures { All (λ byte. byte < 256) bytes.now }
 {}

@@ -9,7 +9,7 @@ ghost use Rattle.odht_header.specs.Refusals.{late_refusal_by, check_refusal_by};
 ghost use Rattle.odht_raw.specs.Frame.{IsAccepted};
 ghost use Rattle.odht_raw.specs.PartLengths.{ArePairLengths};
 
-use super::allocation::{Allocation, hold_bytes};
+use super::allocation::{Allocation, prove_bytes};
 use super::{Header, parts_in};
 use crate::bytes::{Borrowed, ByteStore};
 use crate::config::{Coded, Config};
@@ -100,7 +100,7 @@ impl<C: Config, M: ByteStore> Allocation<C, M> {
 /// [`Allocation::check_rest`] does. Ok exactly for valid bytes.
 ///
 /// It reads what that reads.
-pub fn check_sized<H: HashFn>(bytes: &[u8], layout: Layout) -> Result<(), Error>
+pub fn check_dynamic<H: HashFn>(bytes: &[u8], layout: Layout) -> Result<(), Error>
     requires accepted { IsAccepted (format_of layout.key_len layout.value_len H.hash) bytes.now }
     requires hashes { H.MIN_LEN ≤ layout.key_len }
     ensures first { let F = format_of layout.key_len layout.value_len H.hash
@@ -111,7 +111,7 @@ pub fn check_sized<H: HashFn>(bytes: &[u8], layout: Layout) -> Result<(), Error>
     check_parts::<Layout, H>(bytes, layout, None)
 }
 
-/// `check_sized` with a bound of searches, as in [`check_all_within`]: after the maximum item
+/// `check_dynamic` with a bound of searches, as in [`check_all_within`]: after the maximum item
 /// count, and before any search for a key, `SearchTooLong` of the least home from which a search
 /// may read more than `groups` groups. Ok exactly for valid bytes in which each home has, among
 /// the first `groups` groups of its probe order, a control byte that counts as free. Then no
@@ -119,7 +119,7 @@ pub fn check_sized<H: HashFn>(bytes: &[u8], layout: Layout) -> Result<(), Error>
 ///
 /// For untrusted bytes: whatever they are, for `s` slots it reads at most `2 * s * groups`
 /// groups and makes at most `16 * s * groups` comparisons of keys. It allocates nothing.
-pub fn check_sized_within<H: HashFn>(
+pub fn check_dynamic_within<H: HashFn>(
     bytes: &[u8],
     layout: Layout,
     groups: usize,
@@ -152,7 +152,7 @@ pub fn check_parts<L: Lengths, H: HashFn>(
         (λ g. IsOk result ↔ (IsValidBytes F bytes.now
         × (first_longer (controls_of F bytes.now) g ≡ None))) }
 {
-    hold_bytes(bytes);
+    prove_bytes(bytes);
     let table = parts_in::<L, H>(bytes, lengths);
     check_late(&Header::of(bytes), &table, groups)
 }

@@ -13,7 +13,7 @@ ghost use Rattle.odht_raw.specs.PartLengths.{ArePairLengths};
 use super::{HEADER_SIZE, Header};
 use crate::hash::HashFn;
 use crate::layout::{Layout, Lengths};
-use crate::raw_table::{Parts, SizedTable, Stored};
+use crate::raw_table::{Parts, DynRawTable, Stored};
 
 /// The parts of bytes whose header and length fit. Of the bytes of a valid table they are its
 /// parts.
@@ -63,7 +63,7 @@ pub(super) fn cut<L: Lengths, H: HashFn>(bytes: &[u8], slots: usize, lengths: L)
 
 /// [`parts_in`] where the lengths are numbers.
 #[inline(always)]
-pub fn sized_parts<H: HashFn>(bytes: &[u8], layout: Layout) -> SizedTable<'_, H>
+pub fn dynamic_parts<H: HashFn>(bytes: &[u8], layout: Layout) -> DynRawTable<'_, H>
     requires accepted { IsAccepted (format_of layout.key_len layout.value_len H.hash) bytes.now }
     requires hashes { H.MIN_LEN ≤ layout.key_len }
     ensures parts { let F = format_of layout.key_len layout.value_len H.hash

@@ -12,9 +12,9 @@ ghost use Rattle.odht_raw.specs.Parts.{stored_in};
 ghost use Rattle.odht_raw.specs.Runs.{IsOnePlaced};
 ghost use Rattle.odht_raw.specs.SearchResults.{MatchSearchResult};
 ghost use Rattle.odht_raw.specs.Searches.{IsSearchEnd};
-ghost use Rattle.odht_raw.specs.Sized.{bytes_coding, sized_format};
+ghost use Rattle.odht_raw.specs.DynParts.{bytes_coding, parts_format};
 
-use super::allocation::{hold_bytes, write_count};
+use super::allocation::{prove_bytes, write_count};
 use super::cuts::cut;
 use super::{HEADER_SIZE, Header};
 use crate::bytes::ByteArray;
@@ -69,9 +69,9 @@ fn insert_in<L: Lengths, H: HashFn>(
         bytes.new }
     ensures len { length bytes.new ≡ length bytes.old }
 {
-    hold_bytes(bytes);
-    hold_bytes(key);
-    hold_bytes(value);
+    prove_bytes(bytes);
+    prove_bytes(key);
+    prove_bytes(value);
     let at = HEADER_SIZE + slots * lengths.entry_len();
     let (table, control) = bytes.split_at_mut(at);
     let (front, entries) = table.split_at_mut(HEADER_SIZE);
@@ -93,7 +93,7 @@ fn insert_in<L: Lengths, H: HashFn>(
 /// nothing changed, where the search does not find the key and the header's item count is its
 /// maximum or more, or where it finds neither the key nor a free slot. A new entry raises the item
 /// count by one. The key is hashed once.
-pub fn insert_sized<H: HashFn>(
+pub fn insert_dynamic<H: HashFn>(
     bytes: &mut [u8],
     layout: Layout,
     key: &[u8],
@@ -123,10 +123,10 @@ pub fn insert_sized<H: HashFn>(
     }
 }
 
-/// `insert_sized`, which writes a former value to `former`. Returns whether there is one. Where
+/// `insert_dynamic`, which writes a former value to `former`. Returns whether there is one. Where
 /// there is none, and on an error, `former` is unchanged.
 #[inline(always)]
-pub fn insert_sized_into<H: HashFn>(
+pub fn insert_dynamic_into<H: HashFn>(
     bytes: &mut [u8],
     layout: Layout,
     key: &[u8],
@@ -151,7 +151,7 @@ pub fn insert_sized_into<H: HashFn>(
     if written { Ok(had) } else { Err(Error::Full) }
 }
 
-/// `insert_sized` of a key and a value of a configuration, by a group search of the caller's
+/// `insert_dynamic` of a key and a value of a configuration, by a group search of the caller's
 /// choice, in bytes of so many slots.
 #[inline(always)]
 pub(crate) fn insert_typed<C: Config, Q: Group>(
@@ -196,7 +196,7 @@ fn former_value<C: Config>(
     requires len { parts.now.value_len ≡ C.EncodedValue.LEN }
     ensures { let c = ⟦<C as Coded>⟧.coding
         in result ≡ option_map c.value_of
-        (former_of (sized_format parts.now C.H.hash) parts.now.parts.entries.bytes end) }
+        (former_of (parts_format parts.now C.H.hash) parts.now.parts.entries.bytes end) }
 {
     match parts.value_at(end) {
         Some(value) => Some(C::decode_value(&C::EncodedValue::from_slice(value))),

@@ -24,12 +24,12 @@ pub fn table_len<C: Config>(bytes: &[u8]) -> Result<usize, Error>
     ensures only { (n : ℕ) → IsFront ⟦<C as Coded>⟧.coding.format bytes.now n → result ≡ Ok n }
     ensures err { result_err result ≡ prefix_refusal ⟦<C as Coded>⟧.coding.format bytes.now }
 {
-    sized_table_len(bytes, Layout::of::<C>())
+    dynamic_table_len(bytes, Layout::of::<C>())
 }
 
 /// [`table_len`] of a table of these lengths. The hash function does not matter.
 #[inline]
-pub fn sized_table_len(bytes: &[u8], layout: Layout) -> Result<usize, Error>
+pub fn dynamic_table_len(bytes: &[u8], layout: Layout) -> Result<usize, Error>
     ensures ok { (hash : List ℕ → ℕ) → IfOk result
         (IsFront (format_of layout.key_len layout.value_len hash) bytes.now) }
     ensures only { (hash : List ℕ → ℕ) (n : ℕ)

@@ -8,7 +8,7 @@ ghost use Rattle.odht_base.specs.Table.{Table};
 ghost use Rattle.odht_base.specs.Valid.{IsPartsOf};
 ghost use Rattle.odht_header.specs.Refusals.{longer_refusal};
 ghost use Rattle.odht_base.specs.Bounds.{ends_within, first_longer, AreWithin};
-ghost use Rattle.odht_raw.specs.Sized.{sized_format};
+ghost use Rattle.odht_raw.specs.DynParts.{parts_format};
 
 use super::{EntryMetadata, GroupProbe, Parts, RawTable, slot_count_of};
 use crate::bytes::ByteArray;
@@ -21,7 +21,7 @@ impl<'a, L: Lengths, H: HashFn> Parts<'a, L, H> {
     /// [`RawTable::searches_within`] of these parts.
     pub fn searches_within(&self, groups: usize) -> bool
         ensures bytes { IsTrue result ↔ (first_longer self.now.parts.control groups ≡ None) }
-        ensures bound { let F = sized_format self.now H.hash
+        ensures bound { let F = parts_format self.now H.hash
             in (P : Table) (key : List ℕ)
             → IsPartsOf F P self.now.parts.entries.bytes self.now.parts.control
             → IsTrue result → groups_read F P.cells key ≤ groups }

@@ -5,9 +5,9 @@ ghost use Rattle.std.specs.Option.{option_copied};
 ghost use Rattle.odht_base.specs.Format.{format_of};
 ghost use Rattle.odht_raw.specs.FirstLooks.{first_look_of};
 ghost use Rattle.odht_raw.specs.Finds.{IsFind};
-ghost use Rattle.odht_raw.specs.Sized.{sized_format};
+ghost use Rattle.odht_raw.specs.DynParts.{parts_format};
 
-use super::group_search::late_search;
+use super::group_search::search_next_groups;
 use super::{Parts, RawTable, tag_of};
 use crate::bytes::ByteArray;
 use crate::hash::HashFn;
@@ -37,7 +37,7 @@ impl<'a, L: Lengths, H: HashFn> Parts<'a, L, H> {
     #[inline(always)]
     pub fn first_look(&self, key: &[u8]) -> FirstLook
         requires { length key.now ≡ self.now.key_len }
-        ensures { result ≡ first_look_of (sized_format self.now H.hash) self.now.parts key.now }
+        ensures { result ≡ first_look_of (parts_format self.now H.hash) self.now.parts key.now }
     {
         let mask = self.len() - 1;
         let hash = H::hash(key);
@@ -57,8 +57,8 @@ impl<'a, L: Lengths, H: HashFn> Parts<'a, L, H> {
     pub fn find_from(&self, look: FirstLook, key: &[u8]) -> Option<&'a [u8]>
         requires key { length key.now ≡ self.now.key_len }
         requires look { look
-            ≡ first_look_of (sized_format self.now H.hash) self.now.parts key.now }
-        ensures found { IsFind (sized_format self.now H.hash) (λ b. b) self.now.parts key.now
+            ≡ first_look_of (parts_format self.now H.hash) self.now.parts key.now }
+        ensures found { IsFind (parts_format self.now H.hash) (λ b. b) self.now.parts key.now
             (option_copied result) }
         ensures len { IfSome result (λ v. length v.now ≡ self.now.value_len) }
     {
@@ -76,7 +76,7 @@ impl<'a, L: Lengths, H: HashFn> Parts<'a, L, H> {
             return None;
         }
         let stored = self.stored();
-        self.value_at(late_search::<L, H>(self.controls(), &stored, key, hash))
+        self.value_at(search_next_groups::<L, H>(self.controls(), &stored, key, hash))
     }
 }
 

@@ -43,13 +43,13 @@ pub(crate) fn insert_step<K: ByteArray, V: ByteArray, H: HashFn, Q: Group>(
         (entries.new, control.new) }
 {
     let slots = slot_count_of(control);
-    let end = step_end::<K, V, H, Q>(control, entries, slots, &key);
+    let end = find_end::<K, V, H, Q>(control, entries, slots, &key);
     insert_at::<K, V, H>(control, entries, slots, key, value, end, room)
 }
 
 // Where the search for a key that is inserted ends, and the key's tag.
 #[inline(always)]
-fn step_end<K: ByteArray, V: ByteArray, H: HashFn, Q: Group>(
+fn find_end<K: ByteArray, V: ByteArray, H: HashFn, Q: Group>(
     control: &[EntryMetadata],
     entries: &[u8],
     slots: usize,

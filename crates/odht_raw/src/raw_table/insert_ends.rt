@@ -5,7 +5,7 @@ ghost use Rattle.odht_raw.specs.FormerWrites.{value_or};
 ghost use Rattle.odht_raw.specs.Formers.{former_of};
 ghost use Rattle.odht_raw.specs.SearchResults.{MatchSearchResult};
 ghost use Rattle.odht_raw.specs.Searches.{IsSearchEnd};
-ghost use Rattle.odht_raw.specs.Sized.{sized_format};
+ghost use Rattle.odht_raw.specs.DynParts.{parts_format};
 
 use super::{Parts, Search, ShortBytes};
 use crate::bytes::ByteArray;
@@ -19,9 +19,9 @@ impl<'a, L: Lengths, H: HashFn> Parts<'a, L, H> {
     #[inline(always)]
     pub(crate) fn insert_end(&self, key: &[u8]) -> (Search, u8)
         requires { length key.now ≡ self.now.key_len }
-        ensures end { IsSearchEnd (sized_format self.now H.hash) self.now.parts.entries
+        ensures end { IsSearchEnd (parts_format self.now H.hash) self.now.parts.entries
             self.now.parts.control key.now result.0 }
-        ensures tag { result.1 ≡ key_tag (sized_format self.now H.hash) key.now }
+        ensures tag { result.1 ≡ key_tag (parts_format self.now H.hash) key.now }
     {
         match key.len() {
             4 => self.search_end::<GroupQuery>(&key[..4]),
@@ -40,9 +40,9 @@ impl<'a, L: Lengths, H: HashFn> Parts<'a, L, H> {
         requires slot { MatchSearchResult end (λ slot. slot < self.now.parts.entries.slots)
             (λ _. ⊤) ⊤ }
         requires len { length to.old ≡ self.now.value_len }
-        ensures told { let F = sized_format self.now H.hash
+        ensures told { let F = parts_format self.now H.hash
             in result ≡ is_some (former_of F self.now.parts.entries.bytes end) }
-        ensures bytes { let F = sized_format self.now H.hash
+        ensures bytes { let F = parts_format self.now H.hash
             in to.new ≡ value_or (former_of F self.now.parts.entries.bytes end) to.old }
     {
         match self.value_at(end) {
@@ -59,7 +59,7 @@ impl<'a, L: Lengths, H: HashFn> Parts<'a, L, H> {
     pub(crate) fn short_value_at(&self, end: Search) -> Option<ShortBytes>
         requires { MatchSearchResult end (λ slot. slot < self.now.parts.entries.slots)
             (λ _. ⊤) ⊤ }
-        ensures { let F = sized_format self.now H.hash
+        ensures { let F = parts_format self.now H.hash
             in result ≡ former_of F self.now.parts.entries.bytes end }
     {
         // Its lengths are used: a value has at most 255 bytes.
@@ -78,7 +78,7 @@ impl<'a, K: ByteArray, V: ByteArray, H: HashFn> Parts<'a, Fixed<K, V>, H> {
         requires slot { MatchSearchResult end (λ slot. slot < self.now.parts.entries.slots)
             (λ _. ⊤) ⊤ }
         requires len { self.now.value_len ≡ V.LEN }
-        ensures { let F = sized_format self.now H.hash
+        ensures { let F = parts_format self.now H.hash
             in result ≡ option_map V.of_bytes (former_of F self.now.parts.entries.bytes end) }
     {
         match self.value_at(end) {

@@ -1,7 +1,7 @@
 //! The calls that look for an order of inserts.
 ghost use Rattle.std.specs.Prelude.{◌≡◌, ◌*◌, ◌-◌, ◌^◌, length, min};
 ghost use Rattle.odht_base.specs.Format.{format_of};
-ghost use Rattle.odht_raw.specs.Sized.{sized_format};
+ghost use Rattle.odht_raw.specs.DynParts.{parts_format};
 ghost use Rattle.odht_raw.specs.Waiting.{IsWhole, IsOrderAnswer};
 
 use super::insert_order::find_order;
@@ -66,8 +66,8 @@ impl<'a, K: ByteArray, V: ByteArray, H: HashFn> RawTable<'a, K, V, H> {
 impl<'a, L: Lengths, H: HashFn> Parts<'a, L, H> {
     /// [`RawTable::insert_order`] of these parts.
     pub fn insert_order(&self, out: &mut [usize]) -> bool
-        requires whole { IsWhole (sized_format self.now H.hash) self.now.parts (length out.old) }
-        ensures { let F = sized_format self.now H.hash
+        requires whole { IsWhole (parts_format self.now H.hash) self.now.parts (length out.old) }
+        ensures { let F = parts_format self.now H.hash
             in IsOrderAnswer F self.now.parts (length out.old) out.new result }
     {
         // A clause of it is used: the parts are as long as these lengths say.
@@ -85,8 +85,8 @@ impl<'a, L: Lengths, H: HashFn> Parts<'a, L, H> {
 
     /// [`RawTable::insert_order_with`] of these parts.
     pub fn insert_order_with(&self, out: &mut [usize], scratch: &mut [usize]) -> bool
-        requires whole { IsWhole (sized_format self.now H.hash) self.now.parts (length out.old) }
-        ensures { let F = sized_format self.now H.hash
+        requires whole { IsWhole (parts_format self.now H.hash) self.now.parts (length out.old) }
+        ensures { let F = parts_format self.now H.hash
             in IsOrderAnswer F self.now.parts (length out.old) out.new result }
     {
         // A clause of it is used here too.

@@ -14,8 +14,8 @@ ghost use Rattle.odht_raw.specs.Formers.{former_of};
 ghost use Rattle.odht_raw.specs.Parts.{entry_format};
 ghost use Rattle.odht_raw.specs.SearchResults.{MatchSearchResult};
 ghost use Rattle.odht_raw.specs.Searches.{IsSearchEnd};
-ghost use Rattle.odht_raw.specs.Sized.{HasLengthsOf, sized_format, sized_parts, IsSized};
-ghost use Rattle.odht_raw.specs.Sized.{parts_with, stored_of};
+ghost use Rattle.odht_raw.specs.DynParts.{HasLengthsOf, parts_format, dynamic_parts, AreWhole};
+ghost use Rattle.odht_raw.specs.DynParts.{parts_with, stored_of};
 
 use super::group_search::search_stored;
 use super::slot_checks::check_hashes;
@@ -30,7 +30,7 @@ use std::marker::{Model, PhantomData};
 /// of as many slots. Keys and values are bytes of the right length.
 ///
 /// The searches, the walks and the checks of all tables are those of `Parts`. [`RawTable`] is the
-/// same parts with keys and values as types, and [`SizedTable`] with lengths that are numbers.
+/// same parts with keys and values as types, and [`DynRawTable`] with lengths that are numbers.
 ///
 /// In a contract it is the lengths of keys and values, and the parts.
 ///
@@ -43,16 +43,16 @@ pub struct Parts<'a, L: Lengths, H: HashFn> {
 }
 
 /// The parts of a table whose lengths of keys and values are numbers.
-pub type SizedTable<'a, H> = Parts<'a, Layout, H>;
+pub type DynRawTable<'a, H> = Parts<'a, Layout, H>;
 
 impl<'a, L: Lengths, H: HashFn> Model for Parts<'a, L, H> {
-    ghost use Rattle.odht_raw.specs.Sized.{SizedParts, parts_with, IsSized};
+    ghost use Rattle.odht_raw.specs.DynParts.{DynParts, parts_with, AreWhole};
 
-    ghost Value = { SizedParts };
+    ghost Value = { DynParts };
 
     ghost view = { λ t. parts_with t.stored t.control.now };
 
-    ghost invariant = { λ t. IsSized H.MIN_LEN (parts_with t.stored t.control.now) };
+    ghost invariant = { λ t. AreWhole H.MIN_LEN (parts_with t.stored t.control.now) };
 }
 
 impl<'a, H: HashFn> Parts<'a, Layout, H> {
@@ -69,7 +69,7 @@ impl<'a, H: HashFn> Parts<'a, Layout, H> {
         requires entries { length entries.now ≡ slots * (layout.key_len + layout.value_len) }
         requires hashes { H.MIN_LEN ≤ layout.key_len }
         ensures { result
-            ≡ sized_parts layout.key_len layout.value_len slots entries.now control.now }
+            ≡ dynamic_parts layout.key_len layout.value_len slots entries.now control.now }
     {
         Parts::of(control, Stored::new(entries, slots, layout))
     }
@@ -123,7 +123,7 @@ impl<'a, L: Lengths, H: HashFn> Parts<'a, L, H> {
     /// The slots from slot `from` on whose own control byte does not count as free, in slot order,
     /// each with its key and its value. Nothing where `from` is past the last slot.
     pub fn iter_from(&self, from: usize) -> PartSlots<'a, L, H>
-        ensures items { let F = sized_format self.now H.hash
+        ensures items { let F = parts_format self.now H.hash
             in result ≡ numbered from (drop from (cells_of F self.now.parts)) }
         ensures few { length result ≤ self.now.parts.entries.slots }
     {
@@ -133,7 +133,7 @@ impl<'a, L: Lengths, H: HashFn> Parts<'a, L, H> {
     /// The key and the value of each slot whose own control byte does not count as free, in slot
     /// order.
     pub fn iter(&self) -> PartPairs<'a, L, H>
-        ensures items { let F = sized_format self.now H.hash
+        ensures items { let F = parts_format self.now H.hash
             in result ≡ filter_map (λ c. c) (cells_of F self.now.parts) }
         ensures lengths { All (HasLengthsOf self.now.key_len self.now.value_len) result }
         ensures few { length result ≤ self.now.parts.entries.slots }
@@ -146,7 +146,7 @@ impl<'a, L: Lengths, H: HashFn> Parts<'a, L, H> {
     pub fn controls(&self) -> &'a [EntryMetadata]
         ensures value { result.now ≡ self.now.parts.control }
         ensures len { length result.now ≡ self.now.parts.entries.slots + 16 }
-        ensures sized { IsSized H.MIN_LEN self.now }
+        ensures whole { AreWhole H.MIN_LEN self.now }
     {
         self.control
     }
@@ -156,7 +156,7 @@ impl<'a, L: Lengths, H: HashFn> Parts<'a, L, H> {
     pub fn len(&self) -> usize
         ensures value { result ≡ self.now.parts.entries.slots }
         ensures few { result ≤ 2 ^ 63 }
-        ensures sized { IsSized H.MIN_LEN self.now }
+        ensures whole { AreWhole H.MIN_LEN self.now }
     {
         self.stored.slots()
     }
@@ -235,7 +235,7 @@ impl<'a, L: Lengths, H: HashFn> Parts<'a, L, H> {
     #[inline(always)]
     pub fn find(&self, key: &[u8]) -> Option<&'a [u8]>
         requires { length key.now ≡ self.now.key_len }
-        ensures { IsFind (sized_format self.now H.hash) (λ b. b) self.now.parts key.now
+        ensures { IsFind (parts_format self.now H.hash) (λ b. b) self.now.parts key.now
             (option_copied result) }
     {
         let (value, _) = self.find_counted(key);
@@ -248,7 +248,7 @@ impl<'a, L: Lengths, H: HashFn> Parts<'a, L, H> {
     #[inline(always)]
     pub fn find_counted(&self, key: &[u8]) -> (Option<&'a [u8]>, usize)
         requires { length key.now ≡ self.now.key_len }
-        ensures { IsCountedFind (sized_format self.now H.hash) (λ b. b) self.now.parts key.now
+        ensures { IsCountedFind (parts_format self.now H.hash) (λ b. b) self.now.parts key.now
             (option_copied result.0, result.1) }
     {
         match key.len() {
@@ -266,7 +266,7 @@ impl<'a, L: Lengths, H: HashFn> Parts<'a, L, H> {
     #[inline(always)]
     pub(super) fn find_of<Q: Group>(&self, key: &[u8]) -> (Option<&'a [u8]>, usize)
         requires { length key.now ≡ self.now.key_len }
-        ensures found { IsCountedFind (sized_format self.now H.hash) (λ b. b) self.now.parts key.now
+        ensures found { IsCountedFind (parts_format self.now H.hash) (λ b. b) self.now.parts key.now
             (option_copied result.0, result.1) }
         ensures len { IfSome result.0 (λ v. length v.now ≡ self.now.value_len) }
     {
@@ -287,9 +287,9 @@ impl<'a, L: Lengths, H: HashFn> Parts<'a, L, H> {
     #[inline(always)]
     pub(crate) fn search_end<Q: Group>(&self, key: &[u8]) -> (Search, u8)
         requires { length key.now ≡ self.now.key_len }
-        ensures end { IsSearchEnd (sized_format self.now H.hash) self.now.parts.entries
+        ensures end { IsSearchEnd (parts_format self.now H.hash) self.now.parts.entries
             self.now.parts.control key.now result.0 }
-        ensures tag { result.1 ≡ key_tag (sized_format self.now H.hash) key.now }
+        ensures tag { result.1 ≡ key_tag (parts_format self.now H.hash) key.now }
     {
         let mut scan = Scan::new(self.controls(), self.len());
         let stored = self.stored();
@@ -303,12 +303,12 @@ impl<'a, L: Lengths, H: HashFn> Parts<'a, L, H> {
     pub(crate) fn value_at(&self, end: Search) -> Option<&'a [u8]>
         requires { MatchSearchResult end (λ slot. slot < self.now.parts.entries.slots)
             (λ _. ⊤) ⊤ }
-        ensures value { let F = sized_format self.now H.hash
+        ensures value { let F = parts_format self.now H.hash
             in option_copied result ≡ former_of F self.now.parts.entries.bytes end }
         ensures found { (k : List ℕ)
-            → IsSearchEnd (sized_format self.now H.hash) self.now.parts.entries
+            → IsSearchEnd (parts_format self.now H.hash) self.now.parts.entries
             self.now.parts.control k end
-            → IsFind (sized_format self.now H.hash) (λ b. b) self.now.parts k
+            → IsFind (parts_format self.now H.hash) (λ b. b) self.now.parts k
             (option_copied result) }
         ensures len { IfSome result (λ v. length v.now ≡ self.now.value_len) }
     {
@@ -325,7 +325,7 @@ impl<'a, L: Lengths, H: HashFn> Parts<'a, L, H> {
     /// A mismatch can mean that the bytes were written with another hash function.
     #[inline(always)]
     pub fn sanity_check_hashes(&self, slots_to_check: usize) -> Result<(), Error>
-        ensures { let F = sized_format self.now H.hash
+        ensures { let F = parts_format self.now H.hash
             in result ≡ checked
             (hashes_refusal F self.now.parts.entries.bytes self.now.parts.control slots_to_check) }
     {

@@ -9,7 +9,7 @@ use super::{EntryMetadata, Parts, ShortBytes, Stored, slot_count_of};
 use crate::error::Error;
 use crate::hash::HashFn;
 use crate::layout::{Layout, Lengths};
-use crate::memory_layout::hold_bytes;
+use crate::memory_layout::prove_bytes;
 use crate::swisstable_group_query::GroupQuery;
 use std::marker::PhantomData;
 
@@ -32,21 +32,21 @@ pub struct PartsMut<'c, 'e, L: Lengths, H: HashFn> {
 }
 
 /// The parts of a table whose lengths of keys and values are numbers, borrowed to be written.
-pub type SizedTableMut<'c, 'e, H> = PartsMut<'c, 'e, Layout, H>;
+pub type DynRawTableMut<'c, 'e, H> = PartsMut<'c, 'e, Layout, H>;
 
 impl<'c, 'e, L: Lengths, H: HashFn> PartsMut<'c, 'e, L, H> {
-    ghost use Rattle.odht_raw.specs.SizedMut.{sized_control, sized_entries, sized_layout, sized_loans};
-    ghost use Rattle.odht_raw.specs.SizedMut.{IsSizedInsert, IsSizedPlacing};
+    ghost use Rattle.odht_raw.specs.PartsMutChanges.{control_of_mut, entries_of_mut, lengths_of_mut, loans_of_mut};
+    ghost use Rattle.odht_raw.specs.PartsMutChanges.{IsPartsMutInsert, IsPartsMutPlacing};
 
     /// The table of these parts. No control byte and no entry is checked or written.
     #[inline]
     pub fn new(control: &'c mut [EntryMetadata], entries: &'e mut [u8], lengths: L) -> Self
         requires { ArePartLengths H.MIN_LEN (L.key_len lengths) (L.value_len lengths)
             (length entries.old) (length control.old) }
-        ensures control { sized_control result ≡ control.old }
-        ensures entries { sized_entries result ≡ entries.old }
-        ensures layout { sized_layout result ≡ lengths }
-        ensures loans { sized_loans result ≡ (control.entry.ghost_name, entries.entry.ghost_name) }
+        ensures control { control_of_mut result ≡ control.old }
+        ensures entries { entries_of_mut result ≡ entries.old }
+        ensures layout { lengths_of_mut result ≡ lengths }
+        ensures loans { loans_of_mut result ≡ (control.entry.ghost_name, entries.entry.ghost_name) }
     {
         PartsMut {
             control,
@@ -63,9 +63,9 @@ impl<'c, 'e, L: Lengths, H: HashFn> PartsMut<'c, 'e, L, H> {
     /// It does what [`RawTableMut::place`](super::RawTableMut::place) does to the parts of a table
     /// whose keys and values have these lengths, to any parts too.
     pub fn place(&mut self, key: &[u8], value: &[u8]) -> Result<(), Error>
-        requires key { length key.now ≡ L.key_len (sized_layout self.old) }
-        requires value { length value.now ≡ L.value_len (sized_layout self.old) }
-        ensures { IsSizedPlacing self.old key.now value.now result self.new }
+        requires key { length key.now ≡ L.key_len (lengths_of_mut self.old) }
+        requires value { length value.now ≡ L.value_len (lengths_of_mut self.old) }
+        ensures { IsPartsMutPlacing self.old key.now value.now result self.new }
     {
         let lengths = self.lengths;
         write_new::<L, H, GroupQuery>(self.control, self.entries, lengths, key, value)
@@ -78,12 +78,12 @@ impl<'c, 'e, L: Lengths, H: HashFn> PartsMut<'c, 'e, L, H> {
     /// It does what [`RawTableMut::insert`](super::RawTableMut::insert) does to the parts of a
     /// table whose keys and values have these lengths, to any parts too.
     pub fn insert(&mut self, key: &[u8], value: &[u8]) -> Result<Option<ShortBytes>, Error>
-        requires key { length key.now ≡ L.key_len (sized_layout self.old) }
-        requires value { length value.now ≡ L.value_len (sized_layout self.old) }
-        ensures { IsSizedInsert self.old key.now value.now result self.new }
+        requires key { length key.now ≡ L.key_len (lengths_of_mut self.old) }
+        requires value { length value.now ≡ L.value_len (lengths_of_mut self.old) }
+        ensures { IsPartsMutInsert self.old key.now value.now result self.new }
     {
-        hold_bytes(key);
-        hold_bytes(value);
+        prove_bytes(key);
+        prove_bytes(value);
         let lengths = self.lengths;
         let (control, entries) = (&mut *self.control, &mut *self.entries);
         let slots = slot_count_of(control);

@@ -4,7 +4,7 @@ ghost use Rattle.std.specs.Iterator.{item_count, YieldsFirstBy};
 ghost use Rattle.std.specs.List.{filter_map};
 ghost use Rattle.odht_base.specs.SlotWalks.{numbered};
 ghost use Rattle.odht_raw.specs.Checks.{cells_of};
-ghost use Rattle.odht_raw.specs.Sized.{HasLengthsOf, sized_format};
+ghost use Rattle.odht_raw.specs.DynParts.{HasLengthsOf, parts_format};
 
 use super::{Entries, Parts, RawSlots};
 use crate::hash::HashFn;
@@ -26,12 +26,12 @@ pub struct PartSlots<'a, L: Lengths, H: HashFn> {
 }
 
 /// The walk from a slot on of a table whose lengths are numbers.
-pub type SizedSlots<'a, H> = PartSlots<'a, Layout, H>;
+pub type DynSlots<'a, H> = PartSlots<'a, Layout, H>;
 
 impl<'a, L: Lengths, H: HashFn> Model for PartSlots<'a, L, H> {
     ghost use Rattle.std.specs.Prelude.{ℕ, ◌<◌, List, map, All};
     ghost use Rattle.odht_base.specs.Table.{Pair};
-    ghost use Rattle.odht_raw.specs.Sized.{read_slot};
+    ghost use Rattle.odht_raw.specs.DynParts.{read_slot};
 
     ghost Value = { List (ℕ × Pair) };
 
@@ -43,7 +43,7 @@ impl<'a, L: Lengths, H: HashFn> Model for PartSlots<'a, L, H> {
 impl<'a, L: Lengths, H: HashFn> PartSlots<'a, L, H> {
     /// The walk from slot `from` on; it gives no item where `from` is past the last slot.
     pub fn new(table: Parts<'a, L, H>, from: usize) -> Self
-        ensures items { let F = sized_format table.entry H.hash
+        ensures items { let F = parts_format table.entry H.hash
             in result ≡ numbered from (drop from (cells_of F table.entry.parts)) }
         ensures few { length result ≤ table.entry.parts.entries.slots }
     {
@@ -81,7 +81,7 @@ pub struct PartPairs<'a, L: Lengths, H: HashFn> {
 }
 
 /// The walk over all slots of a table whose lengths are numbers.
-pub type SizedIter<'a, H> = PartPairs<'a, Layout, H>;
+pub type DynIter<'a, H> = PartPairs<'a, Layout, H>;
 
 impl<'a, L: Lengths, H: HashFn> Model for PartPairs<'a, L, H> {
     ghost use Rattle.std.specs.Prelude.{List, map};
@@ -95,7 +95,7 @@ impl<'a, L: Lengths, H: HashFn> Model for PartPairs<'a, L, H> {
 impl<'a, L: Lengths, H: HashFn> PartPairs<'a, L, H> {
     /// The walk over all slots.
     pub fn new(table: Parts<'a, L, H>) -> Self
-        ensures items { let F = sized_format table.entry H.hash
+        ensures items { let F = parts_format table.entry H.hash
             in result ≡ filter_map (λ c. c) (cells_of F table.entry.parts) }
         ensures lengths { All (HasLengthsOf table.entry.key_len table.entry.value_len) result }
         ensures few { length result ≤ table.entry.parts.entries.slots }

@@ -6,7 +6,7 @@ ghost use Rattle.odht_base.specs.Load.{IsSlotCount};
 ghost use Rattle.odht_raw.specs.Checks.{IsHashAt};
 ghost use Rattle.odht_raw.specs.Homes.{HasHomes};
 ghost use Rattle.odht_raw.specs.Parts.{TableParts, IsZeros};
-ghost use Rattle.odht_raw.specs.Sized.{sized_format};
+ghost use Rattle.odht_raw.specs.DynParts.{parts_format};
 
 use super::{EntryMetadata, Parts};
 use crate::bytes::is_zeros;
@@ -63,7 +63,7 @@ pub(crate) trait TableSlots {
 }
 
 impl<'a, L: Lengths, H: HashFn> TableSlots for Parts<'a, L, H> {
-    ghost format = { λ t. sized_format t H.hash };
+    ghost format = { λ t. parts_format t H.hash };
 
     ghost parts = { λ t. t.parts };
 

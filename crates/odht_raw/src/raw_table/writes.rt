@@ -24,7 +24,7 @@ use crate::bytes::write_slice;
 use crate::error::Error;
 use crate::hash::HashFn;
 use crate::layout::Lengths;
-use crate::memory_layout::hold_bytes;
+use crate::memory_layout::prove_bytes;
 use crate::swisstable_group_query::{Group, REFERENCE_GROUP_SIZE};
 
 /// Writes a pair where the search for its key ended, which comes with the key's tag: the value
@@ -100,8 +100,8 @@ pub(super) fn write_new<L: Lengths, H: HashFn, Q: Group>(
         in let p : Pair = record { key = key.now; value = value.now }
         in IsAddition F entries.old control.old p result entries.new control.new }
 {
-    hold_bytes(key);
-    hold_bytes(value);
+    prove_bytes(key);
+    prove_bytes(value);
     let hash = H::hash(key);
     let Some(slot) = first_free::<Q>(control, hash) else {
         return Err(Error::Full);

@@ -10,7 +10,7 @@ use Rattle.odht_base.specs.Table.{empty}
 use Rattle.odht_header.specs.declared.error.Error.TheVariants.{TooShort, WrongLength}
 use Rattle.odht_header.proofs.examples.Opened.{opened}
 use Rattle.odht_tool_core.specs.GroupNumbers.{groups_to, groups_to_free}
-use Rattle.odht_tool_core.specs.InfoNumbers.{SizedParts, sized_parts, info_refusal, agrees, found_hash, occupied, occupied_in, group_numbers, found_groups, longest_miss, stretch_len, stretch_counts, tallies, largest, nearest_percent, IsHistogram, AreNumbers, IsInfoFailure}
+use Rattle.odht_tool_core.specs.InfoNumbers.{DynParts, file_parts, info_refusal, agrees, found_hash, occupied, occupied_in, group_numbers, found_groups, longest_miss, stretch_len, stretch_counts, tallies, largest, nearest_percent, IsHistogram, AreNumbers, IsInfoFailure}
 use Rattle.odht_tool_core.specs.declared.advice.Advice.TheVariants.{Mixing}
 use Rattle.odht_tool_core.specs.declared.failure.Failure.TheVariants.{Refused, Memory, NoHash}
 use Rattle.odht_tool_core.specs.declared.histogram.Histogram.{Histogram}
@@ -19,8 +19,8 @@ use Rattle.odht_tool_core.specs.declared.shapes.Hash.TheVariants.{Fx, Unhash, Xx
 use Rattle.odht_tool_core.proofs.examples.Shapes.{one_bytes}
 
 -- its parts
-abbrev one_parts : SizedParts
-one_parts = sized_parts one_bytes
+abbrev one_parts : DynParts
+one_parts = file_parts one_bytes
 
 -- ---- opening
 -- any sizes of keys and values are as expected, but the length has to fit them
@@ -37,12 +37,12 @@ pub hashes : (agrees one_parts Fx ≡ false)
     × (agrees one_parts Unhash ≡ true)
     × (found_hash one_parts ≡ Some Unhash)
     × (found_hash (record one_parts { control = set one_parts.control 5 1 }) ≡ None)
-    × (found_hash (sized_parts (image direct_config (empty 16 0))) ≡ Some Fx)
+    × (found_hash (file_parts (image direct_config (empty 16 0))) ≡ Some Fx)
 unfolding opened
 hashes = (refl, refl, refl, refl, refl)
 
 -- an empty table fits all three
-pub all_fit : (agrees (sized_parts (image direct_config (empty 16 0))) Unhash ≡ true) × (agrees (sized_parts (image direct_config (empty 16 0))) Xxh64 ≡ true) × (agrees one_parts Xxh64 ≡ false)
+pub all_fit : (agrees (file_parts (image direct_config (empty 16 0))) Unhash ≡ true) × (agrees (file_parts (image direct_config (empty 16 0))) Xxh64 ≡ true) × (agrees one_parts Xxh64 ≡ false)
 unfolding opened
 all_fit = (refl, refl, refl)
 

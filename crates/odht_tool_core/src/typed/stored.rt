@@ -14,7 +14,7 @@ use odht_base::bytes::ByteArray;
 use std::io::{self, Write};
 
 /// How keys or values are written, of their stored bytes.
-pub trait Stored: Copy {
+pub trait TextWriter: Copy {
     ghost len: { Self → ℕ };
 
     ghost text: { Self → List ℕ → List ℕ };
@@ -30,7 +30,7 @@ pub trait Stored: Copy {
 #[derive(Clone, Copy)]
 pub struct Digits32;
 
-impl Stored for Digits32 {
+impl TextWriter for Digits32 {
     ghost len = { λ way. 4 };
 
     ghost text = { λ way bytes. decimal (from_le_bytes w32 bytes) };
@@ -46,7 +46,7 @@ impl Stored for Digits32 {
 #[derive(Clone, Copy)]
 pub struct Digits64;
 
-impl Stored for Digits64 {
+impl TextWriter for Digits64 {
     ghost len = { λ way. 8 };
 
     ghost text = { λ way bytes. decimal (from_le_bytes w64 bytes) };
@@ -66,7 +66,7 @@ pub struct Typed {
     pub form: Form,
 }
 
-impl Stored for Typed {
+impl TextWriter for Typed {
     ghost len = { λ way. typed_len way.part };
 
     ghost text = { λ way. stored_text way.form way.part };

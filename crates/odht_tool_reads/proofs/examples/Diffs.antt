@@ -8,8 +8,8 @@ use Rattle.odht_base.specs.Bytes.{overwritten_at}
 use Rattle.odht_base.specs.Table.{Pair}
 use Rattle.odht_header.proofs.examples.Apart.{unequal_lists}
 use Rattle.odht_header.proofs.examples.Opened.{opened}
-use Rattle.odht_tool_reads.specs.Diffs.{change_line, diff_line, diff_of, diff_text, pairs_diff, same_text, side_line, side_mark, side_text, told}
-use Rattle.odht_tool_reads.specs.declared.sized.diffs.Side.TheVariants.{First, Second}
+use Rattle.odht_tool_reads.specs.Diffs.{change_line, diff_line, diff_of, diff_text, pairs_diff, same_text, side_line, side_mark, side_text, compared}
+use Rattle.odht_tool_reads.specs.declared.dynamic.diffs.Side.TheVariants.{First, Second}
 use Rattle.odht_tool_core.specs.Endings.Outcome.{writes}
 use Rattle.odht_tool_core.specs.declared.any.AnyShape.TheVariants.{Ready}
 use Rattle.odht_tool_core.specs.declared.forms.Form.TheVariants.{Own}
@@ -69,9 +69,9 @@ pub said_of : (same_text (1 ∷ 2 ∷ []) (1 ∷ 2 ∷ []) ≡ codes "same bytes
     × (same_text (1 ∷ 2 ∷ []) (1 ∷ []) ≡ codes "same pairs, other bytes\n")
 said_of = (refl, refl, refl)
 
-pub ends : (told (1 ∷ []) (1 ∷ []) [] ≡ writes (codes "same bytes\n") Done)
-    × (told (1 ∷ []) (2 ∷ []) [] ≡ writes (codes "same pairs, other bytes\n") Done)
-    × (told (1 ∷ []) (1 ∷ []) (codes "-\ta\t1\n") ≡ writes (codes "-\ta\t1\n") NotDone)
+pub ends : (compared (1 ∷ []) (1 ∷ []) [] ≡ writes (codes "same bytes\n") Done)
+    × (compared (1 ∷ []) (2 ∷ []) [] ≡ writes (codes "same pairs, other bytes\n") Done)
+    × (compared (1 ∷ []) (1 ∷ []) (codes "-\ta\t1\n") ≡ writes (codes "-\ta\t1\n") NotDone)
 ends = (refl, refl, refl)
 
 pub compared : (pairs_diff same same (1 ∷ []) (2 ∷ []) old new ≡ writes (codes "-\ta\t1\n~\tb\t2\t9\n+\td\t4\n") NotDone)

@@ -213,7 +213,7 @@ unknown = (no_refusal, tt)
 -- the second
 pub second : (message : _) → string_bytes message ≡ second_text → lines_of_shape (Own, Own) false one_bytes (Some (codes "5\nx\n6")) (Some (codes "a")) (Some (codes "a5\t7\n")) (Err (Misread message)) DirectU32ToU32
 unfolding digits
-second message told = (
+second message misread = (
   no_refusal,
   record {
     before = codes "5" ∷ [];
@@ -222,7 +222,7 @@ second message told = (
     place = refl;
     fault = no_key;
     more = λ e q. cc;
-    told = told;
+    misread = misread;
     status = Done;
     answered = record { keys = 5 ∷ []; texts = (five, tt); values = Some 7 ∷ []; answers = five_answered; written = refl; status = refl };
   },
@@ -230,22 +230,22 @@ second message told = (
 
 only_second : (old new : Option (List ℕ)) (text : List ℕ) → IsLineFault C line R a_number one_bytes (codes "5" ∷ codes "x" ∷ codes "6" ∷ []) text old new → (text ≡ second_text) × Appends old new (codes "5\t7\n")
 unfolding digits opened
-only_second old new text h = go h.before h.place h.told h.answered
+only_second old new text h = go h.before h.place h.misread h.answered
   where
     go : (before : List (List ℕ)) → codes "5" ∷ codes "x" ∷ codes "6" ∷ [] ≡ before ++ (h.word ∷ h.after) → text ≡ misread_text (Some (length before + 1)) Key a_number h.word
         → IsAnswered C line R one_bytes before old new h.status → (text ≡ second_text) × Appends old new (codes "5\t7\n")
-    go [] place told answered =
+    go [] place misread answered =
         let word : codes "5" ≡ h.word = cc in
         absurd (h.fault 5 (subst (λ w. R w 5) word five))
-    go (a ∷ []) place told answered =
+    go (a ∷ []) place misread answered =
         let word : codes "5" ≡ a = cc in
         let wrong : h.word ≡ codes "x" = cc in
         let keys = of_five answered.keys (subst (λ w. AllZip R (w ∷ []) answered.keys) (sym word) answered.texts) in
         let values : answered.values ≡ Some 7 ∷ [] = of_keys answered.keys answered.values answered.answers ∙ ap (map (value_for C one_item)) keys in (
-          told ∙ ap (misread_text (Some 2) Key a_number) wrong,
+          misread ∙ ap (misread_text (Some 2) Key a_number) wrong,
           subst (Appends old new) (ap (λ ks. answers_by line ks answered.values) keys ∙ ap (answers_by line (5 ∷ [])) values) answered.written,
         )
-    go (a ∷ b ∷ rest) place told answered =
+    go (a ∷ b ∷ rest) place misread answered =
         let word : codes "x" ≡ b = cc in
         absurd (second_key answered.keys (subst (λ w. AllZip R (a ∷ w ∷ rest) answered.keys) (sym word) answered.texts))
       where
@@ -255,24 +255,24 @@ only_second old new text h = go h.before h.place h.told h.answered
         second_key (k ∷ l ∷ ks) t = no_key l t.1.0
 
 -- counted from 0; the answer before it not written; another fault; another text
-told_else : (message : _) (new : Option (List ℕ)) (text : List ℕ) → string_bytes message ≡ text → lines_of_shape (Own, Own) false one_bytes (Some (codes "5\nx\n6")) (Some []) new (Err (Misread message)) DirectU32ToU32
+message_else : (message : _) (new : Option (List ℕ)) (text : List ℕ) → string_bytes message ≡ text → lines_of_shape (Own, Own) false one_bytes (Some (codes "5\nx\n6")) (Some []) new (Err (Misread message)) DirectU32ToU32
     → text ≡ second_text
-told_else message new text e h = sym e ∙ (only_second (Some []) new (string_bytes message) h.1).0
+message_else message new text e h = sym e ∙ (only_second (Some []) new (string_bytes message) h.1).0
 
 pub from_zero : (message : _) (new : Option (List ℕ)) → string_bytes message ≡ codes "standard input, line 1: the key \"x\" is not a number below 2^32"
     → lines_of_shape (Own, Own) false one_bytes (Some (codes "5\nx\n6")) (Some []) new (Err (Misread message)) DirectU32ToU32 → ⊥
-from_zero message new e h = unequal_lists (codes "standard input, line 1: the key \"x\" is not a number below 2^32") second_text refl (told_else message new _ e h)
+from_zero message new e h = unequal_lists (codes "standard input, line 1: the key \"x\" is not a number below 2^32") second_text refl (message_else message new _ e h)
 
 pub unwritten : (message : _) → lines_of_shape (Own, Own) false one_bytes (Some (codes "5\nx\n6")) (Some []) (Some []) (Err (Misread message)) DirectU32ToU32 → ⊥
 unwritten message h = unequal_lists [] (codes "5\t7\n") refl (only_second (Some []) (Some []) (string_bytes message) h.1).1
 
 pub no_tab : (message : _) (new : Option (List ℕ)) → string_bytes message ≡ codes "standard input, line 2: \"x\" has no tab between key and value"
     → lines_of_shape (Own, Own) false one_bytes (Some (codes "5\nx\n6")) (Some []) new (Err (Misread message)) DirectU32ToU32 → ⊥
-no_tab message new e h = unequal_lists (codes "standard input, line 2: \"x\" has no tab between key and value") second_text refl (told_else message new _ e h)
+no_tab message new e h = unequal_lists (codes "standard input, line 2: \"x\" has no tab between key and value") second_text refl (message_else message new _ e h)
 
 pub other_text : (message : _) (new : Option (List ℕ)) → string_bytes message ≡ codes "standard input, line 2: the key \"6\" is not a number below 2^32"
     → lines_of_shape (Own, Own) false one_bytes (Some (codes "5\nx\n6")) (Some []) new (Err (Misread message)) DirectU32ToU32 → ⊥
-other_text message new e h = unequal_lists (codes "standard input, line 2: the key \"6\" is not a number below 2^32") second_text refl (told_else message new _ e h)
+other_text message new e h = unequal_lists (codes "standard input, line 2: the key \"6\" is not a number below 2^32") second_text refl (message_else message new _ e h)
 
 -- ---- other failures
 -- without memory, or where the input cannot be read, what is written are the answers to whole batches: here to none
@@ -372,13 +372,13 @@ shape_missed input old new h = h.1
 -- it is the second and no key, and the answer before it is written; counted from 0
 pub faulty : (message : _) → string_bytes message ≡ second_text → IsLineFailure C line R a_number one_bytes (5 ∷ []) 2 (Some (codes "x\n6")) (Some (codes "a")) (Some (codes "a5\t7\n")) (Misread message)
 unfolding digits
-faulty message told = record {
+faulty message misread = record {
   then = Some (codes "6");
   line = codes "x";
   next = (codes "6", refl, refl);
   fault = no_key;
   more = λ e q. cc;
-  told = told;
+  misread = misread;
   every = true;
   answered = record { values = Some 7 ∷ []; answers = five_answered; written = refl; found = refl };
 }

@@ -11,7 +11,7 @@ ghost use Rattle.odht_tool_core.specs.StoredTexts.{key_text, value_text};
 ghost use Rattle.odht_tool_reads.specs.Diffs.{IsDiffed, diff_of, pairs_diff};
 ghost use Rattle.odht_tool_tables.specs.Wholes.{have_same_sizes, whole_any};
 
-use crate::sized::diffs::diff_lengths;
+use crate::dynamic::diffs::diff_lengths;
 use odht::hash::HashFn;
 use odht::{FxHashFn, UnHashFn, Xxh64HashFn};
 use odht_tool_core::any::AnyShape;

@@ -2,7 +2,7 @@
 ghost use Rattle.std.specs.Prelude.{◌≡◌, ◌≤◌, All, OnOk, length};
 ghost use Rattle.std.specs.Io.KnownBytes.{Appends};
 ghost use Rattle.odht_base.specs.Format.{format_of};
-ghost use Rattle.odht_raw.specs.Sized.{HasLengthsOf};
+ghost use Rattle.odht_raw.specs.DynParts.{HasLengthsOf};
 ghost use Rattle.odht_tool_core.specs.DumpTexts.{dumped};
 ghost use Rattle.odht_tool_core.specs.Endings.{IsDone};
 ghost use Rattle.odht_tool_core.specs.Json.{pair_objects};
@@ -12,18 +12,18 @@ ghost use Rattle.odht_tool_core.specs.Texts.{pair_line, pairs_text};
 ghost use Rattle.odht_tool_reads.specs.Outcomes.{dump_outcome};
 
 use odht::hash::HashFn;
-use odht::raw_table::SizedIter;
+use odht::raw_table::DynIter;
 use odht::{FxHashFn, UnHashFn, Xxh64HashFn};
 use odht_tool_core::any::read_any;
 use odht_tool_core::failure::Failure;
 use odht_tool_core::forms::{Form, Kinds};
 use odht_tool_core::json::pairs::write_pair_object;
 use odht_tool_core::shapes::{Hash, Part};
-use odht_tool_core::sized_slots::write_slots;
+use odht_tool_core::dynamic_slots::write_slots;
 use odht_tool_core::status::{Status, of_output};
 use odht_tool_core::typed::Texts;
-use odht_tool_core::typed::stored::{Digits32, Digits64, Stored, Typed};
-use odht_tool_tables::sized::{lengths_of, open_lengths};
+use odht_tool_core::typed::stored::{Digits32, Digits64, TextWriter, Typed};
+use odht_tool_tables::dynamic::{lengths_of, open_lengths};
 use std::io::{self, Write};
 
 /// `odht dump` of the bytes of a file, with `--slots` and with `--json` or without: writes a line
@@ -64,7 +64,7 @@ fn dump_table<H: HashFn, O: Write>(
 {
     let table = open_lengths::<H>(lengths_of(texts.key, texts.value), bytes)?;
     if is_slots {
-        return of_output(write_slots(texts, is_json, &table.as_sized(), output));
+        return of_output(write_slots(texts, is_json, &table.as_dynamic(), output));
     }
     let pairs = table.iter();
     if is_json {
@@ -76,7 +76,7 @@ fn dump_table<H: HashFn, O: Write>(
 // Writes the object of each pair on a line.
 fn write_objects<H: HashFn, O: Write>(
     texts: Texts,
-    pairs: SizedIter<'_, H>,
+    pairs: DynIter<'_, H>,
     output: &mut O,
 ) -> io::Result<()>
     requires { All (HasLengthsOf (typed_len texts.key) (typed_len texts.value)) pairs }
@@ -92,7 +92,7 @@ fn write_objects<H: HashFn, O: Write>(
 // Writes each pair on a line. What is written of keys is known first.
 fn write_lines<H: HashFn, O: Write>(
     texts: Texts,
-    pairs: SizedIter<'_, H>,
+    pairs: DynIter<'_, H>,
     output: &mut O,
 ) -> io::Result<()>
     requires { All (HasLengthsOf (typed_len texts.key) (typed_len texts.value)) pairs }
@@ -107,10 +107,10 @@ fn write_lines<H: HashFn, O: Write>(
 }
 
 // And then what is written of values.
-fn write_values<K: Stored, H: HashFn, O: Write>(
+fn write_values<K: TextWriter, H: HashFn, O: Write>(
     keys: K,
     texts: Texts,
-    pairs: SizedIter<'_, H>,
+    pairs: DynIter<'_, H>,
     output: &mut O,
 ) -> io::Result<()>
     requires { All (HasLengthsOf (K.len keys) (typed_len texts.value)) pairs }
@@ -124,10 +124,10 @@ fn write_values<K: Stored, H: HashFn, O: Write>(
     }
 }
 
-fn write_pairs<K: Stored, V: Stored, H: HashFn, O: Write>(
+fn write_pairs<K: TextWriter, V: TextWriter, H: HashFn, O: Write>(
     keys: K,
     values: V,
-    pairs: SizedIter<'_, H>,
+    pairs: DynIter<'_, H>,
     output: &mut O,
 ) -> io::Result<()>
     requires { All (HasLengthsOf (K.len keys) (V.len values)) pairs }
@@ -141,7 +141,7 @@ fn write_pairs<K: Stored, V: Stored, H: HashFn, O: Write>(
 }
 
 #[inline(always)]
-fn write_pair_line<K: Stored, V: Stored, O: Write>(
+fn write_pair_line<K: TextWriter, V: TextWriter, O: Write>(
     keys: K,
     values: V,
     key: &[u8],

@@ -9,7 +9,7 @@ ghost use Rattle.odht_tool_tables.specs.Openings.{IsOpenFailure};
 
 use crate::lookups::answer_lines;
 use crate::shapes::for_shape;
-use crate::sized::gets::{get_lines_other, get_words_of};
+use crate::dynamic::gets::{get_lines_dynamic, get_words_dynamic};
 use odht::HashTable;
 use odht::bytes::Borrowed;
 use odht::config::{Coded, Config};
@@ -39,7 +39,7 @@ pub fn get_file_words<O: Write>(
 {
     let found = read_any(bytes, hash, kinds)?;
     let (shape, forms) = found;
-    get_words_of(alloc, shape.types(), forms, is_json, bytes, words, output)
+    get_words_dynamic(alloc, shape.types(), forms, is_json, bytes, words, output)
 }
 
 /// `odht get` of the bytes of a file, for the lines of an input.
@@ -61,7 +61,7 @@ pub fn get_file_lines<I: BufRead, O: Write>(
         AnyShape::Ready(shape) => get_lines_ready(
             alloc, shape, forms, is_json, bytes, input, output,
         ),
-        AnyShape::Other(shape) => get_lines_other(
+        AnyShape::Other(shape) => get_lines_dynamic(
             alloc, shape, forms, is_json, bytes, input, output,
         ),
     }

@@ -2,14 +2,14 @@
 ghost use Rattle.std.specs.Prelude.{◌≡◌, ◌≤◌, All, OnOk, length, [], ◌∷◌, ◌++◌};
 ghost use Rattle.std.specs.Io.KnownBytes.{Appends};
 ghost use Rattle.odht_base.specs.Format.{format_of};
-ghost use Rattle.odht_raw.specs.Sized.{HasLengthsOf};
+ghost use Rattle.odht_raw.specs.DynParts.{HasLengthsOf};
 ghost use Rattle.odht_tool_core.specs.Endings.{IsDone};
 ghost use Rattle.odht_tool_core.specs.ReadyShapes.{typed_len};
 ghost use Rattle.odht_tool_core.specs.StoredTexts.{key_text};
 ghost use Rattle.odht_tool_reads.specs.Listings.{keys_outcome, keys_text, listed};
 
 use odht::hash::HashFn;
-use odht::raw_table::SizedIter;
+use odht::raw_table::DynIter;
 use odht::{FxHashFn, UnHashFn, Xxh64HashFn};
 use odht_tool_core::any::read_any;
 use odht_tool_core::failure::Failure;
@@ -17,8 +17,8 @@ use odht_tool_core::forms::{Form, Kinds};
 use odht_tool_core::shapes::{Hash, Part};
 use odht_tool_core::status::{Status, of_output};
 use odht_tool_core::typed::Texts;
-use odht_tool_core::typed::stored::{Digits32, Digits64, Stored, Typed};
-use odht_tool_tables::sized::{lengths_of, open_lengths};
+use odht_tool_core::typed::stored::{Digits32, Digits64, TextWriter, Typed};
+use odht_tool_tables::dynamic::{lengths_of, open_lengths};
 use std::io::{self, Write};
 
 /// `odht keys` of the bytes of a file: writes each key on a line, in slot order.
@@ -59,7 +59,7 @@ fn list_keys<H: HashFn, O: Write>(
 // Writes the key of each pair on a line. What is written of it is known first.
 fn write_lines<H: HashFn, O: Write>(
     texts: Texts,
-    pairs: SizedIter<'_, H>,
+    pairs: DynIter<'_, H>,
     output: &mut O,
 ) -> io::Result<()>
     requires { All (HasLengthsOf (typed_len texts.key) (typed_len texts.value)) pairs }
@@ -73,9 +73,9 @@ fn write_lines<H: HashFn, O: Write>(
     }
 }
 
-fn write_keys<K: Stored, H: HashFn, O: Write>(
+fn write_keys<K: TextWriter, H: HashFn, O: Write>(
     keys: K,
-    pairs: SizedIter<'_, H>,
+    pairs: DynIter<'_, H>,
     output: &mut O,
 ) -> io::Result<()>
     requires { All (λ p. length p.key ≡ K.len keys) pairs }
@@ -89,7 +89,7 @@ fn write_keys<K: Stored, H: HashFn, O: Write>(
 }
 
 #[inline(always)]
-fn write_key<K: Stored, O: Write>(keys: K, key: &[u8], output: &mut O) -> io::Result<()>
+fn write_key<K: TextWriter, O: Write>(keys: K, key: &[u8], output: &mut O) -> io::Result<()>
     requires { length key.now ≡ K.len keys }
     ensures { OnOk result (Appends (O.contents output.old) (O.contents output.new)
         (K.text keys key.now ++ 10 ∷ [])) }

@@ -19,7 +19,7 @@ use odht_tool_core::forms::Kinds;
 use odht_tool_core::shapes::Hash;
 use odht_tool_core::status::{Status, of_output};
 use odht_tool_core::typed::Texts;
-use odht_tool_tables::sized::lengths_of;
+use odht_tool_tables::dynamic::lengths_of;
 use odht_tool_tables::whole::read_whole;
 use std::alloc::{AllocError, Global};
 use std::io::{self, Write};
@@ -114,7 +114,7 @@ fn write_order<H: HashFn, O: Write>(
         (lines_of texts (map (stored_at F bytes.now) order.now))) }
 {
     let table = DynTable::<H, Borrowed<'_>>::open_unchecked(layout, Borrowed::new(bytes));
-    let slots = table.as_sized();
+    let slots = table.as_dynamic();
     for slot in order {
         texts.write_pair(slots.key(*slot), slots.value(*slot), output)?;
     }

@@ -6,7 +6,7 @@ ghost use Rattle.std.specs.List.{AllZip, list_all};
 ghost use Rattle.odht.specs.Dynamic.{dyn_coding};
 ghost use Rattle.odht_header.specs.Refusals.{view_refusal};
 ghost use Rattle.odht_tool_core.specs.JsonAnswers.{answer_in, no_key_line};
-ghost use Rattle.odht_tool_core.specs.SizedTexts.{IsSizedOf, sized_text};
+ghost use Rattle.odht_tool_core.specs.DynTexts.{IsDynamicOf, dynamic_text};
 ghost use Rattle.odht_tool_reads.specs.Gets.{AreWordsGot, IsWordAnswer, has_value};
 ghost use Rattle.odht_tool_reads.specs.Gets.{word_line, word_lines, words_status};
 ghost use Rattle.odht_tool_reads.specs.GetWords.{IsWordsFailure};
@@ -37,8 +37,8 @@ pub fn answer_words<H: HashFn, O: Write>(
 ) -> Result<Status, Failure>
     ensures { let c = dyn_coding table.now H.hash in let key = style.forms.key
         in view_refusal c.format table.now.store.0.now ≡ None
-        → AreWordsGot c (answer_in style.is_json (sized_text key) (sized_text style.forms.value))
-        (no_key_line style.is_json) (IsSizedOf key) table.now.store.0.now
+        → AreWordsGot c (answer_in style.is_json (dynamic_text key) (dynamic_text style.forms.value))
+        (no_key_line style.is_json) (IsDynamicOf key) table.now.store.0.now
         (map string_bytes words.now) (O.contents output.old) (O.contents output.new) result }
 {
     let answers = answers_of(alloc, table, style.forms.key, words)?;
@@ -53,7 +53,7 @@ fn answers_of<H: HashFn>(
     words: &[String],
 ) -> Result<Vec<Answer>, AllocError>
     ensures { let c = dyn_coding table.now H.hash in IfOk result (λ answers.
-        AllZip (IsWordAnswer c (IsSizedOf form) table.now.store.0.now) (map string_bytes words.now)
+        AllZip (IsWordAnswer c (IsDynamicOf form) table.now.store.0.now) (map string_bytes words.now)
         answers.items) }
 {
     let mut answers = Vec::with_capacity(alloc, words.len())?;
@@ -65,7 +65,7 @@ fn answers_of<H: HashFn>(
 
 // The answer to a word.
 fn answer_of<H: HashFn>(table: &DynTable<H, Borrowed<'_>>, form: Form, word: &[u8]) -> Answer
-    ensures { IsWordAnswer (dyn_coding table.now H.hash) (IsSizedOf form) table.now.store.0.now
+    ensures { IsWordAnswer (dyn_coding table.now H.hash) (IsDynamicOf form) table.now.store.0.now
         word.now result }
 {
     match ShortBytes::parse(word, form) {
@@ -83,8 +83,8 @@ pub fn write_words<O: Write>(
 ) -> Result<Status, Failure>
     requires { length answers.now ≡ length words.now }
     ensures status { IfOk result (λ status. status ≡ words_status answers.now) }
-    ensures written { let f = answer_in style.is_json (sized_text style.forms.key)
-        (sized_text style.forms.value)
+    ensures written { let f = answer_in style.is_json (dynamic_text style.forms.key)
+        (dynamic_text style.forms.value)
         in OnOk result (Appends (O.contents output.old) (O.contents output.new)
         (word_lines f (no_key_line style.is_json) (map string_bytes words.now) answers.now)) }
     ensures err { IfErr result (IsWordsFailure (length words.now)) }
@@ -107,8 +107,8 @@ fn write_lines<O: Write>(
     output: &mut O,
 ) -> io::Result<()>
     requires { length answers.now ≡ length words.now }
-    ensures written { let f = answer_in style.is_json (sized_text style.forms.key)
-        (sized_text style.forms.value)
+    ensures written { let f = answer_in style.is_json (dynamic_text style.forms.key)
+        (dynamic_text style.forms.value)
         in OnOk result (Appends (O.contents output.old) (O.contents output.new)
         (word_lines f (no_key_line style.is_json) (map string_bytes words.now) answers.now)) }
     ensures asked { OnErr result (0 < length words.now) }
@@ -126,8 +126,8 @@ fn write_word<O: Write>(
     style: AnswerStyle<GivenForms>,
     output: &mut O,
 ) -> io::Result<()>
-    ensures { let f = answer_in style.is_json (sized_text style.forms.key)
-        (sized_text style.forms.value)
+    ensures { let f = answer_in style.is_json (dynamic_text style.forms.key)
+        (dynamic_text style.forms.value)
         in OnOk result (Appends (O.contents output.old) (O.contents output.new)
         (word_line f (no_key_line style.is_json) word.now answer.now)) }
 {

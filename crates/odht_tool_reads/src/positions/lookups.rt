@@ -5,7 +5,7 @@ ghost use Rattle.std.specs.List.{AllZip};
 ghost use Rattle.odht.specs.Files.{file_coding};
 ghost use Rattle.odht_header.specs.Refusals.{view_refusal};
 ghost use Rattle.odht_tool_core.specs.JsonAnswers.{answer_in, no_key_line};
-ghost use Rattle.odht_tool_core.specs.SizedTexts.{IsSizedOf, sized_text};
+ghost use Rattle.odht_tool_core.specs.DynTexts.{IsDynamicOf, dynamic_text};
 ghost use Rattle.odht_tool_reads.specs.Gets.{AreWordsGot, IsWordAnswer};
 ghost use Rattle.odht_tool_reads.specs.Positions.{ByPosition, IsTableAt};
 
@@ -36,8 +36,8 @@ pub(super) fn answer_words_at<H: HashFn, S: ReadAt + Drop, O: Write>(
         → view_refusal c.format B ≡ None
         → (let old = O.contents output.old in let new = O.contents output.new
         in ByPosition old new (AreWordsGot c
-        (answer_in style.is_json (sized_text key) (sized_text style.forms.value))
-        (no_key_line style.is_json) (IsSizedOf key) B (map string_bytes words.now) old new) result) }
+        (answer_in style.is_json (dynamic_text key) (dynamic_text style.forms.value))
+        (no_key_line style.is_json) (IsDynamicOf key) B (map string_bytes words.now) old new) result) }
 {
     match answers_at(alloc, table, style.forms.key, words)? {
         Some(answers) => {
@@ -59,7 +59,7 @@ fn answers_at<H: HashFn, S: ReadAt + Drop>(
     ensures given { (B : List ℕ)
         → IsTableAt S.gives H.hash table.now.key_len table.now.value_len table.now B
         → IfOk result (λ o. IfSome o (λ v.
-        AllZip (IsWordAnswer (file_coding table.now H.hash) (IsSizedOf form) B)
+        AllZip (IsWordAnswer (file_coding table.now H.hash) (IsDynamicOf form) B)
         (map string_bytes words.now) v.items)) }
 {
     let mut answers = Vec::with_capacity(alloc, words.len())?;
@@ -80,7 +80,7 @@ fn answer_at<H: HashFn, S: ReadAt + Drop>(
 ) -> Option<Answer>
     ensures { (B : List ℕ)
         → IsTableAt S.gives H.hash table.now.key_len table.now.value_len table.now B
-        → IfSome result (IsWordAnswer (file_coding table.now H.hash) (IsSizedOf form) B word.now) }
+        → IfSome result (IsWordAnswer (file_coding table.now H.hash) (IsDynamicOf form) B word.now) }
 {
     match ShortBytes::parse(word, form) {
         Some(key) => {

@@ -7,7 +7,7 @@ ghost use Rattle.odht_base.specs.Decoded.{header_slots};
 ghost use Rattle.odht_raw.specs.Reads.{IsPlaceFitting};
 ghost use Rattle.odht.specs.Files.{table_place};
 ghost use Rattle.odht_header.specs.Refusals.{control_mismatch};
-ghost use Rattle.odht_tool_core.specs.InfoNumbers.{agrees, least_key_len, sized_format};
+ghost use Rattle.odht_tool_core.specs.InfoNumbers.{agrees, least_key_len, file_format};
 ghost use Rattle.odht_tool_core.specs.ReadyShapes.{hash_of};
 ghost use Rattle.odht_tool_reads.specs.Positions.{IsLeft, IsNamed, IsStartOf, slots_parts};
 
@@ -57,7 +57,7 @@ impl Fitting {
 /// named, or the one that is left when the first groups of slots exclude the others. None where
 /// they leave several, or none, or a read failed, or the table has no items and there is a default
 /// for such a table.
-pub(super) fn found_name<S: ReadAt>(
+pub(super) fn named_or_left_hash<S: ReadAt>(
     source: &S,
     start: &Start,
     hash: Option<Hash>,
@@ -183,7 +183,7 @@ fn is_mismatch(control: &[u8], entries: &[u8], layout: Layout, hash: Hash, slot:
     requires entries { length entries.now ≡ 16 * (layout.key_len + layout.value_len) }
     requires long { least_key_len hash ≤ layout.key_len }
     ensures { let T = slots_parts layout.key_len layout.value_len entries.now control.now
-        in result ≡ is_some (control_mismatch (sized_format T hash) T.entries T.control slot) }
+        in result ≡ is_some (control_mismatch (file_format T hash) T.entries T.control slot) }
 {
     let control = control[slot];
     let at = slot * layout.entry_len();

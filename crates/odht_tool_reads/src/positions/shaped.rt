@@ -4,11 +4,11 @@ ghost use Rattle.std.specs.Prelude.{IfSome, None, OnSome};
 ghost use Rattle.odht_base.specs.Bytes.{bytes_at};
 ghost use Rattle.odht_base.specs.Format.{format_of};
 ghost use Rattle.odht_header.specs.Refusals.{view_refusal};
-ghost use Rattle.odht_raw.specs.Sized.{bytes_coding};
+ghost use Rattle.odht_raw.specs.DynParts.{bytes_coding};
 ghost use Rattle.odht_tool_core.specs.InfoNumbers.{least_key_len};
 ghost use Rattle.odht_tool_core.specs.JsonAnswers.{answer_in, no_key_line};
 ghost use Rattle.odht_tool_core.specs.ReadyShapes.{typed_len};
-ghost use Rattle.odht_tool_core.specs.SizedTexts.{IsSizedOf, sized_text};
+ghost use Rattle.odht_tool_core.specs.DynTexts.{IsDynamicOf, dynamic_text};
 ghost use Rattle.odht_tool_reads.specs.Gets.{AreWordsGot, words_of_types};
 ghost use Rattle.odht_tool_reads.specs.Positions.{ByPosition, IsTableAt};
 
@@ -23,7 +23,7 @@ use odht_tool_core::forms::GivenForms;
 use odht_tool_core::json::answers::AnswerStyle;
 use odht_tool_core::shapes::Hash;
 use odht_tool_core::status::Status;
-use odht_tool_tables::sized::lengths_of;
+use odht_tool_tables::dynamic::lengths_of;
 use std::alloc::Global;
 use std::io::Write;
 
@@ -50,19 +50,19 @@ pub(super) fn words_of<S: ReadAt + Drop, O: Write>(
 {
     let (layout, forms) = (lengths_of(shape.key, shape.value), forms.of(shape));
     match shape.hash {
-        Hash::Fx => words_sized::<FxHashFn, S, O>(
+        Hash::Fx => words_dynamic::<FxHashFn, S, O>(
             alloc, source, at, len, layout, forms, is_json, words, output,
         ),
-        Hash::Unhash => words_sized::<UnHashFn, S, O>(
+        Hash::Unhash => words_dynamic::<UnHashFn, S, O>(
             alloc, source, at, len, layout, forms, is_json, words, output,
         ),
-        Hash::Xxh64 => words_sized::<Xxh64HashFn, S, O>(
+        Hash::Xxh64 => words_dynamic::<Xxh64HashFn, S, O>(
             alloc, source, at, len, layout, forms, is_json, words, output,
         ),
     }
 }
 
-fn words_sized<H: HashFn, S: ReadAt + Drop, O: Write>(
+fn words_dynamic<H: HashFn, S: ReadAt + Drop, O: Write>(
     alloc: Global,
     source: S,
     at: u64,
@@ -78,8 +78,8 @@ fn words_sized<H: HashFn, S: ReadAt + Drop, O: Write>(
         in (B : List ℕ) → S.gives source B → at + len ≤ length B → at + len < 2 ^ 64
         → (let old = O.contents output.old in let new = O.contents output.new
         in ByPosition old new (AreWordsGot c (answer_in is_json
-        (sized_text forms.key) (sized_text forms.value)) (no_key_line is_json)
-        (IsSizedOf forms.key) (bytes_at B at len) (map string_bytes words.now)
+        (dynamic_text forms.key) (dynamic_text forms.value)) (no_key_line is_json)
+        (IsDynamicOf forms.key) (bytes_at B at len) (map string_bytes words.now)
         old new) result) }
 {
     match open_file::<H, S>(layout, source, at, len) {

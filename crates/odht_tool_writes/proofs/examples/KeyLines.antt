@@ -23,9 +23,9 @@ not_all ks h = elim h.1 [
 -- the second line is no key
 pub second : (message : _) → string_bytes message ≡ second_text → is_line_fault Own (Some (codes "5\nx\n6")) (Ready DirectU32ToU32) (Misread message)
 unfolding digits
-second message told = record { before = codes "5" ∷ []; line = codes "x"; after = codes "6" ∷ []; place = refl; keys = (5 ∷ 0 ∷ 0 ∷ 0 ∷ []) ∷ []; earlier = ((five.0, (refl, five.1)), tt); fault = λ k r. omega (arith, r.0.0.1.0); more = λ e q. cc; told = told }
+second message misread = record { before = codes "5" ∷ []; line = codes "x"; after = codes "6" ∷ []; place = refl; keys = (5 ∷ 0 ∷ 0 ∷ 0 ∷ []) ∷ []; earlier = ((five.0, (refl, five.1)), tt); fault = λ k r. omega (arith, r.0.0.1.0); more = λ e q. cc; misread = misread }
 
--- of no lines none is told, and no rule is one of lines
+-- of no lines none is misread, and no rule is one of lines
 pub none : (message : _) → is_line_fault Own (Some []) (Ready DirectU32ToU32) (Misread message) → ⊥
 none message h = omega (arith, ap length h.place ∙ length-append h.before (h.line ∷ h.after))
 

@@ -9,7 +9,7 @@ use crate::inserts::lines::{
     Place, check_lines, insert_into_file, insert_lines, left, makes_no_table, place_of,
 };
 use crate::shapes::for_shape;
-use crate::sized::builds::{build_other, put_other};
+use crate::dynamic::builds::{build_dynamic, put_dynamic};
 use odht::HashTableOwned;
 use odht::config::{Coded, Config};
 use odht::dynamic::Layout;
@@ -24,7 +24,7 @@ use odht_tool_core::new_file::NewFile;
 use odht_tool_core::shapes::Shape;
 use odht_tool_core::status::Status;
 use odht_tool_core::text::Text;
-use odht_tool_tables::sized::check_lengths;
+use odht_tool_tables::dynamic::check_lengths;
 use std::alloc::Global;
 use std::io::{BufRead, Write};
 use std::os::fd::AsFd;
@@ -69,7 +69,7 @@ where
             let forms = LineForms { forms, delimiter };
             build_in(rt, place, shape, forms, options, input, output, errors)
         }
-        AnyShape::Other(shape) => { build_other(rt, place, shape, options, input, output, errors) }
+        AnyShape::Other(shape) => { build_dynamic(rt, place, shape, options, input, output, errors) }
     }
 }
 
@@ -143,7 +143,7 @@ where
     ask_kinds(bytes.as_slice(), shape, options.kinds)?;
     match shape {
         AnyShape::Ready(shape) => put_ready(rt, new, shape, forms, bytes, options, input, errors),
-        AnyShape::Other(shape) => put_other(rt, new, shape, forms, bytes, options, input, errors),
+        AnyShape::Other(shape) => put_dynamic(rt, new, shape, forms, bytes, options, input, errors),
     }
 }
 

@@ -10,7 +10,7 @@ ghost use Rattle.odht_tool_writes.specs.Deletes.{IsDeleteFailure, IsDeletedOf, I
 ghost use Rattle.odht_tool_writes.specs.Deletes.{are_keys, is_fault};
 
 use crate::commands::delete_lines::deleted_by_lines;
-use crate::sized::deletes::delete_lengths;
+use crate::dynamic::deletes::delete_lengths;
 use odht::dynamic::ShortBytes;
 use odht::{FxHashFn, UnHashFn, Xxh64HashFn};
 use odht_tool_core::any::{AnyShape, read_any};
@@ -25,7 +25,7 @@ use odht_tool_core::shapes::Hash;
 use odht_tool_core::status::Status;
 use odht_tool_core::targets::Target;
 use odht_tool_tables::checks::check_any;
-use odht_tool_tables::sized::lengths_of;
+use odht_tool_tables::dynamic::lengths_of;
 use std::alloc::Global;
 use std::io::{BufRead, Write};
 use std::os::fd::AsFd;

@@ -11,7 +11,7 @@ ghost use Rattle.odht_tool_writes.specs.Merges.{IsInputOf, IsLateStop, IsMergeFa
 ghost use Rattle.odht_tool_writes.specs.Merges.{IsMergedFrom, IsMergedOf, IsReadFailure, IsStoppedOf};
 ghost use Rattle.odht_tool_writes.specs.Merges.{IsTableOf, all_pairs, input_pairs, shape_of_other};
 
-use crate::sized::merges::{Input, Unmerged, merge_lengths};
+use crate::dynamic::merges::{Input, MergeFailure, merge_lengths};
 use odht::load::Percent;
 use odht::{FxHashFn, UnHashFn, Xxh64HashFn};
 use odht_tool_core::any::AnyShape;
@@ -116,11 +116,11 @@ fn merged_or_told<R: AllocGlobal + Clock, E: Write>(
     ensures failed { let o = options.now in let Bs = map (λ bytes. bytes.items) others.items
         in let p = new_percent first.items o.percent
         in IfErr result (λ failure. IsMergeFailure first.items Bs o.hash o.kinds o.bound
-        o.duplicates p (Unmerged.New failure)) }
+        o.duplicates p (MergeFailure.New failure)) }
 {
     match merged(rt, first, others, options, errors) {
         Ok(bytes) => Ok(Some(bytes)),
-        Err(Unmerged::New(failure)) => Err(failure),
+        Err(MergeFailure::New(failure)) => Err(failure),
         Err(unmerged) => {
             report(options, unmerged, errors);
             Ok(None)
@@ -135,19 +135,19 @@ fn reported<E: Write>(name: &str, failure: Failure, errors: &mut E) -> Option<Ve
 }
 
 // Reports why the files are not merged. A line that cannot be written is no failure.
-fn report<E: Write>(options: &MergeOptions, unmerged: Unmerged, errors: &mut E) {
+fn report<E: Write>(options: &MergeOptions, unmerged: MergeFailure, errors: &mut E) {
     match unmerged {
-        Unmerged::Failed { at, failure } => {
+        MergeFailure::Failed { at, failure } => {
             let _ = finish(name_of(options, at), Err(failure), errors);
         }
-        Unmerged::OtherSizes { at, found, first } => {
+        MergeFailure::OtherSizes { at, found, first } => {
             let name = name_of(options, at);
             let _ = write_sizes(name, options.first.as_str(), found, first, errors);
         }
-        Unmerged::Twice { at, text } => {
+        MergeFailure::Twice { at, text } => {
             let _ = write_repeated(name_of(options, at), text.as_slice(), errors);
         }
-        Unmerged::New(_) => {}
+        MergeFailure::New(_) => {}
     }
 }
 
@@ -168,7 +168,7 @@ fn merged<R: AllocGlobal + Clock, E: Write>(
     others: Vec<Vec<u8>>,
     options: &MergeOptions,
     errors: &mut E,
-) -> Result<Vec<u8>, Unmerged>
+) -> Result<Vec<u8>, MergeFailure>
     ensures ok { let o = options.now in let Bs = map (λ bytes. bytes.items) others.items
         in let p = new_percent first.items o.percent
         in IfOk result (λ new. IsMergedOf first.items Bs o.hash o.kinds o.bound o.duplicates
@@ -183,7 +183,7 @@ fn merged<R: AllocGlobal + Clock, E: Write>(
             let percent = new_percent(bytes, options.percent);
             merged_for(rt, shape, forms, first, others, percent, options, errors)
         }
-        Err(failure) => Err(Unmerged::Failed { at: 0, failure }),
+        Err(failure) => Err(MergeFailure::Failed { at: 0, failure }),
     }
 }
 
@@ -198,7 +198,7 @@ fn merged_for<R: AllocGlobal + Clock, E: Write>(
     percent: Percent,
     options: &MergeOptions,
     errors: &mut E,
-) -> Result<Vec<u8>, Unmerged>
+) -> Result<Vec<u8>, MergeFailure>
     requires long { HasLongKeys shape }
     requires valid { IsValidBytes (any_format shape) first.items }
     ensures ok { let o = options.now in let Bs = map (λ bytes. bytes.items) others.items
@@ -237,7 +237,7 @@ fn merged_inputs<R: AllocGlobal + Clock, E: Write>(
     percent: Percent,
     options: &MergeOptions,
     errors: &mut E,
-) -> Result<Vec<u8>, Unmerged>
+) -> Result<Vec<u8>, MergeFailure>
     requires { All (IsInputOf (typed_len (any_key shape)) (typed_len (any_value shape))) inputs.now }
     ensures ok { let o = options.now in IfOk result (λ new. IsMerged (any_format shape)
         o.duplicates percent (map input_pairs inputs.now) new.items) }
@@ -269,7 +269,7 @@ fn inputs_of(
     others: Vec<Vec<u8>>,
     hash: Option<Hash>,
     bound: Option<usize>,
-) -> Result<Vec<Input>, Unmerged>
+) -> Result<Vec<Input>, MergeFailure>
     requires long { HasLongKeys shape }
     requires valid { IsValidBytes (any_format shape) first.items }
     ensures inputs { IfOk result (λ inputs. All
@@ -290,11 +290,11 @@ fn inputs_of(
 }
 
 // The first file alone.
-fn first_input(alloc: Global, shape: AnyShape, bytes: Vec<u8>) -> Result<Vec<Input>, Unmerged>
+fn first_input(alloc: Global, shape: AnyShape, bytes: Vec<u8>) -> Result<Vec<Input>, MergeFailure>
     ensures ok { IfOk result
         (λ inputs. inputs.items ≡ (record { shape = shape; bytes = bytes }) ∷ []) }
     ensures len { IfOk result (λ inputs. vec_len inputs ≡ 1) }
-    ensures err { IfErr result (λ u. u ≡ Unmerged.New Memory) }
+    ensures err { IfErr result (λ u. u ≡ MergeFailure.New Memory) }
 {
     let mut inputs = Vec::new(alloc);
     push_input(&mut inputs, shape, bytes)?;
@@ -302,16 +302,16 @@ fn first_input(alloc: Global, shape: AnyShape, bytes: Vec<u8>) -> Result<Vec<Inp
 }
 
 // Adds a file.
-fn push_input(inputs: &mut Vec<Input>, shape: AnyShape, bytes: Vec<u8>) -> Result<(), Unmerged>
+fn push_input(inputs: &mut Vec<Input>, shape: AnyShape, bytes: Vec<u8>) -> Result<(), MergeFailure>
     ensures ok { OnOk result
         (inputs.new.items ≡ inputs.old.items ++ (record { shape = shape; bytes = bytes }) ∷ []) }
     ensures len { OnOk result (vec_len inputs.new ≡ vec_len inputs.old + 1) }
-    ensures err { IfErr result (λ u. u ≡ Unmerged.New Memory) }
+    ensures err { IfErr result (λ u. u ≡ MergeFailure.New Memory) }
 {
     let input = Input { shape, bytes };
     inputs
         .push(input)
-        .map_err(|_| Unmerged::New(Failure::Memory))
+        .map_err(|_| MergeFailure::New(Failure::Memory))
 }
 
 // The shape of a file of this number, which has to be a valid table of the same lengths.
@@ -321,7 +321,7 @@ fn shape_of_other(
     bound: Option<usize>,
     at: usize,
     bytes: &[u8],
-) -> Result<AnyShape, Unmerged>
+) -> Result<AnyShape, MergeFailure>
     ensures value { result ≡ shape_of_other shape hash bound at bytes.now }
     ensures input { IfOk result (λ other.
         IsTableOf (typed_len (any_key shape)) (typed_len (any_value shape)) other bytes.now) }
@@ -333,11 +333,11 @@ fn shape_of_other(
     };
     match read_whole(bytes, hash, kinds, bound) {
         Ok((other, _)) if have_same_sizes(shape, other) => Ok(other),
-        Ok((other, _)) => Err(Unmerged::OtherSizes {
+        Ok((other, _)) => Err(MergeFailure::OtherSizes {
             at,
             found: sizes_of(other),
             first: sizes_of(shape),
         }),
-        Err(failure) => Err(Unmerged::Failed { at, failure }),
+        Err(failure) => Err(MergeFailure::Failed { at, failure }),
     }
 }

@@ -4,7 +4,7 @@ ghost use Rattle.odht_base.specs.Decoded.{header_count};
 ghost use Rattle.odht_base.specs.Format.{format_of};
 ghost use Rattle.odht_base.specs.Insert.{insert_owned};
 ghost use Rattle.odht_base.specs.Valid.{IsValidBytes};
-ghost use Rattle.odht_raw.specs.Sized.{HasLengthsOf};
+ghost use Rattle.odht_raw.specs.DynParts.{HasLengthsOf};
 ghost use Rattle.odht.specs.Dynamic.{dyn_format, dyn_store};
 ghost use Rattle.odht.specs.Lists.{IsAfterInserts};
 ghost use Rattle.odht.specs.Tables.{OfTable};
@@ -16,12 +16,12 @@ ghost use Rattle.odht_tool_core.specs.declared.failure.Failure.TheVariants.{Memo
 ghost use Rattle.odht_tool_writes.specs.Rebuilds.{IsRebuilt, IsRebuiltOf, IsNewFailure};
 ghost use Rattle.odht_tool_writes.specs.Rebuilds.{IsRebuildFailure, new_hash, rehashed};
 
-use crate::sized::builds::make_lengths;
+use crate::dynamic::builds::make_lengths;
 use odht::bytes::Borrowed;
 use odht::dynamic::{DynTable, DynTableOwned, Layout};
 use odht::hash::HashFn;
 use odht::load::Percent;
-use odht::raw_table::SizedIter;
+use odht::raw_table::DynIter;
 use odht::{FxHashFn, UnHashFn, Xxh64HashFn};
 use odht_tool_core::any::{AnyShape, named_any};
 use odht_tool_core::arguments::RebuildOptions;
@@ -204,7 +204,7 @@ fn rebuilt_as<S: HashFn, H: HashFn, R: AllocGlobal + Clock, E: Write>(
 fn insert_pairs<S: HashFn, H: HashFn, R: Clock, E: Write>(
     rt: &R,
     table: &mut DynTableOwned<H>,
-    pairs: SizedIter<'_, S>,
+    pairs: DynIter<'_, S>,
     mut progress: Progress,
     errors: &mut E,
 ) -> Result<(), Failure>

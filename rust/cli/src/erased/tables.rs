@@ -7,6 +7,6 @@ use crate::host::prelude::*;
 pub mod checks;
 pub mod files;
 mod short_inserts;
-pub mod sized;
+pub mod dynamic;
 pub mod trials;
 pub mod whole;

@@ -6,5 +6,5 @@ use crate::host::prelude::*;
 pub mod commands;
 mod inserts;
 mod shapes;
-mod sized;
+mod dynamic;
 mod warnings;

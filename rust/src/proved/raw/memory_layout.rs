@@ -16,13 +16,13 @@ pub use crate::proved::header::header::{
 };
 pub use crate::proved::header::sizes::{bytes_needed, entry_at, layout_for};
 pub use crate::proved::raw::raw_table::{Entries, EntryMetadata};
-pub(crate) use allocation::hold_bytes;
+pub(crate) use allocation::prove_bytes;
 pub use allocation::Allocation;
 pub use check::{
-    check_all, check_all_within, check_parts, check_sized, check_sized_within, DEFAULT_GROUPS,
+    check_all, check_all_within, check_parts, check_dynamic, check_dynamic_within, DEFAULT_GROUPS,
 };
-pub use cuts::{parts_in, sized_parts};
-pub use inserts::{insert_sized, insert_sized_into};
+pub use cuts::{parts_in, dynamic_parts};
+pub use inserts::{insert_dynamic, insert_dynamic_into};
 pub use new_tables::{allocate, clear_entries, init_in_place, init_parts, write_empty};
 pub use opening::{check_by_header, check_opening, check_opening_in, stated_layout};
-pub use prefix::{sized_table_len, table_len};
+pub use prefix::{dynamic_table_len, table_len};

@@ -6,10 +6,10 @@ use crate::proved::tables::error::Error;
 use crate::proved::tables::hash::HashFn;
 pub use crate::proved::tables::layout::Layout;
 use crate::proved::tables::memory_layout::{
-    self, check_by_header, check_opening, check_sized, check_sized_within, sized_parts, Header,
+    self, check_by_header, check_opening, check_dynamic, check_dynamic_within, dynamic_parts, Header,
 };
 pub use crate::proved::tables::raw_table::ShortBytes;
-use crate::proved::tables::raw_table::{SizedIter, SizedSlots, SizedTable};
+use crate::proved::tables::raw_table::{DynIter, DynSlots, DynRawTable};
 use std::marker::PhantomData;
 
 mod file;
@@ -133,7 +133,7 @@ impl<H: HashFn, D: ByteStore> DynTable<H, D> {
         if !self.takes(key) {
             return None;
         }
-        self.as_sized().find(key)
+        self.as_dynamic().find(key)
     }
 
     /// `get`, and how many groups of control bytes it read: on valid bytes those up to the first
@@ -144,7 +144,7 @@ impl<H: HashFn, D: ByteStore> DynTable<H, D> {
         if !self.takes(key) {
             return (None, 0);
         }
-        self.as_sized().find_counted(key)
+        self.as_dynamic().find_counted(key)
     }
 
     // Whether the key has the length of the table's keys.
@@ -161,15 +161,15 @@ impl<H: HashFn, D: ByteStore> DynTable<H, D> {
 
     /// The keys and values of the slots whose own control byte is below 128, in slot order: on
     /// valid bytes each pair of the table once.
-    pub fn iter(&self) -> SizedIter<'_, H> {
-        self.as_sized().iter()
+    pub fn iter(&self) -> DynIter<'_, H> {
+        self.as_dynamic().iter()
     }
 
     /// The slots from slot `from` on whose own control byte is below 128, in slot order, each with
     /// its key and value: on valid bytes each pair in these slots once. Nothing where `from` is
     /// past the last slot.
-    pub fn iter_from(&self, from: usize) -> SizedSlots<'_, H> {
-        self.as_sized().iter_from(from)
+    pub fn iter_from(&self, from: usize) -> DynSlots<'_, H> {
+        self.as_dynamic().iter_from(from)
     }
 
     /// The item count of the header. On valid bytes it is the number of items.
@@ -182,10 +182,10 @@ impl<H: HashFn, D: ByteStore> DynTable<H, D> {
     /// (docs/FORMAT.md, "Valid bytes"). On valid bytes each lookup returns what a map would.
     ///
     /// All of the bytes are checked. It takes no memory, and costs what
-    /// [`crate::proved::tables::memory_layout::check_all`] does. [`crate::proved::tables::memory_layout::check_sized`] returns the
+    /// [`crate::proved::tables::memory_layout::check_all`] does. [`crate::proved::tables::memory_layout::check_dynamic`] returns the
     /// error.
     pub fn verify(&self) -> bool {
-        check_sized::<H>(self.store.bytes(), self.layout).is_ok()
+        check_dynamic::<H>(self.store.bytes(), self.layout).is_ok()
     }
 
     /// Whether the bytes are valid and each home has, among the first `groups` groups of its probe
@@ -194,17 +194,17 @@ impl<H: HashFn, D: ByteStore> DynTable<H, D> {
     /// of hashes that vary keep.
     ///
     /// It is for bytes of strangers: whatever they are it costs no more than
-    /// [`crate::proved::tables::memory_layout::check_all_within`]. [`crate::proved::tables::memory_layout::check_sized_within`]
+    /// [`crate::proved::tables::memory_layout::check_all_within`]. [`crate::proved::tables::memory_layout::check_dynamic_within`]
     /// returns the error.
     pub fn verify_within(&self, groups: usize) -> bool {
-        check_sized_within::<H>(self.store.bytes(), self.layout, groups).is_ok()
+        check_dynamic_within::<H>(self.store.bytes(), self.layout, groups).is_ok()
     }
 
     /// Whether each home has, among the first `groups` groups of its probe order, a control byte
     /// that counts as free. Then no search in valid bytes, of a present or an absent key, reads
     /// more. It reads control bytes alone: for `s` slots at most `s * groups` groups.
     pub fn searches_within(&self, groups: usize) -> bool {
-        self.as_sized().searches_within(groups)
+        self.as_dynamic().searches_within(groups)
     }
 
     /// All bytes. Their header and length fit.
@@ -222,7 +222,7 @@ impl<H: HashFn, D: ByteStore> DynTable<H, D> {
 
     /// The parts of the table. A caller that looks up many keys calls this once.
     #[inline]
-    pub fn as_sized(&self) -> SizedTable<'_, H> {
-        sized_parts::<H>(self.store.bytes(), self.layout)
+    pub fn as_dynamic(&self) -> DynRawTable<'_, H> {
+        dynamic_parts::<H>(self.store.bytes(), self.layout)
     }
 }

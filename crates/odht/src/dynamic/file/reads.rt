@@ -19,7 +19,7 @@ use crate::error::Error;
 use crate::hash::HashFn;
 use crate::layout::Layout;
 use crate::memory_layout::{HEADER_SIZE, Header};
-use crate::raw_table::{ReadPlace, Search, ShortBytes, SizedTable, search_read};
+use crate::raw_table::{ReadPlace, Search, ShortBytes, DynRawTable, search_read};
 use crate::read_at::{ReadAt, ReadError, read_exact_at};
 
 // How many slots are read to check the first ten: a group.
@@ -156,7 +156,7 @@ fn check_first<H: HashFn, S: ReadAt>(source: &S, place: &ReadPlace) -> Result<()
         Ok(()) => {}
         Err(error) => return Err(FileError::Read(error)),
     }
-    let first = SizedTable::<H>::new(&control, &*entries, FIRST_SLOTS, place.layout);
+    let first = DynRawTable::<H>::new(&control, &*entries, FIRST_SLOTS, place.layout);
     match first.sanity_check_hashes(SLOTS_TO_CHECK) {
         Ok(()) => Ok(()),
         Err(rejected) => Err(FileError::Table(DynError::Rejected(rejected))),

@@ -4,7 +4,7 @@ ghost use Rattle.odht_base.specs.Format.{format_of};
 ghost use Rattle.odht_base.specs.Load.{factor_of, IsPercent};
 ghost use Rattle.odht_base.specs.Valid.{IsValidBytes};
 ghost use Rattle.odht_header.specs.Refusals.{check_refusal};
-ghost use Rattle.odht_raw.specs.Sized.{bytes_coding};
+ghost use Rattle.odht_raw.specs.DynParts.{bytes_coding};
 ghost use Rattle.odht.specs.Inserts.{IsFresh};
 ghost use Rattle.odht.specs.NewTables.{FailsAsNew, FailsBy};
 
@@ -12,7 +12,7 @@ use crate::error::Error;
 use crate::hash::HashFn;
 use crate::layout::Layout;
 use crate::load::Factor;
-use crate::memory_layout::{check_opening, check_sized, init_parts};
+use crate::memory_layout::{check_opening, check_dynamic, init_parts};
 use std::alloc::Global;
 
 // The bytes of an empty table of these lengths with the slots for so many items.
@@ -55,7 +55,7 @@ pub(super) fn copied<H: HashFn>(
     if let Err(refused) = check_opening::<H>(raw_bytes, layout) {
         return Err(refused);
     }
-    if let Err(refused) = check_sized::<H>(raw_bytes, layout) {
+    if let Err(refused) = check_dynamic::<H>(raw_bytes, layout) {
         return Err(refused);
     }
     let Ok(bytes) = raw_bytes.to_vec(alloc) else {

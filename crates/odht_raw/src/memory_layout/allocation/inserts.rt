@@ -7,7 +7,7 @@ ghost use Rattle.odht_base.specs.Writes.{with_count};
 ghost use Rattle.odht_raw.specs.Frame.{IsAccepted, IsFramed};
 ghost use Rattle.odht_raw.specs.Runs.{IsListRun, IsOnePlaced};
 
-use super::{Allocation, hold_bytes};
+use super::{Allocation, prove_bytes};
 use crate::bytes::{ByteStoreMut, write_slice};
 use crate::config::{Coded, Config};
 use crate::error::Error;
@@ -65,7 +65,7 @@ impl<C: Config, M: ByteStoreMut> Allocation<C, M> {
     {
         let store = &mut self.store;
         let bytes = store.bytes_mut();
-        hold_bytes(bytes);
+        prove_bytes(bytes);
         let header = Header::of(bytes);
         let count = header.item_count();
         let slots = header.slot_count();

@@ -4,7 +4,7 @@ use Rattle.std.specs.Prelude.{OnOk}
 use Rattle.std.proofs.KnownBytes.{Appends-trans}
 use Rattle.odht_base.specs.Decoded.{header_count, header_slots}
 use Rattle.odht_tool_core.specs.Finds.{sizes_row, counts_row, words_row, fits_word}
-use Rattle.odht_tool_core.specs.InfoNumbers.{sized_parts}
+use Rattle.odht_tool_core.specs.InfoNumbers.{file_parts}
 use Rattle.odht_tool_core.proofs.InfoLines.{then_appends}
 use Rattle.odht_tool_core.proofs.find.write_columns.Goals as goal
 
@@ -21,5 +21,5 @@ returns g c =
     let b = counts_row (header_count B) (header_slots B) (header_count B * 100 / max (header_slots B) 1) in
     let fits = c.fits_word.ensures ∙ ap fits_word c.requires.parts in
     let words = subst (λ w. OnOk c.write_words.result (Appends p2 new (words_row w c.args.checked.now))) fits c.write_words.ensures in
-    then_appends c.write_words.result old p2 new (a ++ b) (words_row (fits_word (sized_parts B)) c.args.checked.now)
+    then_appends c.write_words.result old p2 new (a ++ b) (words_row (fits_word (file_parts B)) c.args.checked.now)
     (Appends-trans old p1 p2 a b c.in_ok-write_sizes.ensures c.in_ok-write_counts.ensures) words

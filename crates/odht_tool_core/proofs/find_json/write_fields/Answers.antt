@@ -3,7 +3,7 @@ use Rattle.std.specs.Io.KnownBytes.{Appends}
 use Rattle.std.specs.Prelude.{codes}
 use Rattle.odht_tool_core.specs.FindJson.{size_fields, counts_of, table_object, word_fields}
 use Rattle.odht_tool_core.specs.Finds.{fits_word}
-use Rattle.odht_tool_core.specs.InfoNumbers.{sized_parts}
+use Rattle.odht_tool_core.specs.InfoNumbers.{file_parts}
 use Rattle.odht_tool_core.specs.Json.{more_fields, number_field}
 use Rattle.odht_tool_core.proofs.JsonFields.{and_fields, whole_object}
 use Rattle.odht_tool_core.proofs.find_json.write_fields.Goals as goal
@@ -21,7 +21,7 @@ returns g c =
     let p4 = o c.write_words.new.output in
     let a = size_fields (length B) (slice_index B 5) (slice_index B 6) in
     let b = counts_of B in
-    let d = word_fields (fits_word (sized_parts B)) c.args.checked.now in
+    let d = word_fields (fits_word (file_parts B)) c.args.checked.now in
     let fits = c.fits_word.ensures ∙ ap fits_word c.requires.parts in
     let words = subst (λ w. Appends p3 p4 (more_fields (word_fields w c.args.checked.now))) fits c.in_ok-write_words.ensures in
     let q3 = and_fields p2 p3 p4 b d c.in_ok-write_counts.ensures words in

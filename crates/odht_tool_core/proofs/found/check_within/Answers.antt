@@ -12,8 +12,8 @@ returns-in_err-check_opening g c =
     let refusal : c.from_residual.result ≡ Err x = search rules in
     refusal ∙ sym (ap checked (check_refusal-view F c.args.bytes.now (Some 128) x (Err-checked _ x (sym c.in_err-check_opening.was ∙ c.check_opening.ensures))))
 
-pub check_sized_within-requires-clause-accepted : goal.check_sized_within-requires-clause-accepted
-check_sized_within-requires-clause-accepted g c =
+pub check_dynamic_within-requires-clause-accepted : goal.check_dynamic_within-requires-clause-accepted
+check_dynamic_within-requires-clause-accepted g c =
     let F : Format = format_of c.args.layout.key_len c.args.layout.value_len g.H.HashFn.hash in
     view_refusal-accepted F c.args.bytes.now (Ok-checked _ (sym c.in_ok-check_opening.was ∙ c.check_opening.ensures))
 
@@ -21,4 +21,4 @@ pub returns : goal.returns
 returns g c =
     let F : Format = format_of c.args.layout.key_len c.args.layout.value_len g.H.HashFn.hash in
     let passed = Ok-checked _ (sym c.in_ok-check_opening.was ∙ c.check_opening.ensures) in
-    c.check_sized_within.ensures.first ∙ sym (ap checked (check_refusal-late F c.args.bytes.now (Some 128) passed))
+    c.check_dynamic_within.ensures.first ∙ sym (ap checked (check_refusal-late F c.args.bytes.now (Some 128) passed))

@@ -19,7 +19,7 @@ returns-in_ok-answer_keys-in-Ok-NoKey-clause-err g c =
       next = line.1;
       fault = line.2;
       more = line.3.0;
-      told = c.in_ok-message-in-Ok-NoKey.ensures ∙ ap (misread_text (Some c.args.number) Key (g.T.Key.Text.wants f)) c.as_slice.ensures.value;
+      misread = c.in_ok-message-in-Ok-NoKey.ensures ∙ ap (misread_text (Some c.args.number) Key (g.T.Key.Text.wants f)) c.as_slice.ensures.value;
       every = c.in_ok-answer_keys-in-Ok-NoKey.field-0;
       answered = c.in_ok-answer_keys-in-Ok-NoKey.ensures.ok;
     }

@@ -6,7 +6,7 @@ use Rattle.odht_base.specs.Image.{controls}
 use Rattle.odht_base.specs.Insert.{insert_owned}
 use Rattle.odht_base.specs.Table.{Pair, slot_count}
 use Rattle.odht_base.specs.Valid.{IsImage}
-use Rattle.odht_raw.specs.Sized.{HasLengthsOf}
+use Rattle.odht_raw.specs.DynParts.{HasLengthsOf}
 use Rattle.odht.specs.Dynamic.{DynStore, dyn_format, dyn_store}
 use Rattle.odht.specs.DynOwned.{IsDynInsertOwned}
 use Rattle.odht_tool_core.specs.GroupNumbers.{capped, groups_to_free}

@@ -5,7 +5,7 @@
 /// Calls a function for the hash function of a layout, which is its type parameter, with the
 /// lengths of the layout in front of these arguments. BAD_LAYOUT where there is no such hash
 /// function, or it needs longer keys.
-macro_rules! by_hash {
+macro_rules! with_hash {
     ($layout:ident, $function:ident($($argument:expr),*)) => {{
         let lengths = crate::proved::tables::dynamic::Layout {
             key_len: $layout.key_len,
@@ -23,7 +23,7 @@ macro_rules! by_hash {
     }};
 }
 
-pub(crate) use by_hash;
+pub(crate) use with_hash;
 
 pub mod build;
 pub mod lists;

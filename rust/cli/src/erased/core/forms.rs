@@ -108,7 +108,7 @@ impl Form {
     }
 
     /// The form of what is of that type.
-    pub(crate) fn inner(self) -> Form {
+    pub(crate) fn part_form(self) -> Form {
         match self {
             Form::OfNumber(number) => number.form(),
             Form::OfText(_) => Form::Plain,

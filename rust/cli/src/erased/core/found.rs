@@ -10,7 +10,7 @@ use crate::proved::base::hash::{FxHashFn, HashFn, UnHashFn, Xxh64HashFn};
 use crate::proved::header::error::Error;
 use crate::proved::header::header::Header;
 use crate::proved::header::layout::Layout;
-use crate::proved::raw::memory_layout::{check_opening, check_sized_within, DEFAULT_GROUPS};
+use crate::proved::raw::memory_layout::{check_opening, check_dynamic_within, DEFAULT_GROUPS};
 
 // The first shape of these sizes with whose hash function all control bytes agree.
 fn fitting_shape(key_size: u8, value_size: u8, table: &StoredTable<'_>) -> Option<Shape> {
@@ -96,7 +96,7 @@ fn is_valid<H: HashFn>(bytes: &[u8]) -> bool {
 // bound of searches among them.
 fn check_within<H: HashFn>(bytes: &[u8], layout: Layout) -> Result<(), Error> {
     check_opening::<H>(bytes, layout)?;
-    check_sized_within::<H>(bytes, layout, DEFAULT_GROUPS)
+    check_dynamic_within::<H>(bytes, layout, DEFAULT_GROUPS)
 }
 
 // The parts of a table whose header and length fit, and whose header counts items.

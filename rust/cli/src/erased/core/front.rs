@@ -4,7 +4,7 @@
 use crate::erased::core::failure::Failure;
 use crate::host::prelude::*;
 use crate::proved::header::error::Error;
-use crate::proved::raw::memory_layout::{sized_table_len, stated_layout};
+use crate::proved::raw::memory_layout::{dynamic_table_len, stated_layout};
 
 /// The table that begins at this byte of a file and ends where its header says; bytes after it are
 /// not looked at. `PastEnd` where the file ends before that byte. Where opening by the header
@@ -34,6 +34,6 @@ pub fn begins_table(bytes: &[u8]) -> bool {
 /// `WrongLength` only where there are fewer bytes than the header says.
 pub fn front_of(bytes: &[u8]) -> Result<&[u8], Error> {
     let layout = stated_layout(bytes)?;
-    let len = sized_table_len(bytes, layout)?;
+    let len = dynamic_table_len(bytes, layout)?;
     Ok(&bytes[..len])
 }

@@ -11,7 +11,7 @@ use crate::proved::base::swisstable_group_query::is_empty_or_deleted;
 use crate::proved::header::error::Error;
 use crate::proved::header::layout::Layout;
 use crate::proved::raw::memory_layout::{self, check_by_header, stated_layout};
-use crate::proved::raw::raw_table::{tag_of, SizedTable};
+use crate::proved::raw::raw_table::{tag_of, DynRawTable};
 use crate::shim::{AllocError, Global};
 
 /// A search of more groups is long. In tables of up to 2^24 slots of random keys at 87 percent,
@@ -23,7 +23,7 @@ const LONG_SEARCH: usize = 24;
 ///
 /// `FxHashFn` stands for any hash function here, since it takes keys of every length.
 pub struct StoredTable<'a> {
-    table: SizedTable<'a, FxHashFn>,
+    table: DynRawTable<'a, FxHashFn>,
 }
 
 impl<'a> StoredTable<'a> {
@@ -32,7 +32,7 @@ impl<'a> StoredTable<'a> {
     pub fn open(bytes: &'a [u8]) -> Result<Self, Error> {
         let layout = stated_layout(bytes)?;
         check_by_header(bytes, layout)?;
-        Ok(StoredTable { table: memory_layout::sized_parts(bytes, layout) })
+        Ok(StoredTable { table: memory_layout::dynamic_parts(bytes, layout) })
     }
 
     /// The hash function that all control bytes agree with, if there is one.

@@ -23,7 +23,7 @@ mod names;
 mod shaped;
 mod source;
 
-use names::found_name;
+use names::named_or_left_hash;
 use shaped::words_of;
 pub use source::FileSource;
 
@@ -122,7 +122,7 @@ fn get_table_words<S: ReadAt, O: Write>(
     words: &[String],
     output: &mut O,
 ) -> Result<Option<Status>, Failure> {
-    let Some(name) = found_name(&source, start, hash, kinds.hash) else {
+    let Some(name) = named_or_left_hash(&source, start, hash, kinds.hash) else {
         return Ok(None);
     };
     let Ok(found) = read_any(&start.header, name, kinds) else {

@@ -3,7 +3,7 @@
 
 use crate::erased::core::any::AnyShape;
 use crate::erased::core::shapes::Hash;
-use crate::erased::tables::sized::{check_lengths, lengths_of};
+use crate::erased::tables::dynamic::{check_lengths, lengths_of};
 use crate::host::prelude::*;
 use crate::proved::tables::error::Error;
 use crate::proved::tables::{FxHashFn, UnHashFn, Xxh64HashFn};

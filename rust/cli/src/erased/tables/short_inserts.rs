@@ -6,13 +6,13 @@ use crate::erased::core::stored::StoredTable;
 use crate::host::prelude::*;
 use crate::proved::tables::dynamic::DynTableOwned;
 use crate::proved::tables::hash::HashFn;
-use crate::proved::tables::raw_table::SizedIter;
+use crate::proved::tables::raw_table::DynIter;
 
 /// Inserts the pairs in turn, up to the first whose search would be long. Returns whether there is
 /// none.
 pub(crate) fn insert_short<S: HashFn, H: HashFn>(
     table: &mut DynTableOwned<H>,
-    pairs: SizedIter<'_, S>,
+    pairs: DynIter<'_, S>,
 ) -> Result<bool, Failure> {
     for (key, value) in pairs {
         if is_long_from(table.raw_bytes(), H::hash(key)) {

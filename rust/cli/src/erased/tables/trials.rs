@@ -16,7 +16,7 @@ use crate::proved::tables::error::Error;
 use crate::proved::tables::hash::HashFn;
 use crate::proved::tables::load::Percent;
 use crate::proved::tables::memory_layout::DEFAULT_GROUPS;
-use crate::proved::tables::raw_table::SizedIter;
+use crate::proved::tables::raw_table::DynIter;
 use crate::proved::tables::{FxHashFn, UnHashFn, Xxh64HashFn};
 use crate::shim::Global;
 
@@ -151,7 +151,7 @@ fn is_rebuilt_short<H: HashFn>(
 }
 
 // How many pairs a walk gives.
-fn count_of<H: HashFn>(pairs: SizedIter<'_, H>) -> usize {
+fn count_of<H: HashFn>(pairs: DynIter<'_, H>) -> usize {
     let mut count = 0_usize;
     for _pair in pairs {
         count += 1;

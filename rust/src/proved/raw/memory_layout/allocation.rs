@@ -97,4 +97,4 @@ impl<C: Config, M: ByteStore> Allocation<C, M> {
 
 // Does nothing: its contract gives the proof that each item of a slice of bytes is below 256.
 #[inline(always)]
-pub(crate) fn hold_bytes(bytes: &[u8]) {}
+pub(crate) fn prove_bytes(bytes: &[u8]) {}

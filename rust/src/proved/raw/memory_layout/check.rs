@@ -1,7 +1,7 @@
 // Made by `make rust` of crates/odht_raw/src/memory_layout/check.rt.
 //! The whole check of the bytes of a table. The lengths of keys and values are types or numbers.
 
-use super::allocation::{hold_bytes, Allocation};
+use super::allocation::{prove_bytes, Allocation};
 use super::{parts_in, Header};
 use crate::proved::raw::bytes::{Borrowed, ByteStore};
 use crate::proved::raw::config::Config;
@@ -73,11 +73,11 @@ impl<C: Config, M: ByteStore> Allocation<C, M> {
 /// [`Allocation::check_rest`] does. Ok exactly for valid bytes.
 ///
 /// It reads what that reads.
-pub fn check_sized<H: HashFn>(bytes: &[u8], layout: Layout) -> Result<(), Error> {
+pub fn check_dynamic<H: HashFn>(bytes: &[u8], layout: Layout) -> Result<(), Error> {
     check_parts::<Layout, H>(bytes, layout, None)
 }
 
-/// `check_sized` with a bound of searches, as in [`check_all_within`]: after the maximum item
+/// `check_dynamic` with a bound of searches, as in [`check_all_within`]: after the maximum item
 /// count, and before any search for a key, `SearchTooLong` of the least home from which a search
 /// may read more than `groups` groups. Ok exactly for valid bytes in which each home has, among
 /// the first `groups` groups of its probe order, a control byte that counts as free. Then no
@@ -85,7 +85,7 @@ pub fn check_sized<H: HashFn>(bytes: &[u8], layout: Layout) -> Result<(), Error>
 ///
 /// For untrusted bytes: whatever they are, for `s` slots it reads at most `2 * s * groups`
 /// groups and makes at most `16 * s * groups` comparisons of keys. It allocates nothing.
-pub fn check_sized_within<H: HashFn>(
+pub fn check_dynamic_within<H: HashFn>(
     bytes: &[u8],
     layout: Layout,
     groups: usize,
@@ -100,7 +100,7 @@ pub fn check_parts<L: Lengths, H: HashFn>(
     lengths: L,
     groups: Option<usize>,
 ) -> Result<(), Error> {
-    hold_bytes(bytes);
+    prove_bytes(bytes);
     let table = parts_in::<L, H>(bytes, lengths);
     check_late(&Header::of(bytes), &table, groups)
 }

@@ -4,7 +4,7 @@
 use super::{Header, HEADER_SIZE};
 use crate::proved::raw::hash::HashFn;
 use crate::proved::raw::layout::{Layout, Lengths};
-use crate::proved::raw::raw_table::{Parts, SizedTable, Stored};
+use crate::proved::raw::raw_table::{Parts, DynRawTable, Stored};
 
 /// The parts of bytes whose header and length fit. Of the bytes of a valid table they are its
 /// parts.
@@ -44,6 +44,6 @@ pub(super) fn cut<L: Lengths, H: HashFn>(
 
 /// [`parts_in`] where the lengths are numbers.
 #[inline(always)]
-pub fn sized_parts<H: HashFn>(bytes: &[u8], layout: Layout) -> SizedTable<'_, H> {
+pub fn dynamic_parts<H: HashFn>(bytes: &[u8], layout: Layout) -> DynRawTable<'_, H> {
     parts_in::<Layout, H>(bytes, layout)
 }

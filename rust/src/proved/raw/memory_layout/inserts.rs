@@ -2,7 +2,7 @@
 //! Inserts into the bytes of a table: the parts are written, and last the item count. The lengths
 //! of keys and values are types or numbers.
 
-use super::allocation::{hold_bytes, write_count};
+use super::allocation::{prove_bytes, write_count};
 use super::cuts::cut;
 use super::{Header, HEADER_SIZE};
 use crate::proved::raw::bytes::ByteArray;
@@ -29,9 +29,9 @@ fn insert_in<L: Lengths, H: HashFn>(
     value: &[u8],
     end: (Search, u8),
 ) -> bool {
-    hold_bytes(bytes);
-    hold_bytes(key);
-    hold_bytes(value);
+    prove_bytes(bytes);
+    prove_bytes(key);
+    prove_bytes(value);
     let at = HEADER_SIZE + slots * lengths.entry_len();
     let (table, control) = split_at_mut!(bytes, at, "slots ≡ header_slots bytes.old");
     let (front, entries) = split_at_mut!(table, HEADER_SIZE, "slots ≡ header_slots bytes.old");
@@ -53,7 +53,7 @@ fn insert_in<L: Lengths, H: HashFn>(
 /// nothing changed, where the search does not find the key and the header's item count is its
 /// maximum or more, or where it finds neither the key nor a free slot. A new entry raises the item
 /// count by one. The key is hashed once.
-pub fn insert_sized<H: HashFn>(
+pub fn insert_dynamic<H: HashFn>(
     bytes: &mut [u8],
     layout: Layout,
     key: &[u8],
@@ -71,10 +71,10 @@ pub fn insert_sized<H: HashFn>(
     }
 }
 
-/// `insert_sized`, which writes a former value to `former`. Returns whether there is one. Where
+/// `insert_dynamic`, which writes a former value to `former`. Returns whether there is one. Where
 /// there is none, and on an error, `former` is unchanged.
 #[inline(always)]
-pub fn insert_sized_into<H: HashFn>(
+pub fn insert_dynamic_into<H: HashFn>(
     bytes: &mut [u8],
     layout: Layout,
     key: &[u8],
@@ -94,7 +94,7 @@ pub fn insert_sized_into<H: HashFn>(
     }
 }
 
-/// `insert_sized` of a key and a value of a configuration, by a group search of the caller's
+/// `insert_dynamic` of a key and a value of a configuration, by a group search of the caller's
 /// choice, in bytes of so many slots.
 #[inline(always)]
 pub(crate) fn insert_typed<C: Config, Q: Group>(

@@ -16,12 +16,12 @@ use crate::proved::raw::layout::Layout;
 /// no other number of bytes at the front would. Constant time.
 #[inline]
 pub fn table_len<C: Config>(bytes: &[u8]) -> Result<usize, Error> {
-    sized_table_len(bytes, Layout::of::<C>())
+    dynamic_table_len(bytes, Layout::of::<C>())
 }
 
 /// [`table_len`] of a table of these lengths. The hash function does not matter.
 #[inline]
-pub fn sized_table_len(bytes: &[u8], layout: Layout) -> Result<usize, Error> {
+pub fn dynamic_table_len(bytes: &[u8], layout: Layout) -> Result<usize, Error> {
     let found = bytes.len();
     if found < HEADER_SIZE {
         return Err(Error::TooShort { found });

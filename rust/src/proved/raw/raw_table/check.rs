@@ -43,7 +43,7 @@ pub(crate) fn check_slots<S: TableSlots>(table: &S, searches: bool) -> Result<Sl
         if !are_free(table, start, free) {
             check_in_order(table, start, size)?;
         }
-        summary = take_others(table, start, size, others, searches, summary)?;
+        summary = check_occupied(table, start, size, others, searches, summary)?;
         start += size;
     }
     Ok(summary)
@@ -65,7 +65,7 @@ fn check_in_order<S: TableSlots>(table: &S, start: usize, size: usize) -> Result
 // What is known after a span of `size` slots from `start` on, of which the free ones have no
 // error, from what is known before it. The others are taken in their order.
 #[inline(always)]
-fn take_others<S: TableSlots>(
+fn check_occupied<S: TableSlots>(
     table: &S,
     start: usize,
     size: usize,
@@ -136,14 +136,14 @@ fn is_reached<S: TableSlots>(table: &S, slot: usize, hash: u32) -> bool {
             return true;
         }
     }
-    is_reached_late(table, slot, hash, group)
+    is_reached_by_groups(table, slot, hash, group)
 }
 
 // The same, group by group. The first group is at hand.
 //
 // Inlined, it would take registers from the look at the first group.
 #[inline(never)]
-fn is_reached_late<S: TableSlots>(table: &S, slot: usize, hash: u32, first: GroupQuery) -> bool {
+fn is_reached_by_groups<S: TableSlots>(table: &S, slot: usize, hash: u32, first: GroupQuery) -> bool {
     let slots = table.slots();
     let mask = slots - 1;
     let tag = tag_of(hash);
@@ -153,9 +153,9 @@ fn is_reached_late<S: TableSlots>(table: &S, slot: usize, hash: u32, first: Grou
         let start = probe.start();
         let before = slot.wrapping_sub(start) & mask;
         if before < REFERENCE_GROUP_SIZE {
-            return are_passed(table, group, start, before, slot);
+            return hold_other_keys(table, group, start, before, slot);
         }
-        if !are_passed(table, group, start, REFERENCE_GROUP_SIZE, slot) {
+        if !hold_other_keys(table, group, start, REFERENCE_GROUP_SIZE, slot) {
             return false;
         }
         probe.advance();
@@ -166,7 +166,7 @@ fn is_reached_late<S: TableSlots>(table: &S, slot: usize, hash: u32, first: Grou
 // Whether each of the `count` slots from `start` on, modulo the slot count, is occupied by another
 // key than that of `slot`. The group is that of these slots, searched for the tag of this key.
 #[inline]
-fn are_passed<S: TableSlots>(
+fn hold_other_keys<S: TableSlots>(
     table: &S,
     group: GroupQuery,
     start: usize,

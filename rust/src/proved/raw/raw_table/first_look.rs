@@ -2,7 +2,7 @@
 //! The first look of a search. To look up many keys, take the first looks of several keys before
 //! the first search ends: then their memory accesses overlap.
 
-use super::group_search::late_search;
+use super::group_search::search_next_groups;
 use super::{tag_of, Parts, RawTable};
 use crate::proved::raw::bytes::ByteArray;
 use crate::proved::raw::hash::HashFn;
@@ -25,7 +25,7 @@ impl<'a, L: Lengths, H: HashFn> Parts<'a, L, H> {
         let hash = H::hash(key);
         let home = hash as usize & mask;
         let control = self.controls();
-        let bytes = &index!(control[home..home + REFERENCE_GROUP_SIZE], "IsSized H.MIN_LEN");
+        let bytes = &index!(control[home..home + REFERENCE_GROUP_SIZE], "AreWhole H.MIN_LEN");
         FirstLook { hash, group: lanes::GroupQuery::of(bytes, tag_of(hash)) }
     }
 
@@ -48,7 +48,7 @@ impl<'a, L: Lengths, H: HashFn> Parts<'a, L, H> {
             return None;
         }
         let stored = self.stored();
-        self.value_at(late_search::<L, H>(self.controls(), &stored, key, hash))
+        self.value_at(search_next_groups::<L, H>(self.controls(), &stored, key, hash))
     }
 }
 

@@ -71,7 +71,7 @@ fn search_from<L: Lengths, H: HashFn, Q: Group>(
     loop {
         let start = probe.index();
         let bytes = scan.group(start);
-        if let Some(end) = look_at_group::<L, H, Q>(bytes, start, stored, key, tag) {
+        if let Some(end) = search_group::<L, H, Q>(bytes, start, stored, key, tag) {
             return end;
         }
         if probe.is_last() {
@@ -84,7 +84,7 @@ fn search_from<L: Lengths, H: HashFn, Q: Group>(
 /// The rest of a search whose first group neither holds the key nor has a free byte. It is not
 /// inlined: where a first look ends the search, this is not called.
 #[inline(never)]
-pub(super) fn late_search<L: Lengths, H: HashFn>(
+pub(super) fn search_next_groups<L: Lengths, H: HashFn>(
     control: &[EntryMetadata],
     stored: &Stored<'_, L>,
     key: &[u8],
@@ -104,7 +104,7 @@ pub(super) fn late_search<L: Lengths, H: HashFn>(
 // Searches the sixteen slots from `start` on, whose control bytes are `bytes`, in pieces of the
 // group search's size.
 #[inline(always)]
-fn look_at_group<L: Lengths, H: HashFn, Q: Group>(
+fn search_group<L: Lengths, H: HashFn, Q: Group>(
     bytes: &[EntryMetadata],
     start: usize,
     stored: &Stored<'_, L>,
@@ -114,11 +114,11 @@ fn look_at_group<L: Lengths, H: HashFn, Q: Group>(
     // One piece is told apart here, not by a loop of one turn: so the compiler knows early that a
     // match ends the search.
     if Q::SIZE == REFERENCE_GROUP_SIZE {
-        return look_at_piece::<L, H, Q>(bytes, start, stored, key, tag);
+        return search_piece::<L, H, Q>(bytes, start, stored, key, tag);
     }
     for piece in 0..REFERENCE_GROUP_SIZE / Q::SIZE {
         let at = piece * Q::SIZE;
-        let end = look_at_piece::<L, H, Q>(&bytes[at..at + Q::SIZE], start + at, stored, key, tag);
+        let end = search_piece::<L, H, Q>(&bytes[at..at + Q::SIZE], start + at, stored, key, tag);
         if end.is_some() {
             return end;
         }
@@ -128,7 +128,7 @@ fn look_at_group<L: Lengths, H: HashFn, Q: Group>(
 
 // Searches the slots from `start` on, modulo the slot count, whose control bytes are `bytes`.
 #[inline(always)]
-fn look_at_piece<L: Lengths, H: HashFn, Q: Group>(
+fn search_piece<L: Lengths, H: HashFn, Q: Group>(
     bytes: &[EntryMetadata],
     start: usize,
     stored: &Stored<'_, L>,

@@ -14,7 +14,7 @@ use std::marker::PhantomData;
 /// of as many slots. Keys and values are bytes of the right length.
 ///
 /// The searches, the walks and the checks of all tables are those of `Parts`. [`RawTable`] is the
-/// same parts with keys and values as types, and [`SizedTable`] with lengths that are numbers.
+/// same parts with keys and values as types, and [`DynRawTable`] with lengths that are numbers.
 ///
 /// In a contract it is the lengths of keys and values, and the parts.
 ///
@@ -26,7 +26,7 @@ pub struct Parts<'a, L: Lengths, H: HashFn> {
 }
 
 /// The parts of a table whose lengths of keys and values are numbers.
-pub type SizedTable<'a, H> = Parts<'a, Layout, H>;
+pub type DynRawTable<'a, H> = Parts<'a, Layout, H>;
 
 impl<'a, H: HashFn> Parts<'a, Layout, H> {
     /// The table of these parts. No control byte and no entry is checked.

@@ -7,7 +7,7 @@ use super::{slot_count_of, EntryMetadata, Parts, ShortBytes, Stored};
 use crate::proved::raw::error::Error;
 use crate::proved::raw::hash::HashFn;
 use crate::proved::raw::layout::{Layout, Lengths};
-use crate::proved::raw::memory_layout::hold_bytes;
+use crate::proved::raw::memory_layout::prove_bytes;
 use crate::proved::raw::swisstable_group_query::GroupQuery;
 use std::marker::PhantomData;
 
@@ -23,7 +23,7 @@ pub struct PartsMut<'c, 'e, L: Lengths, H: HashFn> {
 }
 
 /// The parts of a table whose lengths of keys and values are numbers, borrowed to be written.
-pub type SizedTableMut<'c, 'e, H> = PartsMut<'c, 'e, Layout, H>;
+pub type DynRawTableMut<'c, 'e, H> = PartsMut<'c, 'e, Layout, H>;
 
 impl<'c, 'e, L: Lengths, H: HashFn> PartsMut<'c, 'e, L, H> {
     /// The table of these parts. No control byte and no entry is checked or written.
@@ -50,8 +50,8 @@ impl<'c, 'e, L: Lengths, H: HashFn> PartsMut<'c, 'e, L, H> {
     /// It does what [`RawTableMut::insert`](super::RawTableMut::insert) does to the parts of a
     /// table whose keys and values have these lengths, to any parts too.
     pub fn insert(&mut self, key: &[u8], value: &[u8]) -> Result<Option<ShortBytes>, Error> {
-        hold_bytes(key);
-        hold_bytes(value);
+        prove_bytes(key);
+        prove_bytes(value);
         let lengths = self.lengths;
         let (control, entries) = (&mut *self.control, &mut *self.entries);
         let slots = slot_count_of(control);

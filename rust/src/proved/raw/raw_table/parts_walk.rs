@@ -19,7 +19,7 @@ pub struct PartSlots<'a, L: Lengths, H: HashFn> {
 }
 
 /// The walk from a slot on of a table whose lengths are numbers.
-pub type SizedSlots<'a, H> = PartSlots<'a, Layout, H>;
+pub type DynSlots<'a, H> = PartSlots<'a, Layout, H>;
 
 impl<'a, L: Lengths, H: HashFn> PartSlots<'a, L, H> {
     /// The walk from slot `from` on; it gives no item where `from` is past the last slot.
@@ -52,7 +52,7 @@ pub struct PartPairs<'a, L: Lengths, H: HashFn> {
 }
 
 /// The walk over all slots of a table whose lengths are numbers.
-pub type SizedIter<'a, H> = PartPairs<'a, Layout, H>;
+pub type DynIter<'a, H> = PartPairs<'a, Layout, H>;
 
 impl<'a, L: Lengths, H: HashFn> PartPairs<'a, L, H> {
     /// The walk over all slots.

@@ -11,7 +11,7 @@ use crate::proved::raw::bytes::write_slice;
 use crate::proved::raw::error::Error;
 use crate::proved::raw::hash::HashFn;
 use crate::proved::raw::layout::Lengths;
-use crate::proved::raw::memory_layout::hold_bytes;
+use crate::proved::raw::memory_layout::prove_bytes;
 use crate::proved::raw::swisstable_group_query::{Group, REFERENCE_GROUP_SIZE};
 
 /// Writes a pair where the search for its key ended, which comes with the key's tag: the value
@@ -61,8 +61,8 @@ pub(super) fn write_new<L: Lengths, H: HashFn, Q: Group>(
     key: &[u8],
     value: &[u8],
 ) -> Result<(), Error> {
-    hold_bytes(key);
-    hold_bytes(value);
+    prove_bytes(key);
+    prove_bytes(value);
     let hash = H::hash(key);
     let Some(slot) = first_free::<Q>(control, hash) else {
         return Err(Error::Full);

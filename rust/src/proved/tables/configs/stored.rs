@@ -7,7 +7,7 @@ use crate::proved::tables::hash::{FxHashFn, HashFn, UnHashFn, Xxh64HashFn};
 
 /// A type that is stored as a fixed number of bytes: an integer, little-endian, bytes, or `()`,
 /// which has none.
-pub trait Stored {
+pub trait FixedBytes {
     type Bytes: ByteArray;
 
     /// Its bytes.
@@ -20,7 +20,7 @@ pub trait Stored {
     fn kept(&self);
 }
 
-impl Stored for u32 {
+impl FixedBytes for u32 {
     type Bytes = [u8; 4];
 
     #[inline(always)]
@@ -38,7 +38,7 @@ impl Stored for u32 {
     }
 }
 
-impl Stored for u64 {
+impl FixedBytes for u64 {
     type Bytes = [u8; 8];
 
     #[inline(always)]
@@ -56,7 +56,7 @@ impl Stored for u64 {
     }
 }
 
-impl Stored for () {
+impl FixedBytes for () {
     type Bytes = [u8; 0];
 
     #[inline(always)]
@@ -70,7 +70,7 @@ impl Stored for () {
     fn kept(&self) {}
 }
 
-impl<const N: usize> Stored for [u8; N] {
+impl<const N: usize> FixedBytes for [u8; N] {
     type Bytes = [u8; N];
 
     #[inline(always)]
@@ -87,7 +87,7 @@ impl<const N: usize> Stored for [u8; N] {
 }
 
 /// A type whose bytes are no more than an entry takes: at most 255.
-pub trait Fits: Stored {}
+pub trait Fits: FixedBytes {}
 
 impl Fits for () {}
 

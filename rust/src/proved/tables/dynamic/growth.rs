@@ -8,7 +8,7 @@ use crate::proved::tables::hash::HashFn;
 use crate::proved::tables::layout::Layout;
 use crate::proved::tables::load::Factor;
 use crate::proved::tables::memory_layout::{init_parts, Header, HEADER_SIZE};
-use crate::proved::tables::raw_table::{SizedIter, SizedTableMut};
+use crate::proved::tables::raw_table::{DynIter, DynRawTableMut};
 
 impl<H: HashFn, D: ByteStore> DynTable<H, D> {
     /// The length in bytes of the table that this one grows into, as
@@ -52,7 +52,7 @@ fn write_walked<H: HashFn>(
     slot_count: usize,
     item_count: usize,
     max_load_factor: Factor,
-    walk: SizedIter<'_, H>,
+    walk: DynIter<'_, H>,
 ) {
     init_parts(bytes, layout, slot_count, item_count, max_load_factor);
     let (table, control) = bytes.split_at_mut(layout.entry_at(slot_count));
@@ -67,9 +67,9 @@ fn place_walk<H: HashFn>(
     control: &mut [u8],
     entries: &mut [u8],
     layout: Layout,
-    walk: SizedIter<'_, H>,
+    walk: DynIter<'_, H>,
 ) {
-    let mut table: SizedTableMut<'_, '_, H> = SizedTableMut::new(control, entries, layout);
+    let mut table: DynRawTableMut<'_, '_, H> = DynRawTableMut::new(control, entries, layout);
     for (key, value) in walk {
         // There is room for each item of a valid table.
         let _ = table.place(key, value);

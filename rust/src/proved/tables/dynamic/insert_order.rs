@@ -17,7 +17,7 @@ impl<H: HashFn, D: ByteStore> DynTable<H, D> {
     /// [`HashTableOwned::insert_order`](crate::proved::tables::hash_table_owned::HashTableOwned::insert_order)
     /// takes.
     pub fn insert_order(&self, out: &mut [usize]) -> bool {
-        self.as_sized().insert_order(out)
+        self.as_dynamic().insert_order(out)
     }
 
     /// `insert_order` for tables of strangers, where it has `scratch` to write to: it returns the
@@ -31,11 +31,11 @@ impl<H: HashFn, D: ByteStore> DynTable<H, D> {
     /// [`HashTableOwned::insert_order_with`](crate::proved::tables::hash_table_owned::HashTableOwned::insert_order_with)
     /// says more.
     pub fn insert_order_with(&self, out: &mut [usize], scratch: &mut [usize]) -> bool {
-        self.as_sized().insert_order_with(out, scratch)
+        self.as_dynamic().insert_order_with(out, scratch)
     }
 
     /// How many numbers of scratch `insert_order_with` takes for this table: three for each slot.
     pub fn insert_order_scratch(&self) -> usize {
-        self.as_sized().insert_order_scratch()
+        self.as_dynamic().insert_order_scratch()
     }
 }

@@ -6,7 +6,7 @@ use crate::proved::tables::bytes::ByteStoreMut;
 use crate::proved::tables::error::Error;
 use crate::proved::tables::hash::HashFn;
 use crate::proved::tables::layout::Layout;
-use crate::proved::tables::memory_layout::insert_sized;
+use crate::proved::tables::memory_layout::insert_dynamic;
 use crate::proved::tables::raw_table::ShortBytes;
 
 impl<H: HashFn, D: ByteStoreMut> DynTable<H, D> {
@@ -45,5 +45,5 @@ fn insert_store<H: HashFn, D: ByteStoreMut>(
     key: &[u8],
     value: &[u8],
 ) -> Result<Option<ShortBytes>, Error> {
-    insert_sized::<H>(store.bytes_mut(), layout, key, value)
+    insert_dynamic::<H>(store.bytes_mut(), layout, key, value)
 }

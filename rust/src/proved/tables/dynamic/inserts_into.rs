@@ -7,7 +7,7 @@ use crate::proved::tables::bytes::ByteStoreMut;
 use crate::proved::tables::error::Error;
 use crate::proved::tables::hash::HashFn;
 use crate::proved::tables::layout::Layout;
-use crate::proved::tables::memory_layout::insert_sized_into;
+use crate::proved::tables::memory_layout::insert_dynamic_into;
 
 impl<H: HashFn, D: ByteStoreMut> DynTable<H, D> {
     /// [`DynTable::insert`], which writes the former value to `former`, and returns whether there is one: no
@@ -53,5 +53,5 @@ fn insert_store_into<H: HashFn, D: ByteStoreMut>(
     value: &[u8],
     former: &mut [u8],
 ) -> Result<bool, Error> {
-    insert_sized_into::<H>(store.bytes_mut(), layout, key, value, former)
+    insert_dynamic_into::<H>(store.bytes_mut(), layout, key, value, former)
 }

@@ -6,7 +6,7 @@ use super::{DynError, DynTable};
 use crate::proved::tables::bytes::OwnedBytes;
 use crate::proved::tables::hash::HashFn;
 use crate::proved::tables::layout::Layout;
-use crate::proved::tables::raw_table::SizedIter;
+use crate::proved::tables::raw_table::DynIter;
 use crate::shim::Global;
 use alloc::vec::Vec;
 
@@ -107,7 +107,7 @@ impl<H: HashFn> DynTableOwned<H> {
 
     /// The keys and values, each pair once, in slot order.
     #[inline]
-    pub fn iter(&self) -> SizedIter<'_, H> {
+    pub fn iter(&self) -> DynIter<'_, H> {
         self.table.iter()
     }
 

@@ -6,14 +6,14 @@ use crate::proved::tables::bytes::Borrowed;
 use crate::proved::tables::error::Error;
 use crate::proved::tables::hash::HashFn;
 use crate::proved::tables::layout::Layout;
-use crate::proved::tables::memory_layout::sized_table_len;
+use crate::proved::tables::memory_layout::dynamic_table_len;
 
 /// How many bytes the table of these lengths at the front of `bytes` has, by its header. What
 /// follows is not looked at, nor is any slot, and the hash function does not matter.
 ///
 /// The first error: as [`table_len`](crate::proved::tables::memory_layout::table_len) returns it. Constant time.
 pub fn table_len(layout: Layout, bytes: &[u8]) -> Result<usize, Error> {
-    sized_table_len(bytes, layout)
+    dynamic_table_len(bytes, layout)
 }
 
 impl<'a, H: HashFn> DynTable<H, Borrowed<'a>> {

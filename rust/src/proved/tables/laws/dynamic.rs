@@ -6,7 +6,7 @@ use crate::proved::tables::config::Config;
 use crate::proved::tables::dynamic::DynTable;
 use crate::proved::tables::hash_table::HashTable;
 use crate::proved::tables::iter::Iter;
-use crate::proved::tables::raw_table::SizedIter;
+use crate::proved::tables::raw_table::DynIter;
 
 /// What both tables have for a key: the first the value, the second its bytes. On valid bytes
 /// these bytes decode to that value, or both have none.
@@ -35,6 +35,6 @@ pub fn same_len<C: Config, D: ByteStore, E: ByteStore>(
 pub fn same_walk<'a, C: Config, D: ByteStore, E: ByteStore>(
     typed: &'a HashTable<C, D>,
     dynamic: &'a DynTable<C::H, E>,
-) -> (Iter<'a, C>, SizedIter<'a, C::H>) {
+) -> (Iter<'a, C>, DynIter<'a, C::H>) {
     (typed.iter(), dynamic.iter())
 }

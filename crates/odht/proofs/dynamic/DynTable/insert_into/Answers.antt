@@ -7,7 +7,7 @@ use Rattle.odht.specs.DynFormers.{IsDynInsertInto}
 use Rattle.odht.specs.DynInserts.{IsDynInsert}
 use Rattle.odht.specs.declared.dynamic.DynError.{DynError}
 use Rattle.odht.specs.declared.dynamic.DynError.TheVariants.{Rejected}
-use Rattle.odht.proofs.lemmas.DynFormers.{told_rejected}
+use Rattle.odht.proofs.lemmas.DynFormers.{former_of_rejected}
 use Rattle.odht.proofs.dynamic.DynTable.insert_into.Goals.{in-Ok, in-Err}
 use Rattle.odht.proofs.dynamic.DynTable.insert_into.Goals as goal
 
@@ -26,7 +26,7 @@ returns-clause-inserted g c key value former =
       | in-Err w ↦ w.result-is ∙ sym (ap rejected w.in-Err.is)
     ] in
     let answer : Result (Option (List ℕ)) DynError = result_map_both (λ o. o) Rejected into.answer in
-    let tells : IsFormerTo answer f r f' = subst (λ (x : Result Bool DynError). IsFormerTo answer f x f') (sym mapped) (told_rejected into.answer f c.insert_store_into.result f' into.tells) in
+    let tells : IsFormerTo answer f r f' = subst (λ (x : Result Bool DynError). IsFormerTo answer f x f') (sym mapped) (former_of_rejected into.answer f c.insert_store_into.result f' into.tells) in
     let t : DynStore g.row.D.Denot = dyn_store c.self.inside.layout.key_len c.self.inside.layout.value_len c.self.inside.store in
     let insert : IsDynInsert (dyn_coding t g.H.HashFn.hash) (g.D.ByteStore.bytes t.store) k v answer B' = record { answer = into.answer; is = refl; insert = into.insert } in
     let done : IsDynInsertInto (dyn_coding t g.H.HashFn.hash) (g.D.ByteStore.bytes t.store) k v f r B' f' = record { answer = answer; tells = tells; insert = insert } in

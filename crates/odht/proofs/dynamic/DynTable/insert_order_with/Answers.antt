@@ -1,5 +1,5 @@
 use Rattle.std.proofs.Common.{sym, subst, length}
-use Rattle.odht_raw.specs.Sized.{SizedParts, sized_format}
+use Rattle.odht_raw.specs.DynParts.{DynParts, parts_format}
 use Rattle.odht_raw.specs.Waiting.{IsWhole, IsOrderAnswer}
 use Rattle.odht.specs.Dynamic.{dyn_format, dyn_parts}
 use Rattle.odht.proofs.lemmas.DynOrders.{dyn_whole, dyn_order, dyn_made}
@@ -13,21 +13,21 @@ insert_order_with-requires g c =
     let F = dyn_format c.args.self.now h in
     let B = g.D.ByteStore.bytes c.args.self.now.store in
     record {
-      whole = subst (λ (S : SizedParts). IsWhole (sized_format S h) S.parts (length c.args.out.now)) (sym c.as_sized.ensures.parts)
-          (dyn_whole F B (length c.args.out.now) c.requires.counted c.as_sized.ensures.on_valid c.requires.valid);
+      whole = subst (λ (S : DynParts). IsWhole (parts_format S h) S.parts (length c.args.out.now)) (sym c.as_dynamic.ensures.parts)
+          (dyn_whole F B (length c.args.out.now) c.requires.counted c.as_dynamic.ensures.on_valid c.requires.valid);
     }
 
 -- what is said of the parts, of those of the bytes
 answer : (g : Over) (c : After-insert_order_with g) → IsOrderAnswer (dyn_format c.args.self.now g.H.HashFn.hash) (dyn_parts c.args.self.now g.H.HashFn.hash (g.D.ByteStore.bytes c.args.self.now.store)).parts (length c.args.out.now) c.insert_order_with.new.out c.insert_order_with.result
 answer g c =
-    subst (λ (S : SizedParts). IsOrderAnswer (sized_format S g.H.HashFn.hash) S.parts (length c.args.out.now) c.insert_order_with.new.out c.insert_order_with.result) c.as_sized.ensures.parts c.insert_order_with.ensures
+    subst (λ (S : DynParts). IsOrderAnswer (parts_format S g.H.HashFn.hash) S.parts (length c.args.out.now) c.insert_order_with.new.out c.insert_order_with.result) c.as_dynamic.ensures.parts c.insert_order_with.ensures
 
 pub returns-clause-order : goal.returns-clause-order
 returns-clause-order g c =
-    dyn_order (dyn_format c.args.self.now g.H.HashFn.hash) (g.D.ByteStore.bytes c.args.self.now.store) (length c.args.out.now) c.requires.counted c.as_sized.ensures.on_valid c.insert_order_with.new.out c.insert_order_with.result
+    dyn_order (dyn_format c.args.self.now g.H.HashFn.hash) (g.D.ByteStore.bytes c.args.self.now.store) (length c.args.out.now) c.requires.counted c.as_dynamic.ensures.on_valid c.insert_order_with.new.out c.insert_order_with.result
     (answer g (goal.at.returns-clause-order g c).After-insert_order_with)
 
 pub returns-clause-made : goal.returns-clause-made
 returns-clause-made g c =
-    dyn_made (dyn_format c.args.self.now g.H.HashFn.hash) (g.D.ByteStore.bytes c.args.self.now.store) (length c.args.out.now) c.requires.counted c.as_sized.ensures.on_valid c.insert_order_with.new.out c.insert_order_with.result
+    dyn_made (dyn_format c.args.self.now g.H.HashFn.hash) (g.D.ByteStore.bytes c.args.self.now.store) (length c.args.out.now) c.requires.counted c.as_dynamic.ensures.on_valid c.insert_order_with.new.out c.insert_order_with.result
     (answer g (goal.at.returns-clause-made g c).After-insert_order_with)

@@ -9,8 +9,8 @@ use Rattle.odht_base.proofs.lemmas.Options.{some_same}
 use Rattle.odht_header.specs.declared.layout.Layout.{Layout}
 use Rattle.odht_raw.specs.PartsInserts.{ArePartsPlaced}
 use Rattle.odht_raw.specs.PartsPlacings.{IsNewPlacing, IsNewTo}
-use Rattle.odht_raw.specs.Sized.{HasLengthsOf}
-use Rattle.odht_raw.specs.SizedMut.{layout_format}
+use Rattle.odht_raw.specs.DynParts.{HasLengthsOf}
+use Rattle.odht_raw.specs.PartsMutChanges.{layout_format}
 use Rattle.odht.proofs.lemmas.Growths.{accepted_holds, all_new, LeadsTo, leads_new, leads_fits, leads_on}
 use Rattle.odht.proofs.dynamic.growth.place_walk.Given.{Over}
 use Rattle.odht.proofs.dynamic.growth.place_walk.Goals.{In-Some}

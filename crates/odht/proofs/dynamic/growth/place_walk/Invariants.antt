@@ -5,7 +5,7 @@ use Rattle.odht_base.specs.Map.{KeysApart}
 use Rattle.odht_base.specs.Table.{Table}
 use Rattle.odht_base.specs.Valid.{IsPartsOf}
 use Rattle.odht_raw.specs.PartsPlacings.{IsNewTo}
-use Rattle.odht_raw.specs.Sized.{HasLengthsOf}
+use Rattle.odht_raw.specs.DynParts.{HasLengthsOf}
 use Rattle.odht.proofs.lemmas.Growths.{LeadsTo}
 use Rattle.odht.proofs.dynamic.growth.place_walk.Given as goal
 

@@ -7,14 +7,14 @@ use Rattle.odht_base.specs.Valid.{IsImage}
 use Rattle.odht_header.proofs.lemmas.Formats.{IsFormat-format_of}
 use Rattle.odht_raw.specs.Frame.{IsAccepted, IsFramed}
 use Rattle.odht_raw.specs.Runs.{IsOnePlaced}
-use Rattle.odht_raw.specs.Sized.{bytes_coding}
+use Rattle.odht_raw.specs.DynParts.{bytes_coding}
 use Rattle.odht_raw.proofs.lemmas.Borrows.{borrowed-bytes, borrowed-same}
 use Rattle.odht.proofs.lemmas.ViewInserts.{if_inserted, if_former, framed-full, full-framed, framed-only_full, framed-refused, held_same_bytes}
 use Rattle.odht.proofs.dynamic.inserts.insert_store.Given.{Over}
-use Rattle.odht.proofs.dynamic.inserts.insert_store.Goals.{After-insert_sized}
+use Rattle.odht.proofs.dynamic.inserts.insert_store.Goals.{After-insert_dynamic}
 use Rattle.odht.proofs.dynamic.inserts.insert_store.Goals as goal
 
-module _ (g : Over) (c : After-insert_sized g) where
+module _ (g : Over) (c : After-insert_dynamic g) where
   abbrev F : Format
   F = format_of c.args.layout.key_len c.args.layout.value_len g.H.HashFn.hash
 
@@ -23,40 +23,40 @@ module _ (g : Over) (c : After-insert_sized g) where
 
   -- the store that is left
   abbrev left : g.row.D.Denot
-  left = g.D.ByteStoreMut.after_borrow c.args.store.now c.insert_sized.new.bytes
+  left = g.D.ByteStoreMut.after_borrow c.args.store.now c.insert_dynamic.new.bytes
 
-  long : length c.insert_sized.new.bytes ≡ length (g.D.ByteStore.bytes c.args.store.now)
-  long = c.insert_sized.ensures.len ∙ ap length c.bytes_mut.ensures.value
+  long : length c.insert_dynamic.new.bytes ≡ length (g.D.ByteStore.bytes c.args.store.now)
+  long = c.insert_dynamic.ensures.len ∙ ap length c.bytes_mut.ensures.value
 
   -- has these bytes
-  same : g.D.ByteStore.bytes left ≡ c.insert_sized.new.bytes
+  same : g.D.ByteStore.bytes left ≡ c.insert_dynamic.new.bytes
   same =
-      borrowed-bytes g.D.ByteStore.bytes g.D.ByteStoreMut.holding g.D.ByteStoreMut.after_borrow g.met.D.ByteStoreMut.held g.met.D.ByteStoreMut.after_borrow_fits c.args.store.now c.insert_sized.new.bytes long
+      borrowed-bytes g.D.ByteStore.bytes g.D.ByteStoreMut.holding g.D.ByteStoreMut.after_borrow g.met.D.ByteStoreMut.held g.met.D.ByteStoreMut.after_borrow_fits c.args.store.now c.insert_dynamic.new.bytes long
 
   -- and is the same store
   same_store : left ≡ g.D.ByteStoreMut.holding c.args.store.now (g.D.ByteStore.bytes left)
   same_store =
-      borrowed-same g.D.ByteStore.bytes g.D.ByteStoreMut.holding g.D.ByteStoreMut.after_borrow g.met.D.ByteStoreMut.held g.met.D.ByteStoreMut.after_borrow_fits c.args.store.now c.insert_sized.new.bytes long
+      borrowed-same g.D.ByteStore.bytes g.D.ByteStoreMut.holding g.D.ByteStoreMut.after_borrow g.met.D.ByteStoreMut.held g.met.D.ByteStoreMut.after_borrow_fits c.args.store.now c.insert_dynamic.new.bytes long
 
   -- what the insert leaves of a valid table
-  placed : (P : Table) → IsImage F P (g.D.ByteStore.bytes c.args.store.now) → IfOk c.insert_sized.result (λ old. IsOnePlaced (bytes_coding F) P c.args.key.now c.args.value.now old (g.D.ByteStore.bytes left))
+  placed : (P : Table) → IsImage F P (g.D.ByteStore.bytes c.args.store.now) → IfOk c.insert_dynamic.result (λ old. IsOnePlaced (bytes_coding F) P c.args.key.now c.args.value.now old (g.D.ByteStore.bytes left))
   placed P is =
-      subst (λ B. IfOk c.insert_sized.result (λ old. IsOnePlaced (bytes_coding F) P c.args.key.now c.args.value.now old B)) (sym same)
-      (c.insert_sized.ensures.placed P (record { valid = is.valid; bytes = c.bytes_mut.ensures.value ∙ is.bytes }))
+      subst (λ B. IfOk c.insert_dynamic.result (λ old. IsOnePlaced (bytes_coding F) P c.args.key.now c.args.value.now old B)) (sym same)
+      (c.insert_dynamic.ensures.placed P (record { valid = is.valid; bytes = c.bytes_mut.ensures.value ∙ is.bytes }))
 
   -- and of any bytes
-  framed : IsFramed (bytes_coding F) (g.D.ByteStore.bytes c.args.store.now) c.args.key.now c.args.value.now c.insert_sized.result (g.D.ByteStore.bytes left)
+  framed : IsFramed (bytes_coding F) (g.D.ByteStore.bytes c.args.store.now) c.args.key.now c.args.value.now c.insert_dynamic.result (g.D.ByteStore.bytes left)
   framed =
-      subst (λ B. IsFramed (bytes_coding F) (g.D.ByteStore.bytes c.args.store.now) c.args.key.now c.args.value.now c.insert_sized.result B) (sym same)
-      (subst (λ B. IsFramed (bytes_coding F) B c.args.key.now c.args.value.now c.insert_sized.result c.insert_sized.new.bytes) c.bytes_mut.ensures.value c.insert_sized.ensures.framed)
+      subst (λ B. IsFramed (bytes_coding F) (g.D.ByteStore.bytes c.args.store.now) c.args.key.now c.args.value.now c.insert_dynamic.result B) (sym same)
+      (subst (λ B. IsFramed (bytes_coding F) B c.args.key.now c.args.value.now c.insert_dynamic.result c.insert_dynamic.new.bytes) c.bytes_mut.ensures.value c.insert_dynamic.ensures.framed)
 
 pub returns-clause-inserted : goal.returns-clause-inserted
 returns-clause-inserted g c =
-    let at = (goal.at.returns-clause-inserted g c).After-insert_sized in
+    let at = (goal.at.returns-clause-inserted g c).After-insert_dynamic in
     let K = bytes_coding (F g at) in
     let k = c.args.key.now in
     let v = c.args.value.now in
-    let r = c.insert_sized.result in
+    let r = c.insert_dynamic.result in
     record {
       on_valid = λ P is. record {
         former = if_former K P k v r _ (placed g at P is);
@@ -69,20 +69,20 @@ returns-clause-inserted g c =
 
 pub returns-clause-refused : goal.returns-clause-refused
 returns-clause-refused g c =
-    let at = (goal.at.returns-clause-refused g c).After-insert_sized in
-    let kept = framed-refused (bytes_coding (F g at)) _ c.args.key.now c.args.value.now c.insert_sized.result _ (framed g at) in
-    on_err_weaker c.insert_sized.result
+    let at = (goal.at.returns-clause-refused g c).After-insert_dynamic in
+    let kept = framed-refused (bytes_coding (F g at)) _ c.args.key.now c.args.value.now c.insert_dynamic.result _ (framed g at) in
+    on_err_weaker c.insert_dynamic.result
     (λ kept. held_same_bytes g.D.ByteStoreMut.holding g.D.ByteStore.bytes g.met.D.ByteStoreMut.held_same c.args.store.now (left g at) (same_store g at) kept) kept
 
 pub returns-clause-same_store : goal.returns-clause-same_store
-returns-clause-same_store g c = same_store g (goal.at.returns-clause-same_store g c).After-insert_sized
+returns-clause-same_store g c = same_store g (goal.at.returns-clause-same_store g c).After-insert_dynamic
 
 pub returns-clause-accepted : goal.returns-clause-accepted
 returns-clause-accepted g c =
-    let at = (goal.at.returns-clause-accepted g c).After-insert_sized in
-    subst (IsAccepted (F g at)) (sym (same g at)) c.insert_sized.ensures.accepted
+    let at = (goal.at.returns-clause-accepted g c).After-insert_dynamic in
+    subst (IsAccepted (F g at)) (sym (same g at)) c.insert_dynamic.ensures.accepted
 
 pub returns-clause-len : goal.returns-clause-len
 returns-clause-len g c =
-    let at = (goal.at.returns-clause-len g c).After-insert_sized in
+    let at = (goal.at.returns-clause-len g c).After-insert_dynamic in
     ap length (same g at) ∙ long g at

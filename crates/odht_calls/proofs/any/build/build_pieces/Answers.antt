@@ -8,7 +8,7 @@ use Rattle.odht_base.specs.Load.{factor_of, slots_for, IsPercent}
 use Rattle.odht_base.specs.Table.{empty}
 use Rattle.odht_base.proofs.lemmas.FreeSlots.{slot_count-empty}
 use Rattle.odht_header.specs.Refusals.{IsTooLarge}
-use Rattle.odht_raw.specs.Sized.{bytes_coding}
+use Rattle.odht_raw.specs.DynParts.{bytes_coding}
 use Rattle.odht.specs.Lists.{IsFreshAfterInserts}
 use Rattle.odht.proofs.lemmas.NewRefusals.{new_refusal-fits, new_len-some, new_len-none}
 use Rattle.odht_calls.specs.Pieces.{pieces}

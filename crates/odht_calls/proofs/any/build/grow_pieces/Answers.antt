@@ -5,7 +5,7 @@ use Rattle.std.proofs.lemmas.Slice.Zip.{length-zip}
 use Rattle.odht_base.specs.Format.{format_of}
 use Rattle.odht_header.specs.declared.error.Error.{Error}
 use Rattle.odht_header.specs.declared.error.Error.TheVariants.{Memory}
-use Rattle.odht_raw.specs.Sized.{bytes_coding}
+use Rattle.odht_raw.specs.DynParts.{bytes_coding}
 use Rattle.odht.specs.Dynamic.{DynStore}
 use Rattle.odht.proofs.lemmas.DynLists.{take_next}
 use Rattle.odht_calls.specs.Builds.{IsGrownAfterInserts, IsHandedOut}

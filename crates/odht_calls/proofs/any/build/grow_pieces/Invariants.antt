@@ -1,7 +1,7 @@
 use Rattle.std.proofs.Common.{take}
 use Rattle.std.specs.List.{zip}
 use Rattle.odht_base.specs.Format.{format_of}
-use Rattle.odht_raw.specs.Sized.{bytes_coding}
+use Rattle.odht_raw.specs.DynParts.{bytes_coding}
 use Rattle.odht.specs.DynOwned.{IsDynWith}
 use Rattle.odht_calls.specs.Builds.{IsGrownAfterInserts}
 use Rattle.odht_calls.specs.Pieces.{pieces}

@@ -6,7 +6,7 @@ use Rattle.std.proofs.lemmas.Slice.Zip.{length-zip}
 use Rattle.odht_base.specs.Format.{Format, format_of}
 use Rattle.odht_base.specs.Table.{fresh}
 use Rattle.odht_header.specs.declared.error.Error.TheVariants.{Full}
-use Rattle.odht_raw.specs.Sized.{bytes_coding}
+use Rattle.odht_raw.specs.DynParts.{bytes_coding}
 use Rattle.odht_calls.specs.Pieces.{pieces}
 use Rattle.odht_calls.proofs.lemmas.NewBuilds.{new_inserted}
 use Rattle.odht_calls.proofs.lemmas.Opened.{IsAccepted-IsImage}

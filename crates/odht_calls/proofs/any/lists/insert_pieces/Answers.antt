@@ -5,20 +5,20 @@ use Rattle.odht_header.specs.declared.error.Error.{Error}
 use Rattle.odht_header.specs.declared.error.Error.TheVariants.{Full}
 use Rattle.odht_header.proofs.lemmas.Formats.{IsFormat-format_of}
 use Rattle.odht_raw.specs.Frame.{IsFramed}
-use Rattle.odht_raw.specs.Sized.{bytes_coding}
+use Rattle.odht_raw.specs.DynParts.{bytes_coding}
 use Rattle.odht.specs.Dynamic.{dyn_store}
 use Rattle.odht.proofs.lemmas.DynLists.{AreInserted, none_inserted, one_more, take_next}
 use Rattle.odht.proofs.lemmas.ViewInserts.{framed-full, framed-only_full, framed-refused}
 use Rattle.odht_calls.specs.Pieces.{pieces}
 use Rattle.odht_calls.specs.Statuses.{status_of, done}
 use Rattle.odht_calls.specs.Writes.{InsertAllAnswers}
-use Rattle.odht_calls.proofs.lemmas.AnyLists.{sized_insert}
+use Rattle.odht_calls.proofs.lemmas.AnyLists.{dynamic_insert}
 use Rattle.odht_calls.proofs.lemmas.EqualPairs.{decided_framed, decided_inserted}
 use Rattle.odht_calls.proofs.lemmas.Inserted.{accepted_insert_all, full_insert_all}
 use Rattle.odht_calls.proofs.lemmas.Pieces.{ends_within, length-pieces, zip_at}
 use Rattle.odht_calls.proofs.lemmas.Refused.{refused_insert_all}
 use Rattle.odht_calls.proofs.any.lists.insert_pieces.Given.{Over}
-use Rattle.odht_calls.proofs.any.lists.insert_pieces.Goals.{After-insert_sized}
+use Rattle.odht_calls.proofs.any.lists.insert_pieces.Goals.{After-insert_dynamic}
 use Rattle.odht_calls.proofs.any.lists.insert_pieces.Goals as goal
 
 pub returns-in-Err-clause-answers : goal.returns-in-Err-clause-answers
@@ -38,10 +38,10 @@ pub piece-value-requires : goal.piece-value-requires
 piece-value-requires g c =
     ends_within c.loop-index.index c.args.count c.args.layout.value_len (length c.args.values.now) (omega (arith, c.loop-index-test.true, c.deciding_pairs-deciding.ensures.most)) c.requires.arrays.values
 
-pub insert_sized-requires-clause-accepted : goal.insert_sized-requires-clause-accepted
-insert_sized-requires-clause-accepted g c = c.loop-index.invariant.accepted
+pub insert_dynamic-requires-clause-accepted : goal.insert_dynamic-requires-clause-accepted
+insert_dynamic-requires-clause-accepted g c = c.loop-index.invariant.accepted
 
-module _ (g : Over) (c : After-insert_sized g) where
+module _ (g : Over) (c : After-insert_dynamic g) where
   abbrev F : Format
   F = format_of c.args.layout.key_len c.args.layout.value_len g.H.HashFn.hash
 
@@ -75,31 +75,31 @@ module _ (g : Over) (c : After-insert_sized g) where
 
 pub loop-index-preserved : goal.loop-index-preserved
 loop-index-preserved g c =
-    let at = (goal.at.loop-index-preserved g c).After-insert_sized in
+    let at = (goal.at.loop-index-preserved g c).After-insert_dynamic in
     let kl = c.args.layout.key_len in
     let vl = c.args.layout.value_len in
-    let o : Option (List ℕ) = c.in_default-insert_sized.field-0 in
-    let one = sized_insert (F g at) (fits g at) c.loop-index.bytes (k g at) (v g at) (Ok o) c.insert_sized.new.bytes c.in_default-insert_sized.ensures.placed c.in_default-insert_sized.ensures.framed in
-    subst (AreInserted g.H.HashFn.hash (λ B. B) (λ _ B. B) (dyn_store kl vl c.args.bytes.now) (dyn_store kl vl c.insert_sized.new.bytes)) (sym (take_next (zip (keys g at) (values g at)) c.loop-index.index (k g at, v g at) (here g at)))
-    (one_more g.H.HashFn.hash (λ B. B) (λ _ B. B) (λ s a b. refl) (dyn_store kl vl c.args.bytes.now) (dyn_store kl vl c.loop-index.bytes) (dyn_store kl vl c.insert_sized.new.bytes)
+    let o : Option (List ℕ) = c.in_default-insert_dynamic.field-0 in
+    let one = dynamic_insert (F g at) (fits g at) c.loop-index.bytes (k g at) (v g at) (Ok o) c.insert_dynamic.new.bytes c.in_default-insert_dynamic.ensures.placed c.in_default-insert_dynamic.ensures.framed in
+    subst (AreInserted g.H.HashFn.hash (λ B. B) (λ _ B. B) (dyn_store kl vl c.args.bytes.now) (dyn_store kl vl c.insert_dynamic.new.bytes)) (sym (take_next (zip (keys g at) (values g at)) c.loop-index.index (k g at, v g at) (here g at)))
+    (one_more g.H.HashFn.hash (λ B. B) (λ _ B. B) (λ s a b. refl) (dyn_store kl vl c.args.bytes.now) (dyn_store kl vl c.loop-index.bytes) (dyn_store kl vl c.insert_dynamic.new.bytes)
     (take c.loop-index.index (zip (keys g at) (values g at))) (k g at) (v g at) o c.loop-index.invariant c.piece-key.ensures.len c.piece-value.ensures.len
-    (record { answer = Ok o; is = refl; insert = one }) refl c.insert_sized.ensures.accepted)
+    (record { answer = Ok o; is = refl; insert = one }) refl c.insert_dynamic.ensures.accepted)
 
-pub returns-in-Err-insert_sized-clause-answers : goal.returns-in-Err-insert_sized-clause-answers
-returns-in-Err-insert_sized-clause-answers g c =
-    let at = (goal.at.returns-in-Err-insert_sized-clause-answers g c).After-insert_sized in
+pub returns-in-Err-insert_dynamic-clause-answers : goal.returns-in-Err-insert_dynamic-clause-answers
+returns-in-Err-insert_dynamic-clause-answers g c =
+    let at = (goal.at.returns-in-Err-insert_dynamic-clause-answers g c).After-insert_dynamic in
     let K = bytes_coding (F g at) in
     let C = c.loop-index.bytes in
-    let D = c.insert_sized.new.bytes in
+    let D = c.insert_dynamic.new.bytes in
     let i = c.loop-index.index in
-    let r : Result (Option (List ℕ)) Error = Err c.in-Err-insert_sized.refused in
-    let framed = c.in-Err-insert_sized.ensures.framed in
+    let r : Result (Option (List ℕ)) Error = Err c.in-Err-insert_dynamic.refused in
+    let framed = c.in-Err-insert_dynamic.ensures.framed in
     let full : r ≡ Err Full = framed-only_full K C (k g at) (v g at) r D framed in
-    let only : c.in-Err-insert_sized.refused ≡ Full = (let both = full in cc) in
+    let only : c.in-Err-insert_dynamic.refused ≡ Full = (let both = full in cc) in
     let stays : D ≡ C = framed-refused K C (k g at) (v g at) r D framed in
     let long = length-pieces c.args.layout.key_len c.args.count c.args.keys.now in
     full_insert_all K c.args.bytes.now C (keys g at) (values g at) c.args.accepted.now i c.in_default.ensures.err (equal g at) c.loop-index.invariant.framed c.loop-index.invariant.inserted
-    D c.status_of-in-Err-insert_sized.result stays (omega (arith, long, low g at)) (c.status_of-in-Err-insert_sized.ensures ∙ ap status_of only)
+    D c.status_of-in-Err-insert_dynamic.result stays (omega (arith, long, low g at)) (c.status_of-in-Err-insert_dynamic.ensures ∙ ap status_of only)
     (λ P is. record { item = (k g at, v g at); at = here g at; full = framed-full K C (k g at) (v g at) (fits g at) P is r D full framed })
     (record {
       item = (k g at, v g at);

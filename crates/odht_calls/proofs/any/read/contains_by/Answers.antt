@@ -1,6 +1,6 @@
 use Rattle.std.proofs.Common.{◌≡◌, ◌∙◌, None, Some, refl, sym, subst}
 use Rattle.odht_base.specs.Format.{Format, format_of}
-use Rattle.odht_raw.specs.Sized.{bytes_coding}
+use Rattle.odht_raw.specs.DynParts.{bytes_coding}
 use Rattle.odht.specs.Gets.{IsGet}
 use Rattle.odht_calls.specs.Layouts.{IsFoundBy}
 use Rattle.odht_calls.proofs.lemmas.Layouts.{opened}

@@ -1,6 +1,6 @@
 use Rattle.std.proofs.Common.{◌∙◌, sym}
 use Rattle.odht_base.specs.Format.{Format, format_of}
-use Rattle.odht_raw.specs.Sized.{bytes_coding}
+use Rattle.odht_raw.specs.DynParts.{bytes_coding}
 use Rattle.odht_header.specs.Coding.{HasStored}
 use Rattle.odht_calls.proofs.lemmas.Layouts.{opened, stored_len}
 use Rattle.odht_calls.proofs.lemmas.Refused.{refused_get}

@@ -11,12 +11,12 @@ returns-in_err-check_opening g c =
     let refusal : c.from_residual.result ≡ Err c.in_err-check_opening.field-0.0 = search rules in
     refusal ∙ sym (ap checked (check_refusal-view F c.args.bytes.now (Some c.args.groups) c.in_err-check_opening.field-0.0 (Err-checked _ c.in_err-check_opening.field-0.0 (sym c.in_err-check_opening.was ∙ c.check_opening.ensures))))
 
-pub check_sized_within-requires-clause-accepted : goal.check_sized_within-requires-clause-accepted
-check_sized_within-requires-clause-accepted g c =
+pub check_dynamic_within-requires-clause-accepted : goal.check_dynamic_within-requires-clause-accepted
+check_dynamic_within-requires-clause-accepted g c =
     let F : Format = format_of c.args.layout.key_len c.args.layout.value_len g.H.HashFn.hash in
     view_refusal-accepted F c.args.bytes.now (Ok-checked _ (sym c.in_ok-check_opening.was ∙ c.check_opening.ensures))
 
 pub returns : goal.returns
 returns g c =
     let F : Format = format_of c.args.layout.key_len c.args.layout.value_len g.H.HashFn.hash in
-    c.check_sized_within.ensures.first ∙ sym (ap checked (check_refusal-late F c.args.bytes.now (Some c.args.groups) (Ok-checked _ (sym c.in_ok-check_opening.was ∙ c.check_opening.ensures))))
+    c.check_dynamic_within.ensures.first ∙ sym (ap checked (check_refusal-late F c.args.bytes.now (Some c.args.groups) (Ok-checked _ (sym c.in_ok-check_opening.was ∙ c.check_opening.ensures))))

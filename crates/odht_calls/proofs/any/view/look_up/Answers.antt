@@ -1,7 +1,7 @@
 use Rattle.std.proofs.Common.{◌≡◌, ◌∙◌, ◌+◌, ◌<◌, sym, subst, arith, length}
 use Rattle.std.specs.Option.{option_copied}
 use Rattle.odht_base.specs.Format.{format_of}
-use Rattle.odht_raw.specs.Sized.{bytes_coding}
+use Rattle.odht_raw.specs.DynParts.{bytes_coding}
 use Rattle.odht.specs.Gets.{IsGet}
 use Rattle.odht_calls.specs.Lookups.{with_found}
 use Rattle.odht_calls.specs.Pieces.{pieces}

@@ -1,5 +1,5 @@
 use Rattle.odht_base.specs.Format.{format_of}
-use Rattle.odht_raw.specs.Sized.{bytes_coding}
+use Rattle.odht_raw.specs.DynParts.{bytes_coding}
 use Rattle.odht_calls.specs.Pieces.{pieces}
 use Rattle.odht_calls.proofs.lemmas.AnyLists.{AreGotUpTo}
 use Rattle.odht_calls.proofs.any.view.look_up.Given as goal

@@ -6,14 +6,14 @@ use Rattle.odht_base.specs.Decoded.{header_slots}
 use Rattle.odht_base.specs.SlotWalks.{slots_from}
 use Rattle.odht_base.specs.Table.{Pair, Table, slot_count}
 use Rattle.odht_header.specs.Coding.{Coding}
-use Rattle.odht_raw.specs.Sized.{HasLengthsOf, bytes_coding}
+use Rattle.odht_raw.specs.DynParts.{HasLengthsOf, bytes_coding}
 use Rattle.odht_raw.specs.Walks.{decoded_slots}
 use Rattle.odht_raw.proofs.lemmas.Accepted.{accepted_opening}
 use Rattle.odht.specs.Walks.{AreSlots}
 use Rattle.odht_calls.specs.Pieces.{pieces}
 use Rattle.odht_calls.specs.Statuses.{done, too_small}
 use Rattle.odht_calls.specs.Walks.{IsWalked, WalkAnswers}
-use Rattle.odht_calls.proofs.lemmas.AnyLists.{read, slots_sized, one_more_piece}
+use Rattle.odht_calls.proofs.lemmas.AnyLists.{read, slots_dynamic, one_more_piece}
 use Rattle.odht_calls.proofs.lemmas.Layouts.{opened}
 use Rattle.odht_calls.proofs.lemmas.Pieces.{ends_within, length-pieces}
 use Rattle.odht_calls.proofs.lemmas.Refused.{refused_walk}
@@ -40,7 +40,7 @@ loop-slot-init g c =
       walk = refl;
       written = refl;
       within = omega arith;
-      lengths = subst (All lengths) (sym (c.into_iter-slot-iterator.ensures.into_iter_gives ∙ slots.on_any)) (slots_sized kl vl h B c.args.cursor.now (sym c.in-Ok.ensures.err));
+      lengths = subst (All lengths) (sym (c.into_iter-slot-iterator.ensures.into_iter_gives ∙ slots.on_any)) (slots_dynamic kl vl h B c.args.cursor.now (sym c.in-Ok.ensures.err));
       keys = refl;
       values = refl;
     }

@@ -1,6 +1,6 @@
 use Rattle.std.proofs.Common.{◌≡◌, ◌++◌, ◌≤◌, All, length, map, drop}
 use Rattle.odht_base.specs.Format.{format_of}
-use Rattle.odht_raw.specs.Sized.{HasLengthsOf, bytes_coding}
+use Rattle.odht_raw.specs.DynParts.{HasLengthsOf, bytes_coding}
 use Rattle.odht_raw.specs.Walks.{decoded_slots}
 use Rattle.odht_calls.specs.Pieces.{pieces}
 use Rattle.odht_calls.proofs.lemmas.AnyLists.{read}

@@ -19,6 +19,6 @@ returns-clause-answers g c =
     let f : IsFormat F = IsFormat-format_of _ _ _ _ key value c.requires g.met.H.HashFn.fits in
     record {
       lengths = λ other. absurd (other (c.if-key-layout.false, c.if-value-value_len.false, c.if-former-value_len.false));
-      answers = λ long. into_answers F f c.args.bytes.now c.insert_sized_into.new.bytes c.args.key.now c.args.value.now c.args.former.now c.insert_sized_into.new.former c.in_default.ensures.err
-          c.insert_sized_into.result c.told_status.result c.insert_sized_into.ensures.inserted c.told_status.ensures;
+      answers = λ long. into_answers F f c.args.bytes.now c.insert_dynamic_into.new.bytes c.args.key.now c.args.value.now c.args.former.now c.insert_dynamic_into.new.former c.in_default.ensures.err
+          c.insert_dynamic_into.result c.inserted_status.result c.insert_dynamic_into.ensures.inserted c.inserted_status.ensures;
     }

@@ -17,7 +17,7 @@ use Rattle.odht_raw.specs.Frame.{IsOnlyFull, header_maximum}
 use Rattle.odht_raw.specs.PartLengths.{ArePartLengths}
 use Rattle.odht_raw.specs.PartsInserts.{AnswersFormer}
 use Rattle.odht_raw.specs.Runs.{IsPartsRun}
-use Rattle.odht_raw.specs.Sized.{bytes_coding}
+use Rattle.odht_raw.specs.DynParts.{bytes_coding}
 use Rattle.odht_raw.specs.Formers.{answered, former_of, write_result}
 use Rattle.odht_base.specs.Decoded.{entries_of, controls_of}
 use Rattle.std.proofs.lemmas.List.{drop-take}
@@ -153,7 +153,7 @@ module _ (g : Over) (c : After-write_at_end g)
   small = omega (arith, c.apply.ensures, maximum_is)
 
   fits : IsPairOf (F g (g.L.Lengths.key_len c.args.lengths) (g.L.Lengths.value_len c.args.lengths)) (encoded (K g (g.L.Lengths.key_len c.args.lengths) (g.L.Lengths.value_len c.args.lengths)) c.args.key.now c.args.value.now)
-  fits = record { key = record { len = c.requires.key; each = c.hold_bytes-2.ensures }; value = record { len = c.requires.value; each = c.hold_bytes-3.ensures } }
+  fits = record { key = record { len = c.requires.key; each = c.prove_bytes-2.ensures }; value = record { len = c.requires.value; each = c.prove_bytes-3.ensures } }
 
   framed : IsStepFramed (F g (g.L.Lengths.key_len c.args.lengths) (g.L.Lengths.value_len c.args.lengths)) value_of (header_maximum c.args.bytes.now - header_count c.args.bytes.now) c.split_at_mut-front.result.1.now c.split_at_mut-table.result.1.now
       (encoded (K g (g.L.Lengths.key_len c.args.lengths) (g.L.Lengths.value_len c.args.lengths)) c.args.key.now c.args.value.now) R c.write_at_end.new.entries c.write_at_end.new.control
@@ -171,7 +171,7 @@ module _ (g : Over) (c : After-write_at_end g)
   kept : c.split_at_mut-front.result.0.now ≡ with_count c.split_at_mut-front.result.0.now (header_count c.args.bytes.now + 0)
   kept =
       let none : header_count c.args.bytes.now ≡ header_count c.args.bytes.now + 0 = omega arith in
-      sym (kept-cut (F g (g.L.Lengths.key_len c.args.lengths) (g.L.Lengths.value_len c.args.lengths)) c.args.bytes.now _ _ _ cut c.hold_bytes.ensures) ∙ ap (with_count c.split_at_mut-front.result.0.now) none
+      sym (kept-cut (F g (g.L.Lengths.key_len c.args.lengths) (g.L.Lengths.value_len c.args.lengths)) c.args.bytes.now _ _ _ cut c.prove_bytes.ensures) ∙ ap (with_count c.split_at_mut-front.result.0.now) none
 
   -- a new entry had room
   added : R ≡ Ok None → 0 < header_maximum c.args.bytes.now - header_count c.args.bytes.now
@@ -228,7 +228,7 @@ returns-then-is_found-clause-framed g c =
     let ok = answer_is g at cut end same (Some found.0) c.if-not-write_at_end.false found.1 in
     let told = former_is g at cut end same (Some found.0) found.1 in
     let done = one_overwritten (K g (g.L.Lengths.key_len c.args.lengths) (g.L.Lengths.value_len c.args.lengths)) c.args.bytes.now _ _ _ cut c.args.key.now c.args.value.now (fits g at cut end same) (value_of g at cut end same) (R g at cut end same) _ _ (framed g at cut end same)
-    c.hold_bytes.ensures (counted g at cut end same) (small g at cut end same) (λ b. b) (λ b. refl) found.0 ok in
+    c.prove_bytes.ensures (counted g at cut end same) (small g at cut end same) (λ b. b) (λ b. refl) found.0 ok in
     subst (λ (o : Option (List ℕ)). IsFramed (K g (g.L.Lengths.key_len c.args.lengths) (g.L.Lengths.value_len c.args.lengths)) c.args.bytes.now c.args.key.now c.args.value.now (Ok o) (c.split_at_mut-front.result.0.now ++ c.write_at_end.new.entries ++ c.write_at_end.new.control)) (sym told) done
 
 pub returns-then-is_found-clause-accepted : goal.returns-then-is_found-clause-accepted
@@ -288,7 +288,7 @@ returns-clause-framed g c =
     let ok = answer_is g at cut end same None c.if-not-write_at_end.false none in
     let told = former_is g at cut end same None none in
     let done = one_added (K g (g.L.Lengths.key_len c.args.lengths) (g.L.Lengths.value_len c.args.lengths)) c.args.bytes.now _ _ _ cut c.args.key.now c.args.value.now (fits g at cut end same) (value_of g at cut end same) (R g at cut end same) _ _ (framed g at cut end same)
-    c.hold_bytes.ensures (counted g at cut end same) (small g at cut end same) (λ b. b) (λ b. refl) ok c.write_count.new.header (written g at cut end same c.write_count.new.header c.write_count.ensures) in
+    c.prove_bytes.ensures (counted g at cut end same) (small g at cut end same) (λ b. b) (λ b. refl) ok c.write_count.new.header (written g at cut end same c.write_count.new.header c.write_count.ensures) in
     subst (λ (o : Option (List ℕ)). IsFramed (K g (g.L.Lengths.key_len c.args.lengths) (g.L.Lengths.value_len c.args.lengths)) c.args.bytes.now c.args.key.now c.args.value.now (Ok o) (c.write_count.new.header ++ c.write_at_end.new.entries ++ c.write_at_end.new.control)) (sym told) done
 
 pub returns-clause-accepted : goal.returns-clause-accepted
@@ -327,7 +327,7 @@ returns-then-not-write_at_end-clause-framed g c =
     let end = ended g front in
     let same = entries_are g front in
     one_refused (K g (g.L.Lengths.key_len c.args.lengths) (g.L.Lengths.value_len c.args.lengths)) c.args.bytes.now _ _ _ cut c.args.key.now c.args.value.now (fits g at cut end same) (value_of g at cut end same) (R g at cut end same) _ _ (framed g at cut end same)
-    c.hold_bytes.ensures (counted g at cut end same) (small g at cut end same) (λ b. b) (λ b. refl) Full (ap (λ w. answered (F g (g.L.Lengths.key_len c.args.lengths) (g.L.Lengths.value_len c.args.lengths)) c.split_at_mut-front.result.1.now c.args.end.0 (write_result w)) c.if-not-write_at_end.true)
+    c.prove_bytes.ensures (counted g at cut end same) (small g at cut end same) (λ b. b) (λ b. refl) Full (ap (λ w. answered (F g (g.L.Lengths.key_len c.args.lengths) (g.L.Lengths.value_len c.args.lengths)) c.split_at_mut-front.result.1.now c.args.end.0 (write_result w)) c.if-not-write_at_end.true)
 
 -- a write that was not made changed nothing
 refused : (g : Over) (c : After-write_at_end g) → c.write_at_end.result ≡ false

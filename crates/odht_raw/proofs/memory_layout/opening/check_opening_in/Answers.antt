@@ -1,7 +1,7 @@
 use Rattle.std.proofs.Common.{rules, ◌≡◌, ◌∙◌, sym, ap, Err}
 use Rattle.odht_base.specs.Format.{Format, format_of}
 use Rattle.odht_raw.specs.Frame.{IsAccepted}
-use Rattle.odht_raw.specs.Sized.{SizedParts, sized_format}
+use Rattle.odht_raw.specs.DynParts.{DynParts, parts_format}
 use Rattle.odht_header.specs.Refusals.{checked, opening_refusal, hashes_refusal}
 use Rattle.odht_header.proofs.lemmas.FirstErrors.{Ok-checked, Err-checked}
 use Rattle.odht_raw.proofs.lemmas.Openings.{view_refusal-opening, view_refusal-slots}
@@ -32,5 +32,5 @@ returns g c =
     let F : Format = format_of (g.L.Lengths.key_len c.args.lengths) (g.L.Lengths.value_len c.args.lengths) g.H.HashFn.hash in
     let is : IsAccepted F c.args.bytes.now = Ok-checked _ (sym c.in_ok-check_by_header.was ∙ by_header g (goal.at.returns g c).After-check_by_header) in
     c.sanity_check_hashes.ensures
-    ∙ ap (λ (S : SizedParts). checked (hashes_refusal (sized_format S F.hash) S.parts.entries.bytes S.parts.control 10)) c.parts_in.ensures.parts
+    ∙ ap (λ (S : DynParts). checked (hashes_refusal (parts_format S F.hash) S.parts.entries.bytes S.parts.control 10)) c.parts_in.ensures.parts
     ∙ sym (ap checked (view_refusal-slots F c.args.bytes.now is))

@@ -65,9 +65,9 @@ are_free-requires g c = record {
 pub check_in_order-requires-clause-size : goal.check_in_order-requires-clause-size
 check_in_order-requires-clause-size g c = within g (goal.at.check_in_order-requires-clause-size g c).After-control_bytes-control
 
-pub take_others-requires-clause-free : goal.take_others-requires-clause-free
-take_others-requires-clause-free g c =
-    let at = (goal.at.take_others-requires-clause-free g c).After-control_bytes-control in
+pub check_occupied-requires-clause-free : goal.check_occupied-requires-clause-free
+check_occupied-requires-clause-free g c =
+    let at = (goal.at.check_occupied-requires-clause-free g c).After-control_bytes-control in
     let F : Format = (g.S.TableSlots.format c.args.table.now) in
     let T : TableParts = (g.S.TableSlots.parts c.args.table.now) in
     elim c.if-not-are_free.branch [

@@ -92,5 +92,5 @@ returns-then-before-unwrap_or g c fitting =
       λ passed. refl,
     )
 
-pub is_reached_late-requires-clause-group : goal.is_reached_late-requires-clause-group
-is_reached_late-requires-clause-group g c = look g (goal.at.is_reached_late-requires-clause-group g c).After-of-group
+pub is_reached_by_groups-requires-clause-group : goal.is_reached_by_groups-requires-clause-group
+is_reached_by_groups-requires-clause-group g c = look g (goal.at.is_reached_by_groups-requires-clause-group g c).After-of-group

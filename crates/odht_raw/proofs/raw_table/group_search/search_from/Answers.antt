@@ -16,14 +16,14 @@ use Rattle.odht_raw.proofs.lemmas.PassedSearches.{none-ends}
 use Rattle.odht_raw.specs.Stored.{stored_format}
 use Rattle.odht_raw.proofs.raw_table.group_search.search_from.Given.{Over}
 use Rattle.odht_raw.proofs.raw_table.group_search.search_from.Goals as goal
-use Rattle.odht_raw.proofs.raw_table.group_search.search_from.Goals.{After-look_at_group}
+use Rattle.odht_raw.proofs.raw_table.group_search.search_from.Goals.{After-search_group}
 
 -- one more group is read, and it is one of the table's
 one_more : (read before first from position slots : ℕ) → read ≡ min (before + 1) 18446744073709551615 → before ≤ first + (position - from) / 16 → from ≤ position → position + 16 ≤ slots → read ≤ first + (slots - from) / 16
 one_more read before first from position slots counted few begun within = omega arith
 
 -- what is known of the group that is read
-module _ (g : Over) (c : After-look_at_group g) where
+module _ (g : Over) (c : After-search_group g) where
   abbrev F : Format
   F = hashed_by g.H.HashFn.hash (stored_format c.args.stored.now)
 
@@ -70,7 +70,7 @@ module _ (g : Over) (c : After-look_at_group g) where
 
 pub returns-in-Some : goal.returns-in-Some
 returns-in-Some g c =
-    let at = (goal.at.returns-in-Some g c).After-look_at_group in
+    let at = (goal.at.returns-in-Some g c).After-search_group in
     let p : ℕ = c.groups.probe.position in
     let F = F g at in
     let E = E g at in
@@ -95,7 +95,7 @@ returns-in-Some g c =
 
 pub returns-then-is_last : goal.returns-then-is_last
 returns-then-is_last g c =
-    let at = (goal.at.returns-then-is_last g c).After-look_at_group in
+    let at = (goal.at.returns-then-is_last g c).After-search_group in
     let p : ℕ = c.groups.probe.position in
     let F = F g at in
     let E = E g at in
@@ -116,7 +116,7 @@ returns-then-is_last g c =
 
 pub groups-preserved : goal.groups-preserved
 groups-preserved g c =
-    let at = (goal.at.groups-preserved g c).After-look_at_group in
+    let at = (goal.at.groups-preserved g c).After-search_group in
     let counted : c.group-bytes.new.self.groups ≡ min (c.groups.scan.groups + 1) 18446744073709551615 = ap (λ q. q.groups) c.group-bytes.ensures.counted in
     let place : c.advance.new.self.position ≡ c.groups.probe.position + 16 = ap (λ q. q.position) c.advance.ensures in
     let masked : c.advance.new.self.mask ≡ c.groups.probe.mask = ap (λ q. q.mask) c.advance.ensures in

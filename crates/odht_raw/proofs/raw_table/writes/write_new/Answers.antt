@@ -40,7 +40,7 @@ returns-clause-placed g c P h new =
     let tag : c.tag_of.result ≡ key_tag F p.key = c.tag_of.ensures ∙ ap (λ h. h / 2 ^ 25) c.hash-hash.ensures in
     let control : c.write_slot.new.control ≡ tagged ctrl c.in-Some.slot (key_tag F p.key) = c.write_slot.ensures.control ∙ ap (tagged ctrl c.in-Some.slot) tag in
     let first = subst (λ (x : ℕ). IsFirstFree ctrl x (length ctrl - 16) c.in-Some.slot) c.hash-hash.ensures c.in-Some.ensures in
-    let fits : IsPairOf F p = record { key = record { len = c.requires.key; each = c.hold_bytes.ensures }; value = record { len = c.requires.value; each = c.hold_bytes-2.ensures } } in
+    let fits : IsPairOf F p = record { key = record { len = c.requires.key; each = c.prove_bytes.ensures }; value = record { len = c.requires.value; each = c.prove_bytes-2.ensures } } in
     let at = answer-Free F P p.key h.placed c.in-Some.slot (first_free-answer F P p.key es ctrl f h (length ctrl - 16) (omega arith) new c.in-Some.slot first) in
     let parts : IsPartsOf F (written P c.in-Some.slot p) c.write_slot.new.entries c.write_slot.new.control =
     rw (control, c.write_slot.ensures.entries) (free_parts F P es ctrl h p.key c.in-Some.slot p refl fits at) in

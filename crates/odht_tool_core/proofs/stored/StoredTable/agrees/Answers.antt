@@ -1,6 +1,6 @@
 use Rattle.std.proofs.Common.{◌∙◌, ◌≤◌, sym, ap, arith}
 use Rattle.odht_tool_core.specs.InfoNumbers.{least_key_len}
-use Rattle.odht_tool_core.proofs.SizedSlots.{disagrees, all_agree}
+use Rattle.odht_tool_core.proofs.DynSlots.{disagrees, all_agree}
 use Rattle.odht_tool_core.proofs.stored.StoredTable.agrees.Goals as goal
 
 pub returns-then-is_mismatch : goal.returns-then-is_mismatch

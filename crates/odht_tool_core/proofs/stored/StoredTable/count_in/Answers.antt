@@ -1,6 +1,6 @@
 use Rattle.std.proofs.Common.{◌≡◌, ◌∙◌, ◌+◌, true, false, get_or, sym, ap, arith}
 use Rattle.odht_base.specs.Decoded.{counts_as_free}
-use Rattle.odht_tool_core.proofs.SizedSlots.{count_free, count_more}
+use Rattle.odht_tool_core.proofs.DynSlots.{count_free, count_more}
 use Rattle.odht_tool_core.proofs.stored.StoredTable.count_in.Goals.{then-not-is_free, else-not-is_free}
 use Rattle.odht_tool_core.proofs.stored.StoredTable.count_in.Goals as goal
 

@@ -2,9 +2,9 @@ use Rattle.std.proofs.Common.{◌≡◌, ◌∙◌, ◌<◌, ◌+◌, ◌++◌, 
 use Rattle.odht_base.specs.Decoded.{counts_as_free, slot_key}
 use Rattle.odht_header.proofs.lemmas.FirstErrors.{not-false, not-true}
 use Rattle.odht_tool_core.specs.GroupNumbers.{capped, groups_to}
-use Rattle.odht_tool_core.specs.InfoNumbers.{IsHistogram, sized_format, group_numbers}
+use Rattle.odht_tool_core.specs.InfoNumbers.{IsHistogram, file_format, group_numbers}
 use Rattle.odht_tool_core.specs.ReadyShapes.{hash_of}
-use Rattle.odht_tool_core.proofs.SizedSlots.{groups_free, groups_more, groups_few}
+use Rattle.odht_tool_core.proofs.DynSlots.{groups_free, groups_more, groups_few}
 use Rattle.odht_tool_core.proofs.Tallies.{length-tallies}
 use Rattle.odht_tool_core.proofs.stored.StoredTable.histogram.Goals.{then-is_occupied, else-is_occupied}
 use Rattle.odht_tool_core.proofs.stored.StoredTable.histogram.Goals as goal
@@ -24,7 +24,7 @@ loop-slot-preserved c =
       | then-is_occupied w ↦ (
           let few : length (group_numbers T h o n) < 2 ^ 63 = omega (arith, groups_few T h o n, c.loop-slot-test.true, c.len-slots.ensures.few) in
           let held : counts_as_free (get_or T.control n 0) ≡ false = not-true (counts_as_free (get_or T.control n 0)) (sym c.is_occupied.ensures ∙ w.if-is_occupied.true) in
-          let groups : w.groups_to.result ≡ capped o (groups_to (hash_of h (slot_key (sized_format T h) T.entries n)) T.slots n) =
+          let groups : w.groups_to.result ≡ capped o (groups_to (hash_of h (slot_key (file_format T h) T.entries n)) T.slots n) =
           w.groups_to.ensures.groups ∙ ap₂ (λ x s. capped o (groups_to x s n)) w.hash_at-hash.ensures slots in
           let all = groups_more T h o n held ∙ ap (λ g. group_numbers T h o n ++ (g ∷ [])) (sym groups) in
           subst (IsHistogram (group_numbers T h o (n + 1))) (sym w.histogram-is)

@@ -1,6 +1,6 @@
 use Rattle.std.proofs.Common.{◌∙◌, max, sym, ap, ap₂}
 use Rattle.odht_tool_core.specs.GroupNumbers.{capped, groups_to_free}
-use Rattle.odht_tool_core.proofs.SizedSlots.{misses_more}
+use Rattle.odht_tool_core.proofs.DynSlots.{misses_more}
 use Rattle.odht_tool_core.proofs.Tallies.{largest-none}
 use Rattle.odht_tool_core.proofs.stored.StoredTable.longest_miss.Goals as goal
 

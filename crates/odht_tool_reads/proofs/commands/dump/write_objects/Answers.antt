@@ -2,7 +2,7 @@ use Rattle.std.proofs.Common.{◌≡◌, ◌∙◌, ◌++◌, ◌∷◌, [], All
 use Rattle.std.proofs.lemmas.List.{flat_map_more, map-append}
 use Rattle.std.specs.Io.KnownBytes.{Appends}
 use Rattle.odht_base.specs.Table.{Pair}
-use Rattle.odht_raw.specs.Sized.{HasLengthsOf}
+use Rattle.odht_raw.specs.DynParts.{HasLengthsOf}
 use Rattle.odht_tool_core.specs.Json.{pair_object, pair_objects}
 use Rattle.odht_tool_core.specs.ReadyShapes.{typed_len}
 use Rattle.odht_tool_core.specs.StoredTexts.{bare_pairs, key_text, value_text}

@@ -1,6 +1,6 @@
 use Rattle.std.proofs.Common.{◌≡◌, ◌++◌, All, map}
 use Rattle.std.specs.Io.KnownBytes.{Appends}
-use Rattle.odht_raw.specs.Sized.{HasLengthsOf}
+use Rattle.odht_raw.specs.DynParts.{HasLengthsOf}
 use Rattle.odht_tool_core.specs.Json.{pair_objects}
 use Rattle.odht_tool_core.specs.ReadyShapes.{typed_len}
 use Rattle.odht_tool_core.specs.StoredTexts.{bare_pairs, key_text, value_text}

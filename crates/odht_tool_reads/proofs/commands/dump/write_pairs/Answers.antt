@@ -2,7 +2,7 @@ use Rattle.std.proofs.Common.{◌≡◌, ◌∙◌, ◌++◌, ◌∷◌, [], All
 use Rattle.std.proofs.lemmas.List.{flat_map_more, map-append}
 use Rattle.std.specs.Io.KnownBytes.{Appends}
 use Rattle.odht_base.specs.Table.{Pair}
-use Rattle.odht_raw.specs.Sized.{HasLengthsOf}
+use Rattle.odht_raw.specs.DynParts.{HasLengthsOf}
 use Rattle.odht_tool_core.specs.StoredTexts.{bare_pairs}
 use Rattle.odht_tool_core.specs.Texts.{pair_line, pairs_text}
 use Rattle.odht_tool_core.proofs.Answered.{appends_more}
@@ -20,10 +20,10 @@ bare p = (p.key, p.value)
 -- the line of one pair more
 pub loop-key-preserved : goal.loop-key-preserved
 loop-key-preserved g c =
-    let f = g.K.Stored.text c.args.keys in
-    let v = g.V.Stored.text c.args.values in
+    let f = g.K.TextWriter.text c.args.keys in
+    let v = g.V.TextWriter.text c.args.values in
     let text : List Pair → List ℕ = λ ps. pairs_text f v (bare_pairs ps) in
-    let fits : Pair → Type 0 = HasLengthsOf (g.K.Stored.len c.args.keys) (g.V.Stored.len c.args.values) in
+    let fits : Pair → Type 0 = HasLengthsOf (g.K.TextWriter.len c.args.keys) (g.V.TextWriter.len c.args.values) in
     let here : Pair = record { key = c.in-Some.key.now; value = c.in-Some.value.now } in
     let items = c.loop-key.yielded in
     let done : List Pair = map pair_of items in

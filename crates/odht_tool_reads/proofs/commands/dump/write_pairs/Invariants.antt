@@ -1,6 +1,6 @@
 use Rattle.std.proofs.Common.{◌≡◌, ◌++◌, All, map}
 use Rattle.std.specs.Io.KnownBytes.{Appends}
-use Rattle.odht_raw.specs.Sized.{HasLengthsOf}
+use Rattle.odht_raw.specs.DynParts.{HasLengthsOf}
 use Rattle.odht_tool_core.specs.StoredTexts.{bare_pairs}
 use Rattle.odht_tool_core.specs.Texts.{pairs_text}
 use Rattle.odht_tool_reads.proofs.commands.dump.write_pairs.Given as goal
@@ -9,7 +9,7 @@ use Rattle.odht_tool_reads.proofs.commands.dump.write_pairs.Given as goal
 abbrev pub invariant-loop-key : goal.invariant-loop-key
 invariant-loop-key g l =
     record {
-      written : Appends (g.O.Write.contents l.initial.output) (g.O.Write.contents l.output) (pairs_text (g.K.Stored.text l.keys) (g.V.Stored.text l.values) (bare_pairs (map (λ x. record { key = x.0.now; value = x.1.now }) l.yielded)));
-      lengths : All (HasLengthsOf (g.K.Stored.len l.keys) (g.V.Stored.len l.values)) l.key-iterator;
+      written : Appends (g.O.Write.contents l.initial.output) (g.O.Write.contents l.output) (pairs_text (g.K.TextWriter.text l.keys) (g.V.TextWriter.text l.values) (bare_pairs (map (λ x. record { key = x.0.now; value = x.1.now }) l.yielded)));
+      lengths : All (HasLengthsOf (g.K.TextWriter.len l.keys) (g.V.TextWriter.len l.values)) l.key-iterator;
       pairs : l.fn.pairs ≡ map (λ x. record { key = x.0.now; value = x.1.now }) l.yielded ++ l.key-iterator;
     }

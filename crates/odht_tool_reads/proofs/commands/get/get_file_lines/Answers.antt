@@ -28,9 +28,9 @@ pub returns-in-Other : goal.returns-in-Other
 returns-in-Other g c =
     let B = c.args.bytes.now in
     let old = g.O.Write.contents c.args.output.now in
-    let new = g.O.Write.contents c.get_lines_other.new.output in
-    let r = c.get_lines_other.result in
+    let new = g.O.Write.contents c.get_lines_dynamic.new.output in
+    let r = c.get_lines_dynamic.result in
     let found = c.in_ok-found.found in
     with_shape_said (read_any B c.args.hash c.args.kinds) found (lines_of_forms c.args.is_json B (g.I.Read.remaining c.args.input.now) old new r) (λ x. (r ≡ Err x) × Keeps old new)
     (sym c.in_ok-found.was ∙ c.read_any.ensures.forms)
-    (subst (lines_of_any (found.1.key, found.1.value) c.args.is_json B (g.I.Read.remaining c.args.input.now) old new r) (sym c.in-Other.is) c.get_lines_other.ensures)
+    (subst (lines_of_any (found.1.key, found.1.value) c.args.is_json B (g.I.Read.remaining c.args.input.now) old new r) (sym c.in-Other.is) c.get_lines_dynamic.ensures)

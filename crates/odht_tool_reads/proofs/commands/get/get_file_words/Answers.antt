@@ -18,9 +18,9 @@ pub returns : goal.returns
 returns g c =
     let B = c.args.bytes.now in
     let old = g.O.Write.contents c.args.output.now in
-    let new = g.O.Write.contents c.get_words_of.new.output in
-    let r = c.get_words_of.result in
+    let new = g.O.Write.contents c.get_words_dynamic.new.output in
+    let r = c.get_words_dynamic.result in
     let found = c.in_ok-found.found in
     with_shape_said (read_any B c.args.hash c.args.kinds) found (words_of_forms c.args.is_json B (map string_bytes c.args.words.now) old new r) (λ x. (r ≡ Err x) × Keeps old new)
     (sym c.in_ok-found.was ∙ c.read_any.ensures.forms)
-    (subst (words_of_types (found.1.key, found.1.value) c.args.is_json B (map string_bytes c.args.words.now) old new r) c.types.ensures c.get_words_of.ensures)
+    (subst (words_of_types (found.1.key, found.1.value) c.args.is_json B (map string_bytes c.args.words.now) old new r) c.types.ensures c.get_words_dynamic.ensures)

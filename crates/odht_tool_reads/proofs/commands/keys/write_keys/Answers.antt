@@ -14,10 +14,10 @@ pair_of x = record { key = x.0.now; value = x.1.now }
 -- the line of one pair more
 pub loop-key-preserved : goal.loop-key-preserved
 loop-key-preserved g c =
-    let f = g.K.Stored.text c.args.keys in
+    let f = g.K.TextWriter.text c.args.keys in
     let line : Pair → List ℕ = key_line f in
     let text : List Pair → List ℕ = keys_text f in
-    let fits : Pair → Type 0 = λ p. length p.key ≡ g.K.Stored.len c.args.keys in
+    let fits : Pair → Type 0 = λ p. length p.key ≡ g.K.TextWriter.len c.args.keys in
     let here : Pair = record { key = c.in-Some.key.now; value = c.in-Some.field-0-1.now } in
     let items = c.loop-key.yielded in
     let done : List Pair = map pair_of items in

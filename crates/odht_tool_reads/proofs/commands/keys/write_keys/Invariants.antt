@@ -7,7 +7,7 @@ use Rattle.odht_tool_reads.proofs.commands.keys.write_keys.Given as goal
 abbrev pub invariant-loop-key : goal.invariant-loop-key
 invariant-loop-key g l =
     record {
-      written : Appends (g.O.Write.contents l.initial.output) (g.O.Write.contents l.output) (keys_text (g.K.Stored.text l.keys) (map (λ x. record { key = x.0.now; value = x.1.now }) l.yielded));
-      lengths : All (λ p. length p.key ≡ g.K.Stored.len l.keys) l.key-iterator;
+      written : Appends (g.O.Write.contents l.initial.output) (g.O.Write.contents l.output) (keys_text (g.K.TextWriter.text l.keys) (map (λ x. record { key = x.0.now; value = x.1.now }) l.yielded));
+      lengths : All (λ p. length p.key ≡ g.K.TextWriter.len l.keys) l.key-iterator;
       pairs : l.fn.pairs ≡ map (λ x. record { key = x.0.now; value = x.1.now }) l.yielded ++ l.key-iterator;
     }

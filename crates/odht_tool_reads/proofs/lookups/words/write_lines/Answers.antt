@@ -2,7 +2,7 @@ use Rattle.std.proofs.Common.{◌≡◌, ◌∙◌, ◌+◌, suc, ◌<◌, lengt
 use Rattle.std.specs.Io.KnownBytes.{Appends}
 use Rattle.std.specs.Prelude.{string_bytes}
 use Rattle.odht_tool_core.specs.JsonAnswers.{answer_in, no_key_line}
-use Rattle.odht_tool_core.specs.SizedTexts.{sized_text}
+use Rattle.odht_tool_core.specs.DynTexts.{dynamic_text}
 use Rattle.odht_tool_core.proofs.Answered.{appends_more}
 use Rattle.odht_tool_reads.specs.Gets.{word_line, word_lines}
 use Rattle.odht_tool_reads.proofs.WordAnswers.{word_lines_more}
@@ -10,7 +10,7 @@ use Rattle.odht_tool_reads.proofs.lookups.words.write_lines.Goals as goal
 
 pub loop-at-preserved : goal.loop-at-preserved
 loop-at-preserved g c =
-    let f = answer_in c.args.style.is_json (sized_text c.args.style.forms.key) (sized_text c.args.style.forms.value) in
+    let f = answer_in c.args.style.is_json (dynamic_text c.args.style.forms.key) (dynamic_text c.args.style.forms.value) in
     let h = no_key_line c.args.style.is_json in
     let o = g.O.Write.contents in
     let at = c.loop-at.at in

@@ -4,7 +4,7 @@ use Rattle.std.specs.List.{AllZip}
 use Rattle.std.specs.Prelude.{IfSome, string_bytes}
 use Rattle.odht.specs.Files.{file_coding}
 use Rattle.odht_tool_core.specs.JsonAnswers.{answer_in, no_key_line}
-use Rattle.odht_tool_core.specs.SizedTexts.{IsSizedOf, sized_text}
+use Rattle.odht_tool_core.specs.DynTexts.{IsDynamicOf, dynamic_text}
 use Rattle.odht_tool_reads.specs.Gets.{IsWordAnswer, word_lines, words_status}
 use Rattle.odht_tool_reads.proofs.positions.lookups.answer_words_at.Goals as goal
 
@@ -18,10 +18,10 @@ returns-in_ok-status-in-Some g c B over opens =
       record {
         answers = c.in-Some.answers.items;
         each =
-            subst (λ found. IfSome found (λ v. AllZip (IsWordAnswer coding (IsSizedOf style.forms.key) B) ws v.items)) c.in-Some.is (c.in_ok-answers.ensures.given B over);
+            subst (λ found. IfSome found (λ v. AllZip (IsWordAnswer coding (IsDynamicOf style.forms.key) B) ws v.items)) c.in-Some.is (c.in_ok-answers.ensures.given B over);
         written =
             subst (λ answers. Appends (o c.args.output.now) (o c.write_words.new.output)
-            (word_lines (answer_in style.is_json (sized_text style.forms.key) (sized_text style.forms.value)) (no_key_line style.is_json) ws answers))
+            (word_lines (answer_in style.is_json (dynamic_text style.forms.key) (dynamic_text style.forms.value)) (no_key_line style.is_json) ws answers))
             c.as_slice-in-Some.ensures.value c.in_ok-status-in-Some.ensures.written;
         status = c.in_ok-status-in-Some.ensures.status ∙ ap words_status c.as_slice-in-Some.ensures.value;
       },

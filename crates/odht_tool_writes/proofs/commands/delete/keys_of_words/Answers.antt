@@ -3,7 +3,7 @@ use Rattle.std.specs.Prelude.{IfErr, string_bytes}
 use Rattle.std.specs.List.{AllZip}
 use Rattle.odht_tool_core.specs.Forms.{bytes_form}
 use Rattle.odht_tool_core.specs.Keys.{TellsFault}
-use Rattle.odht_tool_core.specs.SizedTexts.{IsSizedOf, sized_wanted}
+use Rattle.odht_tool_core.specs.DynTexts.{IsDynamicOf, dynamic_wanted}
 use Rattle.odht_tool_core.specs.declared.forms.Form.{Form}
 use Rattle.odht_tool_writes.proofs.KeyLines.{either}
 use Rattle.odht_tool_writes.specs.Deletes.{are_keys, is_fault}
@@ -15,5 +15,5 @@ returns c =
     let ws = map string_bytes c.args.words.now in
     let r = c.parse_keys.result in
     either r (λ keys. are_keys c.args.form ws c.args.shape keys.items) (is_fault c.args.form ws c.args.shape)
-    (subst (λ (f : Form). IfOk r (λ keys. AllZip (IsSizedOf f) ws keys.items)) of c.parse_keys.ensures.keys)
-    (subst (λ (f : Form). IfErr r (TellsFault (IsSizedOf f) (sized_wanted f) ws)) of c.parse_keys.ensures.fault)
+    (subst (λ (f : Form). IfOk r (λ keys. AllZip (IsDynamicOf f) ws keys.items)) of c.parse_keys.ensures.keys)
+    (subst (λ (f : Form). IfErr r (TellsFault (IsDynamicOf f) (dynamic_wanted f) ws)) of c.parse_keys.ensures.fault)

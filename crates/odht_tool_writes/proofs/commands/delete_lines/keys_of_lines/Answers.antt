@@ -1,7 +1,7 @@
 use Rattle.std.proofs.Common.{map, IfOk, subst, ◌∙◌, ap}
 use Rattle.std.specs.Prelude.{IfErr}
 use Rattle.odht_tool_core.specs.Forms.{bytes_form}
-use Rattle.odht_tool_core.specs.SizedTexts.{IsSizedOf, sized_wanted}
+use Rattle.odht_tool_core.specs.DynTexts.{IsDynamicOf, dynamic_wanted}
 use Rattle.odht_tool_core.specs.declared.forms.Form.{Form}
 use Rattle.odht_tool_writes.specs.DeleteLines.{AreLinesKeys, TellsLine, are_lines_keys, is_line_fault}
 use Rattle.odht_tool_writes.proofs.KeyLines.{either}
@@ -14,5 +14,5 @@ returns g c =
     let r = c.read_lines.result in
     either r (λ x. are_lines_keys c.args.form input (map (λ line. line.items) x.lines.items) c.args.shape x.keys.items)
     (is_line_fault c.args.form input c.args.shape)
-    (subst (λ (f : Form). IfOk r (λ x. AreLinesKeys (IsSizedOf f) input (map (λ line. line.items) x.lines.items) x.keys.items)) of c.read_lines.ensures.ok)
-    (subst (λ (f : Form). IfErr r (TellsLine (IsSizedOf f) (sized_wanted f) input)) of c.read_lines.ensures.err)
+    (subst (λ (f : Form). IfOk r (λ x. AreLinesKeys (IsDynamicOf f) input (map (λ line. line.items) x.lines.items) x.keys.items)) of c.read_lines.ensures.ok)
+    (subst (λ (f : Form). IfErr r (TellsLine (IsDynamicOf f) (dynamic_wanted f) input)) of c.read_lines.ensures.err)

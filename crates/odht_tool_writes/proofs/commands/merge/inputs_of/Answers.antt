@@ -4,7 +4,7 @@ use Rattle.std.specs.Vec.Iter.{into_iter_items}
 use Rattle.std.proofs.lemmas.List.{map-append}
 use Rattle.std.proofs.lemmas.List.Elements.{All-push}
 use Rattle.odht_tool_writes.specs.Merges.{IsInputOf, IsTableOf, all_pairs, input_pairs, shape_of_other}
-use Rattle.odht_tool_writes.specs.declared.sized.merges.Input.{Input}
+use Rattle.odht_tool_writes.specs.declared.dynamic.merges.Input.{Input}
 use Rattle.odht_tool_core.specs.AnyShapes.{any_key, any_value}
 use Rattle.odht_tool_core.specs.ReadyShapes.{typed_len}
 use Rattle.odht_tool_writes.proofs.Merging.{all_failed, all_more, said}

@@ -3,7 +3,7 @@ use Rattle.std.specs.Prelude.{IfErr, IfOk, MatchResult}
 use Rattle.odht_tool_core.specs.Percents.{new_percent}
 use Rattle.odht_tool_tables.specs.Wholes.{whole_any}
 use Rattle.odht_tool_writes.specs.Merges.{IsLateStop, IsMergedFrom}
-use Rattle.odht_tool_writes.specs.declared.sized.merges.Unmerged.TheVariants.{Failed}
+use Rattle.odht_tool_writes.specs.declared.dynamic.merges.MergeFailure.TheVariants.{Failed}
 use Rattle.odht_tool_writes.proofs.commands.merge.merged.Goals as goal
 
 pub returns-in-Ok-clause-ok : goal.returns-in-Ok-clause-ok

@@ -5,7 +5,7 @@
 use super::lists::insert_pieces;
 use super::pieces::{are_pieces, deciding_pairs, piece};
 use super::write::init_by;
-use super::{by_hash, AnyLayout};
+use super::{with_hash, AnyLayout};
 use crate::erased::calls::build::hand_out;
 use crate::erased::calls::status::{BAD_LENGTHS, BAD_PERCENT, CAPACITY, MEMORY, OK, TOO_SMALL};
 use crate::proved::tables::bytes::Borrowed;
@@ -83,7 +83,7 @@ pub fn build(
     len: &mut usize,
 ) -> u32 {
     let percent = max_load_factor_percent;
-    by_hash!(layout, build_by(count, keys, values, percent, out, len))
+    with_hash!(layout, build_by(count, keys, values, percent, out, len))
 }
 
 // The build of `count` pairs in memory of its own.
@@ -139,5 +139,5 @@ pub fn build_growing(
     out: &mut [u8],
     len: &mut usize,
 ) -> u32 {
-    by_hash!(layout, build_growing_by(alloc, count, keys, values, out, len))
+    with_hash!(layout, build_growing_by(alloc, count, keys, values, out, len))
 }

@@ -4,11 +4,11 @@
 use super::pieces::{are_pieces, deciding_pairs, piece};
 use super::read::view;
 use super::view::look_up;
-use super::{by_hash, AnyLayout};
+use super::{with_hash, AnyLayout};
 use crate::erased::calls::status::{status_of, BAD_LENGTHS, OK};
 use crate::proved::tables::hash::HashFn;
 use crate::proved::tables::layout::Layout;
-use crate::proved::tables::memory_layout::insert_sized;
+use crate::proved::tables::memory_layout::insert_dynamic;
 
 // The lookups of `count` keys.
 fn get_pieces<H: HashFn>(
@@ -50,7 +50,7 @@ pub fn get_all(
     values: &mut [u8],
     found: &mut [u8],
 ) -> u32 {
-    by_hash!(layout, get_all_by(bytes, count, keys, values, found))
+    with_hash!(layout, get_all_by(bytes, count, keys, values, found))
 }
 
 // The inserts of `count` pairs.
@@ -69,7 +69,7 @@ pub(crate) fn insert_pieces<H: HashFn>(
     for index in 0..deciding {
         let key = piece(keys, layout.key_len, index);
         let value = piece(values, layout.value_len, index);
-        if let Err(refused) = insert_sized::<H>(bytes, layout, key, value) {
+        if let Err(refused) = insert_dynamic::<H>(bytes, layout, key, value) {
             *accepted = index;
             return status_of(&refused);
         }
@@ -103,5 +103,5 @@ pub fn insert_all(
     values: &[u8],
     accepted: &mut usize,
 ) -> u32 {
-    by_hash!(layout, insert_all_by(bytes, count, keys, values, accepted))
+    with_hash!(layout, insert_all_by(bytes, count, keys, values, accepted))
 }

@@ -2,7 +2,7 @@
 //! The call for an order of inserts that makes a table of any lengths.
 
 use super::read::whole;
-use super::{by_hash, AnyLayout};
+use super::{with_hash, AnyLayout};
 use crate::erased::calls::status::{status_of, BAD_LENGTHS, OK, UNMADE};
 use crate::proved::tables::bytes::Borrowed;
 use crate::proved::tables::dynamic::DynTable;
@@ -42,5 +42,5 @@ pub fn insert_order(
     out: &mut [usize],
     scratch: &mut [usize],
 ) -> u32 {
-    by_hash!(layout, insert_order_by(bytes, out, scratch))
+    with_hash!(layout, insert_order_by(bytes, out, scratch))
 }

@@ -2,7 +2,7 @@
 //! The calls that open or check a table of any lengths and tell where the first error is.
 
 use super::read::{whole, whole_within};
-use super::{by_hash, AnyLayout};
+use super::{with_hash, AnyLayout};
 use crate::erased::calls::places::{refused_at, NO_SLOT};
 use crate::erased::calls::status::OK;
 use crate::proved::tables::hash::HashFn;
@@ -24,7 +24,7 @@ fn open_at_by<H: HashFn>(layout: Layout, bytes: &[u8], slot: &mut usize) -> u32 
 /// `ControlMismatch`, and NO_SLOT of all other errors and with OK. BAD_LAYOUT leaves `slot`
 /// unchanged.
 pub fn open_at(layout: AnyLayout, bytes: &[u8], slot: &mut usize) -> u32 {
-    by_hash!(layout, open_at_by(bytes, slot))
+    with_hash!(layout, open_at_by(bytes, slot))
 }
 
 fn check_at_by<H: HashFn>(layout: Layout, bytes: &[u8], slot: &mut usize) -> u32 {
@@ -41,7 +41,7 @@ fn check_at_by<H: HashFn>(layout: Layout, bytes: &[u8], slot: &mut usize) -> u32
 /// to `slot` where that is: the slot that the error names, the index of the mirror's byte, or
 /// NO_SLOT of all other errors and with OK. BAD_LAYOUT leaves `slot` unchanged.
 pub fn check_at(layout: AnyLayout, bytes: &[u8], slot: &mut usize) -> u32 {
-    by_hash!(layout, check_at_by(bytes, slot))
+    with_hash!(layout, check_at_by(bytes, slot))
 }
 
 fn check_within_at_by<H: HashFn>(
@@ -62,5 +62,5 @@ fn check_within_at_by<H: HashFn>(
 /// `check_at` with a bound of searches, as `check_within`; of `SearchTooLong` the slot where the
 /// searches begin is written to `slot`. BAD_LAYOUT leaves `slot` unchanged.
 pub fn check_within_at(layout: AnyLayout, bytes: &[u8], groups: usize, slot: &mut usize) -> u32 {
-    by_hash!(layout, check_within_at_by(bytes, groups, slot))
+    with_hash!(layout, check_within_at_by(bytes, groups, slot))
 }

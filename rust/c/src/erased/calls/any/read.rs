@@ -1,7 +1,7 @@
 // Made by `make rust` of crates/odht_calls/src/any/read.rt.
 //! The calls that read a table of any lengths.
 
-use super::{by_hash, AnyLayout};
+use super::{with_hash, AnyLayout};
 use crate::erased::calls::status::{status_of, ABSENT, BAD_LAYOUT, BAD_LENGTHS, OK};
 use crate::proved::tables::bytes::Borrowed;
 use crate::proved::tables::dynamic::{self, DynTable};
@@ -10,7 +10,7 @@ use crate::proved::tables::hash::HashFn;
 use crate::proved::tables::layout::Layout;
 use crate::proved::tables::load::max_item_count_for;
 use crate::proved::tables::memory_layout::{
-    check_by_header, check_opening, check_sized, check_sized_within, stated_layout, Header,
+    check_by_header, check_opening, check_dynamic, check_dynamic_within, stated_layout, Header,
 };
 
 // Opens the bytes by their header and length. Reads no slot.
@@ -34,13 +34,13 @@ fn open_by<H: HashFn>(layout: Layout, bytes: &[u8]) -> u32 {
 /// OK where the header, the length and the first ten slots are accepted, else the number of the
 /// first error.
 pub fn open(layout: AnyLayout, bytes: &[u8]) -> u32 {
-    by_hash!(layout, open_by(bytes))
+    with_hash!(layout, open_by(bytes))
 }
 
 // The first error of the whole check.
 pub(crate) fn whole<H: HashFn>(layout: Layout, bytes: &[u8]) -> Result<(), Error> {
     check_opening::<H>(bytes, layout)?;
-    check_sized::<H>(bytes, layout)
+    check_dynamic::<H>(bytes, layout)
 }
 
 fn check_by<H: HashFn>(layout: Layout, bytes: &[u8]) -> u32 {
@@ -52,7 +52,7 @@ fn check_by<H: HashFn>(layout: Layout, bytes: &[u8]) -> u32 {
 
 /// OK where the bytes are valid, else the number of the first error of the whole check.
 pub fn check(layout: AnyLayout, bytes: &[u8]) -> u32 {
-    by_hash!(layout, check_by(bytes))
+    with_hash!(layout, check_by(bytes))
 }
 
 // The first error of the whole check with a bound of searches.
@@ -62,7 +62,7 @@ pub(crate) fn whole_within<H: HashFn>(
     groups: usize,
 ) -> Result<(), Error> {
     check_opening::<H>(bytes, layout)?;
-    check_sized_within::<H>(bytes, layout, groups)
+    check_dynamic_within::<H>(bytes, layout, groups)
 }
 
 fn check_within_by<H: HashFn>(layout: Layout, bytes: &[u8], groups: usize) -> u32 {
@@ -76,7 +76,7 @@ fn check_within_by<H: HashFn>(layout: Layout, bytes: &[u8], groups: usize) -> u3
 /// first `groups` groups of its probe order, so that no search reads more; else the number of the
 /// first error of the whole check with this bound.
 pub fn check_within(layout: AnyLayout, bytes: &[u8], groups: usize) -> u32 {
-    by_hash!(layout, check_within_by(bytes, groups))
+    with_hash!(layout, check_within_by(bytes, groups))
 }
 
 fn len_by<H: HashFn>(layout: Layout, bytes: &[u8], item_count: &mut usize) -> u32 {
@@ -91,7 +91,7 @@ fn len_by<H: HashFn>(layout: Layout, bytes: &[u8], item_count: &mut usize) -> u3
 
 /// Writes the header's item count to `item_count`. An error leaves it unchanged.
 pub fn len(layout: AnyLayout, bytes: &[u8], item_count: &mut usize) -> u32 {
-    by_hash!(layout, len_by(bytes, item_count))
+    with_hash!(layout, len_by(bytes, item_count))
 }
 
 fn sizes_by<H: HashFn>(
@@ -122,7 +122,7 @@ pub fn sizes(
     max_item_count: &mut usize,
     max_load_factor_percent: &mut u8,
 ) -> u32 {
-    by_hash!(layout, sizes_by(bytes, slot_count, max_item_count, max_load_factor_percent))
+    with_hash!(layout, sizes_by(bytes, slot_count, max_item_count, max_load_factor_percent))
 }
 
 fn table_len_by<H: HashFn>(layout: Layout, bytes: &[u8], len: &mut usize) -> u32 {
@@ -139,7 +139,7 @@ fn table_len_by<H: HashFn>(layout: Layout, bytes: &[u8], len: &mut usize) -> u32
 /// follows is not looked at, nor is any slot. An error leaves `len` unchanged: one of the header,
 /// or of fewer bytes than the table has.
 pub fn table_len(layout: AnyLayout, bytes: &[u8], len: &mut usize) -> u32 {
-    by_hash!(layout, table_len_by(bytes, len))
+    with_hash!(layout, table_len_by(bytes, len))
 }
 
 fn get_by<H: HashFn>(layout: Layout, bytes: &[u8], key: &[u8], value: &mut [u8]) -> u32 {
@@ -162,7 +162,7 @@ fn get_by<H: HashFn>(layout: Layout, bytes: &[u8], key: &[u8], value: &mut [u8])
 /// Writes the value of a key to `value`. BAD_LENGTHS where the key or `value` has another length
 /// than the layout says. ABSENT and errors leave `value` unchanged.
 pub fn get(layout: AnyLayout, bytes: &[u8], key: &[u8], value: &mut [u8]) -> u32 {
-    by_hash!(layout, get_by(bytes, key, value))
+    with_hash!(layout, get_by(bytes, key, value))
 }
 
 fn contains_by<H: HashFn>(layout: Layout, bytes: &[u8], key: &[u8]) -> u32 {
@@ -182,7 +182,7 @@ fn contains_by<H: HashFn>(layout: Layout, bytes: &[u8], key: &[u8]) -> u32 {
 /// OK where the key has a value, else ABSENT. BAD_LENGTHS where the key has another length than
 /// the layout says.
 pub fn contains(layout: AnyLayout, bytes: &[u8], key: &[u8]) -> u32 {
-    by_hash!(layout, contains_by(bytes, key))
+    with_hash!(layout, contains_by(bytes, key))
 }
 
 /// Writes to `layout` the lengths that the header states, where header and length of the bytes

@@ -2,7 +2,7 @@
 //! Opened tables of any lengths as a caller in C keeps them, and lookups that skip the header.
 
 use super::pieces::{are_pieces, piece, put_answer};
-use super::{by_hash, AnyLayout};
+use super::{with_hash, AnyLayout};
 use crate::erased::calls::status::{status_of, ABSENT, BAD_LENGTHS, OK};
 use crate::erased::calls::view::View;
 use crate::proved::tables::bytes::Borrowed;
@@ -24,7 +24,7 @@ fn open_by<'a, H: HashFn>(layout: Layout, bytes: &'a [u8], view: &mut View<'a>) 
 /// OK, and `view` is a view of the bytes; or the number of the first error, and `view` is
 /// unchanged. Reads the header, the length and the first ten slots.
 pub fn open<'a>(layout: AnyLayout, bytes: &'a [u8], view: &mut View<'a>) -> u32 {
-    by_hash!(layout, open_by(bytes, view))
+    with_hash!(layout, open_by(bytes, view))
 }
 
 // The table of bytes whose header and length fit. Reads none of them.
@@ -49,7 +49,7 @@ fn get_by<H: HashFn>(layout: Layout, bytes: &[u8], key: &[u8], value: &mut [u8])
 /// Writes the value of a key of an opened table to `value`. BAD_LENGTHS where the key or `value`
 /// has another length than the layout says. It and ABSENT leave `value` unchanged.
 pub fn get(layout: AnyLayout, view: &View<'_>, key: &[u8], value: &mut [u8]) -> u32 {
-    by_hash!(layout, get_by(view.bytes, key, value))
+    with_hash!(layout, get_by(view.bytes, key, value))
 }
 
 fn contains_by<H: HashFn>(layout: Layout, bytes: &[u8], key: &[u8]) -> u32 {
@@ -66,7 +66,7 @@ fn contains_by<H: HashFn>(layout: Layout, bytes: &[u8], key: &[u8]) -> u32 {
 /// OK where the key of an opened table has a value, else ABSENT. BAD_LENGTHS where the key has
 /// another length than the layout says.
 pub fn contains(layout: AnyLayout, view: &View<'_>, key: &[u8]) -> u32 {
-    by_hash!(layout, contains_by(view.bytes, key))
+    with_hash!(layout, contains_by(view.bytes, key))
 }
 
 // The lookups of `count` keys in bytes whose header and length fit.
@@ -111,7 +111,7 @@ pub fn get_all(
     values: &mut [u8],
     found: &mut [u8],
 ) -> u32 {
-    by_hash!(layout, get_all_by(view.bytes, count, keys, values, found))
+    with_hash!(layout, get_all_by(view.bytes, count, keys, values, found))
 }
 
 /// The item count in the header of an opened table, whatever its lengths.

@@ -3,7 +3,7 @@
 
 use super::pieces::{are_pieces, put_piece};
 use super::read::view;
-use super::{by_hash, AnyLayout};
+use super::{with_hash, AnyLayout};
 use crate::erased::calls::status::{status_of, BAD_LENGTHS, OK, TOO_SMALL};
 use crate::proved::tables::hash::HashFn;
 use crate::proved::tables::layout::Layout;
@@ -67,5 +67,5 @@ pub fn walk(
     values: &mut [u8],
     item_count: &mut usize,
 ) -> u32 {
-    by_hash!(layout, walk_by(bytes, cursor, room, keys, values, item_count))
+    with_hash!(layout, walk_by(bytes, cursor, room, keys, values, item_count))
 }

@@ -2,7 +2,7 @@
 //! The calls that write a table of any lengths.
 
 use super::read::view;
-use super::{by_hash, AnyLayout};
+use super::{with_hash, AnyLayout};
 use crate::erased::calls::status::{
     status_of, BAD_LAYOUT, BAD_LENGTHS, BAD_PERCENT, CAPACITY, LOAD_FACTOR_TOO_SMALL, OK, REPLACED,
     TOO_SMALL,
@@ -13,7 +13,7 @@ use crate::proved::tables::error::Error;
 use crate::proved::tables::hash::HashFn;
 use crate::proved::tables::layout::Layout;
 use crate::proved::tables::load::Percent;
-use crate::proved::tables::memory_layout::{insert_sized_into, Header, LEAST_FACTOR};
+use crate::proved::tables::memory_layout::{insert_dynamic_into, Header, LEAST_FACTOR};
 
 fn bytes_needed_by<H: HashFn>(
     layout: Layout,
@@ -41,7 +41,7 @@ pub fn bytes_needed(
     max_load_factor_percent: u8,
     len: &mut usize,
 ) -> u32 {
-    by_hash!(layout, bytes_needed_by(max_item_count, max_load_factor_percent, len))
+    with_hash!(layout, bytes_needed_by(max_item_count, max_load_factor_percent, len))
 }
 
 pub(crate) fn init_by<H: HashFn>(
@@ -74,7 +74,7 @@ pub fn init(
     max_item_count: usize,
     max_load_factor_percent: u8,
 ) -> u32 {
-    by_hash!(layout, init_by(bytes, max_item_count, max_load_factor_percent))
+    with_hash!(layout, init_by(bytes, max_item_count, max_load_factor_percent))
 }
 
 fn insert_by<H: HashFn>(
@@ -92,11 +92,11 @@ fn insert_by<H: HashFn>(
     if let Err(refused) = view::<H>(layout, bytes) {
         return status_of(&refused);
     }
-    told_status(insert_sized_into::<H>(bytes, layout, key, value, former))
+    inserted_status(insert_dynamic_into::<H>(bytes, layout, key, value, former))
 }
 
 // The status of an insert that tells whether the key had a value.
-fn told_status(told: Result<bool, Error>) -> u32 {
+fn inserted_status(told: Result<bool, Error>) -> u32 {
     match told {
         Ok(true) => REPLACED,
         Ok(false) => OK,
@@ -114,7 +114,7 @@ pub fn insert(
     value: &[u8],
     former: &mut [u8],
 ) -> u32 {
-    by_hash!(layout, insert_by(bytes, key, value, former))
+    with_hash!(layout, insert_by(bytes, key, value, former))
 }
 
 fn grow_by<H: HashFn>(layout: Layout, bytes: &[u8], out: &mut [u8], len: &mut usize) -> u32 {
@@ -140,5 +140,5 @@ fn grow_by<H: HashFn>(layout: Layout, bytes: &[u8], out: &mut [u8], len: &mut us
 /// Writes the table that the one in `bytes` grows into to the front of `out`, and its length in
 /// bytes to `len`. TOO_SMALL leaves `out` unchanged, any other error leaves both unchanged.
 pub fn grow(layout: AnyLayout, bytes: &[u8], out: &mut [u8], len: &mut usize) -> u32 {
-    by_hash!(layout, grow_by(bytes, out, len))
+    with_hash!(layout, grow_by(bytes, out, len))
 }

@@ -11,7 +11,7 @@ use crate::proved::base::bytes::ByteArray;
 use std::io::{self, Write};
 
 /// How keys or values are written, of their stored bytes.
-pub trait Stored: Copy {
+pub trait TextWriter: Copy {
     /// Writes the text of what is stored as these bytes.
     fn write_text<W: Write>(self, bytes: &[u8], output: &mut W) -> io::Result<()>;
 }
@@ -20,7 +20,7 @@ pub trait Stored: Copy {
 #[derive(Clone, Copy)]
 pub struct Digits32;
 
-impl Stored for Digits32 {
+impl TextWriter for Digits32 {
     #[inline(always)]
     fn write_text<W: Write>(self, bytes: &[u8], output: &mut W) -> io::Result<()> {
         let number = u32::from_le_bytes(<[u8; 4]>::from_slice(bytes));
@@ -32,7 +32,7 @@ impl Stored for Digits32 {
 #[derive(Clone, Copy)]
 pub struct Digits64;
 
-impl Stored for Digits64 {
+impl TextWriter for Digits64 {
     #[inline(always)]
     fn write_text<W: Write>(self, bytes: &[u8], output: &mut W) -> io::Result<()> {
         write_number(u64::from_le_bytes(<[u8; 8]>::from_slice(bytes)), output)
@@ -48,7 +48,7 @@ pub struct Typed {
     pub form: Form,
 }
 
-impl Stored for Typed {
+impl TextWriter for Typed {
     fn write_text<W: Write>(self, bytes: &[u8], output: &mut W) -> io::Result<()> {
         write_stored(self.part, self.form, bytes, output)
     }

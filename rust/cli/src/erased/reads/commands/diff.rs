@@ -8,7 +8,7 @@ use crate::erased::core::forms::{GivenForms, Kinds};
 use crate::erased::core::shapes::Hash;
 use crate::erased::core::status::Status;
 use crate::erased::core::typed::Texts;
-use crate::erased::reads::sized::diffs::diff_lengths;
+use crate::erased::reads::dynamic::diffs::diff_lengths;
 use crate::erased::tables::files::{finish_as, read_bytes};
 use crate::erased::tables::whole::{have_same_sizes, read_whole, sizes_of, write_sizes};
 use crate::host::prelude::*;

@@ -6,14 +6,14 @@ use crate::erased::core::failure::Failure;
 use crate::erased::core::forms::{Form, Kinds};
 use crate::erased::core::json::pairs::write_pair_object;
 use crate::erased::core::shapes::{Hash, Part};
-use crate::erased::core::sized_slots::write_slots;
+use crate::erased::core::dynamic_slots::write_slots;
 use crate::erased::core::status::{of_output, Status};
-use crate::erased::core::typed::stored::{Digits32, Digits64, Stored, Typed};
+use crate::erased::core::typed::stored::{Digits32, Digits64, TextWriter, Typed};
 use crate::erased::core::typed::Texts;
-use crate::erased::tables::sized::{lengths_of, open_lengths};
+use crate::erased::tables::dynamic::{lengths_of, open_lengths};
 use crate::host::prelude::*;
 use crate::proved::tables::hash::HashFn;
-use crate::proved::tables::raw_table::SizedIter;
+use crate::proved::tables::raw_table::DynIter;
 use crate::proved::tables::{FxHashFn, UnHashFn, Xxh64HashFn};
 use std::io::{self, Write};
 
@@ -47,7 +47,7 @@ fn dump_table<H: HashFn, O: Write>(
 ) -> Result<Status, Failure> {
     let table = open_lengths::<H>(lengths_of(texts.key, texts.value), bytes)?;
     if is_slots {
-        return of_output(write_slots(texts, is_json, &table.as_sized(), output));
+        return of_output(write_slots(texts, is_json, &table.as_dynamic(), output));
     }
     let pairs = table.iter();
     if is_json {
@@ -59,7 +59,7 @@ fn dump_table<H: HashFn, O: Write>(
 // Writes the object of each pair on a line.
 fn write_objects<H: HashFn, O: Write>(
     texts: Texts,
-    pairs: SizedIter<'_, H>,
+    pairs: DynIter<'_, H>,
     output: &mut O,
 ) -> io::Result<()> {
     for (key, value) in pairs {
@@ -71,7 +71,7 @@ fn write_objects<H: HashFn, O: Write>(
 // Writes each pair on a line. What is written of keys is known first.
 fn write_lines<H: HashFn, O: Write>(
     texts: Texts,
-    pairs: SizedIter<'_, H>,
+    pairs: DynIter<'_, H>,
     output: &mut O,
 ) -> io::Result<()> {
     match (texts.key, texts.forms.key) {
@@ -82,10 +82,10 @@ fn write_lines<H: HashFn, O: Write>(
 }
 
 // And then what is written of values.
-fn write_values<K: Stored, H: HashFn, O: Write>(
+fn write_values<K: TextWriter, H: HashFn, O: Write>(
     keys: K,
     texts: Texts,
-    pairs: SizedIter<'_, H>,
+    pairs: DynIter<'_, H>,
     output: &mut O,
 ) -> io::Result<()> {
     match (texts.value, texts.forms.value) {
@@ -95,10 +95,10 @@ fn write_values<K: Stored, H: HashFn, O: Write>(
     }
 }
 
-fn write_pairs<K: Stored, V: Stored, H: HashFn, O: Write>(
+fn write_pairs<K: TextWriter, V: TextWriter, H: HashFn, O: Write>(
     keys: K,
     values: V,
-    pairs: SizedIter<'_, H>,
+    pairs: DynIter<'_, H>,
     output: &mut O,
 ) -> io::Result<()> {
     for (key, value) in pairs {
@@ -108,7 +108,7 @@ fn write_pairs<K: Stored, V: Stored, H: HashFn, O: Write>(
 }
 
 #[inline(always)]
-fn write_pair_line<K: Stored, V: Stored, O: Write>(
+fn write_pair_line<K: TextWriter, V: TextWriter, O: Write>(
     keys: K,
     values: V,
     key: &[u8],

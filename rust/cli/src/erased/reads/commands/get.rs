@@ -10,7 +10,7 @@ use crate::erased::core::status::Status;
 use crate::erased::core::text::Text;
 use crate::erased::reads::lookups::answer_lines;
 use crate::erased::reads::shapes::for_shape;
-use crate::erased::reads::sized::gets::{get_lines_other, get_words_of};
+use crate::erased::reads::dynamic::gets::{get_lines_dynamic, get_words_dynamic};
 use crate::host::prelude::*;
 use crate::proved::tables::bytes::Borrowed;
 use crate::proved::tables::config::Config;
@@ -31,7 +31,7 @@ pub fn get_file_words<O: Write>(
 ) -> Result<Status, Failure> {
     let found = read_any(bytes, hash, kinds)?;
     let (shape, forms) = found;
-    get_words_of(alloc, shape.types(), forms, is_json, bytes, words, output)
+    get_words_dynamic(alloc, shape.types(), forms, is_json, bytes, words, output)
 }
 
 /// `odht get` of the bytes of a file, for the lines of an input.
@@ -51,7 +51,7 @@ pub fn get_file_lines<I: BufRead, O: Write>(
             get_lines_ready(alloc, shape, forms, is_json, bytes, input, output)
         }
         AnyShape::Other(shape) => {
-            get_lines_other(alloc, shape, forms, is_json, bytes, input, output)
+            get_lines_dynamic(alloc, shape, forms, is_json, bytes, input, output)
         }
     }
 }

@@ -6,12 +6,12 @@ use crate::erased::core::failure::Failure;
 use crate::erased::core::forms::{Form, Kinds};
 use crate::erased::core::shapes::{Hash, Part};
 use crate::erased::core::status::{of_output, Status};
-use crate::erased::core::typed::stored::{Digits32, Digits64, Stored, Typed};
+use crate::erased::core::typed::stored::{Digits32, Digits64, TextWriter, Typed};
 use crate::erased::core::typed::Texts;
-use crate::erased::tables::sized::{lengths_of, open_lengths};
+use crate::erased::tables::dynamic::{lengths_of, open_lengths};
 use crate::host::prelude::*;
 use crate::proved::tables::hash::HashFn;
-use crate::proved::tables::raw_table::SizedIter;
+use crate::proved::tables::raw_table::DynIter;
 use crate::proved::tables::{FxHashFn, UnHashFn, Xxh64HashFn};
 use std::io::{self, Write};
 
@@ -45,7 +45,7 @@ fn list_keys<H: HashFn, O: Write>(
 // Writes the key of each pair on a line. What is written of it is known first.
 fn write_lines<H: HashFn, O: Write>(
     texts: Texts,
-    pairs: SizedIter<'_, H>,
+    pairs: DynIter<'_, H>,
     output: &mut O,
 ) -> io::Result<()> {
     match (texts.key, texts.forms.key) {
@@ -55,9 +55,9 @@ fn write_lines<H: HashFn, O: Write>(
     }
 }
 
-fn write_keys<K: Stored, H: HashFn, O: Write>(
+fn write_keys<K: TextWriter, H: HashFn, O: Write>(
     keys: K,
-    pairs: SizedIter<'_, H>,
+    pairs: DynIter<'_, H>,
     output: &mut O,
 ) -> io::Result<()> {
     for (key, _) in pairs {
@@ -67,7 +67,7 @@ fn write_keys<K: Stored, H: HashFn, O: Write>(
 }
 
 #[inline(always)]
-fn write_key<K: Stored, O: Write>(keys: K, key: &[u8], output: &mut O) -> io::Result<()> {
+fn write_key<K: TextWriter, O: Write>(keys: K, key: &[u8], output: &mut O) -> io::Result<()> {
     keys.write_text(key, output)?;
     output.write_all(b"\n")
 }

@@ -6,7 +6,7 @@ use crate::erased::core::forms::Kinds;
 use crate::erased::core::shapes::Hash;
 use crate::erased::core::status::{of_output, Status};
 use crate::erased::core::typed::Texts;
-use crate::erased::tables::sized::lengths_of;
+use crate::erased::tables::dynamic::lengths_of;
 use crate::erased::tables::whole::read_whole;
 use crate::host::prelude::*;
 use crate::proved::tables::bytes::Borrowed;
@@ -80,7 +80,7 @@ fn write_order<H: HashFn, O: Write>(
     output: &mut O,
 ) -> io::Result<()> {
     let table = DynTable::<H, Borrowed<'_>>::open_unchecked(layout, Borrowed::new(bytes));
-    let slots = table.as_sized();
+    let slots = table.as_dynamic();
     for slot in order {
         texts.write_pair(slots.key(*slot), slots.value(*slot), output)?;
     }

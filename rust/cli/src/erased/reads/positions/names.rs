@@ -45,7 +45,7 @@ impl Fitting {
 /// named, or the one that is left when the first groups of slots exclude the others. None where
 /// they leave several, or none, or a read failed, or the table has no items and there is a default
 /// for such a table.
-pub(super) fn found_name<S: ReadAt>(
+pub(super) fn named_or_left_hash<S: ReadAt>(
     source: &S,
     start: &Start,
     hash: Option<Hash>,

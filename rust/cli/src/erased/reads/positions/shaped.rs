@@ -8,7 +8,7 @@ use crate::erased::core::forms::GivenForms;
 use crate::erased::core::json::answers::AnswerStyle;
 use crate::erased::core::shapes::Hash;
 use crate::erased::core::status::Status;
-use crate::erased::tables::sized::lengths_of;
+use crate::erased::tables::dynamic::lengths_of;
 use crate::host::prelude::*;
 use crate::proved::tables::dynamic::{FileTable, Layout};
 use crate::proved::tables::hash::HashFn;
@@ -33,19 +33,19 @@ pub(super) fn words_of<S: ReadAt, O: Write>(
 ) -> Result<Option<Status>, Failure> {
     let (layout, forms) = (lengths_of(shape.key, shape.value), forms.of(shape));
     match shape.hash {
-        Hash::Fx => words_sized::<FxHashFn, S, O>(
+        Hash::Fx => words_dynamic::<FxHashFn, S, O>(
             alloc, source, at, len, layout, forms, is_json, words, output,
         ),
-        Hash::Unhash => words_sized::<UnHashFn, S, O>(
+        Hash::Unhash => words_dynamic::<UnHashFn, S, O>(
             alloc, source, at, len, layout, forms, is_json, words, output,
         ),
-        Hash::Xxh64 => words_sized::<Xxh64HashFn, S, O>(
+        Hash::Xxh64 => words_dynamic::<Xxh64HashFn, S, O>(
             alloc, source, at, len, layout, forms, is_json, words, output,
         ),
     }
 }
 
-fn words_sized<H: HashFn, S: ReadAt, O: Write>(
+fn words_dynamic<H: HashFn, S: ReadAt, O: Write>(
     alloc: Global,
     source: S,
     at: u64,

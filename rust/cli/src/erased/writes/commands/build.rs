@@ -11,12 +11,12 @@ use crate::erased::core::new_file::NewFile;
 use crate::erased::core::shapes::Shape;
 use crate::erased::core::status::Status;
 use crate::erased::core::text::Text;
-use crate::erased::tables::sized::check_lengths;
+use crate::erased::tables::dynamic::check_lengths;
 use crate::erased::writes::inserts::lines::{
     check_lines, insert_into_file, insert_lines, left, makes_no_table, place_of, Place,
 };
 use crate::erased::writes::shapes::for_shape;
-use crate::erased::writes::sized::builds::{build_other, put_other};
+use crate::erased::writes::dynamic::builds::{build_dynamic, put_dynamic};
 use crate::host::prelude::*;
 use crate::host::rt::{Clock, Files};
 use crate::proved::tables::config::Config;
@@ -66,7 +66,7 @@ where
             let forms = LineForms { forms, delimiter };
             build_in(rt, place, shape, forms, options, input, output, errors)
         }
-        AnyShape::Other(shape) => build_other(rt, place, shape, options, input, output, errors),
+        AnyShape::Other(shape) => build_dynamic(rt, place, shape, options, input, output, errors),
     }
 }
 
@@ -145,7 +145,7 @@ where
     ask_kinds(bytes.as_slice(), shape, options.kinds)?;
     match shape {
         AnyShape::Ready(shape) => put_ready(rt, new, shape, forms, bytes, options, input, errors),
-        AnyShape::Other(shape) => put_other(rt, new, shape, forms, bytes, options, input, errors),
+        AnyShape::Other(shape) => put_dynamic(rt, new, shape, forms, bytes, options, input, errors),
     }
 }
 

@@ -15,7 +15,7 @@ use crate::erased::core::targets::Target;
 use crate::erased::core::typed::Texts;
 use crate::erased::tables::files::{finish, read_bytes};
 use crate::erased::tables::whole::{have_same_sizes, read_whole, sizes_of, write_sizes};
-use crate::erased::writes::sized::merges::{merge_lengths, Input, Unmerged};
+use crate::erased::writes::dynamic::merges::{merge_lengths, Input, MergeFailure};
 use crate::host::prelude::*;
 use crate::host::rt::{Clock, Files};
 use crate::proved::tables::load::Percent;
@@ -102,7 +102,7 @@ fn merged_or_told<R: AllocGlobal + Clock, E: Write>(
 ) -> Result<Option<Vec<u8>>, Failure> {
     match merged(rt, first, others, options, errors) {
         Ok(bytes) => Ok(Some(bytes)),
-        Err(Unmerged::New(failure)) => Err(failure),
+        Err(MergeFailure::New(failure)) => Err(failure),
         Err(unmerged) => {
             report(options, unmerged, errors);
             Ok(None)
@@ -117,19 +117,19 @@ fn reported<E: Write>(name: &str, failure: Failure, errors: &mut E) -> Option<Ve
 }
 
 // Reports why the files are not merged. A line that cannot be written is no failure.
-fn report<E: Write>(options: &MergeOptions, unmerged: Unmerged, errors: &mut E) {
+fn report<E: Write>(options: &MergeOptions, unmerged: MergeFailure, errors: &mut E) {
     match unmerged {
-        Unmerged::Failed { at, failure } => {
+        MergeFailure::Failed { at, failure } => {
             let _ = finish(name_of(options, at), Err(failure), errors);
         }
-        Unmerged::OtherSizes { at, found, first } => {
+        MergeFailure::OtherSizes { at, found, first } => {
             let name = name_of(options, at);
             let _ = write_sizes(name, options.first.as_str(), found, first, errors);
         }
-        Unmerged::Twice { at, text } => {
+        MergeFailure::Twice { at, text } => {
             let _ = write_repeated(name_of(options, at), text.as_slice(), errors);
         }
-        Unmerged::New(_) => {}
+        MergeFailure::New(_) => {}
     }
 }
 
@@ -150,14 +150,14 @@ fn merged<R: AllocGlobal + Clock, E: Write>(
     others: Vec<Vec<u8>>,
     options: &MergeOptions,
     errors: &mut E,
-) -> Result<Vec<u8>, Unmerged> {
+) -> Result<Vec<u8>, MergeFailure> {
     let bytes = first.as_slice();
     match read_whole(bytes, options.hash, options.kinds, options.bound) {
         Ok((shape, forms)) => {
             let percent = new_percent(bytes, options.percent);
             merged_for(rt, shape, forms, first, others, percent, options, errors)
         }
-        Err(failure) => Err(Unmerged::Failed { at: 0, failure }),
+        Err(failure) => Err(MergeFailure::Failed { at: 0, failure }),
     }
 }
 
@@ -172,7 +172,7 @@ fn merged_for<R: AllocGlobal + Clock, E: Write>(
     percent: Percent,
     options: &MergeOptions,
     errors: &mut E,
-) -> Result<Vec<u8>, Unmerged> {
+) -> Result<Vec<u8>, MergeFailure> {
     let inputs = inputs_of(rt.alloc(), shape, first, others, options.hash, options.bound)?;
     merged_inputs(rt, shape, forms, inputs.as_slice(), percent, options, errors)
 }
@@ -187,7 +187,7 @@ fn merged_inputs<R: AllocGlobal + Clock, E: Write>(
     percent: Percent,
     options: &MergeOptions,
     errors: &mut E,
-) -> Result<Vec<u8>, Unmerged> {
+) -> Result<Vec<u8>, MergeFailure> {
     let texts = Texts::of(shape, forms);
     let progress = Progress::new(rt, Watch::of(options.has_progress));
     let duplicates = options.duplicates;
@@ -213,7 +213,7 @@ fn inputs_of(
     others: Vec<Vec<u8>>,
     hash: Option<Hash>,
     bound: Option<usize>,
-) -> Result<Vec<Input>, Unmerged> {
+) -> Result<Vec<Input>, MergeFailure> {
     let mut inputs = first_input(alloc, shape, first)?;
     for bytes in others {
         match shape_of_other(shape, hash, bound, inputs.len(), bytes.as_slice()) {
@@ -225,16 +225,16 @@ fn inputs_of(
 }
 
 // The first file alone.
-fn first_input(alloc: Global, shape: AnyShape, bytes: Vec<u8>) -> Result<Vec<Input>, Unmerged> {
+fn first_input(alloc: Global, shape: AnyShape, bytes: Vec<u8>) -> Result<Vec<Input>, MergeFailure> {
     let mut inputs = crate::host::lists::empty(alloc);
     push_input(&mut inputs, shape, bytes)?;
     Ok(inputs)
 }
 
 // Adds a file.
-fn push_input(inputs: &mut Vec<Input>, shape: AnyShape, bytes: Vec<u8>) -> Result<(), Unmerged> {
+fn push_input(inputs: &mut Vec<Input>, shape: AnyShape, bytes: Vec<u8>) -> Result<(), MergeFailure> {
     let input = Input { shape, bytes };
-    inputs.try_push(input).map_err(|_| Unmerged::New(Failure::Memory))
+    inputs.try_push(input).map_err(|_| MergeFailure::New(Failure::Memory))
 }
 
 // The shape of a file of this number, which has to be a valid table of the same lengths.
@@ -244,13 +244,13 @@ fn shape_of_other(
     bound: Option<usize>,
     at: usize,
     bytes: &[u8],
-) -> Result<AnyShape, Unmerged> {
+) -> Result<AnyShape, MergeFailure> {
     let kinds = Kinds { key: None, value: None, hash: None };
     match read_whole(bytes, hash, kinds, bound) {
         Ok((other, _)) if have_same_sizes(shape, other) => Ok(other),
         Ok((other, _)) => {
-            Err(Unmerged::OtherSizes { at, found: sizes_of(other), first: sizes_of(shape) })
+            Err(MergeFailure::OtherSizes { at, found: sizes_of(other), first: sizes_of(shape) })
         }
-        Err(failure) => Err(Unmerged::Failed { at, failure }),
+        Err(failure) => Err(MergeFailure::Failed { at, failure }),
     }
 }

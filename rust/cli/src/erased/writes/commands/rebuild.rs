@@ -13,14 +13,14 @@ use crate::erased::core::shapes::Hash;
 use crate::erased::core::status::Status;
 use crate::erased::core::targets::Target;
 use crate::erased::tables::checks::check_any;
-use crate::erased::writes::sized::builds::make_lengths;
+use crate::erased::writes::dynamic::builds::make_lengths;
 use crate::host::prelude::*;
 use crate::host::rt::{Clock, Files};
 use crate::proved::tables::bytes::Borrowed;
 use crate::proved::tables::dynamic::{DynTable, DynTableOwned, Layout};
 use crate::proved::tables::hash::HashFn;
 use crate::proved::tables::load::Percent;
-use crate::proved::tables::raw_table::SizedIter;
+use crate::proved::tables::raw_table::DynIter;
 use crate::proved::tables::{FxHashFn, UnHashFn, Xxh64HashFn};
 use std::io::Write;
 use std::os::fd::AsFd;
@@ -154,7 +154,7 @@ fn rebuilt_as<S: HashFn, H: HashFn, R: AllocGlobal + Clock, E: Write>(
 fn insert_pairs<S: HashFn, H: HashFn, R: Clock, E: Write>(
     rt: &R,
     table: &mut DynTableOwned<H>,
-    pairs: SizedIter<'_, S>,
+    pairs: DynIter<'_, S>,
     mut progress: Progress,
     errors: &mut E,
 ) -> Result<(), Failure> {

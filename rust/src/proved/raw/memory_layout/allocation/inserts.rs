@@ -2,7 +2,7 @@
 //! Inserts into the bytes of a table: the parts are written, and last the item count: by a single
 //! insert where it added an entry, by a list in any case.
 
-use super::{hold_bytes, Allocation};
+use super::{prove_bytes, Allocation};
 use crate::proved::header::header::ITEM_COUNT_AT;
 use crate::proved::raw::bytes::{write_slice, ByteStoreMut};
 use crate::proved::raw::config::Config;
@@ -50,7 +50,7 @@ impl<C: Config, M: ByteStoreMut> Allocation<C, M> {
     pub fn insert_items<I: Items<C::Key, C::Value>>(&mut self, items: &I, from: usize) -> usize {
         let store = &mut self.store;
         let bytes = store.bytes_mut();
-        hold_bytes(bytes);
+        prove_bytes(bytes);
         let header = Header::of(bytes);
         let count = header.item_count();
         let slots = header.slot_count();

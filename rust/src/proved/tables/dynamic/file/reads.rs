@@ -7,7 +7,7 @@ use crate::proved::tables::error::Error;
 use crate::proved::tables::hash::HashFn;
 use crate::proved::tables::layout::Layout;
 use crate::proved::tables::memory_layout::{Header, HEADER_SIZE};
-use crate::proved::tables::raw_table::{search_read, ReadPlace, Search, ShortBytes, SizedTable};
+use crate::proved::tables::raw_table::{search_read, ReadPlace, Search, ShortBytes, DynRawTable};
 use crate::proved::tables::read_at::{read_exact_at, ReadAt, ReadError};
 
 // How many slots are read to check the first ten: a group.
@@ -106,7 +106,7 @@ fn check_first<H: HashFn, S: ReadAt>(source: &S, place: &ReadPlace) -> Result<()
         Ok(()) => {}
         Err(error) => return Err(FileError::Read(error)),
     }
-    let first = SizedTable::<H>::new(&control, &*entries, FIRST_SLOTS, place.layout);
+    let first = DynRawTable::<H>::new(&control, &*entries, FIRST_SLOTS, place.layout);
     match first.sanity_check_hashes(SLOTS_TO_CHECK) {
         Ok(()) => Ok(()),
         Err(rejected) => Err(FileError::Table(DynError::Rejected(rejected))),

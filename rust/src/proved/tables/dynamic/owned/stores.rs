@@ -5,7 +5,7 @@ use crate::proved::tables::error::Error;
 use crate::proved::tables::hash::HashFn;
 use crate::proved::tables::layout::Layout;
 use crate::proved::tables::load::Factor;
-use crate::proved::tables::memory_layout::{check_opening, check_sized, init_parts};
+use crate::proved::tables::memory_layout::{check_opening, check_dynamic, init_parts};
 use crate::shim::Global;
 use alloc::vec::Vec;
 
@@ -36,7 +36,7 @@ pub(super) fn copied<H: HashFn>(
     if let Err(refused) = check_opening::<H>(raw_bytes, layout) {
         return Err(refused);
     }
-    if let Err(refused) = check_sized::<H>(raw_bytes, layout) {
+    if let Err(refused) = check_dynamic::<H>(raw_bytes, layout) {
         return Err(refused);
     }
     let Ok(bytes) = crate::shim::to_vec(raw_bytes, alloc) else {

@@ -6,7 +6,7 @@ use Rattle.odht_base.proofs.lemmas.SlotCounts.{IsSlotCount-pow}
 use Rattle.odht_header.specs.Refusals.{checked, hashes_refusal}
 use Rattle.odht_header.proofs.lemmas.FirstErrors.{Ok-checked, Err-checked}
 use Rattle.odht_raw.specs.Reads.{entry_size, read_entries, read_controls, IsHeldBy}
-use Rattle.odht_raw.specs.Sized.{SizedParts, sized_format}
+use Rattle.odht_raw.specs.DynParts.{DynParts, parts_format}
 use Rattle.odht.specs.declared.dynamic.DynError.TheVariants.{Rejected}
 use Rattle.odht.proofs.lemmas.Files.{first_slots}
 use Rattle.odht.proofs.dynamic.file.reads.check_first.Given.{Over}
@@ -32,7 +32,7 @@ module _ (g : Over) (c : After-sanity_check_hashes g) (B : List ℕ) (h : g.S.Re
   checked_is : c.sanity_check_hashes.result ≡ checked (hashes_refusal F (read_entries c.args.place.now B).bytes (read_controls c.args.place.now B) 10)
   checked_is =
       c.sanity_check_hashes.ensures
-      ∙ ap (λ (S : SizedParts). checked (hashes_refusal (sized_format S g.H.HashFn.hash) S.parts.entries.bytes S.parts.control 10)) c.new-first.ensures
+      ∙ ap (λ (S : DynParts). checked (hashes_refusal (parts_format S g.H.HashFn.hash) S.parts.entries.bytes S.parts.control 10)) c.new-first.ensures
       ∙ (λ i. checked (hashes_refusal F (entries i) (control i) 10))
       ∙ ap checked (first_slots F B c.args.place.now.entries_at c.args.place.now.control_at c.args.place.now.slots c.requires.slots.least held.controls)
 

@@ -1,7 +1,7 @@
 use Rattle.std.proofs.Common.{sym, subst, refl, Ok, Err}
 use Rattle.odht_base.specs.Format.{format_of}
 use Rattle.odht_raw.specs.Frame.{IsAccepted}
-use Rattle.odht_raw.specs.Sized.{bytes_coding}
+use Rattle.odht_raw.specs.DynParts.{bytes_coding}
 use Rattle.odht_raw.proofs.lemmas.Accepted.{IsAccepted-IsValidBytes}
 use Rattle.odht.proofs.lemmas.NewRefusals.{fails-passed, fails-made}
 use Rattle.odht.proofs.dynamic.owned.DynTableOwned.with_capacity.Goals as goal

@@ -119,7 +119,7 @@ module _ (g : Over) (c : After-write_count g)
             list_placed K.format c.bytes_mut-bytes.result.now _ _ _ cut n _ _ _ written left P is (encoded_all K (inserted g c))
             (run_fits K _ _ (inserted g c) n _ _ run.ensures.inserted.run)
             (run.ensures.inserted.placed P (cut-image K.format c.bytes_mut-bytes.result.now _ _ _ cut P is).1);
-        framed = list_framed K c.bytes_mut-bytes.result.now _ _ _ cut (inserted g c) n _ _ _ written run.ensures.inserted.run left counted small c.hold_bytes.ensures;
+        framed = list_framed K c.bytes_mut-bytes.result.now _ _ _ cut (inserted g c) n _ _ _ written run.ensures.inserted.run left counted small c.prove_bytes.ensures;
         stopped = elim run.ensures.stop [
           | inl e ↦ inl e
           | inr refused ↦ inr (list_stopped K c.bytes_mut-bytes.result.now _ _ _ cut (inserted g c) n _ _ _ written run.ensures.inserted.run left counted small items run.result.0

@@ -15,7 +15,7 @@ use Rattle.odht_raw.proofs.lemmas.Inserts.{found_value}
 use Rattle.odht_raw.proofs.lemmas.Lookups.{answer-Found}
 use Rattle.odht_header.proofs.lemmas.Formats.{IsFormat-format_of}
 use Rattle.odht_raw.proofs.lemmas.FirstLooks.{matches, home-lt, match-lt, first_look-found, first_look-absent, first_look-passes}
-use Rattle.odht_raw.specs.Sized.{sized_format}
+use Rattle.odht_raw.specs.DynParts.{parts_format}
 use Rattle.odht_raw.proofs.raw_table.parts.Parts.find_from.Given.{Over}
 use Rattle.odht_raw.proofs.raw_table.parts.Parts.find_from.Goals.{After-first_match}
 use Rattle.odht_raw.proofs.raw_table.parts.Parts.find_from.Goals as goal
@@ -23,7 +23,7 @@ use Rattle.odht_raw.proofs.raw_table.parts.Parts.find_from.Goals as goal
 -- what the look says about the table and the key
 module _ (g : Over) (c : After-first_match g) where
   abbrev F : Format
-  F = sized_format c.args.self.now g.H.HashFn.hash
+  F = parts_format c.args.self.now g.H.HashFn.hash
 
   abbrev T : TableParts
   T = c.args.self.now.parts
@@ -32,14 +32,14 @@ module _ (g : Over) (c : After-first_match g) where
   k = c.args.key.now
 
   count : IsSlotCount T.entries.slots
-  count = c.len-mask.ensures.sized.slots
+  count = c.len-mask.ensures.whole.slots
 
   mirrored : length T.control ≡ T.entries.slots + 16
-  mirrored = c.len-mask.ensures.sized.mirrored
+  mirrored = c.len-mask.ensures.whole.mirrored
 
   fits : IsFormat F
   fits =
-      let v = c.len-mask.ensures.sized in
+      let v = c.len-mask.ensures.whole in
       IsFormat-format_of _ _ _ _ v.fitting.key_short v.fitting.value_short v.hashes g.met.H.HashFn.fits
 
   looked : record { hash = c.look.inside.hash; matches = c.look.inside.group.matches; free = c.look.inside.group.free } ≡ first_look_of F T k
@@ -129,9 +129,9 @@ returns-then-any_empty-clause-found g c =
     }
 
 -- where no byte of the group is free, the search passed it
-pub late_search-requires-clause-first : goal.late_search-requires-clause-first
-late_search-requires-clause-first g c =
-    let at = (goal.at.late_search-requires-clause-first g c).After-first_match in
+pub search_next_groups-requires-clause-first : goal.search_next_groups-requires-clause-first
+search_next_groups-requires-clause-first g c =
+    let at = (goal.at.search_next_groups-requires-clause-first g c).After-first_match in
     let F = F g at in
     let taken = taken-all _ _ _ c.matches.invariant.taken (sym c.in_default.is ∙ c.first_match.ensures) in
     let others = λ (i : ℕ) (m : Contains (matches F (T g at) (k g at) (count g at) (mirrored g at) (small g at)) i). taken i (subst (λ xs. Contains xs i) (sym (listed g at)) m) in

@@ -2,13 +2,13 @@ use Rattle.std.proofs.Common.{◌≡◌, ◌+◌, ◌%◌, length}
 use Rattle.odht_base.specs.Format.{home}
 use Rattle.odht_base.specs.Decoded.{slot_key}
 use Rattle.odht_raw.proofs.lemmas.GroupLooks.{IsTaken}
-use Rattle.odht_raw.specs.Sized.{sized_format}
+use Rattle.odht_raw.specs.DynParts.{parts_format}
 use Rattle.odht_raw.proofs.raw_table.parts.Parts.find_from.Given as goal
 
 -- the entries of the matches that were dropped have other keys
 abbrev pub invariant-matches : goal.invariant-matches
 invariant-matches g l =
-    let F = sized_format l.self g.H.HashFn.hash in
+    let F = parts_format l.self g.H.HashFn.hash in
     let k = l.key in
     record {
       same : l.group.free ≡ l.initial.group.free;

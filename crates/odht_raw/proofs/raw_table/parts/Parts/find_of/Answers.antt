@@ -9,7 +9,7 @@ use Rattle.odht_raw.specs.Finds.{IsCountedFind}
 use Rattle.odht_raw.specs.Parts.{TableParts, ReadGroups, hashed_by}
 use Rattle.odht_raw.specs.Stored.{StoredEntries, stored_format}
 use Rattle.odht_raw.specs.Searches.{IsSearch}
-use Rattle.odht_raw.specs.Sized.{sized_format}
+use Rattle.odht_raw.specs.DynParts.{parts_format}
 use Rattle.odht_raw.proofs.lemmas.Lookups.{answer-Found, answer-Free, answer-Neither}
 use Rattle.odht_raw.proofs.lemmas.Inserts.{found_value}
 use Rattle.odht_raw.proofs.lemmas.WholeSearches.{counted_in_new}
@@ -19,7 +19,7 @@ use Rattle.odht_raw.proofs.raw_table.parts.Parts.find_of.Goals as goal
 
 module _ (g : Over) (c : After-search_stored-end g) where
   abbrev format : Format
-  format = sized_format c.args.self.now g.H.HashFn.hash
+  format = parts_format c.args.self.now g.H.HashFn.hash
 
   abbrev parts : TableParts
   parts = c.args.self.now.parts
@@ -38,7 +38,7 @@ module _ (g : Over) (c : After-search_stored-end g) where
       c.stored-stored.ensures c.search_stored-end.ensures)
 
   counted : (P : Table) → IsPartsOf format P parts.entries.bytes parts.control → c.search_stored-end.new.scan.groups ≡ groups_read format P.cells key
-  counted = counted_in_new format parts.entries key new _ _ c.len.ensures.sized.slots refl ended
+  counted = counted_in_new format parts.entries key new _ _ c.len.ensures.whole.slots refl ended
 
   -- no value, and how many groups were read
   absent : (n : ℕ) → n ≡ c.search_stored-end.new.scan.groups → ((P : Table) → IsPartsOf format P parts.entries.bytes parts.control → None ≡ option_map (λ (b : List ℕ). b) (map_of P key))

@@ -6,16 +6,16 @@ use Rattle.odht_base.specs.Load.{IsSlotCount}
 use Rattle.odht_base.proofs.lemmas.SlotCounts.{bit_and-slots}
 use Rattle.odht_raw.specs.FirstLooks.{home_group}
 use Rattle.odht_raw.specs.Parts.{TableParts}
-use Rattle.odht_raw.specs.Sized.{sized_format}
+use Rattle.odht_raw.specs.DynParts.{parts_format}
 use Rattle.odht_raw.proofs.raw_table.parts.Parts.first_look.Goals as goal
 
 pub returns : goal.returns
 returns g c =
-    let F : Format = sized_format c.args.self.now g.H.HashFn.hash in
+    let F : Format = parts_format c.args.self.now g.H.HashFn.hash in
     let T : TableParts = c.args.self.now.parts in
     let k : List ℕ = c.args.key.now in
     let s : ℕ = T.entries.slots in
-    let count : IsSlotCount s = c.len-mask.ensures.sized.slots in
+    let count : IsSlotCount s = c.len-mask.ensures.whole.slots in
     let hash : c.hash-hash.result ≡ F.hash k = c.hash-hash.ensures in
     let slots : c.len-mask.result ≡ s = c.len-mask.ensures.value in
     let at_home : bit_and c.hash-hash.result (c.len-mask.result - 1) ≡ home F k s =

@@ -11,7 +11,7 @@ use Rattle.odht_raw.specs.Parts.{stored_in}
 use Rattle.odht_raw.specs.PartsInserts.{IsInsertChange, IsPartsInsert}
 use Rattle.odht_raw.specs.SearchResults.{MatchSearchResult, answer}
 use Rattle.odht_raw.specs.Searches.{IsSearchEnd}
-use Rattle.odht_raw.specs.Sized.{SizedParts, parts_with, sized_format, sized_parts}
+use Rattle.odht_raw.specs.DynParts.{DynParts, parts_with, parts_format, dynamic_parts}
 use Rattle.odht_raw.specs.Steps.{IsStepWhere}
 use Rattle.odht_raw.proofs.lemmas.Formers.{end_low}
 use Rattle.odht_raw.proofs.lemmas.Steps.{step-change, step-insert}
@@ -21,24 +21,24 @@ use Rattle.odht_raw.proofs.raw_table.parts_mut.PartsMut.insert.Goals as goal
 
 -- the parts that are searched
 parts_are : (g : Over) (c : After-of-parts g) → let t = c.args.self.now in
-    c.of-parts.result ≡ sized_parts (g.L.Lengths.key_len t.lengths) (g.L.Lengths.value_len t.lengths) (length t.control.now - 16) t.entries.now t.control.now
+    c.of-parts.result ≡ dynamic_parts (g.L.Lengths.key_len t.lengths) (g.L.Lengths.value_len t.lengths) (length t.control.now - 16) t.entries.now t.control.now
 parts_are g c =
     let t = c.args.self.now in
     c.of-parts.ensures ∙ ap (λ E. parts_with E t.control.now) c.new-stored.ensures
-    ∙ ap (λ s. sized_parts (g.L.Lengths.key_len t.lengths) (g.L.Lengths.value_len t.lengths) s t.entries.now t.control.now) c.slot_count_of-slots.ensures
+    ∙ ap (λ s. dynamic_parts (g.L.Lengths.key_len t.lengths) (g.L.Lengths.value_len t.lengths) s t.entries.now t.control.now) c.slot_count_of-slots.ensures
 
 -- and where the search ends in them
 ended : (g : Over) (c : After-insert_end-end g) → let t = c.args.self.now in
-    c.of-parts.result ≡ sized_parts (g.L.Lengths.key_len t.lengths) (g.L.Lengths.value_len t.lengths) (length t.control.now - 16) t.entries.now t.control.now
+    c.of-parts.result ≡ dynamic_parts (g.L.Lengths.key_len t.lengths) (g.L.Lengths.value_len t.lengths) (length t.control.now - 16) t.entries.now t.control.now
     → IsSearchEnd (format_of (g.L.Lengths.key_len t.lengths) (g.L.Lengths.value_len t.lengths) g.H.HashFn.hash) (stored_in t.entries.now t.control.now) t.control.now c.args.key.now c.insert_end-end.result.0
-ended g c parts = subst (λ (S : SizedParts). IsSearchEnd (sized_format S g.H.HashFn.hash) S.parts.entries S.parts.control c.args.key.now c.insert_end-end.result.0) parts c.insert_end-end.ensures.end
+ended g c parts = subst (λ (S : DynParts). IsSearchEnd (parts_format S g.H.HashFn.hash) S.parts.entries S.parts.control c.args.key.now c.insert_end-end.result.0) parts c.insert_end-end.ensures.end
 
 pub short_value_at-former-requires : goal.short_value_at-former-requires
 short_value_at-former-requires g c =
     let at = goal.at.short_value_at-former-requires g c in
     let parts = parts_are g at.After-of-parts in
     let t = c.args.self.now in
-    subst (λ (S : SizedParts). MatchSearchResult c.insert_end-end.result.0 (λ i. i < S.parts.entries.slots) (λ _. ⊤) ⊤) (sym parts)
+    subst (λ (S : DynParts). MatchSearchResult c.insert_end-end.result.0 (λ i. i < S.parts.entries.slots) (λ _. ⊤) ⊤) (sym parts)
     (end_low (format_of (g.L.Lengths.key_len t.lengths) (g.L.Lengths.value_len t.lengths) g.H.HashFn.hash) t.entries.now t.control.now c.args.key.now (length t.control.now - 16) c.insert_end-end.result.0 refl
     (ended g at.After-insert_end-end parts).slot)
 
@@ -49,12 +49,12 @@ write_at_end-requires-clause-end g c =
     let end = ended g at.After-insert_end-end parts in
     record {
       end = record { slot = end.slot; earlier = λ none. end.earlier };
-      tag = c.insert_end-end.ensures.tag ∙ ap (λ (S : SizedParts). key_tag (sized_format S g.H.HashFn.hash) c.args.key.now) parts;
+      tag = c.insert_end-end.ensures.tag ∙ ap (λ (S : DynParts). key_tag (parts_format S g.H.HashFn.hash) c.args.key.now) parts;
     }
 
 -- what the write did, with the value that was there in the answer
 module _ (g : Over) (c : After-write_at_end g)
-    (parts : c.of-parts.result ≡ sized_parts (g.L.Lengths.key_len c.args.self.now.lengths) (g.L.Lengths.value_len c.args.self.now.lengths) (length c.args.self.now.control.now - 16) c.args.self.now.entries.now c.args.self.now.control.now)
+    (parts : c.of-parts.result ≡ dynamic_parts (g.L.Lengths.key_len c.args.self.now.lengths) (g.L.Lengths.value_len c.args.self.now.lengths) (length c.args.self.now.control.now - 16) c.args.self.now.entries.now c.args.self.now.control.now)
     (end : IsSearchEnd (format_of (g.L.Lengths.key_len c.args.self.now.lengths) (g.L.Lengths.value_len c.args.self.now.lengths) g.H.HashFn.hash) (stored_in c.args.self.now.entries.now c.args.self.now.control.now) c.args.self.now.control.now c.args.key.now c.insert_end-end.result.0)
     (r : Result (Option (List ℕ)) Error) (is : with_former c.short_value_at-former.result (write_result c.write_at_end.result) ≡ r) where
   abbrev F : Format
@@ -75,7 +75,7 @@ module _ (g : Over) (c : After-write_at_end g)
   step : IsStepWhere (λ P. c.insert_end-end.result.0 ≡ answer F P.cells p.key) F value_of 18446744073709551615 (es, ctrl) p r (c.write_at_end.new.entries, c.write_at_end.new.control)
   step =
       let former : c.short_value_at-former.result ≡ former_of F es c.insert_end-end.result.0 =
-      c.short_value_at-former.ensures ∙ ap (λ (S : SizedParts). former_of (sized_format S g.H.HashFn.hash) S.parts.entries.bytes c.insert_end-end.result.0) parts in
+      c.short_value_at-former.ensures ∙ ap (λ (S : DynParts). former_of (parts_format S g.H.HashFn.hash) S.parts.entries.bytes c.insert_end-end.result.0) parts in
       subst (λ (a : Result (Option (List ℕ)) Error). IsStepWhere (λ P. c.insert_end-end.result.0 ≡ answer F P.cells p.key) F value_of 18446744073709551615 (es, ctrl) p a (c.write_at_end.new.entries, c.write_at_end.new.control))
       (ap (λ o. with_former o (write_result c.write_at_end.result)) (sym former) ∙ is) c.write_at_end.ensures.step
 

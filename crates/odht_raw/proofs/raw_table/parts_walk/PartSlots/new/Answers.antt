@@ -1,8 +1,8 @@
 use Rattle.std.proofs.Common.{All, ◌≡◌, ◌∙◌, ℕ, ◌<◌, List, [], map, ap, sym, subst}
 use Rattle.odht_raw.specs.Parts.{entry_format}
-use Rattle.odht_raw.specs.Sized.{read_slot}
+use Rattle.odht_raw.specs.DynParts.{read_slot}
 use Rattle.odht_raw.specs.Walks.{Item, numbered_from}
-use Rattle.odht_raw.proofs.lemmas.SizedWalks.{bare, read-numbered, numbered-below}
+use Rattle.odht_raw.proofs.lemmas.DynWalks.{bare, read-numbered, numbered-below}
 use Rattle.odht_raw.proofs.raw_table.parts_walk.PartSlots.new.Given.{Over}
 use Rattle.odht_raw.proofs.raw_table.parts_walk.PartSlots.new.Goals.{After-new-slots}
 use Rattle.odht_raw.proofs.raw_table.parts_walk.PartSlots.new.Goals as goal
@@ -25,4 +25,4 @@ invariant_of-result g c =
 pub returns-clause-items : goal.returns-clause-items
 returns-clause-items g c =
     let at = (goal.at.returns-clause-items g c).After-new-slots in
-    ap (map (read_slot c.args.table)) (slots g at) ∙ read-numbered itself itself c.args.table g.H.HashFn.hash c.args.from c.len.ensures.sized.mirrored
+    ap (map (read_slot c.args.table)) (slots g at) ∙ read-numbered itself itself c.args.table g.H.HashFn.hash c.args.from c.len.ensures.whole.mirrored

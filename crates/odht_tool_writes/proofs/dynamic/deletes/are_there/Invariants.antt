@@ -1,0 +1,9 @@
+use Rattle.std.proofs.Common.{◌≡◌, true, take}
+use Rattle.odht.specs.Dynamic.{dyn_format}
+use Rattle.odht.specs.Tables.{OfTable}
+use Rattle.odht_tool_writes.specs.Deletes.{have_values}
+use Rattle.odht_tool_writes.proofs.dynamic.deletes.are_there.Given as goal
+
+-- the keys so far have values
+abbrev pub invariant-loop-key : goal.invariant-loop-key
+invariant-loop-key g l = OfTable (dyn_format l.table g.H.HashFn.hash) l.table.store.0.now (λ P. have_values P (take l.key-index l.keys) ≡ true)
