@@ -21,10 +21,11 @@ use crate::error::Error;
 use crate::hash::HashFn;
 pub use crate::layout::Layout;
 use crate::memory_layout::{
-    self, Header, check_by_header, check_opening, check_dynamic, check_dynamic_within, dynamic_parts,
+    self, Header, check_by_header, check_dynamic, check_dynamic_within, check_opening,
+    dynamic_parts,
 };
 pub use crate::raw_table::ShortBytes;
-use crate::raw_table::{DynIter, DynSlots, DynRawTable};
+use crate::raw_table::{DynIter, DynRawTable, DynSlots};
 use std::marker::{Model, PhantomData};
 
 mod file;

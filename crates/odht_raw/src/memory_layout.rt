@@ -14,9 +14,9 @@ pub use crate::raw_table::{Entries, EntryMetadata};
 pub use allocation::Allocation;
 pub(crate) use allocation::prove_bytes;
 pub use check::{
-    DEFAULT_GROUPS, check_all, check_all_within, check_parts, check_dynamic, check_dynamic_within,
+    DEFAULT_GROUPS, check_all, check_all_within, check_dynamic, check_dynamic_within, check_parts,
 };
-pub use cuts::{parts_in, dynamic_parts};
+pub use cuts::{dynamic_parts, parts_in};
 pub use inserts::{insert_dynamic, insert_dynamic_into};
 pub use new_tables::{allocate, clear_entries, init_in_place, init_parts, write_empty};
 pub use odht_header::header::{HEADER_SIZE, Header, LEAST_FACTOR, is_accepted, write_header};

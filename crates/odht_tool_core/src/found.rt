@@ -18,7 +18,7 @@ use odht_base::hash::{FxHashFn, HashFn, UnHashFn, Xxh64HashFn};
 use odht_header::error::Error;
 use odht_header::header::Header;
 use odht_header::layout::Layout;
-use odht_raw::memory_layout::{DEFAULT_GROUPS, check_opening, check_dynamic_within};
+use odht_raw::memory_layout::{DEFAULT_GROUPS, check_dynamic_within, check_opening};
 
 // The first shape of these sizes with whose hash function all control bytes agree.
 fn fitting_shape(key_size: u8, value_size: u8, table: &StoredTable<'_>) -> Option<Shape>

@@ -2,7 +2,7 @@
 #![tactic(auto)]
 
 pub mod commands;
+mod dynamic;
 mod lookups;
 pub mod positions;
 mod shapes;
-mod dynamic;

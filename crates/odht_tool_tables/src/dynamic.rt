@@ -13,7 +13,7 @@ use odht::bytes::Borrowed;
 use odht::dynamic::{DynTable, Layout};
 use odht::error::Error;
 use odht::hash::HashFn;
-use odht::memory_layout::{check_opening, check_dynamic, check_dynamic_within};
+use odht::memory_layout::{check_dynamic, check_dynamic_within, check_opening};
 use odht_tool_core::failure::Failure;
 use odht_tool_core::shapes::Part;
 use odht_tool_core::typed::Texts;

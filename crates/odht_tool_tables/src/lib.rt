@@ -3,8 +3,8 @@
 #![tactic(auto)]
 
 pub mod checks;
+pub mod dynamic;
 pub mod files;
 mod short_inserts;
-pub mod dynamic;
 pub mod trials;
 pub mod whole;

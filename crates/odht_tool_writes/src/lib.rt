@@ -2,7 +2,7 @@
 #![tactic(auto)]
 
 pub mod commands;
+mod dynamic;
 mod inserts;
 mod shapes;
-mod dynamic;
 mod warnings;

@@ -20,7 +20,7 @@ use odht::hash::HashFn;
 use odht::layout::Layout;
 use odht::load::max_item_count_for;
 use odht::memory_layout::{
-    Header, check_by_header, check_opening, check_dynamic, check_dynamic_within, stated_layout,
+    Header, check_by_header, check_dynamic, check_dynamic_within, check_opening, stated_layout,
 };
 
 // Opens the bytes by their header and length. Reads no slot.

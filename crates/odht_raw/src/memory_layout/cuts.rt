@@ -13,7 +13,7 @@ ghost use Rattle.odht_raw.specs.PartLengths.{ArePairLengths};
 use super::{HEADER_SIZE, Header};
 use crate::hash::HashFn;
 use crate::layout::{Layout, Lengths};
-use crate::raw_table::{Parts, DynRawTable, Stored};
+use crate::raw_table::{DynRawTable, Parts, Stored};
 
 /// The parts of bytes whose header and length fit. Of the bytes of a valid table they are its
 /// parts.

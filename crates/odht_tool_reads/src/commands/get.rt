@@ -7,9 +7,9 @@ ghost use Rattle.odht_tool_reads.specs.GetLines.{AreLinesGot, AreFileLinesGot, l
 ghost use Rattle.odht_tool_reads.specs.Gets.{AreFileWordsGot};
 ghost use Rattle.odht_tool_tables.specs.Openings.{IsOpenFailure};
 
+use crate::dynamic::gets::{get_lines_dynamic, get_words_dynamic};
 use crate::lookups::answer_lines;
 use crate::shapes::for_shape;
-use crate::dynamic::gets::{get_lines_dynamic, get_words_dynamic};
 use odht::HashTable;
 use odht::bytes::Borrowed;
 use odht::config::{Coded, Config};

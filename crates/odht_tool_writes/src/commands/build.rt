@@ -5,11 +5,11 @@ ghost use Rattle.odht_base.specs.Valid.{IsImage};
 ghost use Rattle.odht_header.specs.Refusals.{check_refusal_by};
 ghost use Rattle.odht_tool_writes.specs.Inserted.{copy_failure};
 
+use crate::dynamic::builds::{build_dynamic, put_dynamic};
 use crate::inserts::lines::{
     Place, check_lines, insert_into_file, insert_lines, left, makes_no_table, place_of,
 };
 use crate::shapes::for_shape;
-use crate::dynamic::builds::{build_dynamic, put_dynamic};
 use odht::HashTableOwned;
 use odht::config::{Coded, Config};
 use odht::dynamic::Layout;
@@ -69,7 +69,9 @@ where
             let forms = LineForms { forms, delimiter };
             build_in(rt, place, shape, forms, options, input, output, errors)
         }
-        AnyShape::Other(shape) => { build_dynamic(rt, place, shape, options, input, output, errors) }
+        AnyShape::Other(shape) => {
+            build_dynamic(rt, place, shape, options, input, output, errors)
+        }
     }
 }
 

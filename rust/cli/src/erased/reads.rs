@@ -4,7 +4,7 @@
 use crate::host::prelude::*;
 
 pub mod commands;
+mod dynamic;
 mod lookups;
 pub mod positions;
 mod shapes;
-mod dynamic;

@@ -5,8 +5,8 @@
 use crate::host::prelude::*;
 
 pub mod checks;
+pub mod dynamic;
 pub mod files;
 mod short_inserts;
-pub mod dynamic;
 pub mod trials;
 pub mod whole;

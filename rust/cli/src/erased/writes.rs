@@ -4,7 +4,7 @@
 use crate::host::prelude::*;
 
 pub mod commands;
+mod dynamic;
 mod inserts;
 mod shapes;
-mod dynamic;
 mod warnings;

@@ -19,9 +19,9 @@ pub use crate::proved::raw::raw_table::{Entries, EntryMetadata};
 pub(crate) use allocation::prove_bytes;
 pub use allocation::Allocation;
 pub use check::{
-    check_all, check_all_within, check_parts, check_dynamic, check_dynamic_within, DEFAULT_GROUPS,
+    check_all, check_all_within, check_dynamic, check_dynamic_within, check_parts, DEFAULT_GROUPS,
 };
-pub use cuts::{parts_in, dynamic_parts};
+pub use cuts::{dynamic_parts, parts_in};
 pub use inserts::{insert_dynamic, insert_dynamic_into};
 pub use new_tables::{allocate, clear_entries, init_in_place, init_parts, write_empty};
 pub use opening::{check_by_header, check_opening, check_opening_in, stated_layout};

@@ -13,7 +13,7 @@ pub use pairs::{
     U32ToU32, U64Set, U64ToU32, U64ToU64,
 };
 use std::marker::PhantomData;
-pub use stored::{Fits, HashedBy, FixedBytes};
+pub use stored::{Fits, FixedBytes, HashedBy};
 
 mod pairs;
 mod stored;

@@ -6,10 +6,11 @@ use crate::proved::tables::error::Error;
 use crate::proved::tables::hash::HashFn;
 pub use crate::proved::tables::layout::Layout;
 use crate::proved::tables::memory_layout::{
-    self, check_by_header, check_opening, check_dynamic, check_dynamic_within, dynamic_parts, Header,
+    self, check_by_header, check_dynamic, check_dynamic_within, check_opening, dynamic_parts,
+    Header,
 };
 pub use crate::proved::tables::raw_table::ShortBytes;
-use crate::proved::tables::raw_table::{DynIter, DynSlots, DynRawTable};
+use crate::proved::tables::raw_table::{DynIter, DynRawTable, DynSlots};
 use std::marker::PhantomData;
 
 mod file;

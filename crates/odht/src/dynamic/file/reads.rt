@@ -19,7 +19,7 @@ use crate::error::Error;
 use crate::hash::HashFn;
 use crate::layout::Layout;
 use crate::memory_layout::{HEADER_SIZE, Header};
-use crate::raw_table::{ReadPlace, Search, ShortBytes, DynRawTable, search_read};
+use crate::raw_table::{DynRawTable, ReadPlace, Search, ShortBytes, search_read};
 use crate::read_at::{ReadAt, ReadError, read_exact_at};
 
 // How many slots are read to check the first ten: a group.

@@ -12,7 +12,7 @@ use crate::error::Error;
 use crate::hash::HashFn;
 use crate::layout::Layout;
 use crate::load::Factor;
-use crate::memory_layout::{check_opening, check_dynamic, init_parts};
+use crate::memory_layout::{check_dynamic, check_opening, init_parts};
 use std::alloc::Global;
 
 // The bytes of an empty table of these lengths with the slots for so many items.

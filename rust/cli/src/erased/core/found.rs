@@ -10,7 +10,7 @@ use crate::proved::base::hash::{FxHashFn, HashFn, UnHashFn, Xxh64HashFn};
 use crate::proved::header::error::Error;
 use crate::proved::header::header::Header;
 use crate::proved::header::layout::Layout;
-use crate::proved::raw::memory_layout::{check_opening, check_dynamic_within, DEFAULT_GROUPS};
+use crate::proved::raw::memory_layout::{check_dynamic_within, check_opening, DEFAULT_GROUPS};
 
 // The first shape of these sizes with whose hash function all control bytes agree.
 fn fitting_shape(key_size: u8, value_size: u8, table: &StoredTable<'_>) -> Option<Shape> {

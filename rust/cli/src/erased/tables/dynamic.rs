@@ -10,7 +10,7 @@ use crate::proved::tables::bytes::Borrowed;
 use crate::proved::tables::dynamic::{DynTable, Layout};
 use crate::proved::tables::error::Error;
 use crate::proved::tables::hash::HashFn;
-use crate::proved::tables::memory_layout::{check_opening, check_dynamic, check_dynamic_within};
+use crate::proved::tables::memory_layout::{check_dynamic, check_dynamic_within, check_opening};
 
 /// The lengths of keys and values of these types.
 pub fn lengths_of(key: Part, value: Part) -> Layout {

@@ -4,7 +4,7 @@
 use super::{Header, HEADER_SIZE};
 use crate::proved::raw::hash::HashFn;
 use crate::proved::raw::layout::{Layout, Lengths};
-use crate::proved::raw::raw_table::{Parts, DynRawTable, Stored};
+use crate::proved::raw::raw_table::{DynRawTable, Parts, Stored};
 
 /// The parts of bytes whose header and length fit. Of the bytes of a valid table they are its
 /// parts.

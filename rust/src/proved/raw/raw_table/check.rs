@@ -143,7 +143,12 @@ fn is_reached<S: TableSlots>(table: &S, slot: usize, hash: u32) -> bool {
 //
 // Inlined, it would take registers from the look at the first group.
 #[inline(never)]
-fn is_reached_by_groups<S: TableSlots>(table: &S, slot: usize, hash: u32, first: GroupQuery) -> bool {
+fn is_reached_by_groups<S: TableSlots>(
+    table: &S,
+    slot: usize,
+    hash: u32,
+    first: GroupQuery,
+) -> bool {
     let slots = table.slots();
     let mask = slots - 1;
     let tag = tag_of(hash);

@@ -10,7 +10,7 @@ use crate::proved::tables::hash::HashFn;
 use crate::proved::tables::layout::Layout;
 use crate::proved::tables::load::max_item_count_for;
 use crate::proved::tables::memory_layout::{
-    check_by_header, check_opening, check_dynamic, check_dynamic_within, stated_layout, Header,
+    check_by_header, check_dynamic, check_dynamic_within, check_opening, stated_layout, Header,
 };
 
 // Opens the bytes by their header and length. Reads no slot.

@@ -2,11 +2,11 @@
 //! `odht dump`: the pairs of a table file.
 
 use crate::erased::core::any::read_any;
+use crate::erased::core::dynamic_slots::write_slots;
 use crate::erased::core::failure::Failure;
 use crate::erased::core::forms::{Form, Kinds};
 use crate::erased::core::json::pairs::write_pair_object;
 use crate::erased::core::shapes::{Hash, Part};
-use crate::erased::core::dynamic_slots::write_slots;
 use crate::erased::core::status::{of_output, Status};
 use crate::erased::core::typed::stored::{Digits32, Digits64, TextWriter, Typed};
 use crate::erased::core::typed::Texts;

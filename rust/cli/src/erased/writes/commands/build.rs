@@ -12,11 +12,11 @@ use crate::erased::core::shapes::Shape;
 use crate::erased::core::status::Status;
 use crate::erased::core::text::Text;
 use crate::erased::tables::dynamic::check_lengths;
+use crate::erased::writes::dynamic::builds::{build_dynamic, put_dynamic};
 use crate::erased::writes::inserts::lines::{
     check_lines, insert_into_file, insert_lines, left, makes_no_table, place_of, Place,
 };
 use crate::erased::writes::shapes::for_shape;
-use crate::erased::writes::dynamic::builds::{build_dynamic, put_dynamic};
 use crate::host::prelude::*;
 use crate::host::rt::{Clock, Files};
 use crate::proved::tables::config::Config;

@@ -232,7 +232,11 @@ fn first_input(alloc: Global, shape: AnyShape, bytes: Vec<u8>) -> Result<Vec<Inp
 }
 
 // Adds a file.
-fn push_input(inputs: &mut Vec<Input>, shape: AnyShape, bytes: Vec<u8>) -> Result<(), MergeFailure> {
+fn push_input(
+    inputs: &mut Vec<Input>,
+    shape: AnyShape,
+    bytes: Vec<u8>,
+) -> Result<(), MergeFailure> {
     let input = Input { shape, bytes };
     inputs.try_push(input).map_err(|_| MergeFailure::New(Failure::Memory))
 }

@@ -7,7 +7,7 @@ use crate::proved::tables::error::Error;
 use crate::proved::tables::hash::HashFn;
 use crate::proved::tables::layout::Layout;
 use crate::proved::tables::memory_layout::{Header, HEADER_SIZE};
-use crate::proved::tables::raw_table::{search_read, ReadPlace, Search, ShortBytes, DynRawTable};
+use crate::proved::tables::raw_table::{search_read, DynRawTable, ReadPlace, Search, ShortBytes};
 use crate::proved::tables::read_at::{read_exact_at, ReadAt, ReadError};
 
 // How many slots are read to check the first ten: a group.

@@ -5,7 +5,7 @@ use crate::proved::tables::error::Error;
 use crate::proved::tables::hash::HashFn;
 use crate::proved::tables::layout::Layout;
 use crate::proved::tables::load::Factor;
-use crate::proved::tables::memory_layout::{check_opening, check_dynamic, init_parts};
+use crate::proved::tables::memory_layout::{check_dynamic, check_opening, init_parts};
 use crate::shim::Global;
 use alloc::vec::Vec;
 
