@@ -1,19 +1,16 @@
 //! A command of which some words are parsed.
 use super::delimiters::delimiter_named;
 use super::topics::{Setting, Topic};
-use super::{
-    BuildOptions, Command, CommandMisuse, DeleteOptions, DiffOptions, Duplicates, Keys,
-    MergeOptions, Misuse, PutOptions, Reading, RebuildOptions, Request, is_stream,
-};
-use crate::any::AnyShape;
+use super::{Command, CommandMisuse, Duplicates, Misuse, Reading, Request, is_stream};
 use crate::digits::parse_number;
-use crate::forms::{GivenForms, Kind, Kinds};
-use crate::progress::Watch;
+use crate::forms::{Kind, Kinds};
 use crate::shapes::Hash;
 use crate::targets::Allowed;
 use odht_base::load::Percent;
 use odht_raw::memory_layout::DEFAULT_GROUPS;
 use std::alloc::Global;
+
+mod commands;
 
 /// A command of which some words are parsed.
 #[derive(Drop)]
@@ -213,45 +210,6 @@ impl Draft {
         }
     }
 
-    // `delete`, of which the words are keys.
-    fn delete(self) -> Result<Command, CommandMisuse> {
-        if self.words.is_empty() {
-            return Err(CommandMisuse::Missing("KEY"));
-        }
-        Ok(Command::Delete(DeleteOptions {
-            keys: Keys::of_words(self.words),
-            hash: self.hash,
-            kinds: self.kinds,
-            bound: bound_of(self.is_whole),
-            breaks_links: self.allowed.breaks_links,
-            has_progress: self.has_progress,
-        }))
-    }
-
-    // What is said to `put`.
-    fn putting(&self) -> PutOptions {
-        PutOptions {
-            hash: self.hash,
-            kinds: self.kinds,
-            duplicates: self.duplicates,
-            delimiter: self.delimiter,
-            bound: bound_of(self.is_whole),
-            breaks_links: self.allowed.breaks_links,
-            watch: Watch::of(self.has_progress),
-        }
-    }
-
-    // What is said to `rebuild`.
-    fn rebuilding(&self) -> RebuildOptions {
-        RebuildOptions {
-            percent: self.percent,
-            hash: self.hash,
-            bound: bound_of(self.is_whole),
-            breaks_links: self.allowed.breaks_links,
-            has_progress: self.has_progress,
-        }
-    }
-
     // Whether more than one file is standard input, of these words and the file before them.
     fn has_second_stream(&self, is_stream_first: bool) -> bool {
         let mut is_read = is_stream_first;
@@ -304,96 +262,6 @@ impl Draft {
             _ => Reading::Order { hash, kinds, bound },
             // end readings
         }
-    }
-
-    // `get`, of which the words are keys.
-    fn get(self, is_stream: bool) -> Result<Command, CommandMisuse> {
-        if self.words.is_empty() {
-            return Err(CommandMisuse::Missing("KEY"));
-        }
-        let keys = Keys::of_words(self.words);
-        if is_stream && keys.are_lines() {
-            return Err(CommandMisuse::BothInput);
-        }
-        Ok(Command::Read {
-            others: Vec::new(self.alloc),
-            at: self.at,
-            reading: Reading::Get {
-                hash: self.hash,
-                kinds: self.kinds,
-                keys,
-                is_json: self.is_json,
-            },
-        })
-    }
-
-    // `diff`, of which the one word is the other file.
-    fn diff(mut self, is_stream_first: bool) -> Result<Command, CommandMisuse> {
-        if self.words.is_empty() {
-            return Err(CommandMisuse::Missing("OTHER"));
-        }
-        let other = self.words.remove(0);
-        if !self.words.is_empty() {
-            return Err(CommandMisuse::ExtraWord(self.words.remove(0)));
-        }
-        if is_stream_first && is_stream(other.as_str()) {
-            return Err(CommandMisuse::TwiceInput);
-        }
-        Ok(Command::Diff(DiffOptions {
-            other,
-            hash: self.hash,
-            kinds: self.kinds,
-            bound: bound_of(self.is_whole),
-        }))
-    }
-
-    // `merge`, of which the words are the files whose pairs it takes. One of them may be standard
-    // input.
-    fn merge(mut self) -> Result<Command, CommandMisuse> {
-        if self.words.is_empty() {
-            return Err(CommandMisuse::Missing("INPUT"));
-        }
-        if self.has_second_stream(false) {
-            return Err(CommandMisuse::TwiceInput);
-        }
-        Ok(Command::Merge(MergeOptions {
-            first: self.words.remove(0),
-            others: self.words,
-            duplicates: self.duplicates,
-            hash: self.hash,
-            kinds: self.kinds,
-            percent: self.percent,
-            bound: bound_of(self.is_whole),
-            allowed: self.allowed,
-            has_progress: self.has_progress,
-        }))
-    }
-
-    fn build(self) -> Result<Command, CommandMisuse> {
-        let Some(key) = self.kinds.key else {
-            return Err(CommandMisuse::Missing("--key"));
-        };
-        let Some(value) = self.kinds.value else {
-            return Err(CommandMisuse::Missing("--value"));
-        };
-        let hash = self.hash.or(self.kinds.hash);
-        let Some(shape) = AnyShape::of_kinds(key, value, hash) else {
-            return Err(CommandMisuse::NoShape);
-        };
-        Ok(Command::Build(BuildOptions {
-            shape,
-            forms: GivenForms {
-                key: key.form,
-                value: value.form,
-            },
-            duplicates: self.duplicates,
-            delimiter: self.delimiter,
-            is_check: self.is_check,
-            capacity: self.capacity,
-            percent: self.percent.unwrap_or(Percent::new(87).unwrap()),
-            allowed: self.allowed,
-            watch: Watch::of(self.has_progress),
-        }))
     }
 }
 
