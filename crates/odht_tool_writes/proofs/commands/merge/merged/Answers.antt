@@ -1,10 +1,18 @@
 use Rattle.std.proofs.Common.{◌≡◌, ◌∙◌, List, ℕ, Ok, map, sym, ap, subst}
 use Rattle.std.specs.Prelude.{IfErr, IfOk, MatchResult}
+use Rattle.odht_base.specs.Valid.{IsValidBytes}
+use Rattle.odht_tool_core.specs.AnyShapes.{any_format}
 use Rattle.odht_tool_core.specs.Percents.{new_percent}
 use Rattle.odht_tool_tables.specs.Wholes.{whole_any}
 use Rattle.odht_tool_writes.specs.Merges.{IsLateStop, IsMergedFrom}
 use Rattle.odht_tool_writes.specs.declared.dynamic.merges.MergeFailure.TheVariants.{Failed}
+use Rattle.odht_tool_writes.proofs.NewTables.{long_valid}
 use Rattle.odht_tool_writes.proofs.commands.merge.merged.Goals as goal
+
+pub new_percent-percent-requires : goal.new_percent-percent-requires
+new_percent-percent-requires g c =
+    let B = c.as_slice-bytes.result.now in
+    long_valid (any_format c.in-Ok.shape) B (subst (λ r. IfOk r (λ x. IsValidBytes (any_format x.0) B)) c.in-Ok.is c.read_whole.ensures.valid)
 
 pub returns-in-Ok-clause-ok : goal.returns-in-Ok-clause-ok
 returns-in-Ok-clause-ok g c =

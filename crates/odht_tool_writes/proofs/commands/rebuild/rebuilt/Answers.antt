@@ -5,11 +5,17 @@ use Rattle.odht_base.specs.Valid.{IsImage, IsValidBytes}
 use Rattle.odht_header.specs.Refusals.{check_refusal_by}
 use Rattle.odht_header.proofs.lemmas.FirstErrors.{Ok-checked}
 use Rattle.odht_tool_writes.specs.Rebuilds.{IsNewFailure, IsRebuildFailure, IsRebuiltOf, new_hash, rehashed}
-use Rattle.odht_tool_writes.proofs.NewTables.{late_failure, on_failure, on_value}
+use Rattle.odht_tool_writes.proofs.NewTables.{late_failure, long_valid, on_failure, on_value}
 use Rattle.odht_tool_core.specs.AnyShapes.{any_format, found_any}
 use Rattle.odht_tool_core.specs.InfoNumbers.{least_key_len}
 use Rattle.odht_tool_core.specs.Percents.{new_percent}
 use Rattle.odht_tool_writes.proofs.commands.rebuild.rebuilt.Goals as goal
+
+pub new_percent-percent-requires : goal.new_percent-percent-requires
+new_percent-percent-requires g c =
+    let B = c.as_slice-bytes.result.now in
+    let F = any_format c.in_ok-shape.shape in
+    long_valid F B (subst (λ r. OnOk r (IsValidBytes F B)) c.in-Ok.is c.check_any.ensures.valid)
 
 pub returns-in-Ok-clause-ok : goal.returns-in-Ok-clause-ok
 returns-in-Ok-clause-ok g c =
