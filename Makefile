@@ -32,13 +32,10 @@
 #   make archive        [kit] builds what `make lib` needs from the libraries that `make prove` has just proved
 #
 # After a change
-#   make rust           generates the plain-Rust sources from the proved crates, and copies of documents:
-#                       rust/src/proved, rust/c/src/erased, rust/cli/src/erased, rust/table/src/erased
-#   make exports        generates include/odht.h and the exports of each shape from shapes.txt, and from errors.txt what
-#                       is the same for each error
-#   make manual         generates from commands.txt what is the same for each command of `odht`: code, definitions,
-#                       help, cases, the table in docs/TOOL.md, the manual page and completions
-#   make documents      generates the speeds in README.md and rust/README.md from bench/RESULTS.md
+#   make generate       generates all files that are committed and not written by hand: from lists/*.txt what is the same
+#                       for each shape, error and command; the plain-Rust sources from the proved crates (folders
+#                       `generated` in rust); copies of documents; the speeds in README.md from bench/RESULTS.md
+#   make rust           only the plain-Rust sources
 #
 # Measure
 #   make bench          [kit] the tables of speeds. QUICK=1 for a short run, ODHT_RUST=folder for the original too,
@@ -73,7 +70,7 @@ SLOTS ?=
 # the first line of each recipe that needs `rt`: where there is none, it ends make with one line
 NEEDS_KIT = $(if $(shell command -v rt),,$(error $@ needs rt, the command of the kit of Rattle (its compiler and \
   prover), and there is none here; `make help` lists the targets that work without it))
-.PHONY: help run test prove edits build archive lib rust exports exports_are_current documents install uninstall examples bench
+.PHONY: help run test prove edits build archive lib generate rust exports_are_current install uninstall examples bench
 run:
 	@python3 tools/script_program.py '$(SCRIPT)'
 
@@ -121,17 +118,12 @@ ERASE = CARGO_TARGET_DIR=$(abspath build/cargo) cargo run --quiet --offline --ma
 rust:
 	@$(ERASE) crates build/erased
 	@find build/erased -name '*.rs' -exec rustfmt --edition 2021 --config-path rust/rustfmt.toml {} +
-	@rm -rf rust/src/proved rust/c/src/erased rust/cli/src/erased rust/table/src/erased
+	@rm -rf rust/src/generated rust/c/src/generated rust/cli/src/generated rust/table/src/generated
 	@cp -R build/erased/. rust/ && rm -rf build/erased
-	@python3 tools/documents.py
 
-documents:
-	@python3 tools/speeds.py
-
-.PHONY: manual
-manual:
-	@python3 tools/commands
-	@python3 tools/manual.py
+generate:
+	@python3 tools/generate
+	@$(MAKE) --no-print-directory rust
 
 # the program for table files: with its proofs, or of erased source
 PROVED_TOOL = crates/odht_tool/out/odht_tool

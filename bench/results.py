@@ -5,7 +5,7 @@ after these is by hand.
     make bench MARKDOWN=1 ODHT_RUST=folder > RUN
     bench/results.py RUN
 
-The text around the tables is by hand. `make documents` then makes the speeds of README.md of it.
+The text around the tables is by hand. `make generate` then makes the speeds of README.md of it.
 """
 import os
 import re

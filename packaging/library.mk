@@ -38,11 +38,6 @@ build/$(SHARED): build/libodht.a packaging/odht.map
 	  -Wl,--whole-archive $< -Wl,--no-whole-archive -lc -lgcc -o $@
 	@$(NAME_SHARED)
 
-exports:
-	@python3 tools/errors
-	@python3 tools/shapes
-
 exports_are_current:
-	@python3 tools/errors --check
-	@python3 tools/shapes --check
+	@python3 tools/generate --check errors shapes
 	@sh crates/odht_c/exports/statuses.sh > /dev/null

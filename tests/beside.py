@@ -15,7 +15,7 @@ import sys
 import tempfile
 
 TOP = os.path.dirname(os.path.dirname(os.path.realpath(__file__)))
-sys.path[:0] = [f"{TOP}/tools", f"{TOP}/tools/commands"]
+sys.path[:0] = [f"{TOP}/tools", f"{TOP}/tools/generate/commands"]
 import command_list
 import watched
 

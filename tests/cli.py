@@ -19,7 +19,7 @@ import tempfile
 
 HERE = os.path.dirname(os.path.realpath(__file__))
 TOP = os.path.dirname(HERE)
-sys.path[:0] = [f"{TOP}/tools", f"{TOP}/tools/commands"]
+sys.path[:0] = [f"{TOP}/tools", f"{TOP}/tools/generate/commands"]
 import command_list
 import watched
 

@@ -16,18 +16,18 @@ import sys
 TOKEN = re.compile(r"//[^\n]*|b?\"(?:\\.|[^\"\\])*\"|b?'(?:\\.|[^'\\])'|'\w+|\w+|\S", re.S)
 # each crate, its module, and where the file of the module is
 PLACES = {
-    "odht_base": ("proved :: base", "src/proved/base"),
-    "odht_header": ("proved :: header", "src/proved/header"),
-    "odht_raw": ("proved :: raw", "src/proved/raw"),
-    "odht": ("proved :: tables", "src/proved/tables"),
-    "odht_calls": ("erased :: calls", "c/src/erased/calls"),
-    "odht_c": ("erased :: exports", "c/src/erased/exports"),
-    "odht_tool_core": ("erased :: core", "cli/src/erased/core"),
-    "odht_tool_tables": ("erased :: tables", "cli/src/erased/tables"),
-    "odht_tool_reads": ("erased :: reads", "cli/src/erased/reads"),
-    "odht_tool_writes": ("erased :: writes", "cli/src/erased/writes"),
-    "odht_tool": ("erased :: tool", "cli/src/erased/tool"),
-    "odht_table": ("erased :: table", "table/src/erased/table"),
+    "odht_base": ("generated :: base", "src/generated/base"),
+    "odht_header": ("generated :: header", "src/generated/header"),
+    "odht_raw": ("generated :: raw", "src/generated/raw"),
+    "odht": ("generated :: tables", "src/generated/tables"),
+    "odht_calls": ("generated :: calls", "c/src/generated/calls"),
+    "odht_c": ("generated :: exports", "c/src/generated/exports"),
+    "odht_tool_core": ("generated :: core", "cli/src/generated/core"),
+    "odht_tool_tables": ("generated :: tool_tables", "cli/src/generated/tool_tables"),
+    "odht_tool_reads": ("generated :: reads", "cli/src/generated/reads"),
+    "odht_tool_writes": ("generated :: writes", "cli/src/generated/writes"),
+    "odht_tool": ("generated :: tool", "cli/src/generated/tool"),
+    "odht_table": ("generated :: table", "table/src/generated/table"),
 }
 ROOTS = {"lib.rt", "main.rt"}
 LAWS = {("odht_base", "laws.rt"), ("odht", "laws.rt")}

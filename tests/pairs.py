@@ -1,5 +1,5 @@
 #!/usr/bin/env python3
-"""Runs a program `odht` on a table of each pair of types of each ready shape (shapes.txt): numbers as they are, with a sign
+"""Runs a program `odht` on a table of each pair of types of each ready shape (lists/shapes.txt): numbers as they are, with a sign
 and with the highest byte first, and bytes as digits and as texts. Each is of the hash function of the shape, and of xxh64.
 
   tests/pairs.py PROGRAM
@@ -29,7 +29,7 @@ TEXTS = [b"", b"a", "\u00fc".encode(), b"\xff\xfe", b"a b", b'"\\,', b"-1"]
 
 def shapes():
     """The types of keys and of values of each ready shape, and the name of its hash function."""
-    with open(f"{TOP}/shapes.txt", encoding="utf-8") as file:
+    with open(f"{TOP}/lists/shapes.txt", encoding="utf-8") as file:
         for line in file:
             if not line.startswith("#"):
                 yield line.split()[2:5]

@@ -107,12 +107,12 @@ def limited(seconds, *words):
 
 def generated(part):
     ran = [
-        part.run(sys.executable, "tools/errors", "--check"),
-        part.run(sys.executable, "tools/shapes", "--check"),
-        part.run(sys.executable, "tools/commands", "--check"),
-        part.run(sys.executable, "tools/manual.py", "--check"),
+        part.run(sys.executable, "tools/generate", "--check", "errors"),
+        part.run(sys.executable, "tools/generate", "--check", "shapes"),
+        part.run(sys.executable, "tools/generate", "--check", "commands"),
+        part.run(sys.executable, "tools/generate", "--check", "manual"),
         part.run(sys.executable, "tools/promised.py"),
-        part.run(sys.executable, "tools/speeds.py", "--check"),
+        part.run(sys.executable, "tools/generate", "--check", "speeds"),
         part.run(sys.executable, "tools/prose.py", "--check"),
         part.run("sh", "crates/odht_c/exports/statuses.sh"),
         part.run("sh", "examples/quoted.sh"),

@@ -97,42 +97,42 @@ def current():
         read = run([sys.executable, "tests/erased.py", "crates", room])
         made = [f"{room}/{it}" for it in files_below(room)]
         run(["rustfmt", "--edition", "2021", "--config-path", "rust/rustfmt.toml", *made])
-        for part in ("src/proved", "c/src/erased", "cli/src/erased", "table/src/erased"):
+        for part in ("src/generated", "c/src/generated", "cli/src/generated", "table/src/generated"):
             wanted, found = files_below(f"{room}/{part}"), files_below(f"{TOP}/rust/{part}")
             names = sorted(it for it in wanted.keys() | found.keys() if wanted.get(it) != found.get(it))
             if names:
-                raise Failed(f"not current: {', '.join(f'rust/{part}/{it}' for it in names)}: run `make rust`")
+                raise Failed(f"not current: {', '.join(f'rust/{part}/{it}' for it in names)}: run make generate")
     return 1 + int(re.search(r"(\d+) passed", read.splitlines()[-1])[1])
 
 
 # faults of the erased text: what is replaced in a file, once
 FAULTS = [
-    ("src/proved/base/bytes/stores.rs", "use alloc::vec::Vec;", "use alloc::collections::VecDeque as Vec;"),
-    ("src/proved/base/load.rs", "self.0 as u128 / 65536", "self.0 as u128 / 65535"),
-    ("src/proved/base/hash.rs", "rotate_left(5) ^ value", "rotate_left(5)"),
-    ("src/proved/raw/raw_table/scan.rs", "start + 16", "start"),
-    ("src/proved/raw/raw_table/scan.rs", "index!(control[start..start + 16],", "index!(control[start..start + 15],"),
-    ("src/proved/raw/raw_table/scan.rs", "index!(control[start..start + 16],", "index!(control[start..start + 16]);("),
-    ("src/proved/raw/memory_layout/inserts.rs", "slots, layout);", "slots, layout); let slots = 16;"),
-    ("src/proved/raw/raw_table/plain.rs", "return Search::Free(slot);", ""),
-    ("src/proved/tables/iter.rs", "match self.raw.next()", "self.raw.next(); match self.raw.next()"),
-    ("src/proved/raw/raw_table/writes.rs", "room == 0", "room == 1"),
-    ("src/proved/tables/growth.rs", "'_", "'static"),
-    ("src/proved/header/error.rs", "Table is full", "The table is full"),
-    ("src/proved/header/error.rs", "pub enum Part", "#[non_exhaustive] pub enum Part"),
-    ("c/src/erased/calls/walk.rs", "*cursor = slot;", ""),
-    ("c/src/erased/exports/version.rs", "400", "401"),
-    ("c/src/erased/exports/shapes/u64_u32.rs", "lists::list(keys, keys_len)", "lists::list(keys, values_len)"),
-    ("c/src/erased/exports/shapes/u64_u32.rs", "let alloc = Global;", "let alloc = Other;"),
-    ("cli/src/erased/core/help.rs", "\"erased\"", "\"proven\""),
-    ("cli/src/erased/core/lines.rs", "try_extend_from_slice", "try_extend_from_within"),
-    ("cli/src/erased/core/targets.rs", "{ if let Some(obstacle)", "if let Some(obstacle)"),
-    ("cli/src/erased/core/targets.rs", "host::texts::formatted(alloc", "host::texts::formatted(rt.alloc()"),
-    ("cli/src/erased/core/histogram.rs", "filled( alloc, 0, MOST)", "filled( alloc, 1, MOST)"),
-    ("cli/src/erased/core/files.rs", "use crate::host::rt::Files", "use crate::host::fs::Files"),
-    ("cli/src/erased/tool.rs", "rt.stderr()", "rt.stdout()"),
-    ("cli/src/erased/writes/inserts.rs", "pairs.clear();", ""),
-    ("table/src/erased/table/script.rs", "writeln!(output, \"no table\")", "writeln!(output, \"no\")"),
+    ("src/generated/base/bytes/stores.rs", "use alloc::vec::Vec;", "use alloc::collections::VecDeque as Vec;"),
+    ("src/generated/base/load.rs", "self.0 as u128 / 65536", "self.0 as u128 / 65535"),
+    ("src/generated/base/hash.rs", "rotate_left(5) ^ value", "rotate_left(5)"),
+    ("src/generated/raw/raw_table/scan.rs", "start + 16", "start"),
+    ("src/generated/raw/raw_table/scan.rs", "index!(control[start..start + 16],", "index!(control[start..start + 15],"),
+    ("src/generated/raw/raw_table/scan.rs", "index!(control[start..start + 16],", "index!(control[start..start + 16]);("),
+    ("src/generated/raw/memory_layout/inserts.rs", "slots, layout);", "slots, layout); let slots = 16;"),
+    ("src/generated/raw/raw_table/plain.rs", "return Search::Free(slot);", ""),
+    ("src/generated/tables/iter.rs", "match self.raw.next()", "self.raw.next(); match self.raw.next()"),
+    ("src/generated/raw/raw_table/writes.rs", "room == 0", "room == 1"),
+    ("src/generated/tables/growth.rs", "'_", "'static"),
+    ("src/generated/header/error.rs", "Table is full", "The table is full"),
+    ("src/generated/header/error.rs", "pub enum Part", "#[non_exhaustive] pub enum Part"),
+    ("c/src/generated/calls/walk.rs", "*cursor = slot;", ""),
+    ("c/src/generated/exports/version.rs", "400", "401"),
+    ("c/src/generated/exports/generated/u64_u32.rs", "lists::list(keys, keys_len)", "lists::list(keys, values_len)"),
+    ("c/src/generated/exports/generated/u64_u32.rs", "let alloc = Global;", "let alloc = Other;"),
+    ("cli/src/generated/core/help.rs", "\"erased\"", "\"proven\""),
+    ("cli/src/generated/core/lines.rs", "try_extend_from_slice", "try_extend_from_within"),
+    ("cli/src/generated/core/targets.rs", "{ if let Some(obstacle)", "if let Some(obstacle)"),
+    ("cli/src/generated/core/targets.rs", "host::texts::formatted(alloc", "host::texts::formatted(rt.alloc()"),
+    ("cli/src/generated/core/histogram.rs", "filled( alloc, 0, MOST)", "filled( alloc, 1, MOST)"),
+    ("cli/src/generated/core/files.rs", "use crate::host::rt::Files", "use crate::host::fs::Files"),
+    ("cli/src/generated/tool.rs", "rt.stderr()", "rt.stdout()"),
+    ("cli/src/generated/writes/inserts.rs", "pairs.clear();", ""),
+    ("table/src/generated/table/script.rs", "writeln!(output, \"no table\")", "writeln!(output, \"no\")"),
 ]
 
 
@@ -147,9 +147,9 @@ def planted():
             write(f"{room}/{name}", text[name].replace(old, new, 1))
             is_told(f"{old} was {new} in {name}", room, name)
             write(f"{room}/{name}", text[name])
-        write(f"{room}/src/proved/other.rs", "")
+        write(f"{room}/src/generated/other.rs", "")
         is_told("a file of no source", room)
-        os.remove(f"{room}/src/proved/other.rs")
+        os.remove(f"{room}/src/generated/other.rs")
         run([sys.executable, "tests/erased.py", "crates", room])
     return len(FAULTS) + 1
 
@@ -308,7 +308,7 @@ def programs():
 
 
 def package():
-    run([sys.executable, "tools/documents.py", "--check"])
+    run([sys.executable, "tools/generate", "--check", "documents"])
     # cargo would build what it packed over the crate's own files, which the tests of `examples` read meanwhile
     files = {"CARGO_TARGET_DIR": f"{CARGO_FILES}-packed", "RUSTDOCFLAGS": "-D warnings"}
     # no host is known yet that has the repository, which is what this option leaves out

@@ -103,7 +103,7 @@ def kept(room, first):
     is_right("the second run", run(folder, path), first + BY_CARGO)
     is_right("another script", run(folder, path, "SCRIPT=crates/odht_table/stdin"),
              read("crates/odht_table/stdout") + BY_CARGO)
-    source = f"{folder}/rust/table/src/erased/table/script.rs"
+    source = f"{folder}/rust/table/src/generated/table/script.rs"
     os.utime(source)
     is_right("a run after a touched source", run(folder, path), first + BY_CARGO)
     with open(source, encoding="utf-8") as it:

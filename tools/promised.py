@@ -30,8 +30,8 @@ OF_STD = {"Read", "BufRead", "Write", "requires", "ensures"}
 CODE = (".rt", ".rs", ".py", ".c", ".h", ".hpp", ".sh")
 # what is generated, or no part of the library and its tests
 LEFT_OUT = (
-    "rust/src/proved/", "rust/src/configs/list.rs", "rust/c/src/erased/", "rust/cli/src/erased/",
-    "rust/table/src/erased/", "rust/examples/", "bindings/rust/src/shapes.rs", "crates/odht_c/src/shapes/",
+    "rust/src/generated/", "rust/src/configs/list.rs", "rust/c/src/generated/", "rust/cli/src/generated/",
+    "rust/table/src/generated/", "rust/examples/", "bindings/rust/src/shapes.rs", "crates/odht_c/src/generated/",
     "crates/odht_c/exports/", "examples/", "include/",
 )
 BUILT = {"build", "out", "target", "__pycache__"}
@@ -66,7 +66,7 @@ class Source:
                 self.names.add(os.path.basename(file).removesuffix(".antt"))
         self.names |= set(re.findall(r"^(\w+)", read("crates.txt"), re.M))
         self.names |= set(re.findall(r"\bodht_\w+", read("include/odht.h")))
-        self.names |= set(re.findall(r"^\w+", read("errors.txt"), re.M))
+        self.names |= set(re.findall(r"^\w+", read("lists/errors.txt"), re.M))
 
     def read_functions(self, file):
         text = read(file)

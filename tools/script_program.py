@@ -19,8 +19,8 @@ BUILT = f"{TOP}/build/unproved"
 PLAIN = f"{TOP}/build/plain"
 NAME = "odht_table"
 # what cargo builds the program from
-PLAIN_SOURCES = ["rust/table/Cargo.toml", "rust/table/src", "rust/src/proved", "rust/src/shim", "rust/cli/src/host",
-                 "rust/cli/src/erased/core.rs", "rust/cli/src/erased/core"]
+PLAIN_SOURCES = ["rust/table/Cargo.toml", "rust/table/src", "rust/src/generated", "rust/src/shim", "rust/cli/src/host",
+                 "rust/cli/src/generated/core.rs", "rust/cli/src/generated/core"]
 
 
 def say(text):

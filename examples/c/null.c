@@ -78,7 +78,7 @@ static void null_values_of_bytes(void)
     EXPECT(odht_b16_b16_get_all(bytes, 576, NULL, 0, NULL, 0, NULL, 0), ODHT_OK);
 }
 
-/* Tables of any lengths: keys of three bytes and no values, so 32 + 16 * 3 + 32 bytes. */
+/* Dynamic tables: keys of three bytes and no values, so 32 + 16 * 3 + 32 bytes. */
 static void null_any(void)
 {
     const odht_layout layout = {3, 0, ODHT_HASH_FX};

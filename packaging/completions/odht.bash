@@ -1,4 +1,4 @@
-# made by tools/manual.py of the program's help texts
+# Generated from lists/commands.txt and the help by make generate.
 _odht() {
     local word=${COMP_WORDS[COMP_CWORD]} before=${COMP_WORDS[COMP_CWORD-1]}
     # --hash=fx is three words here

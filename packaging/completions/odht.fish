@@ -1,4 +1,4 @@
-# made by tools/manual.py of the program's help texts
+# Generated from lists/commands.txt and the help by make generate.
 complete -c odht -n __fish_use_subcommand -f -a info -d 'tells what each table file holds, of any key and value sizes'
 complete -c odht -n __fish_use_subcommand -f -a check -d 'tells whether each file is a valid table'
 complete -c odht -n __fish_use_subcommand -f -a count -d 'tells how many items each table has'

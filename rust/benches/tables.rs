@@ -1,5 +1,5 @@
 //! How long the calls take, on tables of a thousand, a hundred thousand and a million pairs: nanoseconds for a pair,
-//! the best of several runs. `cargo bench`, or `cargo bench -- 100000` for tables of other sizes.
+//! the best of several runs. `cargo bench`, or `cargo bench -- 100000` for dynamic tables.
 
 use odht::configs::U64ToU32;
 use odht::{check_all, HashTable, HashTableOwned};

@@ -45,7 +45,7 @@ pub(crate) fn store(symbols: &[(&str, u64)]) -> (Vec<u8>, String) {
     (table.into_raw_bytes(), texts)
 }
 
-// The text of a value, which in bytes of strangers may say anything.
+// The text of a value, which in untrusted bytes may say anything.
 fn text_of<'t>(texts: &'t str, named: &Named) -> Option<&'t str> {
     let begin = usize::try_from(named.begin).ok()?;
     texts.get(begin..begin.checked_add(named.length as usize)?)

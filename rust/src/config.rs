@@ -1,7 +1,7 @@
 //! Configurations, and how the proved library sees one.
 
-use crate::proved::base::{bytes, hash};
-use crate::proved::header::config;
+use crate::generated::base::{bytes, hash};
+use crate::generated::header::config;
 use std::marker::PhantomData;
 
 /// An array of a fixed number of bytes, which a key or a value is encoded to: `[u8; N]`. No other type can be one.

@@ -13,9 +13,9 @@
 //! ```
 
 use crate::config::Config;
-use crate::proved::base::hash::{FxHashFn, UnHashFn};
-use crate::proved::header::config;
-use crate::proved::tables::configs as proved;
+use crate::generated::base::hash::{FxHashFn, UnHashFn};
+use crate::generated::header::config;
+use crate::generated::tables::configs as proved;
 
 macro_rules! ready {
     ($(

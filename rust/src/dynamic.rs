@@ -1,8 +1,10 @@
-//! Tables whose lengths of keys and values are known at run time alone, such as those of a file.
+//! Dynamic tables: the lengths of keys and values are known only at run time, such as those of a
+//! file.
 //!
-//! A configuration says how long keys and values are, and a table of other lengths needs another one. A [`DynTable`]
-//! has the lengths as numbers: it reads and writes the same bytes, of any lengths, and its keys and values are the
-//! bytes as they are stored. The hash function stays a type, since the bytes do not name it.
+//! A configuration says how long keys and values are, and a table of other lengths needs another
+//! one. A [`DynTable`] has the lengths as numbers: it reads and writes the same bytes, of any
+//! lengths, and its keys and values are the bytes as they are stored. The hash function stays a
+//! type, since the bytes do not name it.
 //!
 //! ```
 //! use odht::dynamic::{DynTable, Layout};
@@ -36,18 +38,18 @@ pub use short_bytes::ShortBytes;
 
 use crate::config::{Config, Hash, HashFn};
 use crate::opened::Opened;
-use crate::proved::base::bytes::{Borrowed, ByteArray};
-use crate::proved::header::error::Error;
-use crate::proved::header::layout;
-use crate::proved::raw::memory_layout::{check_dynamic, check_dynamic_within, dynamic_parts, Header};
-use crate::proved::raw::raw_table::DynRawTable;
-use crate::proved::tables::dynamic;
+use crate::generated::base::bytes::{Borrowed, ByteArray};
+use crate::generated::header::error::Error;
+use crate::generated::header::layout;
+use crate::generated::raw::memory_layout::{check_dynamic, check_dynamic_within, dynamic_parts, Header};
+use crate::generated::raw::raw_table::DynRawTable;
+use crate::generated::tables::dynamic;
 use std::borrow::Borrow;
 use std::fmt;
 use std::iter::FusedIterator;
 use std::marker::PhantomData;
 
-pub use crate::proved::tables::dynamic::DynError;
+pub use crate::generated::tables::dynamic::DynError;
 
 impl fmt::Display for DynError {
     fn fmt(&self, f: &mut fmt::Formatter<'_>) -> fmt::Result {
@@ -282,7 +284,7 @@ impl<H: HashFn, D: Borrow<[u8]>> DynTable<H, D> {
         self.check_rest().is_ok()
     }
 
-    /// [`check_rest`](DynTable::check_rest) for bytes of strangers, whose time nobody can make long: it also returns an
+    /// [`check_rest`](DynTable::check_rest) for untrusted bytes, whose time nobody can make long: it also returns an
     /// error where a home has, among the first `groups` groups of sixteen of its probe order, no control byte that
     /// counts as free. Where there is no error, no search, of a present or an absent key, reads more.
     ///
@@ -293,7 +295,7 @@ impl<H: HashFn, D: Borrow<[u8]>> DynTable<H, D> {
         check_dynamic_within::<Hash<H>>(self.bytes(), self.layout.proved(), groups)
     }
 
-    /// [`verify`](DynTable::verify) for bytes of strangers: whether
+    /// [`verify`](DynTable::verify) for untrusted bytes: whether
     /// [`check_rest_within`](DynTable::check_rest_within) finds no error.
     ///
     /// ```
@@ -308,8 +310,9 @@ impl<H: HashFn, D: Borrow<[u8]>> DynTable<H, D> {
         self.check_rest_within(groups).is_ok()
     }
 
-    /// Whether each home has, among the first `groups` groups of sixteen of its probe order, a control byte that counts
-    /// as free. Then no search in valid bytes reads more. It reads control bytes alone.
+    /// Whether each home has, among the first `groups` groups of sixteen of its probe order, a
+    /// control byte that counts as free. Then no search in valid bytes reads more. It reads only
+    /// control bytes.
     #[must_use]
     pub fn searches_within(&self, groups: usize) -> bool {
         self.parts().searches_within(groups)

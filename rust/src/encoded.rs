@@ -1,8 +1,8 @@
 //! A table as that of the bytes that it stores: keys and values that are encoded already.
 
 use crate::config::{Config, Proved};
-use crate::proved::base::bytes::{Borrowed, BorrowedMut};
-use crate::proved::tables;
+use crate::generated::base::bytes::{Borrowed, BorrowedMut};
+use crate::generated::tables;
 use std::marker::PhantomData;
 
 /// The configuration of the same tables whose keys and values are the encoded ones of `C`.

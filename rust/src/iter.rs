@@ -1,9 +1,9 @@
 //! Walks over the pairs of a table.
 
 use crate::config::{Config, Proved};
-use crate::proved::header::layout::Layout;
-use crate::proved::raw::memory_layout::{entry_at, Entries, Header, HEADER_SIZE};
-use crate::proved::raw::raw_table::{is_empty_or_deleted, Entry, RawSlots};
+use crate::generated::header::layout::Layout;
+use crate::generated::raw::memory_layout::{entry_at, Entries, Header, HEADER_SIZE};
+use crate::generated::raw::raw_table::{is_empty_or_deleted, Entry, RawSlots};
 use crate::shim::slots;
 use std::fmt;
 use std::iter::FusedIterator;

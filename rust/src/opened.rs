@@ -7,8 +7,8 @@
 
 use crate::config::{Config, Proved};
 use crate::iter::occupied;
-use crate::proved::header::layout::Layout;
-use crate::proved::raw::memory_layout::HEADER_SIZE;
+use crate::generated::header::layout::Layout;
+use crate::generated::raw::memory_layout::HEADER_SIZE;
 use crate::shim::slots;
 
 /// The length and the slot count of a table's bytes, which fit.

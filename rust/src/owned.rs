@@ -5,10 +5,10 @@
 
 use crate::config::{Config, Proved};
 use crate::iter::{occupied, Iter, Keys, Slots, Values};
-use crate::proved::base::load::max_item_count_for;
-use crate::proved::header::error::Error;
-use crate::proved::raw::memory_layout::Header;
-use crate::proved::tables;
+use crate::generated::base::load::max_item_count_for;
+use crate::generated::header::error::Error;
+use crate::generated::raw::memory_layout::Header;
+use crate::generated::tables;
 use crate::shim::Global;
 use crate::sizes::{percent_of, refused};
 use alloc::vec::Vec;
@@ -260,7 +260,7 @@ impl<C: Config> HashTableOwned<C> {
         self.0.insert_order(out)
     }
 
-    /// [`insert_order`](HashTableOwned::insert_order) for tables of strangers, where it has `scratch` to write to: it
+    /// [`insert_order`](HashTableOwned::insert_order) for untrusted tables, where it has `scratch` to write to: it
     /// returns the same, and leaves the same order in `out`. `scratch` has as many numbers as
     /// [`insert_order_scratch`](HashTableOwned::insert_order_scratch) says or more, of any values; with fewer this is
     /// `insert_order`, in the time that that takes. It takes no memory.

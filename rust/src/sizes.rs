@@ -1,12 +1,12 @@
 //! How long tables are, the whole check of their bytes, and what comes of an error where a call returns none.
 
 use crate::config::{Config, Proved};
-use crate::proved::header::error::Error;
-use crate::proved::{raw, tables};
+use crate::generated::header::error::Error;
+use crate::generated::{raw, tables};
 use alloc::alloc::{handle_alloc_error, Layout};
 
-/// The length in bytes of a new table for so many items, to be given to [`HashTable::try_init_in_place`]. The load
-/// factor is in percent of the slots.
+/// The length in bytes of a new table for that many items, to be given to
+/// [`HashTable::try_init_in_place`]. The load factor is in percent of the slots.
 ///
 /// ```
 /// use odht::{bytes_needed, configs::U64ToU32};
@@ -40,7 +40,8 @@ pub fn bytes_needed<C: Config>(max_item_count: usize, max_load_factor_percent: u
 ///
 /// # Errors
 ///
-/// [`Error::Capacity`] where no slot count is enough for so many items, or the length is above `usize::MAX`.
+/// [`Error::Capacity`] where no slot count is enough for that many items, or the length is above
+/// `usize::MAX`.
 ///
 /// # Panics
 ///
@@ -54,9 +55,9 @@ pub fn try_bytes_needed<C: Config>(
     tables::bytes_needed::<Proved<C>>(max_item_count, percent).ok_or(Error::Capacity)
 }
 
-/// How many bytes the table at the front of `bytes` has, by its header. What follows the table is not looked at, nor is
-/// any slot: it takes constant time. Where it returns a length, opening accepts the header of so many bytes at the
-/// front, and of no other number of them.
+/// How many bytes the table at the front of `bytes` has, by its header. What follows the table is
+/// not looked at, nor is any slot: it takes constant time. Where it returns a length, opening
+/// accepts the header of that many bytes at the front, and of no other number of them.
 ///
 /// ```
 /// use odht::{configs::U64ToU32, table_len, HashTableOwned};
@@ -68,9 +69,9 @@ pub fn try_bytes_needed<C: Config>(
 ///
 /// # Errors
 ///
-/// The first of `TooShort`, `WrongTag`, `WrongVersion`, `WrongSizeOf`, `SlotCountNotPowerOfTwo`, `SlotCountTooSmall`,
-/// that the header gives, then `WrongLength` where there are fewer bytes than the table has: it has their number as
-/// `found` and the table's length as `expected`.
+/// The first of `TooShort`, `WrongTag`, `WrongVersion`, `WrongSizeOf`, `SlotCountNotPowerOfTwo`,
+/// `SlotCountTooSmall`, that the header gives, then `WrongLength` where there are fewer bytes than
+/// the table has: it has their number as `found` and the table's length as `expected`.
 pub fn table_len<C: Config>(bytes: &[u8]) -> Result<usize, Error> {
     let () = Proved::<C>::FITS;
     raw::memory_layout::table_len::<Proved<C>>(bytes)
@@ -97,11 +98,11 @@ pub fn table_len<C: Config>(bytes: &[u8]) -> Result<usize, Error> {
 ///
 /// # Errors
 ///
-// order: made of errors.txt by make exports
+// begin order: generated from lists/errors.txt by make generate
 /// The first of the errors that [`HashTable::try_from_raw_bytes`] returns, then of `LoadFactorTooSmall`,
 /// `NonZeroPadding`, `NonZeroEmpty`, `BadFreeControl`, `ControlMismatch`, `MirrorMismatch`, `WrongItemCount`,
 /// `TooManyItems` and `Unreachable`.
-// order: up to here
+// end order
 ///
 /// [`HashTable::try_from_raw_bytes`]: crate::HashTable::try_from_raw_bytes
 pub fn check_all<C: Config>(bytes: &[u8]) -> Result<(), Error> {
@@ -109,7 +110,7 @@ pub fn check_all<C: Config>(bytes: &[u8]) -> Result<(), Error> {
     raw::memory_layout::check_all::<Proved<C>>(bytes)
 }
 
-/// [`check_all`] with a bound of searches, for bytes of strangers: also checks that each home has, among the first
+/// [`check_all`] with a bound of searches, for untrusted bytes: also checks that each home has, among the first
 /// `groups` groups of sixteen of its probe order, a control byte that counts as free. Then no search, of a present or
 /// an absent key, reads more. For `s` slots it reads at most `2 * s * groups` groups and compares at most
 /// `16 * s * groups` keys, whatever the bytes are.
@@ -147,7 +148,8 @@ pub fn percent(max_load_factor_percent: u8) -> u8 {
     max_load_factor_percent
 }
 
-/// Ends a call that returns no error. Where so many bytes of memory were refused it does what Rust's collections do.
+/// Ends a call that returns no error. Where that many bytes of memory were refused it does what
+/// Rust's collections do.
 #[cold]
 #[track_caller]
 pub fn refused(error: Error, len: usize) -> ! {

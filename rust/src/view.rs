@@ -5,12 +5,12 @@
 
 use crate::config::{Config, Proved};
 use crate::opened::Opened;
-use crate::proved::base::bytes::Borrowed;
-use crate::proved::base::load::max_item_count_for;
-use crate::proved::header::error::Error;
-use crate::proved::header::layout::Layout;
-use crate::proved::raw::memory_layout::Header;
-use crate::proved::tables;
+use crate::generated::base::bytes::Borrowed;
+use crate::generated::base::load::max_item_count_for;
+use crate::generated::header::error::Error;
+use crate::generated::header::layout::Layout;
+use crate::generated::raw::memory_layout::Header;
+use crate::generated::tables;
 use alloc::boxed::Box;
 use std::borrow::Borrow;
 use std::error::Error as AnyError;
@@ -335,7 +335,7 @@ impl<C: Config, D: Borrow<[u8]>> HashTable<C, D> {
         self.view().verify()
     }
 
-    /// [`verify`](HashTable::verify) for bytes of strangers, whose time nobody can make long: also whether each home
+    /// [`verify`](HashTable::verify) for untrusted bytes, whose time nobody can make long: also whether each home
     /// has, among the first `groups` groups of sixteen of its probe order, a control byte that counts as free. Then no
     /// search, of a present or an absent key, reads more.
     ///
@@ -352,8 +352,9 @@ impl<C: Config, D: Borrow<[u8]>> HashTable<C, D> {
         self.view().verify_within(groups)
     }
 
-    /// Whether each home has, among the first `groups` groups of sixteen of its probe order, a control byte that counts
-    /// as free. Then no search in valid bytes reads more. It reads control bytes alone.
+    /// Whether each home has, among the first `groups` groups of sixteen of its probe order, a
+    /// control byte that counts as free. Then no search in valid bytes reads more. It reads only
+    /// control bytes.
     ///
     /// ```
     /// # use odht::{configs::U64ToU32, HashTable, HashTableOwned};

@@ -77,7 +77,7 @@ fn tables_grow() {
     assert_eq!(sorted(table.iter()), items);
 }
 
-// The slots of so many items, by the length of a table without keys and values.
+// The slots of that many items, by the length of a table without keys and values.
 #[test]
 fn items_need_these_slots() {
     let rows = [(0, 100, 16), (6, 60, 16), (5, 50, 16), (5, 49, 16), (1000, 100, 1024)];

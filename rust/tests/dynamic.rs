@@ -1,6 +1,7 @@
-//! Tables whose lengths of keys and values are known at run time alone, as they are read: one of each length of keys and of
-//! values, beside a second reading; what is rejected; and a store that gives other bytes. That their calls return what
-//! those of a configuration do, on any bytes, is seen where those are tested (`common/frame.rs`, `vectors.rs`).
+//! Dynamic tables: the lengths of keys and values are known only at run time, as they are read: one
+//! of each length of keys and of values, beside a second reading; what is rejected; and a store
+//! that gives other bytes. That their calls return what those of a configuration do, on any bytes,
+//! is seen where those are tested (`common/frame.rs`, `vectors.rs`).
 
 use crate::common::dynamic::{compare, orders_are_found, some_bytes};
 use crate::common::frame::Named;

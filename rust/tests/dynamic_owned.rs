@@ -1,5 +1,5 @@
-//! The owned table whose lengths are known at run time alone: each length of keys with values of several lengths beside
-//! a map of the standard library; and the same bytes as a table of a configuration under the same inserts.
+//! The owned dynamic table: each length of keys with values of several lengths beside a map of the
+//! standard library; and the same bytes as a table of a configuration under the same inserts.
 
 use crate::common::random::Random;
 use odht::configs::{U32ToU32, U64ToU32};

@@ -1,5 +1,6 @@
-//! Tables whose lengths of keys and values are known at run time alone, as they are written: one of each length of keys and
-//! of values, beside a second writing; what is rejected; and one of a configuration, beside it.
+//! Dynamic tables: the lengths of keys and values are known only at run time, as they are written:
+//! one of each length of keys and of values, beside a second writing; what is rejected; and one of
+//! a configuration, beside it.
 
 use crate::common::dynamic::{compare, some_bytes};
 use crate::common::frame::Named;

@@ -168,8 +168,8 @@ fn changed_tables_do_no_harm() {
     at_least("longer than 2: true", 10);
 }
 
-// One pair is moved to another slot, or stored there once more, and nothing else is wrong: the whole check alone tells
-// whether it is still reached.
+// One pair is moved to another slot, or stored there again, and nothing else is wrong: the whole
+// check alone tells whether it is still reached.
 #[test]
 fn moved_and_repeated_keys() {
     let (mut random, mut unreachable) = (Random(4), 0);

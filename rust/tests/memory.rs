@@ -64,7 +64,7 @@ unsafe impl GlobalAlloc for Counting {
     }
 }
 
-// What a call returns where so many requests are granted, and how many it made.
+// What a call returns where that many requests are granted, and how many it made.
 fn granting<T>(granted: usize, call: impl FnOnce() -> T) -> (T, usize) {
     GRANTED.set(granted);
     MADE.set(0);
@@ -73,7 +73,7 @@ fn granting<T>(granted: usize, call: impl FnOnce() -> T) -> (T, usize) {
     (result, MADE.get())
 }
 
-// A call that makes so many requests: refused from each of them on, it returns `Memory`.
+// A call that makes that many requests: refused from each of them on, it returns `Memory`.
 fn refused_from_each<T>(requests: usize, call: impl Fn() -> Result<T, Error>) {
     for granted in 0..requests {
         assert_eq!(granting(granted, &call).0.err(), Some(Error::Memory));
@@ -160,7 +160,7 @@ fn a_shrinking_that_is_refused_changes_nothing() {
     assert_eq!(granting(0, || table.try_shrink_to_fit()), (Ok(()), 0));
 }
 
-// Of lengths that are known at run time alone: the growth, a present key, and a copy.
+// Of lengths that are known only at run time: the growth, a present key, and a copy.
 #[test]
 fn an_insert_of_run_time_lengths_that_cannot_grow_changes_nothing() {
     let memory = || Some(DynError::Rejected(Error::Memory));
@@ -217,7 +217,7 @@ fn room_that_is_refused_changes_nothing() {
     assert_eq!(granting(0, || table.try_reserve(14)), (Ok(()), 0));
 }
 
-// The same of lengths that are known at run time alone.
+// The same of lengths that are known only at run time.
 #[test]
 fn room_of_run_time_lengths_that_is_refused_changes_nothing() {
     let layout = dynamic::Layout { key_len: 3, value_len: 1 };

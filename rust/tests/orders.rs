@@ -93,7 +93,7 @@ fn keys_of_few_homes() {
     }
 }
 
-// Keys of these homes in turn, in a table of so many slots. The hash of such a key is the key.
+// Keys of these homes in turn, in a table of that many slots. The hash of such a key is the key.
 fn keys_of(homes: &[u32], slots: u32, items: usize) -> HashTableOwned<DirectU32ToU32> {
     let mut table = HashTableOwned::with_capacity(slots as usize - 1, 100);
     for (number, home) in (0..items as u32).zip(homes.iter().cycle()) {

@@ -10,7 +10,7 @@ use std::cell::RefCell;
 
 thread_local! {
     static RANDOM: RefCell<Random> = const { RefCell::new(Random(5)) };
-    // Of a hundred calls of the user's code so many answer at random, and so many panic.
+    // Of a hundred calls of the user's code that many answer at random, and that many panic.
     static WRONG: RefCell<(usize, usize)> = const { RefCell::new((0, 0)) };
 }
 

@@ -149,7 +149,8 @@ fn searches_are_as_short_as_those_of_random_keys() {
     }
 }
 
-/// How often each of the 32 bits of the hash differs where this bit of a key is changed, of so many random keys.
+/// How often each of the 32 bits of the hash differs where this bit of a key is changed, of that
+/// many random keys.
 fn flips(len: usize, bit: usize, keys: usize, random: &mut Random) -> [usize; 32] {
     let mut counts = [0; 32];
     for _ in 0..keys {

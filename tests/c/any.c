@@ -1,4 +1,4 @@
-/* Tables of any lengths, beside a second writing and beside the calls of the shapes. */
+/* Dynamic tables, beside a second writing and beside the calls of the shapes. */
 #include <stdint.h>
 #include <string.h>
 

@@ -1,4 +1,4 @@
-/* Lists, walks and the numbers of the header of tables of any lengths. */
+/* Lists, walks and the numbers of the header of dynamic tables. */
 #include <stdint.h>
 #include <string.h>
 

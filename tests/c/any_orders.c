@@ -1,4 +1,4 @@
-/* Orders of inserts of tables of any lengths, beside those of the shapes and beside inserts of a second writing. */
+/* Orders of inserts of dynamic tables, beside those of the shapes and beside inserts of a second writing. */
 #include <stdint.h>
 #include <string.h>
 

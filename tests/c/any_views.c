@@ -1,4 +1,4 @@
-/* Opened tables of any lengths, and tables that grow while they are built: beside a second writing and the shapes. */
+/* Opened dynamic tables, and tables that grow while they are built: beside a second writing and the shapes. */
 #include <stdint.h>
 #include <string.h>
 

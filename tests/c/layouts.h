@@ -1,4 +1,4 @@
-/* Layouts of tables of any lengths. */
+/* Layouts of dynamic tables. */
 #ifndef LAYOUTS_H
 #define LAYOUTS_H
 

@@ -1,5 +1,5 @@
 /*
- * Written by tools/shapes from shapes.txt: edit that one, and run make exports.
+ * Generated from lists/shapes.txt by make generate.
  *
  * Each shape by MAP or SET: its name, key and value, and how keys are hashed.
  */

@@ -26,7 +26,7 @@ pub struct Builder<S: Shape> {
 }
 
 impl<S: Shape> Builder<S> {
-    /// A builder without pairs, of tables with at most so many percent of their slots occupied, 1 to 100.
+    /// A builder without pairs, of tables with at most that many percent of their slots occupied, 1 to 100.
     pub fn new(percent: u8) -> Self {
         Builder { keys: Vec::new(), values: Vec::new(), percent }
     }

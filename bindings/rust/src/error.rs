@@ -54,7 +54,7 @@ macro_rules! errors {
 }
 
 errors! {
-    // errors: made of errors.txt by make exports
+    // begin errors: generated from lists/errors.txt by make generate
     /// There are fewer than 32 bytes.
     TooShort = 1 "too short",
     /// The first four bytes are not `ODHT`.
@@ -105,7 +105,7 @@ errors! {
     TooSmall = 36 "too small",
     /// No hash function has this number, or keys are too short for it.
     BadLayout = 38 "bad layout",
-    // errors: up to here
+    // end errors
 }
 
 impl Error {

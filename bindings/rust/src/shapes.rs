@@ -1,4 +1,4 @@
-// Written by tools/shapes from shapes.txt: edit that one, and run make exports.
+// Generated from lists/shapes.txt by make generate.
 
 // Hands each shape to a macro: its calls, its type, its configuration, its key, its value, and its text.
 macro_rules! each_shape {

@@ -1,4 +1,4 @@
-//! The calls of the archive by their symbols, one module for each shape of table, and `any` for tables of any lengths.
+//! The calls of the archive by their symbols, one module for each shape of table, and `any` for dynamic tables.
 //! include/odht.h says what each does.
 //!
 //! A slice is a pointer and, after it, a length: of bytes in bytes, of arrays in items. Each call returns a status, but
@@ -35,7 +35,7 @@ unsafe extern "C" {
     pub safe fn odht_version() -> u32;
 }
 
-/// The lengths of keys and values of a table of any lengths, and the number of its hash function.
+/// The lengths of keys and values of a dynamic table, and the number of its hash function.
 #[repr(C)]
 #[derive(Clone, Copy, Debug, PartialEq, Eq)]
 pub struct Layout {
@@ -86,7 +86,7 @@ macro_rules! declare {
                 #[link_name = concat!("odht_", stringify!($module), "_check")]
                 pub fn check(bytes: *const u8, bytes_len: usize) -> u32;
 
-                /// The same, and whether from each slot a free one comes within so many groups: no search reads more.
+                /// The same, and whether from each slot a free one comes within that many groups: no search reads more.
                 #[link_name = concat!("odht_", stringify!($module), "_check_within")]
                 pub fn check_within(bytes: *const u8, bytes_len: usize, groups: usize) -> u32;
 

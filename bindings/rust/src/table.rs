@@ -98,7 +98,7 @@ impl<'a, S: Shape> Table<'a, S> {
         Table::open(bytes)
     }
 
-    /// [`Table::checked`] for bytes of strangers, whose time nobody can make long: also checks that in the probe order
+    /// [`Table::checked`] for untrusted bytes, whose time nobody can make long: also checks that in the probe order
     /// from each slot a free one comes within `groups` groups of sixteen control bytes. Then no search, of a present or
     /// an absent key, reads more. [`DEFAULT_GROUPS`] is a bound that tables of keys whose hashes vary keep. For `s`
     /// slots it reads at most `2 * s * groups` groups.
@@ -144,7 +144,7 @@ impl<'a, S: Shape> Table<'a, S> {
         ErrorAt::unless_ok(status, slot)
     }
 
-    /// [`Table::check_at`] with a bound of searches, in groups: of bytes of strangers, as [`Table::checked_within`].
+    /// [`Table::check_at`] with a bound of searches, in groups: of untrusted bytes, as [`Table::checked_within`].
     ///
     /// # Errors
     ///

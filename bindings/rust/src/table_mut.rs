@@ -127,7 +127,7 @@ impl<S: Shape> fmt::Debug for TableMut<'_, S> {
     }
 }
 
-/// The length in bytes of a table for so many items, with at most so many percent of its slots occupied, 1 to 100.
+/// The length in bytes of a table for that many items, with at most that many percent of its slots occupied, 1 to 100.
 ///
 /// # Errors
 ///
@@ -138,7 +138,7 @@ pub fn bytes_needed<S: Shape>(max_items: usize, percent: u8) -> Result<usize, Er
     Error::unless_ok(status, len)
 }
 
-/// The bytes of an empty table for so many items, with at most so many percent of its slots occupied, 1 to 100.
+/// The bytes of an empty table for that many items, with at most that many percent of its slots occupied, 1 to 100.
 ///
 /// # Errors
 ///

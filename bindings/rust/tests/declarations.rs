@@ -1,11 +1,11 @@
 //! The declarations of src/sys.rs and src/sys/any.rs are compared with those of include/odht.h: every call of every
-//! shape, and of tables of any lengths, has the same parameters in the same order, as far as their types at the machine
+//! shape, and of dynamic tables, has the same parameters in the same order, as far as their types at the machine
 //! level differ.
 
 use std::collections::BTreeMap;
 use std::process::Command;
 
-/// What a parameter is to the machine: `*const`, `*mut`, or a number of so many bits.
+/// What a parameter is to the machine: `*const`, `*mut`, or a number of that many bits.
 type Kinds = Vec<String>;
 
 /// What the preprocessor of C makes of the header, whose macros declare the calls; `None` outside of the repository.
@@ -88,7 +88,7 @@ fn calls_of_shape(template: &str, line: &str) -> BTreeMap<String, Kinds> {
     calls_in(&template, module)
 }
 
-/// The symbols that src/sys/any.rs declares in the same way for tables of any lengths, and src/sys.rs for the shapes of
+/// The symbols that src/sys/any.rs declares in the same way for dynamic tables, and src/sys.rs for the shapes of
 /// src/shapes.rs, and the number of shapes.
 fn declared_in_rust() -> (usize, BTreeMap<String, Kinds>) {
     let template = include_str!("../src/sys.rs").split_once("macro_rules! declare").unwrap().1;

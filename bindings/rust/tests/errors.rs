@@ -4,7 +4,7 @@ use crate::common::{changed, worked_example};
 use odht_ffi::{bytes_needed, sys, Builder, Error, Table, TableMut, B16, B16U32, U64U32, U64U64};
 
 /// The numbers and texts of include/odht.h.
-// ERRORS: made of errors.txt by make exports
+// begin ERRORS: generated from lists/errors.txt by make generate
 const ERRORS: [(u32, Error, &str); 25] = [
     (1, Error::TooShort, "too short"),
     (2, Error::WrongTag, "wrong tag"),
@@ -32,7 +32,7 @@ const ERRORS: [(u32, Error, &str); 25] = [
     (36, Error::TooSmall, "too small"),
     (38, Error::BadLayout, "bad layout"),
 ];
-// ERRORS: up to here
+// end ERRORS
 
 #[test]
 fn numbers_and_texts() {

@@ -71,7 +71,7 @@ fn the_header_is_told() {
     assert_eq!(Table::<U64U32>::open(&bytes).unwrap().sizes(), sizes);
 }
 
-/// The table in docs/FORMAT.md of the slots that so many items need at a percentage.
+/// The table in docs/FORMAT.md of the slots that this many items need at a percentage.
 #[test]
 fn lengths_follow_from_slots() {
     let lengths = [(0, 87, 16), (13, 87, 16), (14, 87, 32), (40, 87, 64), (3, 95, 16), (15, 100, 16), (16, 100, 32)];

@@ -53,7 +53,7 @@ where
     }
 }
 
-/// The pairs by walks into slices of so many elements.
+/// The pairs by walks into slices of that many elements.
 fn walk_in_blocks<S: Shape>(table: &Table<S>, block: usize) -> Pairs<S> {
     let (mut keys, mut values) = (vec![S::Key::default(); block], vec![S::Value::default(); block]);
     let (mut cursor, mut pairs) = (0, Vec::new());

@@ -19,7 +19,7 @@ pub mod Gets
 pub mod Walks
 -- tables that are the same map
 pub mod SameMaps
--- what is rejected, and what an insert returns, where lengths are known at run time alone
+-- what is rejected, and what an insert returns, where lengths are known only at run time
 pub mod DynInserts
 -- the owned table of such lengths
 pub mod DynOwned

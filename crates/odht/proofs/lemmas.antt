@@ -17,7 +17,7 @@ pub mod GrownMoves
 pub mod SameMaps
 -- inserts in turn
 pub mod ListInserts
--- inserts in turn into a table whose lengths are known at run time alone
+-- inserts in turn into a dynamic table
 pub mod DynLists
 -- keys and values that their bytes decode to
 pub mod LosslessPairs

@@ -1,5 +1,4 @@
--- What an insert returns and leaves that writes the former value into bytes of the caller, in a table whose lengths are known
--- at run time alone.
+-- What an insert returns and leaves that writes the former value into bytes of the caller, in a dynamic table.
 --     IsStoreInsertInto c B k v f r B' f'  an insert of the key k with the value v, with the bytes f for the former value,
 --                          returns r and leaves B' of the bytes B, and f': some answer is that of an insert
 --                          (`IsStoreInsert`), and r and f' tell of it (`IsFormerTo`)

@@ -1,4 +1,4 @@
--- What an insert into a table whose lengths are known at run time alone returns and leaves.
+-- What an insert into a dynamic table returns and leaves.
 --     IsStoreInsert c B k v r B'  an insert of the key k with the value v returns r and leaves B' of the bytes B. On the
 --                          bytes of a valid table it does what an insert into a view does (`on_valid`), on any bytes it
 --                          changes no more (`frame`), and `Full` is the only error (`only_full`)

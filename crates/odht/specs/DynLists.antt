@@ -1,4 +1,4 @@
--- Lists of inserts into a table whose lengths are known at run time alone. An item is a key and a value, as bytes.
+-- Lists of inserts into a dynamic table. An item is a key and a value, as bytes.
 --     length_error t item  the error of an item whose key, or else whose value, has another length than those of the table t
 --     IsDynStop h bytes t items i e  e is the error of item i, of which an insert into the table t may fail: that of its
 --                          lengths, else `Full`, for which the table is full for the key where its bytes are valid

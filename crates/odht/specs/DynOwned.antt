@@ -1,4 +1,4 @@
--- The owned table whose lengths of keys and values are known at run time alone. It stands for its lengths and its bytes.
+-- The owned dynamic table. It stands for its lengths and its bytes.
 --     IsDynWith kl vl S t  the table t has these lengths, and S holds of its bytes
 --     IsRejecting S r      r is a result of which S holds, with its error as a `Rejected`
 --     IsDynInsertOwned t h k v r B   an insert of the key k with the value v, which have the lengths of the table t, of

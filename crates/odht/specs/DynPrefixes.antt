@@ -1,4 +1,4 @@
--- A table of lengths that are known at run time alone, at the front of longer bytes B.
+-- A table of lengths that are known only at run time, at the front of longer bytes B.
 --     IsDynCut F B t front rest  t has the lengths of the format F; front and rest are B in turn, and front is a table of
 --                          this format, by its header and its length
 --     dyn_front_refusal ml F B   the error of opening the table at the front of B: a key length below ml, then those of

@@ -1,4 +1,4 @@
--- Tables whose lengths of keys and values are known at run time alone. Their keys and values are lists of bytes.
+-- Dynamic tables: the lengths of keys and values are known only at run time. Their keys and values are lists of bytes.
 --     DynStore D           a table's lengths, and its store
 --     dyn_store kl vl s    the table of these lengths in the store s
 --     dyn_format t h       the format of these lengths and of the hash h

@@ -27,7 +27,7 @@ pub mod SearchBounds
 pub mod Reserves
 -- tables that are the same map
 pub mod Equality
--- tables whose lengths of keys and values are known at run time alone
+-- tables whose lengths of keys and values are known only at run time
 pub mod Dynamic
 -- what an insert into such a table returns and leaves
 pub mod DynInserts

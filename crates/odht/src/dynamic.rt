@@ -1,4 +1,5 @@
-//! Tables whose lengths of keys and values are known at run time alone, such as those of a file.
+//! Dynamic tables: the lengths of keys and values are known only at run time, such as those of a
+//! file.
 ghost use Rattle.odht.specs.Tables.{OfTable, HasParts};
 ghost use Rattle.std.specs.Prelude.{◌≡◌, ◌≢◌, ◌<◌, ◌≤◌, ◌↔◌, ℕ, None, All, length, slice_index};
 ghost use Rattle.std.specs.Prelude.{IfOk, IfErr, IsOk, IsTrue};
@@ -43,7 +44,7 @@ pub use file::{FileError, FileTable};
 pub use owned::DynTableOwned;
 pub use prefix::table_len;
 
-/// Why bytes are not opened as a table whose lengths are known at run time alone, or such a table
+/// Why bytes are not opened as a dynamic table, or such a table
 /// takes no pair.
 #[derive(Debug, PartialEq, Eq, Drop)]
 pub enum DynError {
@@ -290,7 +291,7 @@ impl<H: HashFn, D: ByteStore> DynTable<H, D> {
     /// reads more. [`DEFAULT_GROUPS`](crate::memory_layout::DEFAULT_GROUPS) is a bound that tables
     /// of hashes that vary keep.
     ///
-    /// It is for bytes of strangers: whatever they are it costs no more than
+    /// It is for untrusted bytes: whatever they are it costs no more than
     /// [`crate::memory_layout::check_all_within`]. [`crate::memory_layout::check_dynamic_within`]
     /// returns the error.
     pub fn verify_within(&self, groups: usize) -> bool
@@ -302,7 +303,7 @@ impl<H: HashFn, D: ByteStore> DynTable<H, D> {
 
     /// Whether each home has, among the first `groups` groups of its probe order, a control byte
     /// that counts as free. Then no search in valid bytes, of a present or an absent key, reads
-    /// more. It reads control bytes alone: for `s` slots at most `s * groups` groups.
+    /// more. It reads only control bytes: for `s` slots at most `s * groups` groups.
     pub fn searches_within(&self, groups: usize) -> bool
         ensures { IsBound (dyn_coding self.now H.hash) (D.bytes self.now.store) groups result }
     {

@@ -94,7 +94,7 @@ pub(crate) fn grown_sizes<H: HashFn>(layout: Layout, header: &Header<'_>) -> Opt
     layout.table_for(twice.max(1), factor)
 }
 
-/// Writes the pairs of a table, placed in slot order into so many slots, into bytes whose entries
+/// Writes the pairs of a table, placed in slot order into that many slots, into bytes whose entries
 /// are zeros. The new header has the item count and the load factor of the table.
 pub(crate) fn write_moved<C: Config, D: ByteStore>(
     table: &HashTable<C, D>,
@@ -115,8 +115,8 @@ pub(crate) fn write_moved<C: Config, D: ByteStore>(
     write_walked::<C>(out, slot_count, item_count, factor, walk);
 }
 
-// Writes the table of so many slots with the items of the walk into bytes whose entries are zeros.
-// The new header gets `item_count`, whatever the walk gives.
+// Writes the table of that many slots with the items of the walk into bytes whose entries are
+// zeros. The new header gets `item_count`, whatever the walk gives.
 fn write_walked<C: Config>(
     bytes: &mut [u8],
     slot_count: usize,

@@ -77,7 +77,7 @@ impl<C: Config, D: ByteStore> HashTable<C, D> {
         }
     }
 
-    /// Opens bytes as a table by their header and their length alone, or returns the first error:
+    /// Opens bytes as a table, and checks only their header and length; or returns the first error:
     /// of too few bytes, of the header, of the length. On an error the store is dropped.
     /// docs/FORMAT.md, "What is rejected, and in which order", has the order.
     ///
@@ -174,7 +174,7 @@ impl<C: Config, D: ByteStore> HashTable<C, D> {
     /// (docs/FORMAT.md, "Valid bytes"). On valid bytes each lookup returns what a map would.
     ///
     /// All of the bytes are checked. It takes no memory, and costs what
-    /// [`memory_layout::check_all`] does, which returns the error. For bytes of strangers there is
+    /// [`memory_layout::check_all`] does, which returns the error. For untrusted bytes there is
     /// [`verify_within`](HashTable::verify_within), which nobody can make slow.
     pub fn verify(&self) -> bool
         ensures { IsTrue result ↔ IsValidBytes ⟦<C as Coded>⟧.coding.format (D.bytes self.now) }

@@ -156,7 +156,7 @@ fn first_look_at<C: Config>(
 }
 
 // The value of the key at an index, from its first look by `first_look_at`. The key is encoded
-// once more.
+// again.
 #[inline(always)]
 fn find_at<C: Config>(
     raw: &RawTable<'_, C::EncodedKey, C::EncodedValue, C::H>,

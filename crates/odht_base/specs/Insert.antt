@@ -4,7 +4,7 @@
 --     run insert P ps      the inserts `insert` of the pairs in turn, None as soon as one answers None
 --     place_all F P ps     the same of `place`
 --     grown_slots P        the slots for twice as many pairs, and for one at least
---     grown F P            the pairs of P, in slot order, in so many slots
+--     grown F P            the pairs of P, in slot order, in that many slots
 --     is_full P            P holds the most items that its slots may
 --     is_full_for P k      P is full, and none of its pairs has the key k
 --     IsFullFor P k        the same as a statement

@@ -1,8 +1,8 @@
 /* ---- The calls ----
  *
- * S is the name of a kind of table. A single key or value that is a number is passed as it is, and one of N bytes as a
- * pointer to these; *value and *former are the number, or the N bytes. An out-parameter is written with the answers that
- * name it, and otherwise is unchanged.
+ * S is the name of a shape, such as u64_u32. A key or value that is a number is passed by value. One of N bytes is
+ * passed as a pointer to them. *value and *former are a number or N bytes. A call writes an out-parameter only with the
+ * statuses that name it below.
  *
  * The prototypes of odht_u64_u32_*, as ODHT_PLAIN leaves them:
  *
@@ -38,119 +38,102 @@
  *         uint32_t *values, size_t values_len, uint8_t *found, size_t found_len);
  *     size_t odht_u64_u32_view_len(const odht_view *view);
  *
- * Those of another kind have other types of keys and values. For a set, as odht_u64_*, the end of this comment says
- * what differs.
+ * Other shapes have other types of keys and values. The end of this comment lists what differs for a set.
  *
  * odht_S_bytes_needed(max_item_count, percent, *len)
- *     How many bytes a table for max_item_count items has in which at most percent
- *     (1 to 100) of the slots may be occupied.
- *     OK: *len is the length in bytes. BAD_PERCENT. CAPACITY: no slot count is
- *     enough, or the length does not fit size_t.
+ *     Computes the length of a table for max_item_count items. At most percent (1 to 100) of its slots may be
+ *     occupied.
+ *     OK: *len is the length in bytes. BAD_PERCENT. CAPACITY: no slot count is large enough, or the length does not
+ *     fit size_t.
  *
  * odht_S_init(bytes, bytes_len, max_item_count, percent)
- *     Makes an empty table in bytes, whatever they hold. There must be exactly as
- *     many as odht_S_bytes_needed answers for the same count and percentage.
- *     OK: the bytes are the empty table. BAD_PERCENT. CAPACITY. INIT_LENGTH: there
- *     are more or fewer bytes. With all but OK the bytes are unchanged.
- *     One pass over the bytes.
+ *     Writes an empty table over the bytes. bytes_len must be the length that odht_S_bytes_needed returns for the same
+ *     count and percentage.
+ *     OK: the bytes are the empty table. BAD_PERCENT. CAPACITY. INIT_LENGTH: bytes_len is another length. With all
+ *     statuses except OK the bytes are unchanged.
+ *     Cost: one pass over the bytes.
  *
  * odht_S_open(bytes, bytes_len)
- *     Whether bytes can be used as a table: checks the header, the length and the
- *     first ten slots, so it takes equally long for every table. Opening is not
- *     required: each call below checks the header and the length itself, except for
- *     the lookups in a view.
- *     OK: calls can be made on them; slots from the eleventh on were not checked.
+ *     Checks the header, the length and the first ten slots, in constant time. You need not open bytes: each call
+ *     below checks the header and the length itself, except lookups in a view.
+ *     OK: calls can be made on the bytes. The slots from the eleventh on were not checked.
  *     An error, @OPENING@.
  *
  * odht_S_check(bytes, bytes_len)
- *     Whether bytes are valid, to the last one: those of a table that the format
- *     allows. Then all comments on answers here hold for them.
- *     OK: they are valid. An error, @CHECK@: the first in the order that is described
- *     above. odht_S_check_at says in which slot.
- *     It goes over the slots, up to 64 at a time, and for each occupied slot reads the
- *     control bytes of its key's probe order up to it, sixteen at a time; a key is
- *     compared only where an earlier slot of that order has its tag. It allocates
- *     nothing. For a table of keys whose hashes vary this takes up to three times as
- *     long as looking up each key once, and at 87 percent up to 1.4 times.
- *     Where many keys have one hash, by chance or since somebody has forged them, it
- *     takes far longer: up to one comparison for each pair of keys, so the time grows
- *     as the square of the number of slots. bench/README.md has times. For untrusted
- *     bytes there is odht_S_check_within.
+ *     Checks every byte. If it accepts them, all comments here are true for these bytes.
+ *     OK: the bytes are valid. An error, @CHECK@: the first in the order that enum odht_status describes.
+ *     odht_S_check_at returns its slot, too.
+ *     Cost: one pass over the slots. For each occupied slot it reads the control bytes of the key's probe order up to
+ *     that slot, sixteen at a time. It compares the key with earlier keys of that order that have the same tag. It
+ *     allocates nothing. If the hashes of the keys vary, the check takes up to three times as long as one lookup of
+ *     each key (up to 1.4 times at 87 percent). If many keys have one hash, by chance or by forgery, the time grows
+ *     with the square of the number of slots: up to one comparison for each pair of keys. bench/README.md has times.
+ *     Use odht_S_check_within for untrusted bytes.
  *
  * odht_S_check_within(bytes, bytes_len, groups)
- *     odht_S_check for bytes of strangers, whose time nobody can make long: also whether
- *     in the probe order from each slot a free slot comes within so many groups of sixteen
- *     control bytes. Then no search, of a present or an absent key, reads more groups.
- *     ODHT_DEFAULT_GROUPS is a bound that tables of keys whose hashes vary keep. A bound
- *     of 0 groups rejects every table.
- *     OK: they are valid, and searches end in time. An error, @CHECK@, as of odht_S_check,
- *     or SEARCH_TOO_LONG, which comes after @BEFORE_BOUND@ and before @BEHIND_BOUND@; it may come also where
- *     the search for each key of the table reads no more groups.
- *     For s slots it reads at most 2 * s * groups groups, and compares at most
- *     16 * s * groups keys. With s / 16 groups or more it answers as odht_S_check (no
- *     contract says it). It allocates nothing.
+ *     odht_S_check in bounded time, for untrusted bytes. It also checks that the probe order from each slot has a free
+ *     slot within the given number of groups of sixteen control bytes. Then no search reads more groups, for present
+ *     and for absent keys. Tables of keys whose hashes vary keep the bound ODHT_DEFAULT_GROUPS. A bound of 0 groups
+ *     rejects every table.
+ *     OK: the bytes are valid, and no search reads more groups. An error, @CHECK@, as for odht_S_check.
+ *     SEARCH_TOO_LONG comes after @BEFORE_BOUND@ and before @BEHIND_BOUND@. It may come even if the search for each key
+ *     of the table reads no more groups.
+ *     Cost for s slots: at most 2 * s * groups groups are read, and at most 16 * s * groups keys are compared. It
+ *     allocates nothing. With s / 16 groups or more the status is that of odht_S_check (no contract states this).
  *
  * odht_S_open_at(bytes, bytes_len, *slot)
- *     odht_S_open, and *slot is where the error is that is answered. Slots count from 0.
- *     NON_ZERO_EMPTY, CONTROL_MISMATCH: its slot. OK, and all other errors, which are in
- *     no slot: ODHT_NO_SLOT.
+ *     odht_S_open, which also writes the slot of the error. Slots count from 0.
+ *     NON_ZERO_EMPTY, CONTROL_MISMATCH: *slot is the slot. OK, and all other errors: *slot is ODHT_NO_SLOT.
  *
  * odht_S_check_at(bytes, bytes_len, *slot)
- *     odht_S_check, and *slot is where the error is that is answered, which is the first.
- *     Slots count from 0.
- *     NON_ZERO_EMPTY, CONTROL_MISMATCH, BAD_FREE_CONTROL, UNREACHABLE: its slot.
- *     MIRROR_MISMATCH: the slot, 0 to 15, whose control byte the mirror does not repeat.
- *     OK, and all other errors, which are in no slot: ODHT_NO_SLOT.
+ *     odht_S_check, which also writes the slot of the first error. Slots count from 0.
+ *     NON_ZERO_EMPTY, CONTROL_MISMATCH, BAD_FREE_CONTROL, UNREACHABLE: *slot is the slot. MIRROR_MISMATCH: *slot is the
+ *     slot, 0 to 15, whose control byte the mirror does not repeat. OK, and all other errors: *slot is ODHT_NO_SLOT.
  *
  * odht_S_check_within_at(bytes, bytes_len, groups, *slot)
- *     odht_S_check_within, and *slot is where the error is that is answered, as
- *     odht_S_check_at has it. SEARCH_TOO_LONG: the slot where such searches begin.
+ *     odht_S_check_within, which also writes the slot of the first error, as odht_S_check_at does. SEARCH_TOO_LONG:
+ *     *slot is the slot where such searches begin.
  *
  * odht_S_len(bytes, bytes_len, *count)
- *     OK: *count is the header's count of items. It may be untrue: before odht_S_check
- *     has accepted the bytes, allocate nothing by it. No table holds more items than
- *     bytes. An error, @HEADER@. Constant time.
+ *     Reads the number of items from the header. Before odht_S_check has accepted the bytes the number may be wrong:
+ *     do not allocate by it. No table holds more items than bytes.
+ *     OK: *count is the number. An error, @HEADER@. Constant time.
  *
  * odht_S_sizes(bytes, bytes_len, *slots, *max_item_count, *percent)
- *     OK: the header's slot count, how many items these slots take at the most, and the
- *     header's load factor in percent. It is rounded down, so it may be one below that
- *     which the table was made with. An error, @HEADER@. Constant time.
+ *     Reads the header's slot count, the maximum number of items for that many slots, and the load factor in percent.
+ *     The percentage is rounded down, so it may be one below the one that the table was made with.
+ *     OK: all three are written. An error, @HEADER@. Constant time.
  *
  * odht_S_table_len(bytes, bytes_len, *len)
- *     How many bytes the table at the front of longer bytes has, by its header. So a
- *     table inside a file is found without a length of one's own: the other calls take
- *     exactly these bytes, and what follows them is not the table's. Slots are not read.
- *     OK: *len is its length in bytes, which is not above bytes_len. An error, @HEADER@;
- *     WRONG_LENGTH only where bytes_len is below the length of the table. Constant time.
+ *     Computes, from the header, the length of the table at the start of longer bytes. Use it to read a table inside
+ *     a file, then pass exactly *len bytes to the other calls. It reads no slots.
+ *     OK: *len is the length in bytes, at most bytes_len. An error, @HEADER@. WRONG_LENGTH: bytes_len is below the
+ *     length of the table. Constant time.
  *
  * odht_S_get(bytes, bytes_len, key, *value)
- *     OK: the key is there, and *value is its value. ABSENT: it is not there.
- *     An error, @HEADER@. It reads one group of sixteen control bytes for most keys where
- *     hashes vary, and at worst slots / 16.
+ *     Looks up a key.
+ *     OK: the key is present, and *value is its value. ABSENT. An error, @HEADER@.
+ *     Cost: most searches read one group of sixteen control bytes if hashes vary. None reads more than slots / 16.
  *
  * odht_S_get_all(bytes, bytes_len, keys, keys_len, values, values_len, found, found_len)
- *     Looks keys_len keys up; the header and the length are checked once.
- *     OK: for each i, either found[i] is 1 and values[i] is the value of keys[i],
- *     or found[i] is 0 and values[i] is unchanged. BAD_LENGTHS: the three lengths
- *     are not equal. An error, @HEADER@.
+ *     Looks up many keys, and checks the header and the length only once.
+ *     OK: for a present key, found[i] is 1 and values[i] is its value. For an absent key, found[i] is 0 and values[i]
+ *     is unchanged. BAD_LENGTHS: the three lengths are not equal. An error, @HEADER@.
  *
  * odht_S_insert(bytes, bytes_len, key, value, *former)
- *     Inserts a key with its value, or gives a key that is there another value.
- *     OK: the key was new. REPLACED: the key was there, and *former is its former
- *     value. FULL: the key is new, and the table is at its maximum. An error, @HEADER@.
- *     With FULL and the errors nothing changes. It reads as many groups as odht_S_get.
+ *     Inserts a key with its value, or replaces the value of a present key.
+ *     OK: the key was new. REPLACED: the key was present, and *former is the value that it had. FULL: the key is new,
+ *     and the table is at its maximum. An error, @HEADER@. With FULL and the errors nothing changes.
+ *     Cost: it reads as many groups as odht_S_get.
  *
  * odht_S_insert_all(bytes, bytes_len, keys, keys_len, values, values_len, *accepted)
- *     Inserts keys[i] with values[i], for each i from 0 on, as odht_S_insert does,
- *     and stops at the first that is answered FULL.
- *     OK: all are inserted, and *accepted is keys_len. FULL: *accepted of them are
- *     inserted, and the next one is not: its key is new. BAD_LENGTHS: keys_len is not
- *     values_len. An error, @HEADER@. With the last two nothing changes.
+ *     Inserts keys[i] with values[i] for each i in turn, as odht_S_insert does, and stops at the first FULL.
+ *     OK: all pairs are inserted, and *accepted is keys_len. FULL: the first *accepted pairs are inserted, and the next
+ *     key is new. BAD_LENGTHS: keys_len is not values_len. An error, @HEADER@. With the last two nothing changes.
  *
  * odht_S_walk(bytes, bytes_len, *cursor, keys, keys_len, values, values_len, *count)
- *     Writes pairs into the front of two arrays, in the order of the slots: those at
- *     slot *cursor and after it. *cursor is 0 at first, and then the slot to continue
- *     at, so arrays of any size but 0 are enough:
+ *     Writes the pairs of the table to two arrays, in the order of the slots, one batch a call. Set *cursor to 0
+ *     first. Each call continues at slot *cursor and moves it. Arrays of any length except 0 are enough:
  *
  *         do {
  *             status = odht_S_walk(bytes, len, &cursor, keys, 64, values, 64, &count);
@@ -159,72 +142,55 @@
  *             use the first count pairs
  *         } while (status == ODHT_TOO_SMALL);
  *
- *     OK: these *count pairs are the last ones, and *cursor is the slot count. A *cursor
- *     at or above it gives OK and no pairs, and is set to it. TOO_SMALL: the arrays are
- *     full, and there are more. With both the rest of the arrays is unchanged. BAD_LENGTHS:
- *     keys_len is not values_len. An error, @HEADER@. With the last two the arrays,
- *     *cursor and *count are unchanged.
- *     A walk writes the pairs of the occupied slots, whatever the header's count: on any
- *     bytes without the errors @HEADER@ at most one pair for each slot, and bytes_len is
- *     more than the number of slots times the length of a pair. It reads the control bytes
- *     from the old *cursor to the new one, and the entries of the pairs.
+ *     OK: these *count pairs are the last, and *cursor is the slot count. A *cursor at or above the slot count gives
+ *     no pairs. TOO_SMALL: the arrays are full, and there are more pairs. BAD_LENGTHS: keys_len is not values_len. An
+ *     error, @HEADER@. With the last two the arrays, *cursor and *count are unchanged. No call writes an array after
+ *     its first *count items.
+ *     The header's number of items plays no part. On any bytes without the errors @HEADER@ a walk writes at most one
+ *     pair for each slot, so all pairs take less than bytes_len bytes.
+ *     Cost: the control bytes from the old *cursor to the new one, and the entries of the pairs.
  *
  * odht_S_insert_order(bytes, bytes_len, slots, slots_len)
- *     Whether inserts can make the table, and in which order. Its pairs, inserted in
- *     that order into an empty table of as many slots and the same load factor, make
- *     exactly these bytes. Not every valid table has been made by inserts.
- *     OK: slots holds the occupied slots, each once, in such an order. Slots count from
- *     0. UNMADE: no list of inserts makes the table, growths included, and what slots
- *     holds is unspecified. An error of the whole check, @CHECK@. BAD_LENGTHS: the
- *     bytes are valid, and slots_len is not the number of items.
- *     It makes the whole check first, as odht_S_check does. Then it goes over the items
- *     in passes: at most one more than there are items whose insert has to wait for
- *     that of an item in a later slot. In a pass an item takes one step where its slot
- *     is in the first group of its probe order, and not before the slot where that
- *     begins. Else it takes one or two binary searches among the waiting items for each
- *     group up to its own, but for those that were passed before from the same slot on,
- *     as far as that is kept, for 64 such slots. After the pass those that still wait
- *     are sorted. It allocates nothing. For tables of strangers there is
- *     odht_any_insert_order, which takes scratch.
+ *     Finds an order of inserts that makes the table. Take an empty table of the same slot count and load factor.
+ *     Inserting the pairs of these slots in this order makes exactly these bytes. Some valid tables have no such order.
+ *     OK: slots holds the occupied slots, each once, in such an order. Slots count from 0. UNMADE: no list of inserts
+ *     makes the table, with growths or without, and the content of slots is unspecified. An error of the whole check,
+ *     @CHECK@. BAD_LENGTHS: the bytes are valid, and slots_len is not the number of items.
+ *     Cost: the whole check, then passes over the items. There is at most one pass more than there are items that wait
+ *     for the insert of an item in a later slot. In a pass an item whose slot is in the first group of its probe order,
+ *     at or after the order's first slot, takes one step. Another item takes one or two binary searches among the
+ *     waiting items for each group up to its own. Groups that were searched before from the same slot are left out, for
+ *     64 such slots. After each pass the waiting items are sorted. It allocates nothing. For untrusted tables use
+ *     odht_any_insert_order with scratch memory.
  *
  * odht_S_grow(bytes, bytes_len, out, out_len, *len)
- *     Writes the table that this one grows into to out: with slots for twice as many
- *     items, and for one at least, and the same load factor. A caller whose insert was
- *     answered FULL continues so: it grows the table into larger memory and inserts
- *     there ("Grow on FULL"); for a valid table one growth is enough. Check untrusted bytes before: of
- *     bytes that odht_S_check rejects *len follows the header's count, however large, and
- *     an insert into the grown table may be answered FULL again, each time. At the
- *     maximum the bytes are those that a table has which grows by itself. It does not
- *     look at the maximum: where the table is not full, *len may be no more than
- *     bytes_len.
- *     OK: the first *len bytes of out are the grown table, and the rest of out is
- *     unchanged. TOO_SMALL: out_len is below *len, the length in bytes of the grown
- *     table, and out is unchanged; so a call with out_len 0 reports how much memory is
- *     needed. An error, @HEADER@. LOAD_FACTOR_TOO_SMALL: the header has less than 1
- *     percent, as no valid table does. CAPACITY: no slot count is enough, or the length
- *     does not fit size_t.
- *     It reads each slot once and hashes each key once; no keys are compared. It
- *     allocates nothing. bytes and out must not overlap.
+ *     Writes a larger copy of the table to out, with the same load factor and room for twice as many items (at least
+ *     one). Call it if an insert returns FULL, and insert into the copy ("Grow on FULL"). For a valid table one growth
+ *     is enough. With an out_len of 0 it reports the memory that it needs.
+ *     OK: the first *len bytes of out are the copy, and the rest of out is unchanged. TOO_SMALL: out_len is below *len,
+ *     the length of the copy, and out is unchanged. An error, @HEADER@. LOAD_FACTOR_TOO_SMALL: the header has less than
+ *     1 percent, which no valid table has. CAPACITY: no slot count is large enough, or the length does not fit size_t.
+ *     At its maximum a table grows to the bytes that a table has which grows by itself. If it is below its maximum,
+ *     *len may be bytes_len or less. Check untrusted bytes first: if odht_S_check rejects them, *len follows the
+ *     header's number of items, however large it is, and inserts into the copy may return FULL again and again.
+ *     Cost: it reads each slot once, hashes each key once, and compares no keys. It allocates nothing. bytes and out
+ *     must not overlap.
  *
  * odht_S_build(keys, keys_len, values, values_len, percent, out, out_len, *len)
- *     Makes a table for as many items as there are pairs in out, and inserts the pairs
- *     one after the other. Of equal keys the last value counts. It allocates nothing, and
- *     hashes and inserts each pair once.
- *     OK: the table is the first *len bytes of out. TOO_SMALL: out_len is below
- *     *len, the length in bytes that the table has. CAPACITY. BAD_PERCENT.
- *     BAD_LENGTHS: keys_len is not values_len. out is written with OK alone.
+ *     Makes a table for keys_len items in out, and inserts the pairs in turn. Of equal keys the last value counts.
+ *     OK: the first *len bytes of out are the table. TOO_SMALL: out_len is below *len, the length of the table.
+ *     CAPACITY. BAD_PERCENT. BAD_LENGTHS: keys_len is not values_len. Only OK writes to out.
+ *     Cost: it hashes and inserts each pair once. It allocates nothing.
  *
  * odht_S_build_growing(keys, keys_len, values, values_len, out, out_len, *len)
- *     Builds the table as if the number of pairs were not known before: inserts them
- *     one after the other into a table that has 16 slots at 87 percent at first, and
- *     doubles them for a new key whenever it is full. The order of the slots can
- *     differ from that of odht_S_build. The table is copied to out at the end.
- *     OK, TOO_SMALL and BAD_LENGTHS as there. MEMORY: an allocation for the growing
- *     table has failed, or no table is large enough.
+ *     Builds the table as if the number of pairs were unknown. It inserts them in turn into a table that starts with 16
+ *     slots at 87 percent and doubles if it is full and a key is new. Then it copies the table to out. The order of the
+ *     slots can differ from that of odht_S_build.
+ *     OK, TOO_SMALL and BAD_LENGTHS as for odht_S_build. MEMORY: an allocation for the growing table failed, or no
+ *     table is large enough.
  *
  * odht_S_open_view(bytes, bytes_len, *view)
- *     Opens bytes as odht_S_open does, to look up in them often: "Opened tables"
- *     above says what to ensure for a view.
+ *     Opens bytes as odht_S_open does, for many lookups. "Opened tables" above lists what a view needs.
  *     OK: *view is the view of the bytes. An error, @OPENING@.
  *
  * odht_S_view_get(view, key, *value)
@@ -234,17 +200,15 @@
  *     odht_S_get_all in an opened table: OK or BAD_LENGTHS.
  *
  * odht_S_view_len(view)
- *     The header's count of items of an opened table, as odht_S_len writes it. It is
- *     returned itself, and no status.
+ *     Returns the header's number of items of an opened table. It is the only call of a shape that returns no status.
  *
- * Sets have no values. In place of get and get_all they have contains and
- * contains_all, also in a view, and their other calls have no parameters for values. The
- * calls with keys of the set odht_u64_*, with uint64_t key and const uint64_t *keys:
+ * A set has no values. It has contains and contains_all instead of get and get_all, also in a view. Its other calls
+ * have no parameters for values. The calls with keys of the set odht_u64_* take uint64_t key and const uint64_t *keys:
  *
  *     odht_u64_contains(bytes, bytes_len, key)
- *         OK: the key is there. ABSENT: it is not there. An error, @HEADER@.
+ *         OK: the key is present. ABSENT. An error, @HEADER@.
  *     odht_u64_contains_all(bytes, bytes_len, keys, keys_len, found, found_len)
- *         OK: found[i] is 1 where keys[i] is there, else 0. BAD_LENGTHS. An error, @HEADER@.
+ *         OK: found[i] is 1 if keys[i] is present, and 0 if it is absent. BAD_LENGTHS. An error, @HEADER@.
  *     odht_u64_insert(bytes, bytes_len, key)
  *     odht_u64_insert_all(bytes, bytes_len, keys, keys_len, *accepted)
  *     odht_u64_walk(bytes, bytes_len, *cursor, keys, keys_len, *count)
@@ -257,7 +221,7 @@
  */
 
 #if ODHT_TAKES_NULL
-/* What is passed for a slice of length 0, whose pointer may be NULL: nothing is read or written there. */
+/* The pointer that is passed for a slice of length 0, if the caller's is NULL. Nothing is read or written there. */
 #define ODHT_SLICES(type) \
     static inline const type *odht_read_##type(const type *items, size_t len) \
     { \
@@ -276,6 +240,7 @@ ODHT_SLICES(size_t)
 #undef ODHT_SLICES
 #endif
 
-/* The version of the linked library, a number as ODHT_VERSION. Where they differ this header is not the library's. */
+/* Returns the version of the linked library, in the form of ODHT_VERSION. If they differ, this header belongs to
+   another version of the library. */
 ODHT_NODISCARD extern uint32_t odht_version(void);
 

@@ -1,8 +1,8 @@
 /* ---- How the calls are declared ----
  *
- * ODHT_DECLARE_MAP and ODHT_DECLARE_SET declare the calls of a shape S, and the lines at the end of this file use them
- * for each shape. Each call is written once in one of them: its result, its name, its parameters, and the body of its
- * inline function.
+ * ODHT_DECLARE_MAP and ODHT_DECLARE_SET declare the calls of a shape S, and the lines at the end of this file use
+ * them for each shape. Each call is written once in one of them: its result, its name, its parameters, and the body
+ * of its inline function.
  */
 #if ODHT_TAKES_NULL
 /* The symbol of the library, then the inline function around it. */
@@ -14,7 +14,7 @@
         body \
     }
 
-/* A symbol alone, and an inline function alone, where their parameters differ. */
+/* Only a symbol, and only an inline function, where their parameters differ. */
 #define ODHT_SYMBOL(result, name, parameters) \
     result odht_symbol_##name parameters __asm__("odht_" #name);
 #define ODHT_FUNCTION(result, name, parameters, body) \
@@ -30,8 +30,9 @@
 #define ODHT_FUNCTION(result, name, parameters, body)
 #endif
 
-/* Keys and values that are numbers of so many bits: the items of their arrays, one that is given, one that is wanted (a
-   pointer, which may be NULL), where to write one that is not wanted, and arrays whose pointer may be NULL. */
+/* Keys and values that are numbers of that many bits: the type of array items, a parameter, an out-parameter (a
+   pointer, which may be NULL), a place for a result that the caller does not need, and arrays whose pointer may be
+   NULL. */
 #define ODHT_NUMBER_ITEM(bits) uint##bits##_t
 #define ODHT_NUMBER_GIVEN(bits, name) uint##bits##_t name
 #define ODHT_NUMBER_WANTED(bits, name) uint##bits##_t *name
@@ -39,7 +40,7 @@
 #define ODHT_NUMBER_READ(bits, items, len) odht_read_uint##bits##_t(items, len)
 #define ODHT_NUMBER_WRITE(bits, items, len) odht_write_uint##bits##_t(items, len)
 
-/* The same of keys and values of so many bytes. */
+/* The same for keys and values of that many bytes. */
 #define ODHT_BYTES_ITEM(count) uint8_t
 #define ODHT_BYTES_GIVEN(count, name) const uint8_t name[count]
 #define ODHT_BYTES_WANTED(count, name) uint8_t name[count]

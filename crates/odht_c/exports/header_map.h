@@ -1,5 +1,5 @@
 
-/* The calls of a shape with values: K and V are ODHT_NUMBER or ODHT_BYTES, k and v how many bits or bytes. */
+/* The calls of a shape with values: K and V are ODHT_NUMBER or ODHT_BYTES, k and v the numbers of bits or bytes. */
 #define ODHT_DECLARE_MAP(S, K, k, V, v) \
     ODHT_TABLE_CALLS(S##_) \
 \

@@ -1,6 +1,6 @@
 
-/* The calls of a set: K is ODHT_NUMBER or ODHT_BYTES, k how many bits or bytes. Those with keys are inline functions
-   around the calls of a map without values, so where ODHT_TAKES_NULL is 0 there are none. */
+/* The calls of a set: K is ODHT_NUMBER or ODHT_BYTES, k the number of bits or bytes. Those with keys are inline
+   functions around the calls of a map without values. If ODHT_TAKES_NULL is 0 they do not exist. */
 #define ODHT_DECLARE_SET(S, K, k) \
     ODHT_TABLE_CALLS(S##_) \
 \

@@ -1,4 +1,4 @@
-//! The exports of tables of any lengths: the caller names the lengths of keys and values, and the
+//! The exports of dynamic tables: the caller names the lengths of keys and values, and the
 //! hash function.
 //!
 //! Statuses have the names of include/odht.h without `ODHT_`. Each call but `layout_of` answers
@@ -24,9 +24,9 @@ use std::alloc::Global;
 
 pub(crate) mod views;
 
-/// Writes to `len` how many bytes a new table for so many items has: status 0. `BAD_PERCENT` where
-/// the load factor is not from 1 to 100 percent, `CAPACITY` where no slot count is enough or the
-/// length does not fit `usize`; then `len` is unchanged.
+/// Writes to `len` how many bytes a new table for that many items has: status 0. `BAD_PERCENT`
+/// where the load factor is not from 1 to 100 percent, `CAPACITY` where no slot count is enough or
+/// the length does not fit `usize`; then `len` is unchanged.
 #[unsafe(no_mangle)]
 pub extern "C" fn odht_any_bytes_needed(
     layout: &AnyLayout,
@@ -40,7 +40,7 @@ pub extern "C" fn odht_any_bytes_needed(
     write::bytes_needed(*layout, max_item_count, max_load_factor_percent, len)
 }
 
-/// Makes an empty table for so many items in the bytes, whatever they hold: status 0.
+/// Makes an empty table for that many items in the bytes, whatever they hold: status 0.
 /// `BAD_PERCENT`, `CAPACITY`, or `INIT_LENGTH` where the bytes are more or fewer than it needs;
 /// then they are unchanged. One pass over the bytes.
 #[unsafe(no_mangle)]
@@ -215,7 +215,7 @@ pub extern "C" fn odht_any_contains(layout: &AnyLayout, bytes: &[u8], key: &[u8]
 
 /// Looks up `count` keys, which lie in `keys` one after the other: status 0, and at each index
 /// `found` is 1 and the value is written, or `found` is 0 and the value is unchanged.
-/// `BAD_LENGTHS` where `keys`, `values` or `found` have another length than so many keys, values
+/// `BAD_LENGTHS` where `keys`, `values` or `found` have another length than that many keys, values
 /// and flags, or an error of the header or length; then nothing is written.
 #[unsafe(no_mangle)]
 pub extern "C" fn odht_any_get_all(
@@ -306,10 +306,10 @@ pub extern "C" fn odht_any_insert(
 
 /// Inserts `count` pairs, whose keys and values lie one after the other, in order: status 0, or
 /// `FULL` at the first that does not fit; and writes to `accepted` how many were inserted.
-/// `BAD_LENGTHS` where `keys` or `values` have another length than so many of them, or an error of
-/// the header or length; then nothing changes. A view of the bytes remains usable in any case. One
-/// insert for each pair; of pairs whose keys and values have no bytes only the first is inserted,
-/// as all are equal.
+/// `BAD_LENGTHS` where `keys` or `values` have another length than that many of them, or an error
+/// of the header or length; then nothing changes. A view of the bytes remains usable in any case.
+/// One insert for each pair; of pairs whose keys and values have no bytes only the first is
+/// inserted, as all are equal.
 #[unsafe(no_mangle)]
 pub extern "C" fn odht_any_insert_all(
     layout: &AnyLayout,
@@ -350,7 +350,7 @@ pub extern "C" fn odht_any_grow(
 /// `out`, and writes its length in bytes to `len`: status 0. It has slots for as many items as
 /// there are pairs, so it never grows; of equal keys the last value counts. `TOO_SMALL` where
 /// `out` is shorter than the table: then only `len` is written. `BAD_LENGTHS` where `keys` or
-/// `values` have another length than so many of them, `BAD_PERCENT` where the load factor is not
+/// `values` have another length than that many of them, `BAD_PERCENT` where the load factor is not
 /// from 1 to 100 percent, `CAPACITY` only where no slot count is enough or the length does not fit
 /// `usize`; then nothing is written. After the table `out` is unchanged. Allocates nothing. One
 /// pass over the bytes, then one insert for each pair.
@@ -382,7 +382,7 @@ pub extern "C" fn odht_any_build(
 /// its own, copies it to the front of `out`, and writes its length in bytes to `len`: status 0. It
 /// begins with sixteen slots at 87 percent, and grows as the pairs are inserted; of equal keys the
 /// last value counts. `TOO_SMALL` where `out` is shorter than the table: then only `len` is
-/// written. `BAD_LENGTHS` where `keys` or `values` have another length than so many of them,
+/// written. `BAD_LENGTHS` where `keys` or `values` have another length than that many of them,
 /// `MEMORY` when an allocation fails or no table is large enough; then nothing is written. After
 /// the table `out` is unchanged. One insert for each pair, the growths, and one copy of the table;
 /// of pairs whose keys and values have no bytes only the first is inserted, as all are equal.

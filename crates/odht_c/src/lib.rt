@@ -2,5 +2,5 @@
 #![tactic(auto)]
 
 mod any;
-mod shapes;
+mod generated;
 mod version;

@@ -28,7 +28,7 @@ pub mod Ordered
 pub mod NewBuilds
 -- the errors of a growth, and what the call answers
 pub mod Grown
--- calls for tables of any lengths
+-- calls for dynamic tables
 pub mod Layouts
 -- keys and values that lie one after the other
 pub mod Pieces

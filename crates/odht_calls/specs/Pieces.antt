@@ -1,4 +1,4 @@
--- Keys and values that lie one after the other in bytes, and the calls for tables of any lengths that take or write them.
+-- Keys and values that lie one after the other in bytes, and the calls for dynamic tables that take or write them.
 --     pieces len n B       the first n pieces of B in turn, of len bytes each
 --     ArePieces kl vl n ks vs  ks are n keys of kl bytes, and vs are n values of vl bytes
 --     Each of the calls answers what that of a shape does, of the keys and values that the bytes have (`Pieces..`), in

@@ -6,16 +6,16 @@
 --     PlaceAnswers o s new   where the first error is o, the status is s, and the caller's buffer holds `new` then
 use Rattle.std.specs.Prelude.{◌≡◌, ℕ, ◌-◌, ◌^◌, Option, Some, None}
 use Rattle.odht_header.specs.declared.error.Error.{Error}
--- names: made of errors.txt by make exports
+-- begin names: generated from lists/errors.txt by make generate
 use Rattle.odht_header.specs.declared.error.Error.TheVariants.{TooShort, WrongTag, WrongVersion, WrongSizeOf, SlotCountNotPowerOfTwo, SlotCountTooSmall, WrongLength, NonZeroEmpty, ControlMismatch, LoadFactorTooSmall, NonZeroPadding, BadFreeControl, MirrorMismatch, WrongItemCount, TooManyItems, Unreachable, SearchTooLong, InitLength, Full, Memory, Capacity}
--- names: up to here
+-- end names
 use Rattle.odht_calls.specs.Statuses.{status_or_ok}
 
 abbrev pub no_slot : ℕ
 no_slot = 2 ^ 64 - 1
 
 abbrev pub slot_of : Error → ℕ
--- slot_of: made of errors.txt by make exports
+-- begin slot_of: generated from lists/errors.txt by make generate
 slot_of (NonZeroEmpty slot) = slot
 slot_of (BadFreeControl slot found) = slot
 slot_of (ControlMismatch slot expected found) = slot
@@ -38,7 +38,7 @@ slot_of Full = no_slot
 slot_of Memory = no_slot
 slot_of Capacity = no_slot
 
--- slot_of: up to here
+-- end slot_of
 
 abbrev pub slot_or_none : Option Error → ℕ
 slot_or_none None = no_slot

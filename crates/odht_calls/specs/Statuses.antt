@@ -5,13 +5,13 @@
 --     AreAsLong n a b      two arrays, of a and of b elements, have an element for each of n keys
 use Rattle.std.specs.Prelude.{◌≡◌, ℕ, Option, Some, None}
 use Rattle.odht_header.specs.declared.error.Error.{Error}
--- names: made of errors.txt by make exports
+-- begin names: generated from lists/errors.txt by make generate
 use Rattle.odht_header.specs.declared.error.Error.TheVariants.{TooShort, WrongTag, WrongVersion, WrongSizeOf, SlotCountNotPowerOfTwo, SlotCountTooSmall, WrongLength, NonZeroEmpty, ControlMismatch, LoadFactorTooSmall, NonZeroPadding, BadFreeControl, MirrorMismatch, WrongItemCount, TooManyItems, Unreachable, SearchTooLong, InitLength, Full, Memory, Capacity}
 
--- names: up to here
+-- end names
 
 abbrev pub status_of : Error → ℕ
--- status_of: made of errors.txt by make exports
+-- begin status_of: generated from lists/errors.txt by make generate
 status_of (TooShort found) = 1
 status_of (WrongTag found) = 2
 status_of (WrongVersion found) = 3
@@ -34,7 +34,7 @@ status_of Memory = 19
 status_of Capacity = 20
 status_of (SearchTooLong home groups) = 21
 
--- status_of: up to here
+-- end status_of
 
 abbrev pub done : ℕ
 done = 0

@@ -1,4 +1,4 @@
-//! The calls for tables of any lengths: the caller names the lengths of keys and values, and the
+//! The calls for dynamic tables: the caller names the lengths of keys and values, and the
 //! hash function, by a layout.
 ghost use Rattle.std.specs.Prelude.{◌≡◌, ◌≤◌, ◌↔◌, IsTrue};
 

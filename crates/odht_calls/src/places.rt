@@ -18,14 +18,14 @@ fn slot_of(error: &Error) -> usize
     ensures { result ≡ slot_of error.now }
 {
     match *error {
-        // slot_of: made of errors.txt by make exports
+        // begin slot_of: generated from lists/errors.txt by make generate
         Error::NonZeroEmpty { slot }
         | Error::BadFreeControl { slot, .. }
         | Error::ControlMismatch { slot, .. }
         | Error::Unreachable { slot } => slot,
         Error::MirrorMismatch { index } => index,
         Error::SearchTooLong { home, .. } => home,
-        // slot_of: up to here
+        // end slot_of
         _ => NO_SLOT,
     }
 }

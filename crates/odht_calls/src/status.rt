@@ -46,7 +46,7 @@ pub(crate) fn status_of(error: &Error) -> u32
     ensures { result ≡ status_of error.now }
 {
     match error {
-        // status_of: made of errors.txt by make exports
+        // begin status_of: generated from lists/errors.txt by make generate
         Error::TooShort { .. } => 1,
         Error::WrongTag { .. } => 2,
         Error::WrongVersion { .. } => 3,
@@ -68,6 +68,6 @@ pub(crate) fn status_of(error: &Error) -> u32
         Error::Memory => 19,
         Error::Capacity => 20,
         Error::SearchTooLong { .. } => 21,
-        // status_of: up to here
+        // end status_of
     }
 }

@@ -13,7 +13,7 @@ use odht::items::Zipped;
 use odht::load::Percent;
 use odht::memory_layout::is_accepted;
 
-/// Writes to `len` how many bytes a new table for so many items has. BAD_PERCENT and CAPACITY
+/// Writes to `len` how many bytes a new table for that many items has. BAD_PERCENT and CAPACITY
 /// leave `len` unchanged.
 pub fn bytes_needed<C: Config>(
     max_item_count: usize,
@@ -35,7 +35,7 @@ pub fn bytes_needed<C: Config>(
     }
 }
 
-/// Makes an empty table for so many items in the store, whatever it holds. BAD_PERCENT, CAPACITY
+/// Makes an empty table for that many items in the store, whatever it holds. BAD_PERCENT, CAPACITY
 /// and INIT_LENGTH leave the store unchanged.
 pub fn init<C: Config, M: ByteStoreMut>(
     store: &mut M,

@@ -7,9 +7,9 @@
 use Rattle.std.specs.Prelude.{ℕ, List, ◌++◌, codes, decimal}
 use Rattle.std.specs.List.{join_by}
 use Rattle.odht_header.specs.declared.error.Error.{Error}
--- names: made of errors.txt by make exports
+-- begin names: generated from lists/errors.txt by make generate
 use Rattle.odht_header.specs.declared.error.Error.TheVariants.{TooShort, WrongTag, WrongVersion, WrongSizeOf, SlotCountNotPowerOfTwo, SlotCountTooSmall, WrongLength, NonZeroEmpty, ControlMismatch, LoadFactorTooSmall, NonZeroPadding, BadFreeControl, MirrorMismatch, WrongItemCount, TooManyItems, Unreachable, SearchTooLong, InitLength, Full, Memory, Capacity}
--- names: up to here
+-- end names
 use Rattle.odht_header.specs.declared.error.Part.{Part}
 use Rattle.odht_header.specs.declared.error.Part.TheVariants.{EntryMetadata, EncodedKey, EncodedValue, Header}
 
@@ -23,7 +23,7 @@ abbrev pub bytes_text : List ℕ → List ℕ
 bytes_text bs = codes "[" ++ join_by decimal (codes ", ") bs ++ codes "]"
 
 abbrev pub error_text : Error → List ℕ
--- error_text: made of errors.txt by make exports
+-- begin error_text: generated from lists/errors.txt by make generate
 error_text (TooShort found) = codes "Provided data has " ++ decimal found ++ codes " bytes but the header needs 32"
 error_text (WrongTag found) = codes "Expected header tag [79, 68, 72, 84] but found " ++ bytes_text found
 error_text (WrongVersion found) = codes "Expected file format version [0, 0, 0, 2] but found " ++ bytes_text found
@@ -57,10 +57,10 @@ error_text Full = codes "Table is full"
 error_text Memory = codes "Memory was refused"
 error_text Capacity = codes "Capacity is too large"
 
--- error_text: up to here
+-- end error_text
 
 abbrev pub IsOpeningError : Error → Type 0
--- IsOpeningError: made of errors.txt by make exports
+-- begin IsOpeningError: generated from lists/errors.txt by make generate
 IsOpeningError (TooShort found) = Unit
 IsOpeningError (WrongTag found) = Unit
 IsOpeningError (WrongVersion found) = Unit
@@ -68,14 +68,14 @@ IsOpeningError (WrongSizeOf part expected found) = Unit
 IsOpeningError (SlotCountNotPowerOfTwo found) = Unit
 IsOpeningError (SlotCountTooSmall found) = Unit
 IsOpeningError (WrongLength slot_count found expected) = Unit
--- IsOpeningError: up to here
+-- end IsOpeningError
 IsOpeningError _ = ⊥
 
 abbrev pub IsCallError : Error → Type 0
--- IsCallError: made of errors.txt by make exports
+-- begin IsCallError: generated from lists/errors.txt by make generate
 IsCallError (InitLength found expected) = Unit
 IsCallError Full = Unit
 IsCallError Memory = Unit
 IsCallError Capacity = Unit
--- IsCallError: up to here
+-- end IsCallError
 IsCallError _ = ⊥

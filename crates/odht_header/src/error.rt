@@ -40,7 +40,7 @@ impl fmt::Display for Part {
 /// is the index of a slot. `found` is what the bytes have, `expected` what they need to have.
 #[derive(Clone, Copy, PartialEq, Eq, Debug)]
 pub enum Error {
-    // variants: made of errors.txt by make exports
+    // begin variants: generated from lists/errors.txt by make generate
     /// There are fewer bytes than the 32 of a header.
     TooShort {
         found: usize,
@@ -133,7 +133,7 @@ pub enum Error {
     Memory,
     /// No slot count is large enough, or the length of the table in bytes passes `usize::MAX`.
     Capacity,
-    // variants: up to here
+    // end variants
 }
 
 impl From<AllocError> for Error {
@@ -149,7 +149,7 @@ impl fmt::Display for Error {
 
     fn fmt<W: fmt::Write>(&self, f: &mut fmt::Formatter<W>) -> fmt::Result {
         match *self {
-            // fmt: made of errors.txt by make exports
+            // begin fmt: generated from lists/errors.txt by make generate
             Error::TooShort { found } => {
                 write!(f, "Provided data has {found} bytes but the header needs 32")
             }
@@ -185,7 +185,7 @@ impl fmt::Display for Error {
                 f,
                 "Provided allocation has wrong size for slot count {slot_count}. The allocation's size is {found} but the expected size is {expected}."
             ),
-            // fmt: up to here
+            // end fmt
             _ => write_contents_error(self, f),
         }
     }
@@ -199,7 +199,7 @@ fn write_contents_error<W: fmt::Write>(error: &Error, f: &mut fmt::Formatter<W>)
     ensures { WritesOnOk W.write_str_gives f.old result (error_text error.now) f.new }
 {
     match *error {
-        // write_contents_error: made of errors.txt by make exports
+        // begin write_contents_error: generated from lists/errors.txt by make generate
         Error::NonZeroEmpty { slot } => {
             write!(f, "Found empty entry with non-zero contents at {slot}")
         }
@@ -238,7 +238,7 @@ fn write_contents_error<W: fmt::Write>(error: &Error, f: &mut fmt::Formatter<W>)
             f,
             "Searches from slot {home} may read more than {groups} groups"
         ),
-        // write_contents_error: up to here
+        // end write_contents_error
         _ => write_call_error(error, f),
     }
 }
@@ -249,7 +249,7 @@ fn write_call_error<W: fmt::Write>(error: &Error, f: &mut fmt::Formatter<W>) -> 
     ensures { WritesOnOk W.write_str_gives f.old result (error_text error.now) f.new }
 {
     match *error {
-        // write_call_error: made of errors.txt by make exports
+        // begin write_call_error: generated from lists/errors.txt by make generate
         Error::InitLength { found, expected } => write!(
             f,
             "byte slice to initialize has wrong length ({found} instead of {expected})"
@@ -257,7 +257,7 @@ fn write_call_error<W: fmt::Write>(error: &Error, f: &mut fmt::Formatter<W>) -> 
         Error::Full => write!(f, "Table is full"),
         Error::Memory => write!(f, "Memory was refused"),
         Error::Capacity => write!(f, "Capacity is too large"),
-        // write_call_error: up to here
+        // end write_call_error
         _ => unreachable!(),
     }
 }

@@ -292,7 +292,7 @@ impl<'a> Header<'a> {
         }
     }
 
-    /// `WrongItemCount` unless so many were found, then `TooManyItems` above the maximum.
+    /// `WrongItemCount` unless that many were found, then `TooManyItems` above the maximum.
     pub fn check_item_count(&self, found: usize) -> Result<(), Error>
         ensures { result
             ≡ checked (option_or (count_refusal found self.now) (room_refusal self.now)) }
@@ -354,7 +354,7 @@ impl<'a> Header<'a> {
     }
 }
 
-/// Writes all 32 bytes of the header of a table of so many slots and items.
+/// Writes all 32 bytes of the header of a table of that many slots and items.
 pub fn write_header<C: Config>(
     header: &mut [u8],
     slot_count: usize,

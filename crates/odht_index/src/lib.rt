@@ -1,7 +1,7 @@
 //! An index from path hashes of 16 bytes to numbers, as bytes that are stored, mapped and searched
 //! in place.
 //!
-//! Its proofs use the public contracts of `odht` alone. It is the worked example for a [`Config`]
+//! Its proofs use only the public contracts of `odht`. It is the worked example for a [`Config`]
 //! of your own.
 #![tactic(auto)]
 
@@ -97,7 +97,7 @@ impl Lossless for IndexConfig {
 /// The bytes of an index of the pairs, to be stored. The load factor is 87 percent of the slots. A
 /// path that comes again gets its later number.
 ///
-/// `Capacity` exactly where no slot count is enough for so many pairs, or its length passes
+/// `Capacity` exactly where no slot count is enough for that many pairs, or its length passes
 /// `usize`; `Memory` where the allocator gives none. Each pair is hashed once, the table never
 /// grows, and its bytes are copied once.
 pub fn build(alloc: Global, pairs: &[([u8; 16], u32)]) -> Result<Vec<u8>, Error>

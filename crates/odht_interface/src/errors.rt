@@ -72,7 +72,7 @@ const CALLS: [Error; 4] = [
 // Which of these an error is of: it compiles only where there are no others.
 fn kind_of(error: Error) -> &'static str {
     match error {
-        // kind_of: made of errors.txt by make exports
+        // begin kind_of: generated from lists/errors.txt by make generate
         Error::TooShort { .. }
         | Error::WrongTag { .. }
         | Error::WrongVersion { .. }
@@ -91,7 +91,7 @@ fn kind_of(error: Error) -> &'static str {
         | Error::Unreachable { .. } => "checking",
         Error::SearchTooLong { .. } => "checking within a bound",
         Error::InitLength { .. } | Error::Full | Error::Memory | Error::Capacity => "calls",
-        // kind_of: up to here
+        // end kind_of
     }
 }
 

@@ -36,7 +36,7 @@ fn is_free<Q: Group>(bytes: &[u8]) -> (bool, usize)
     (is_free, size)
 }
 
-// A word reports the neighbour of the tag too; lanes report the tag alone.
+// A word reports the neighbour of the tag too; lanes report only the tag.
 #[test]
 fn group_searches(rt: HostRuntime) {
     let reference: usize = REFERENCE_GROUP_SIZE;

@@ -1,4 +1,4 @@
-//! Calls of tables of lengths that are known at run time alone, which own their bytes.
+//! Calls of dynamic tables, which own their bytes.
 use crate::report::{Report, value_of};
 use odht::FxHashFn;
 use odht::dynamic::{DynError, DynTableOwned, Layout};
@@ -58,7 +58,7 @@ fn full_table(alloc: Global, report: &mut Report) -> Option<Table> {
     Some(table)
 }
 
-/// Makes a table for thirteen items, inserts fourteen, of which the last makes it grow, once more
+/// Makes a table for thirteen items, inserts fourteen, of which the last makes it grow, again
 /// where memory was exhausted, and copies it.
 pub fn grow(alloc: Global, report: &mut Report) {
     let Some(mut table) = full_table(alloc, report) else {

@@ -54,7 +54,7 @@ fn tell_unchanged(report: &mut Report, table: &Table, before: &[u8; 192]) {
     );
 }
 
-/// Inserts a new key into a full table, which grows; and once more where memory was exhausted.
+/// Inserts a new key into a full table, which grows; and again where memory was exhausted.
 pub fn insert(alloc: Global, report: &mut Report) {
     let Some(mut table) = full_table(alloc, report) else {
         return;

@@ -93,7 +93,7 @@ pub mod LeftSlots
 pub mod KeptFrontiers
 -- that search from its start to its end
 pub mod PendingSlots
--- one insert with room for so many new entries
+-- one insert with room for that many new entries
 pub mod Steps
 -- items inserted in turn into parts
 pub mod PartRuns

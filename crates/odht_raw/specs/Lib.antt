@@ -30,7 +30,7 @@ pub mod Searches
 pub mod Finds
 -- what an insert into parts answers and leaves
 pub mod PartsInserts
--- an insert into parts with room for so many new entries
+-- an insert into parts with room for that many new entries
 pub mod Steps
 -- items that are inserted in turn
 pub mod Runs

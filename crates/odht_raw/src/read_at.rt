@@ -94,7 +94,7 @@ const MOST_INTERRUPTS: u32 = 1000;
 /// followed by one of the others, and one that is interrupted is made again, up to a thousand
 /// times.
 ///
-/// Any other error is returned at once, and so is the last interrupt (tests alone have both);
+/// Any other error is returned at once, and so is the last interrupt (only tests have both);
 /// `EarlyEnd` comes where the source has no more bytes, or the offset passes 2^64. So where the
 /// source has all of the bytes, the error is that of a read. On an error `out` may have changed.
 pub fn read_exact_at<S: ReadAt>(source: &S, offset: u64, out: &mut [u8]) -> Result<(), ReadError>

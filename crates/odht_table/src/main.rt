@@ -22,7 +22,7 @@ fn main(rt: HostRuntime) -> ExitCode {
     match run_buffered(rt.alloc(), &mut rt.stdin(), rt.stdout()) {
         Ok(_) => ExitCode::SUCCESS,
         Err(fault) => {
-            // Where writing to standard error fails too, the status alone reports the fault.
+            // Where writing to standard error fails too, only the status reports the fault.
             let _ = eprintln!(rt; "{fault}");
             ExitCode::FAILURE
         }

@@ -22,7 +22,7 @@ mod readings;
 use readings::run_reading;
 
 /// Does what the words ask for. Each failure is reported by a line on `errors`; where that cannot
-/// be written either, the status alone reports it. Where nobody reads `output` any more, nothing
+/// be written either, only the status reports it. Where nobody reads `output` any more, nothing
 /// is reported.
 pub fn run<R: Files + AllocGlobal + Clock, I: BufRead, O: Write, E: Write + IsTerminal>(
     rt: &R,
@@ -112,7 +112,7 @@ where
     }
 }
 
-// Runs a command that reads its file alone, on this file and on others. Where there are others,
+// Runs a command that only reads its file, on this file and on others. Where there are others,
 // each failure is reported, and the next one is read; but where the output cannot be written, no
 // more is.
 fn read_files<R: Files + AllocGlobal, I: BufRead, O: Write, E: Write>(

@@ -17,7 +17,7 @@ const BUFFER_SIZE: usize = 1 << 16;
 fn main(rt: HostRuntime) -> ExitCode {
     match run(&rt) {
         Ok(status) => ExitCode::from(status.code()),
-        // Where standard error cannot be written either, the exit status alone reports it.
+        // Where standard error cannot be written either, only the exit status reports it.
         Err(error) if error.kind() == ErrorKind::InvalidData => {
             let _ = eprintln!(rt; "odht: a word is no UTF-8 text");
             ExitCode::from(Status::Misused.code())

@@ -74,9 +74,8 @@ false_at B n e = ap (λ b. if b then header_slots (drop n B) else 0) e
 no_false_at : (B : List ℕ) (n : ℕ) → is_false (drop n B) ≡ false → false_slots_at B n ≡ 0
 no_false_at B n e = ap (λ b. if b then header_slots (drop n B) else 0) e
 
--- ---- the search
--- of all tables the ones from p on: their headers that are false, before `at` and after it, are all that the file has but
--- for those that are counted
+-- ---- the search of all tables the ones from p on: their headers that are false, before `at` and after it, are all
+-- that the file has except those that are counted
 pub record AreLeft (B : List ℕ) (at next slots : ℕ) (all : List ℕ) : Type 0 where
   pub left : List ℕ
   pub tables : AreTables B next left
@@ -128,7 +127,7 @@ module _ (B : List ℕ) (at next slots : ℕ) (found : List ℕ) (h : IsSearched
     | inr high ↦ (let same : i ≡ at = omega (arith, high, n) in ap (λ k. is_table (drop k B)) same ∙ e)
   ]
 
-  -- those that are left where so many slots more are counted
+  -- those that are left where that many slots more are counted
   left_more : (n : ℕ) → next ≤ at → false_slots_at B at ≡ n → (all : List ℕ) → AreTables B 0 all → AreLeft B (at + 1) next (slots + n) all
   left_more n l is all g = let r = h.rest all g in record { left = r.left; tables = r.tables; counted = omega (arith, r.counted, between_more B next at l, is) }
 

@@ -60,7 +60,7 @@ module _ (n : ℕ) (ds : List ℕ) (i value : ℕ) (h : IsReadTo n ds i value) w
       let whole = take_all i ds l in
       (subst (AllDigits 10) whole h.digits, h.is ∙ ap (digits_value_after 10 n) whole)
 
--- digits behind others are worth what the others are, so many places higher, and what they are alone
+-- digits behind others are worth what the others are, that many places higher, and what they are alone
 pub value_shift : (n : ℕ) (ds : List ℕ) → digits_value_after 10 n ds ≡ n * 10 ^ length ds + digits_value 10 ds
 value_shift n [] = omega arith
 value_shift n (c ∷ cs) =

@@ -27,7 +27,7 @@ pub mod Texts
 pub mod JsonTexts
 -- the texts of stored bytes
 pub mod StoredTexts
--- those of bytes of a length that is known at run time alone
+-- those of bytes of a length that is known only at run time
 pub mod DynTexts
 -- lines of a key and a value, and the words that say how they are read
 pub mod Pairs

@@ -1,4 +1,4 @@
--- The commands of the program and their options: made of commands.txt by tools/commands; `make manual` makes it anew.
+-- The commands of the program and their options. Generated from lists/commands.txt by make generate.
 --     command_name t       the name of the command t
 --     commands             all commands, in the order of the help text
 --     option_name s        the name of the option s

@@ -1,4 +1,4 @@
--- The texts of bytes of a length that is known at run time alone, by the form f of stored bytes, which says their type.
+-- The texts of bytes of a length that is known only at run time, by the form f of stored bytes, which says their type.
 --     dynamic_text f b       the text of the bytes b; where there are not as many as the type has, their hexadecimal digits
 --     IsDynamicWord f w      the word w is a text of some such bytes
 --     StandsForDynamic f w b     it is that of the bytes b, of which there are as many as the type has

@@ -2,7 +2,7 @@
 --     part_at side T i     the key, or the value, of the slot i, by the side
 --     parts_to side T n    those of the occupied slots before the slot n, in slot order
 --     keys_of T, values_of T   those of all occupied slots
---     is_number_len n      numbers have so many bytes
+--     is_number_len n      numbers have that many bytes
 --     is_padded_text bs    bs are a plain text, with zeros behind it
 --     is_letters bs        the bytes of bs up to the zeros at their end are letters, digits and signs of ASCII, or spaces
 --     is_short_text bs     at most one byte of bs is before the zeros at their end

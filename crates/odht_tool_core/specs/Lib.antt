@@ -55,7 +55,7 @@ pub mod ReadAs
 pub mod PlainTexts
 -- texts of stored bytes
 pub mod StoredTexts
--- those of bytes of a length that is known at run time alone
+-- those of bytes of a length that is known only at run time
 pub mod DynTexts
 -- texts that are no key or no value
 pub mod Misreads

@@ -1,8 +1,8 @@
--- Words that one slip makes of each other: a byte is left out or too many, another one is in its place, or two neighbours
--- have changed places.
+-- Words that one slip makes of each other: a byte is left out or too many, another one is in its place, or two
+-- neighbours have changed places.
 --     is_without k w v     the word w without its byte k is v
---     is_replaced k w v    the words are the same but for their byte k
---     is_swapped k w v     the words are the same but for their bytes k and k + 1, which have changed places
+--     is_replaced k w v    the words are the same except their byte k
+--     is_swapped k w v     the words are the same except their bytes k and k + 1, which have changed places
 --     is_slip w v k        one of these holds at the byte k
 --     is_near w v          one of these holds at some byte
 use Rattle.std.specs.Prelude.{ℕ, ◌+◌, Bool, ◌&&◌, ◌||◌, ◌==◌, bytes_eq, nat_lt, List, length, take, drop, slice_index}

@@ -1,5 +1,5 @@
 -- The lines that `--progress` writes.
---     filled b total       how many of forty characters stand for b bytes of so many
+--     filled b total       how many of forty characters stand for b bytes of that many
 --     progress_bar b total a bar of forty characters, `#` for these and `.` for the rest
 --     drawn_bar b drawn    this bar, where one is drawn
 --     taken_line t s drawn the line of what is taken, t, after s seconds

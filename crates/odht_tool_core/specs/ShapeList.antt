@@ -1,4 +1,4 @@
--- The ready shapes: made of shapes.txt by `make exports`.
+-- The ready shapes. Generated from lists/shapes.txt by make generate.
 --     key_part s           the type of the keys of the shape s
 --     value_part s         that of its values
 --     shape_hash s         the name of its hash function

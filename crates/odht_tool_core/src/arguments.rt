@@ -168,11 +168,11 @@ impl Command {
     }
 }
 
-/// A command that reads its file alone. A bound is one of searches, in groups; none with
+/// A command that only reads its file. A bound is one of searches, in groups; none with
 /// `--whole`.
 #[derive(Drop)]
 pub enum Reading {
-    // begin readings: made of commands.txt by tools/commands; `make manual` makes it anew
+    // begin readings: generated from lists/commands.txt by make generate
     Info {
         bound: Option<usize>,
         is_json: bool,
@@ -276,7 +276,7 @@ pub fn parse(alloc: Global, words: Vec<String>) -> Result<Request, Misuse> {
     draft.finish()
 }
 
-// `help`, and the two words after it, if there are so many.
+// `help`, and the two words after it, if there are that many.
 fn parse_help(command: Option<String>, more: Option<String>) -> Result<Request, Misuse> {
     let Some(command) = command else {
         return Ok(Request::Help(None));

@@ -10,7 +10,7 @@ ghost use Rattle.odht_tool_core.specs.Texts.{IsNumberWord};
 use std::io::{self, Write};
 use std::simd::prelude::*;
 
-// The number of any so many digits fits 64 bits.
+// The number of any that many digits fits 64 bits.
 const SAFE_DIGITS: usize = 19;
 
 // The digits of the numbers below 100, two each.

@@ -1,4 +1,4 @@
-//! Keys and values of a length that is known at run time alone, as text: by the type that the form
+//! Keys and values of a length that is known only at run time, as text: by the type that the form
 //! says they are of.
 ghost use Rattle.std.specs.Prelude.{◌≡◌, ◌↔◌, ℕ, List, IfSome, IsSome, length};
 ghost use Rattle.std.specs.Int.{from_le_bytes, w32, w64};
@@ -113,7 +113,7 @@ fn bytes_of_u64(number: u64) -> ShortBytes
     ShortBytes::of(&number.to_le_bytes())
 }
 
-// The bytes, so many, of which the word is the text in this form.
+// The bytes, that many, of which the word is the text in this form.
 #[inline(always)]
 fn parse_dynamic(word: &[u8], len: u8, form: Form) -> Option<ShortBytes>
     ensures len { IfSome result (λ b. length b ≡ len) }

@@ -49,7 +49,7 @@ fn shows_key(table: &StoredTable<'_>, hash: Hash) -> bool
         || (!is_number_len(len) && !are_all(table, Side::Keys, Look::PlainText))
 }
 
-// Whether new tables of the hash function have keys of so many bytes that are of one type, where
+// Whether new tables of the hash function have keys of that many bytes that are of one type, where
 // none is named.
 fn is_key_of_hash(len: u8, hash: Hash) -> bool
     ensures { result ≡ key_by_hash len hash }
@@ -62,7 +62,7 @@ fn is_key_of_hash(len: u8, hash: Hash) -> bool
     }
 }
 
-// Whether numbers have so many bytes.
+// Whether numbers have that many bytes.
 fn is_number_len(len: u8) -> bool
     ensures { result ≡ is_number_len len }
 {

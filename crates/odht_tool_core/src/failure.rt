@@ -26,7 +26,7 @@ pub enum Failure {
     Beside(String),
     /// The bytes are no table, or not one of this shape.
     Refused(Error),
-    /// The keys of a table have so many bytes, and the hash that was named needs more.
+    /// The keys of a table have that many bytes, and the hash that was named needs more.
     ShortKeys { key_size: u8 },
     /// The control bytes are not the tags of the keys under any hash function.
     NoHash { key_size: u8, value_size: u8 },
@@ -34,10 +34,10 @@ pub enum Failure {
     OtherKey(Part),
     /// Values are said to be of another type than this, which they are of.
     OtherValue(Part),
-    /// Nothing is said of keys, of so many bytes, and the table does not show which type they are
+    /// Nothing is said of keys, of that many bytes, and the table does not show which type they are
     /// of.
     UnknownKey(u8),
-    /// Nothing is said of values, of so many bytes, and the table does not show which type they
+    /// Nothing is said of values, of that many bytes, and the table does not show which type they
     /// are of.
     UnknownValue(u8),
     /// The file ends before this byte.
@@ -139,7 +139,7 @@ impl fmt::Display for Failure {
     }
 }
 
-// Writes the types that keys or values of so many bytes may be of.
+// Writes the types that keys or values of that many bytes may be of.
 fn write_fitting<W: fmt::Write>(size: u8, f: &mut fmt::Formatter<W>) -> fmt::Result {
     match size {
         4 => write!(f, "u32, i32, u32be, text:4 or bytes:4"),

@@ -27,9 +27,9 @@ const FIRST: u8 = b'O';
 /// What some bytes begin with.
 #[derive(Clone, Copy)]
 enum Look {
-    /// A table of so many bytes.
+    /// A table of that many bytes.
     Table(usize),
-    /// A header for so many slots, with which the control bytes do not fit.
+    /// A header for that many slots, with which the control bytes do not fit.
     False(usize),
     /// No header.
     Nothing,

@@ -21,9 +21,9 @@ pub enum Form {
     Plain,
     /// Stored bytes that do not say their type: a number of this type.
     OfNumber(NumberType),
-    /// Stored bytes that do not say their type: so many bytes, in hexadecimal digits.
+    /// Stored bytes that do not say their type: that many bytes, in hexadecimal digits.
     OfBytes(u8),
-    /// Stored bytes that do not say their type: so many bytes, a plain text with zeros behind it.
+    /// Stored bytes that do not say their type: that many bytes, a plain text with zeros behind it.
     OfText(u8),
 }
 
@@ -102,7 +102,7 @@ impl Form {
         }
     }
 
-    // The form of so many stored bytes that are written as this form has it.
+    // The form of that many stored bytes that are written as this form has it.
     fn of_bytes(self, len: u8) -> Form
         ensures { result ≡ form_of_bytes self len }
     {
@@ -158,7 +158,7 @@ pub trait Forms: Copy {
         ensures { result ≡ delimiter self };
 }
 
-/// The forms of a shape's own. What is generic in forms is compiled for these once more, and asks
+/// The forms of a shape's own. What is generic in forms is compiled for these again, and asks
 /// nothing when it runs.
 #[derive(Clone, Copy)]
 pub struct OwnForms;

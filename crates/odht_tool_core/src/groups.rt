@@ -58,7 +58,7 @@ pub fn groups_to_free(control: &[u8], home: usize, slot_count: usize, bound: Opt
     groups.min(most + 1)
 }
 
-// How many of so many groups are looked at, by the bound.
+// How many of that many groups are looked at, by the bound.
 fn most_groups(groups: usize, bound: Option<usize>) -> usize
     ensures { result ≡ most_groups bound groups }
 {

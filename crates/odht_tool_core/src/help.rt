@@ -38,7 +38,7 @@ fn write_general<W: Write>(output: &mut W) -> io::Result<()> {
 // The lines of a command in the help text of all.
 fn summary_of(topic: Topic) -> &'static str {
     match topic {
-        // begin summaries: made of commands.txt by tools/commands; `make manual` makes it anew
+        // begin summaries: generated from lists/commands.txt by make generate
         Topic::Info =>
             "odht info FILE..     tells what each table file holds, of any key and value sizes\n",
         Topic::Check => "odht check FILE..    tells whether each file is a valid table\n",
@@ -84,7 +84,7 @@ fn end_of(topic: Topic) -> &'static str {
 // The help text of a command.
 fn text_of(topic: Topic) -> &'static str {
     match topic {
-        // begin names: made of commands.txt by tools/commands; `make manual` makes it anew
+        // begin names: generated from lists/commands.txt by make generate
         Topic::Info => INFO,
         Topic::Check => CHECK,
         Topic::Count => COUNT,
@@ -116,7 +116,7 @@ tables differ; 2: the words are not understood or not read, or get, delete or
 diff failed.
 ";
 
-// begin texts: made of commands.txt by tools/commands; `make manual` makes it anew
+// begin texts: generated from lists/commands.txt by make generate
 const INFO: &str = "\
 odht info FILE.. [--whole] [--json] [--at OFFSET]
     Prints sizes, item and slot count, load factors, how full the table is along its

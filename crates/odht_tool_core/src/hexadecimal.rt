@@ -1,5 +1,4 @@
-//! Words of hexadecimal digits that are read as bytes, of a length that is known at run time
-//! alone.
+//! Words of hexadecimal digits that are read as bytes, of a length that is known only at run time.
 ghost use Rattle.std.specs.Prelude.{◌≡◌, ◌↔◌, ◌*◌, ◌-◌, ◌≤◌, ◌++◌, IsTrue, None};
 ghost use Rattle.std.specs.Prelude.{length, replicate};
 ghost use Rattle.std.specs.Char.{is_ascii_hexdigit};
@@ -9,7 +8,7 @@ ghost use Rattle.odht_tool_core.specs.Texts.{IsHexWord, WritesBytes, hex_text};
 
 use crate::text::{digit_value, parse_in_vectors};
 
-/// Whether the word is two hexadecimal digits, of either case, for each of so many bytes as there
+/// Whether the word is two hexadecimal digits, of either case, for each of that many bytes as there
 /// are in `bytes`, which then become these.
 pub fn read_digits(word: &[u8], bytes: &mut [u8]) -> bool
     ensures value { IsTrue result → WritesBytes word.now bytes.new }

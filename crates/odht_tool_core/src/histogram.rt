@@ -15,7 +15,7 @@ const MOST: usize = 64;
 /// How many `#` the longest bar has.
 const WIDTH: u128 = 40;
 
-/// For each number of groups from 1 on, how many items are found by reading so many.
+/// For each number of groups from 1 on, how many items are found by reading that many.
 #[derive(Drop)]
 pub struct Histogram {
     counts: Vec<usize>,
@@ -34,7 +34,7 @@ impl Histogram {
         })
     }
 
-    /// Counts an item that is found by reading so many groups, at least one.
+    /// Counts an item that is found by reading that many groups, at least one.
     pub fn add(&mut self, groups: usize)
         requires positive { 1 ≤ groups }
         requires all { length self.old.counts.items ≡ 64 }

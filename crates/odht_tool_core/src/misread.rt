@@ -23,9 +23,9 @@ pub enum Wanted {
     I32,
     /// Those of a number of 64 bits with a sign.
     I64,
-    /// Two hexadecimal digits for each of so many bytes.
+    /// Two hexadecimal digits for each of that many bytes.
     Bytes(usize),
-    /// A plain text of at most so many bytes.
+    /// A plain text of at most that many bytes.
     Text(usize),
 }
 

@@ -58,7 +58,7 @@ impl fmt::Display for Obstacle {
     }
 }
 
-/// Why the file of this mode, with its kind, and of so many names is not replaced, if there is a
+/// Why the file of this mode, with its kind, and of that many names is not replaced, if there is a
 /// reason.
 pub fn obstacle_of(mode: u32, names: u64, breaks_links: bool) -> Option<Obstacle>
     ensures { result ≡ obstacle_of mode names breaks_links }

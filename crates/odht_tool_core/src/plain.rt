@@ -22,7 +22,7 @@ pub(crate) fn parse_plain<const N: usize>(word: &[u8]) -> Option<[u8; N]>
     }
 }
 
-/// Whether the word is a plain text of at most so many bytes as there are in `bytes`, all zeros;
+/// Whether the word is a plain text of at most that many bytes as there are in `bytes`, all zeros;
 /// these then become the text and zeros behind it.
 pub(crate) fn read_plain(word: &[u8], bytes: &mut [u8]) -> bool
     requires { bytes.old ≡ replicate (length bytes.old) 0 }

@@ -147,8 +147,8 @@ impl Progress {
     }
 }
 
-/// Writes how much of the input is taken after so many seconds, with a bar, where it is said to
-/// have so many bytes.
+/// Writes how much of the input is taken after that many seconds, with a bar, where it is said to
+/// have that many bytes.
 pub fn write_taken<E: Write>(
     taken: Taken,
     seconds: u64,
@@ -171,7 +171,7 @@ pub fn write_taken<E: Write>(
     errors.write_all(b"\n")
 }
 
-/// Writes how many pairs are copied after so many seconds.
+/// Writes how many pairs are copied after that many seconds.
 pub fn write_copied<E: Write>(pairs: u64, seconds: u64, errors: &mut E) -> io::Result<()>
     ensures { OnOk result (Appends (E.contents errors.old) (E.contents errors.new)
         (copied_line pairs seconds)) }
@@ -213,7 +213,7 @@ fn filled(bytes: u64, total: u64) -> u128
     (bytes as u128 * WIDTH / total as u128).min(WIDTH)
 }
 
-// Writes a character so many times.
+// Writes a character that many times.
 fn write_signs<E: Write>(sign: u8, count: u128, errors: &mut E) -> io::Result<()>
     ensures { OnOk result (Appends (E.contents errors.old) (E.contents errors.new)
         (replicate count sign)) }

@@ -115,7 +115,7 @@ impl Part {
         }
     }
 
-    /// What keys of so many bytes are by themselves, in a table of this hash function: numbers,
+    /// What keys of that many bytes are by themselves, in a table of this hash function: numbers,
     /// where they have 4 or 8 bytes, but under `unhash` hashes; else bytes.
     pub(crate) fn own_key(size: u8, hash: Hash) -> Part
         ensures { result ≡ own_key size hash }
@@ -128,7 +128,7 @@ impl Part {
         }
     }
 
-    /// What values of so many bytes are by themselves: nothing, where they have none; numbers,
+    /// What values of that many bytes are by themselves: nothing, where they have none; numbers,
     /// where they have 4 or 8 bytes; else bytes.
     pub(crate) fn own_value(size: u8) -> Part
         ensures { result ≡ own_value size }
@@ -167,7 +167,7 @@ impl fmt::Display for Part {
 }
 
 impl Shape {
-    /// The first ready shape of keys and values of so many bytes, and of the hash function, where
+    /// The first ready shape of keys and values of that many bytes, and of the hash function, where
     /// one is given.
     pub(crate) fn of_sizes(key_size: u8, value_size: u8, hash: Option<Hash>) -> Option<Shape>
         ensures { result ≡ shape_of_sizes key_size value_size hash }
@@ -178,8 +178,8 @@ impl Shape {
             .find(|shape| shape.is_of(key_size, value_size, hash))
     }
 
-    /// Whether keys and values have so many bytes, and the hash function is this one, where one is
-    /// given.
+    /// Whether keys and values have that many bytes, and the hash function is this one, where one
+    /// is given.
     pub(crate) fn is_of(self, key_size: u8, value_size: u8, hash: Option<Hash>) -> bool
         ensures { result ≡ is_shape_of key_size value_size hash self }
     {

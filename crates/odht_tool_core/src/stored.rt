@@ -28,7 +28,7 @@ use std::alloc::{AllocError, Global};
 use std::marker::Model;
 
 /// A search of more groups is long. In tables of up to 2^24 slots of random keys at 87 percent,
-/// the load that tables get where none is named, those seen have up to so many; at 50 percent up
+/// the load that tables get where none is named, those seen have up to that many; at 50 percent up
 /// to 5.
 const LONG_SEARCH: usize = 24;
 
@@ -254,8 +254,8 @@ impl<'a> StoredTable<'a> {
     }
 
     /// How many groups the longest search for an absent key reads at most, whatever the hash
-    /// function is; where that is above the bound, one more than the bound. It reads control bytes
-    /// alone, at most `bound` groups a slot.
+    /// function is; where that is above the bound, one more than the bound. It reads only control
+    /// bytes, at most `bound` groups a slot.
     pub fn longest_miss(&self, bound: Option<usize>) -> usize
         ensures { result ≡ longest_miss self.now bound }
     {

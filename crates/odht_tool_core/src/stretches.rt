@@ -9,7 +9,7 @@ use std::io::{self, Write};
 /// How many stretches there are at most.
 pub(crate) const STRETCHES: usize = 64;
 
-/// How many slots a stretch has, of a table of so many.
+/// How many slots a stretch has, of a table of that many.
 pub(crate) fn stretch_len(slot_count: usize) -> usize
     ensures { result ≡ stretch_len slot_count }
 {
@@ -30,7 +30,7 @@ pub(crate) fn write_stretches<O: Write>(
     output.write_all(b"\n")
 }
 
-// Writes the signs of stretches of so many slots.
+// Writes the signs of stretches of that many slots.
 fn write_signs<O: Write>(len: usize, counts: &[usize], output: &mut O) -> io::Result<()>
     requires { 0 < len }
     ensures { OnOk result (Appends (O.contents output.old) (O.contents output.new)

@@ -38,8 +38,8 @@ pub record AreRead {K : Type 0} (R : List ℕ → K → Type 0) (bytes : List �
   pub counted : number ≡ length words + 1
   pub texts : AllZip R words keys
 
--- the lines before the one of this number were read as keys, of which `pending` are the last, and the answers to all before
--- these, which are so many batches, were written; `all` says whether each of those has a value
+-- the lines before the one of this number were read as keys, of which `pending` are the last, and the answers to all
+-- before these, which are that many batches, were written; `all` says whether each of those has a value
 pub record AreTaken {K V : Type 0} (c : Coding K V) (l : K × Option V → List ℕ) (R : List ℕ → K → Type 0) (B : List ℕ) (input now old new : Option (List ℕ)) (number : ℕ) (pending : List K) (all : Bool) : Type 0 where
   pub done : List K
   pub batches : ℕ
@@ -101,7 +101,7 @@ module _ {K V : Type 0} (c : Coding K V) (l : K × Option V → List ℕ) (R : L
           }
 
   module _ (number : ℕ) (pending : List K) (all : Bool) (last : Option (List ℕ)) (h : AreTaken c l R B input now old new number pending all) where
-    -- of the last keys those of a batch are answered, if there are so many, and fewer are left
+    -- of the last keys those of a batch are answered, if there are that many, and fewer are left
     pub batch_answered : (after : List K) (every : Bool) → length pending ≤ BATCH → IsFlushed c l B pending after new last all every
         → AreTaken c l R B input now old last number after every × (length after < BATCH)
     batch_answered after every most s = elim (eq-or-lt_of_le most) [

@@ -86,7 +86,7 @@ fn read_start<S: ReadAt>(source: &S, len: usize, offset: Option<usize>) -> Optio
     })
 }
 
-// How many bytes the table of this header has, at the front of so many.
+// How many bytes the table of this header has, at the front of that many.
 fn front_len(header: &[u8], found: usize) -> Option<usize>
     requires { length header.now ≡ 32 }
     ensures few { IfSome result (λ n. n ≤ found) }
@@ -100,10 +100,10 @@ fn front_len(header: &[u8], found: usize) -> Option<usize>
     }
 }
 
-/// `odht get` of a source of so many bytes, for the words of the command line: of the table at the
-/// offset, or of all bytes. None where the source is not read by position: a read failed, or its
-/// bytes are not opened, or too many of them would be read to know the hash function. Nothing was
-/// written then, and reading all bytes gives the answer.
+/// `odht get` of a source of that many bytes, for the words of the command line: of the table at
+/// the offset, or of all bytes. None where the source is not read by position: a read failed, or
+/// its bytes are not opened, or too many of them would be read to know the hash function. Nothing
+/// was written then, and reading all bytes gives the answer.
 ///
 /// Over any source, for any list of bytes that it gives in each read: what is written is what
 /// [`get_file_words`](crate::commands::get::get_file_words) writes of the table in this list, with

@@ -1,4 +1,4 @@
-//! The way from a shape to its configuration: made of shapes.txt by `make exports`.
+//! The configuration of each shape. Generated from lists/shapes.txt by make generate.
 
 /// Calls a function for the configuration of a shape, which is its first type parameter:
 /// `for_shape!(shape, function[more, parameters](arguments))`.

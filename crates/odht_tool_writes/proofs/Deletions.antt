@@ -41,7 +41,7 @@ use Rattle.odht_tool_writes.proofs.NewTables.{one_more, or_none}
 
 -- ---- the pairs that are left
 module _ (ks : List (List ℕ)) where
-  -- a key has its value among them, but for the keys ks
+  -- a key has its value among them, except the keys ks
   pub value_in-without : (ps : List Pair) (k : List ℕ) → value_in (without ks ps) k ≡ cond (is_among ks k) None (value_in ps k)
   value_in-without [] k = go (is_among ks k)
     where

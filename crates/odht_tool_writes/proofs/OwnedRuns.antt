@@ -1,4 +1,4 @@
--- Pairs that are inserted in turn into an owned table whose lengths are known at run time alone.
+-- Pairs that are inserted in turn into an owned table whose lengths are known only at run time.
 use Rattle.std.proofs.Common.{◌≡◌, ◌∙◌, List, [], ◌∷◌, ◌++◌, ℕ, Option, Result, Ok, Err, sym, ap, subst, refl}
 use Rattle.std.specs.Result.{result_map_both}
 use Rattle.std.proofs.lemmas.List.{map-append}

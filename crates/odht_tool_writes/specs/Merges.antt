@@ -19,7 +19,7 @@
 --     IsMerged F d p xss B B are the bytes of the fresh table of F for as many items as the files have pairs, at p percent,
 --                          so filled, file after file. It has not grown, and each key has the value that counts
 --     IsStopped t ml F d p xss u   the new table fails by u: a key that a file before has, told in its text by t; or what
---                          `rebuild` fails by where a table for so many items is made
+--                          `rebuild` fails by where a table for that many items is made
 --     others_pairs s h o n Bs  the pairs of each of the files Bs after the first, of the numbers from n on; or the failure of
 --                          the first that is no valid table, by the hash function h or none and the bound o or none, or of
 --                          other lengths than the shape s has

@@ -8,7 +8,7 @@
 --                          of P, in slot order, are inserted into it in turn. It has not grown, and it has the map of P
 --     IsRebuiltOf B h o p B'   B' are so made of the table of the bytes B, in which no rule is broken
 --     IsNewFailure ml F n p f  the failure f of a new table of F for n items at p percent: a key length below ml, no slot
---                          count for so many, or no memory
+--                          count for that many, or no memory
 --     IsRebuildFailure B h o p f   f is the failure before a new table is made; where there is none, one of the new table
 use Rattle.std.specs.Prelude.{◌≡◌, ⊤, ℕ, ◌<◌, List, Option, Some, None, Result, Ok, Err}
 use Rattle.std.specs.Result.{result_map_both}

@@ -96,8 +96,8 @@ fn fill<T: Inserts, F: Forms, R: AllocGlobal + Clock, I: BufRead, E: Write>(
     insert_and_clear(table, &mut pairs)
 }
 
-// Reports how far the run is: how many lines were read, of so many bytes, and how many pairs there
-// are by now.
+// Reports how far the run is: how many lines were read, of that many bytes, and how many pairs
+// there are by now.
 fn report<R: Clock, E: Write>(
     rt: &R,
     progress: &mut Progress,

@@ -16,7 +16,7 @@ fn main(rt: HostRuntime) -> ExitCode {
         Ok(true) => ExitCode::SUCCESS,
         Ok(false) => ExitCode::FAILURE,
         Err(fault) => {
-            // Where writing to standard error fails too, the status alone reports the fault.
+            // Where writing to standard error fails too, only the status reports the fault.
             let _ = eprintln!(rt; "{fault}");
             ExitCode::FAILURE
         }

@@ -200,7 +200,7 @@ pub fn status<T>(result: &Result<T, Error>) -> u32 {
     match result {
         Ok(_) => OK,
         Err(error) => match error {
-            // status: made of errors.txt by make exports
+            // begin status: generated from lists/errors.txt by make generate
             Error::TooShort { .. } => 1,
             Error::WrongTag { .. } => 2,
             Error::WrongVersion { .. } => 3,
@@ -222,7 +222,7 @@ pub fn status<T>(result: &Result<T, Error>) -> u32 {
             Error::Memory => 19,
             Error::Capacity => 20,
             Error::SearchTooLong { .. } => 21,
-            // status: up to here
+            // end status
             other => panic!("{other:?} has no number for C here"),
         },
     }

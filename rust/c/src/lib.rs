@@ -25,8 +25,8 @@ mod lists;
     clippy::question_mark,
     clippy::too_many_arguments
 )]
-#[path = "../../src/proved"]
-mod proved {
+#[path = "../../src/generated"]
+mod library {
     pub mod base;
     pub mod header;
     pub mod raw;
@@ -35,7 +35,8 @@ mod proved {
 
 // The exports, unsafe since C calls them.
 #[allow(dead_code, unused_imports, unused_variables, improper_ctypes_definitions, clippy::all)]
-mod erased {
+mod generated {
+    pub use crate::library::{base, header, raw, tables};
     pub mod calls;
     pub mod exports;
 }

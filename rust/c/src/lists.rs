@@ -6,7 +6,8 @@ use std::slice;
 ///
 /// # Safety
 ///
-/// Where the length is not zero, the pointer is to so many items, which nobody writes while the list is in use.
+/// Where the length is not zero, the pointer is to that many items, which nobody writes while the
+/// list is in use.
 #[inline(always)]
 pub unsafe fn list<'a, T>(items: *const T, len: usize) -> &'a [T] {
     if len == 0 {
@@ -20,8 +21,8 @@ pub unsafe fn list<'a, T>(items: *const T, len: usize) -> &'a [T] {
 ///
 /// # Safety
 ///
-/// Where the length is not zero, the pointer is to so many items, which nobody else reads or writes while the list is
-/// in use.
+/// Where the length is not zero, the pointer is to that many items, which nobody else reads or
+/// writes while the list is in use.
 #[inline(always)]
 pub unsafe fn list_mut<'a, T>(items: *mut T, len: usize) -> &'a mut [T] {
     if len == 0 {
@@ -34,7 +35,7 @@ pub unsafe fn list_mut<'a, T>(items: *mut T, len: usize) -> &'a mut [T] {
 #[cfg(test)]
 mod tests {
     use super::*;
-    use crate::erased::calls::view::View;
+    use crate::generated::calls::view::View;
 
     // `odht_view` of the header is a pointer and a length. Rust promises no order of the two, so it is looked at.
     #[test]

@@ -29,8 +29,8 @@ mod host;
 )]
 #[cfg_attr(feature = "checked", forbid(unsafe_code))]
 #[cfg_attr(not(feature = "checked"), allow(unsafe_code))]
-#[path = "../../src/proved"]
-mod proved {
+#[path = "../../src/generated"]
+mod library {
     pub mod base;
     pub mod header;
     pub mod raw;
@@ -40,16 +40,17 @@ mod proved {
 // The program, written as it could be proved.
 #[allow(dead_code, unused_imports, unused_variables, clippy::complexity, clippy::style)]
 #[forbid(unsafe_code)]
-mod erased {
+mod generated {
+    pub use crate::library::{base, header, raw, tables};
     pub mod core;
     pub mod reads;
-    pub mod tables;
     pub mod tool;
+    pub mod tool_tables;
     pub mod writes;
 }
 
 fn main() -> std::process::ExitCode {
-    erased::tool::main(host::rt::HostRuntime)
+    generated::tool::main(host::rt::HostRuntime)
 }
 
 #[cfg(not(unix))]

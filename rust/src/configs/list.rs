@@ -1,4 +1,4 @@
-// Written by tools/shapes from shapes.txt: edit that one, and run make exports.
+// Generated from lists/shapes.txt by make generate.
 
 // Hands each configuration to a macro: its name, key, value, their lengths, hash function, and text.
 macro_rules! each_configuration {

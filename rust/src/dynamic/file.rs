@@ -2,13 +2,13 @@
 
 use super::{Layout, ShortBytes};
 use crate::config::{Hash, HashFn};
-use crate::proved::raw::read_at;
-use crate::proved::tables::dynamic;
+use crate::generated::raw::read_at;
+use crate::generated::tables::dynamic;
 use alloc::vec::Vec;
 use std::fmt;
 
-pub use crate::proved::raw::read_at::ReadError;
-pub use crate::proved::tables::dynamic::FileError;
+pub use crate::generated::raw::read_at::ReadError;
+pub use crate::generated::tables::dynamic::FileError;
 
 impl fmt::Display for ReadError {
     fn fmt(&self, f: &mut fmt::Formatter<'_>) -> fmt::Result {

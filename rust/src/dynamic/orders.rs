@@ -3,8 +3,8 @@
 use super::DynTable;
 use crate::config::{Hash, HashFn};
 use crate::iter::occupied_in;
-use crate::proved::base::bytes::Borrowed;
-use crate::proved::tables::dynamic;
+use crate::generated::base::bytes::Borrowed;
+use crate::generated::tables::dynamic;
 use std::borrow::Borrow;
 
 impl<H: HashFn, D: Borrow<[u8]>> DynTable<H, D> {
@@ -45,7 +45,7 @@ impl<H: HashFn, D: Borrow<[u8]>> DynTable<H, D> {
         self.counted(out.len()).insert_order(out)
     }
 
-    /// [`insert_order`](DynTable::insert_order) for tables of strangers, where it has `scratch` to write to: it returns
+    /// [`insert_order`](DynTable::insert_order) for untrusted tables, where it has `scratch` to write to: it returns
     /// the same, and leaves the same order in `out`. `scratch` has as many numbers as
     /// [`insert_order_scratch`](DynTable::insert_order_scratch) says or more, of any values; with fewer this is
     /// `insert_order`, in the time that that takes. The bytes are those of a table, as [`verify`](DynTable::verify)
@@ -77,8 +77,8 @@ impl<H: HashFn, D: Borrow<[u8]>> DynTable<H, D> {
         self.view().insert_order_scratch()
     }
 
-    // The proved table, for a list of so many numbers. That it takes no other list is all that its steps need, whatever
-    // the bytes are.
+    // The proved table, for a list of that many numbers. That it takes no other list is all that
+    // its steps need, whatever the bytes are.
     #[track_caller]
     fn counted(&self, numbers: usize) -> dynamic::DynTable<Hash<H>, Borrowed<'_>> {
         let table = self.view();

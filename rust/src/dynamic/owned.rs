@@ -3,7 +3,7 @@
 use super::{DynTable, Layout, ShortBytes};
 use crate::config::{Hash, HashFn};
 use crate::opened::Opened;
-use crate::proved::tables::dynamic::{self, DynError};
+use crate::generated::tables::dynamic::{self, DynError};
 use crate::shim::Global;
 use crate::sizes::percent;
 use alloc::vec::Vec;
@@ -41,8 +41,8 @@ impl<H: HashFn> DynTableOwned<H> {
         Self::with_capacity(layout, 12, 87)
     }
 
-    /// An empty table of these lengths that takes at least so many items before it grows. The load factor is in percent
-    /// of the slots.
+    /// An empty table of these lengths that takes at least that many items before it grows. The
+    /// load factor is in percent of the slots.
     ///
     /// ```
     /// use odht::dynamic::{DynError, DynTableOwned, Layout};
@@ -59,8 +59,9 @@ impl<H: HashFn> DynTableOwned<H> {
     ///
     /// # Errors
     ///
-    /// `KeyTooShort` where the hash function needs longer keys; then `Rejected` with [`Error::Capacity`] where no slot
-    /// count is enough, or the length is above `usize::MAX`, and with [`Error::Memory`] where memory is refused.
+    /// `KeyTooShort` where the hash function needs longer keys; then `Rejected` with
+    /// [`Error::Capacity`] where no slot count is enough, or the length is above `usize::MAX`, and
+    /// with [`Error::Memory`] where memory is refused.
     ///
     /// # Panics
     ///
@@ -100,10 +101,10 @@ impl<H: HashFn> DynTableOwned<H> {
         dynamic::DynTableOwned::from_raw_bytes(Global, layout.proved(), data).map(DynTableOwned)
     }
 
-    /// Gives the key this value, and returns its former one. At the maximum the table grows for a new key. A key that
-    /// is there gets its value in place, which takes no memory.
+    /// Gives the key this value, and returns its former one. At the maximum the table grows for a
+    /// new key. A key that is there gets its value in place, which takes no memory.
     ///
-    /// The key is hashed once, and once more at a growth, which hashes and places each item again.
+    /// The key is hashed once, and again at a growth, which hashes and places each item again.
     ///
     /// ```
     /// use odht::dynamic::{DynError, DynTableOwned, Layout};
@@ -118,18 +119,19 @@ impl<H: HashFn> DynTableOwned<H> {
     ///
     /// # Errors
     ///
-    /// `WrongKeyLength` where the key has another length than the keys of the table; `WrongValueLength` where the value
-    /// has another one than its values; then `Rejected` with [`Error::Memory`](crate::Error::Memory) where the table
-    /// would grow, and memory is refused or no table is that large. Nothing has changed then.
+    /// `WrongKeyLength` where the key has another length than the keys of the table;
+    /// `WrongValueLength` where the value has another one than its values; then `Rejected` with
+    /// [`Error::Memory`](crate::Error::Memory) where the table would grow, and memory is refused or
+    /// no table is that large. Nothing has changed then.
     #[inline]
     pub fn insert(&mut self, key: &[u8], value: &[u8]) -> Result<Option<ShortBytes>, DynError> {
         let former = self.0.insert(key, value)?;
         Ok(former.map(ShortBytes))
     }
 
-    /// Makes room for so many more items: so many new keys are inserted before the table grows. Where it has the room
-    /// nothing changes, and no memory is asked for. Otherwise its pairs are placed again, in the fewest slots that are
-    /// enough, at the same load factor.
+    /// Makes room for that many more items: that many new keys are inserted before the table grows.
+    /// Where it has the room nothing changes, and no memory is asked for. Otherwise its pairs are
+    /// placed again, in the fewest slots that are enough, at the same load factor.
     ///
     /// Where it moves, one pass over the slots; each item is hashed once.
     ///
@@ -146,8 +148,9 @@ impl<H: HashFn> DynTableOwned<H> {
     ///
     /// # Errors
     ///
-    /// `Rejected` with [`Error::Capacity`](crate::Error::Capacity) where no slot count is enough, or the length is above
-    /// `usize::MAX`, and with [`Error::Memory`](crate::Error::Memory) where memory is refused. Nothing has changed then.
+    /// `Rejected` with [`Error::Capacity`](crate::Error::Capacity) where no slot count is enough,
+    /// or the length is above `usize::MAX`, and with [`Error::Memory`](crate::Error::Memory) where
+    /// memory is refused. Nothing has changed then.
     pub fn reserve(&mut self, additional: usize) -> Result<(), DynError> {
         self.0.reserve(additional)
     }

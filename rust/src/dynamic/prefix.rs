@@ -3,10 +3,10 @@
 use super::{DynError, DynTable, Layout};
 use crate::config::{Hash, HashFn};
 use crate::opened::Opened;
-use crate::proved::base::bytes::Borrowed;
-use crate::proved::header::error::Error;
-use crate::proved::header::layout;
-use crate::proved::tables::dynamic;
+use crate::generated::base::bytes::Borrowed;
+use crate::generated::header::error::Error;
+use crate::generated::header::layout;
+use crate::generated::tables::dynamic;
 use std::marker::PhantomData;
 
 impl Layout {

@@ -1,6 +1,6 @@
 //! A value of a table, by value.
 
-use crate::proved::raw::raw_table;
+use crate::generated::raw::raw_table;
 use std::fmt;
 use std::ops::Deref;
 

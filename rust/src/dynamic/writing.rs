@@ -3,15 +3,16 @@
 use super::{DynError, DynTable, Layout, ShortBytes};
 use crate::config::{Hash, HashFn};
 use crate::opened::Opened;
-use crate::proved::base::bytes::{Borrowed, BorrowedMut};
-use crate::proved::tables::dynamic;
+use crate::generated::base::bytes::{Borrowed, BorrowedMut};
+use crate::generated::tables::dynamic;
 use crate::sizes::percent;
 use std::borrow::{Borrow, BorrowMut};
 use std::marker::PhantomData;
 
 impl Layout {
-    /// The length in bytes of a new table of these lengths for so many items, to be given to
-    /// [`DynTable::init_in_place`]. The load factor is in percent of the slots. `None` where no table is large enough.
+    /// The length in bytes of a new table of these lengths for that many items, to be given to
+    /// [`DynTable::init_in_place`]. The load factor is in percent of the slots. `None` where no
+    /// table is large enough.
     ///
     /// ```
     /// use odht::{bytes_needed, configs::U64ToU32, dynamic::Layout};
@@ -37,8 +38,9 @@ impl Layout {
 }
 
 impl<H: HashFn, D: Borrow<[u8]> + BorrowMut<[u8]>> DynTable<H, D> {
-    /// Makes an empty table of these lengths for so many items in `data`, whatever its bytes were. Its length is
-    /// [`Layout::bytes_needed`], and the load factor is in percent of the slots.
+    /// Makes an empty table of these lengths for that many items in `data`, whatever its bytes
+    /// were. Its length is [`Layout::bytes_needed`], and the load factor is in percent of the
+    /// slots.
     ///
     /// ```
     /// use odht::dynamic::{DynError, DynTable, Layout};
@@ -57,8 +59,9 @@ impl<H: HashFn, D: Borrow<[u8]> + BorrowMut<[u8]>> DynTable<H, D> {
     ///
     /// # Errors
     ///
-    /// `KeyTooShort` where the hash function needs longer keys; then `Rejected` with [`Error::Capacity`] where no table
-    /// is large enough, else with [`Error::InitLength`] where `data` has another length.
+    /// `KeyTooShort` where the hash function needs longer keys; then `Rejected` with
+    /// [`Error::Capacity`] where no table is large enough, else with [`Error::InitLength`] where
+    /// `data` has another length.
     ///
     /// # Panics
     ///

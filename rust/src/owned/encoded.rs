@@ -2,7 +2,7 @@
 
 use super::{tables, Config, Error, HashTableOwned, Proved};
 use crate::encoded::{stored, stored_mut};
-use crate::proved::base::bytes::OwnedBytes;
+use crate::generated::base::bytes::OwnedBytes;
 use alloc::vec::Vec;
 use std::mem;
 

@@ -2,7 +2,7 @@
 
 use super::{refused, tables, Config, Error, Global, HashTableOwned, Proved};
 use crate::opened::count_again;
-use crate::proved::base::bytes::Borrowed;
+use crate::generated::base::bytes::Borrowed;
 use crate::shim::to_vec;
 
 impl<C: Config> HashTableOwned<C> {

@@ -19,7 +19,8 @@ impl<C: Config> HashTableOwned<C> {
         Self::default()
     }
 
-    /// An empty table that takes at least so many items before it grows. The load factor is in percent of the slots.
+    /// An empty table that takes at least that many items before it grows. The load factor is in
+    /// percent of the slots.
     ///
     /// ```
     /// use odht::{configs::U64ToU32, HashTableOwned};
@@ -30,8 +31,8 @@ impl<C: Config> HashTableOwned<C> {
     ///
     /// # Panics
     ///
-    /// Where the percentage is not from 1 to 100, and where no table is large enough. Where memory is refused it ends
-    /// as Rust's collections do.
+    /// Where the percentage is not from 1 to 100, and where no table is large enough. Where memory
+    /// is refused it ends as Rust's collections do.
     #[track_caller]
     #[must_use]
     pub fn with_capacity(max_item_count: usize, max_load_factor_percent: u8) -> Self {
@@ -163,7 +164,7 @@ impl<C: Config> HashTableOwned<C> {
         tables::HashTableOwned::from_raw_bytes(Global, data).map(HashTableOwned)
     }
 
-    /// [`try_from_raw_bytes`](HashTableOwned::try_from_raw_bytes) for bytes of strangers: rejected are also bytes in
+    /// [`try_from_raw_bytes`](HashTableOwned::try_from_raw_bytes) for untrusted bytes: rejected are also bytes in
     /// which a search may read more than `groups` groups of sixteen control bytes, as by
     /// [`check_all_within`](crate::check_all_within).
     ///

@@ -2,13 +2,13 @@
 
 use super::{refused, tables, Config, Error, Global, HashTableOwned, Proved};
 use crate::encoded::{stored, Stored};
-use crate::proved::base::bytes::OwnedBytes;
-use crate::proved::raw::memory_layout::{allocate, layout_for, Header};
+use crate::generated::base::bytes::OwnedBytes;
+use crate::generated::raw::memory_layout::{allocate, layout_for, Header};
 
 impl<C: Config> HashTableOwned<C> {
-    /// Makes room for so many more items: with so many new keys the table does not grow. Where it has the room nothing
-    /// changes. Otherwise its items are placed again, in the fewest slots that are enough for all, at the same load
-    /// factor.
+    /// Makes room for that many more items: with that many new keys the table does not grow. Where
+    /// it has the room nothing changes. Otherwise its items are placed again, in the fewest slots
+    /// that are enough for all, at the same load factor.
     ///
     /// ```
     /// use odht::{configs::U64ToU32, HashTableOwned};

@@ -3,7 +3,7 @@
 use super::{refused, Config, Error, HashTableOwned, Proved};
 use crate::iter::{IntoIter, IntoKeys, IntoValues, Iter};
 use crate::opened::Opened;
-use crate::proved::header::layout::Layout;
+use crate::generated::header::layout::Layout;
 use crate::view::HashTable;
 use alloc::vec::Vec;
 use std::fmt;

@@ -11,7 +11,8 @@ pub struct Global;
 #[derive(Clone, Copy, PartialEq, Eq, Debug)]
 pub struct AllocError;
 
-/// A list of so many zeros. The allocator is asked for zeros, so that a large list is not written twice.
+/// A list of that many zeros. The allocator is asked for zeros, so that a large list is not written
+/// twice.
 #[allow(unsafe_code)]
 pub fn zeroed_bytes(_alloc: Global, len: usize) -> Result<Vec<u8>, AllocError> {
     let layout = Layout::array::<u8>(len).map_err(|_| AllocError)?;

@@ -1,11 +1,12 @@
 //! The slot count in a header, each time that it is read.
 //!
-//! A table is opened only where its slot count fits the length of its bytes, and safe code cannot change bytes that are
-//! borrowed. Another process can, where they are a mapped file. So the functions that cut a table into its parts compare
-//! both once more, with the very number that they cut by: whatever the header says by then, each index that follows
-//! from this number is within the bytes. `tools/erase` writes the call, in the functions that its plan lists.
+//! A table is opened only where its slot count fits the length of its bytes, and safe code cannot
+//! change bytes that are borrowed. Another process can, where they are a mapped file. So the
+//! functions that cut a table into its parts compare both again, with the very number that they cut
+//! by: whatever the header says by then, each index that follows from this number is within the
+//! bytes. `tools/erase` writes the call, in the functions that its plan lists.
 
-use crate::proved::header::layout::Layout;
+use crate::generated::header::layout::Layout;
 
 /// Panics unless a table of `slots` slots and of these lengths has `len` bytes, in a store `M`. A store that owns
 /// them is not looked at: only the proved library writes to them. Nor is any with the feature `checked`, since each

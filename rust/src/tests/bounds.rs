@@ -2,7 +2,7 @@
 //! much: reads of sixteen control bytes where the shim takes them, compares of keys where an array of bytes does.
 
 use super::forged::{few_free_slots, one_hash, one_home, up_to, Forged};
-use crate::proved::base::bytes;
+use crate::generated::base::bytes;
 use crate::shim::lanes::loads;
 use crate::{
     check_all, check_all_within, ByteArray, Config, Error, HashTable, HashTableOwned, UnHashFn,
@@ -100,9 +100,10 @@ fn the_tables_are_valid() {
     }
 }
 
-/// Checks the bytes with a bound, and that what it reads and compares is within what is promised: for the bound a read
-/// a slot and group; where it is kept once more as many, and sixteen times as many compares. A read of each group, for
-/// which slots are free, is within that where the bound is kept, since then not all slots have keys that are searched for.
+/// Checks the bytes with a bound, and that what it reads and compares is within what is promised:
+/// for the bound a read a slot and group; where it is kept again as many, and sixteen times as many
+/// compares. A read of each group, for which slots are free, is within that where the bound is
+/// kept, since then not all slots have keys that are searched for.
 fn within(bytes: &[u8], slots: usize, groups: usize) -> (Result<(), Error>, usize) {
     let view = HashTable::<Keys, _>::from_raw_bytes(bytes).unwrap();
     let (keeps, bound_reads, none) = counted(|| view.searches_within(groups));

@@ -3,7 +3,7 @@
 /// How many slots a search reads at once.
 const GROUP: usize = 16;
 
-/// A table by the hashes of its keys. Those of one home are below the slot count, but for their tag.
+/// A table by the hashes of its keys. Those of one home are below the slot count, except their tag.
 pub struct Forged {
     /// Of the key in each slot; nothing where the slot is free.
     pub hashes: Vec<Option<u32>>,
@@ -46,7 +46,7 @@ pub fn one_home(slots: usize) -> Forged {
 pub fn few_free_slots(slots: usize) -> Forged {
     let groups = slots / GROUP;
     let free = slots / 3..slots / 3 + (slots / 65_536).max(1);
-    // The group of a probe order that begins so many times sixteen slots behind the home.
+    // The group of a probe order that begins that many times sixteen slots behind the home.
     let mut group_behind = vec![0; groups];
     for group in 0..groups {
         group_behind[group * (group + 1) / 2 % groups] = group;
@@ -68,9 +68,10 @@ pub fn few_free_slots(slots: usize) -> Forged {
     Forged { hashes: hashes.collect(), factor: ALL }
 }
 
-/// The longest search reads exactly so many groups, at most a sixteenth of the slots. There are few free slots for
-/// that, and the home of each key is chosen for its slot: of those from which the slot comes before each free one, that
-/// in whose probe order it comes last. All keys have the tag 0, up to 2^25 slots.
+/// The longest search reads exactly that many groups, at most a sixteenth of the slots. There are
+/// few free slots for that, and the home of each key is chosen for its slot: of those from which
+/// the slot comes before each free one, that in whose probe order it comes last. All keys have the
+/// tag 0, up to 2^25 slots.
 pub fn up_to(slots: usize, groups: usize) -> Forged {
     let end = groups * GROUP;
     let offsets: Vec<usize> = (0..end).map(|position| slot_at(0, position, slots)).collect();

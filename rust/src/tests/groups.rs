@@ -1,7 +1,7 @@
 //! The cases of the original's tests of a group search, for the search of sixteen bytes in lanes and for that of eight
 //! bytes in a word.
 
-use crate::proved::base::swisstable_group_query::{lanes, no_simd};
+use crate::generated::base::swisstable_group_query::{lanes, no_simd};
 
 macro_rules! searches {
     ($($name:ident: $search:ident;)*) => {

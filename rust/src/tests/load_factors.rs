@@ -1,7 +1,7 @@
 //! The cases of the original's tests of load factors. Where it compares numbers roughly, the exact ones are here, as
 //! docs/FORMAT.md has them.
 
-use crate::proved::base::load::{max_item_count_for, slots_needed, Factor};
+use crate::generated::base::load::{max_item_count_for, slots_needed, Factor};
 
 #[test]
 fn factors_of_percentages() {

@@ -1,14 +1,14 @@
 //! The original's test of probe sequences: whatever the group size, the slots come in the order of docs/FORMAT.md.
 
-use crate::proved::raw::raw_table::{probe_order, ProbeSeq};
+use crate::generated::raw::raw_table::{probe_order, ProbeSeq};
 use crate::shim::Global;
 
-// The probe order of a home among so many slots, by its formula.
+// The probe order of a home among that many slots, by its formula.
 fn order(home: usize, slots: usize) -> impl Iterator<Item = usize> {
     (0..slots).map(move |at| (home + 8 * (at / 16) * (at / 16 + 1) + at % 16) % slots)
 }
 
-/// The slots at which the groups of so many slots begin.
+/// The slots at which the groups of that many slots begin.
 pub fn group_starts<const SIZE: usize>(hash: usize, slots: usize) -> Vec<usize> {
     let mut probe = ProbeSeq::<SIZE>::new(hash, slots - 1);
     let mut starts = vec![probe.index()];

@@ -1,9 +1,9 @@
-//! The original's stress test of raw tables: all keys of two bytes in as many slots, so that none is free, and once
-//! more in twice as many.
+//! The original's stress test of raw tables: all keys of two bytes in as many slots, so that none
+//! is free, and again in twice as many.
 
-use crate::proved::base::hash::FxHashFn;
-use crate::proved::header::error::Error;
-use crate::proved::raw::raw_table::{Entries, RawTable, RawTableMut};
+use crate::generated::base::hash::FxHashFn;
+use crate::generated::header::error::Error;
+use crate::generated::raw::raw_table::{Entries, RawTable, RawTableMut};
 
 type Value = fn(u16) -> [u8; 2];
 

@@ -2,13 +2,13 @@
 
 use super::probes::group_starts;
 use super::vector_files::{run_all, written, Answer, Case};
-use crate::proved::base::hash::{FxHashFn, HashFn, UnHashFn, Xxh64HashFn};
-use crate::proved::base::load::{max_item_count_for, slots_needed, Factor};
-use crate::proved::base::swisstable_group_query::{lanes, no_simd, Group};
-use crate::proved::header::config::Config;
-use crate::proved::header::error::Error;
-use crate::proved::raw::memory_layout::{bytes_needed, entry_at, Header, HEADER_SIZE};
-use crate::proved::raw::raw_table::{plain_insert, probe_order, Entries, RawTable, RawTableMut};
+use crate::generated::base::hash::{FxHashFn, HashFn, UnHashFn, Xxh64HashFn};
+use crate::generated::base::load::{max_item_count_for, slots_needed, Factor};
+use crate::generated::base::swisstable_group_query::{lanes, no_simd, Group};
+use crate::generated::header::config::Config;
+use crate::generated::header::error::Error;
+use crate::generated::raw::memory_layout::{bytes_needed, entry_at, Header, HEADER_SIZE};
+use crate::generated::raw::raw_table::{plain_insert, probe_order, Entries, RawTable, RawTableMut};
 use crate::shim::Global;
 use std::marker::PhantomData;
 

@@ -3,7 +3,7 @@
 use super::HashTable;
 use crate::config::Config;
 use crate::encoded::{stored, stored_mut};
-use crate::proved::header::error::Error;
+use crate::generated::header::error::Error;
 use crate::sizes::refused;
 use std::borrow::{Borrow, BorrowMut};
 

@@ -3,10 +3,10 @@
 use super::HashTable;
 use crate::config::{Config, Proved};
 use crate::opened::Opened;
-use crate::proved::base::bytes::Borrowed;
-use crate::proved::header::error::Error;
-use crate::proved::header::layout::Layout;
-use crate::proved::tables;
+use crate::generated::base::bytes::Borrowed;
+use crate::generated::header::error::Error;
+use crate::generated::header::layout::Layout;
+use crate::generated::tables;
 use std::marker::PhantomData;
 
 impl<'b, C: Config> HashTable<C, &'b [u8]> {

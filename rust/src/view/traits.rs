@@ -3,7 +3,7 @@
 use super::HashTable;
 use crate::config::Config;
 use crate::iter::{IntoIter, Iter};
-use crate::proved::header::error::Error;
+use crate::generated::header::error::Error;
 use std::borrow::Borrow;
 use std::fmt;
 

@@ -3,10 +3,10 @@
 use super::HashTable;
 use crate::config::{Config, Proved};
 use crate::opened::{count_again, Opened};
-use crate::proved::base::bytes::BorrowedMut;
-use crate::proved::header::error::Error;
-use crate::proved::header::layout::Layout;
-use crate::proved::tables;
+use crate::generated::base::bytes::BorrowedMut;
+use crate::generated::header::error::Error;
+use crate::generated::header::layout::Layout;
+use crate::generated::tables;
 use crate::sizes::{percent_of, refused};
 use alloc::boxed::Box;
 use std::borrow::{Borrow, BorrowMut};
@@ -43,7 +43,7 @@ impl<C: Config, D: Borrow<[u8]> + BorrowMut<[u8]>> HashTable<C, D> {
         Ok(Self::try_init_in_place(data, max_item_count, max_load_factor_percent)?)
     }
 
-    /// Makes an empty table for so many items in `data`, whatever its bytes were. Its length is
+    /// Makes an empty table for that many items in `data`, whatever its bytes were. Its length is
     /// [`bytes_needed`](crate::bytes_needed), and the load factor is in percent of the slots.
     ///
     /// ```
@@ -62,7 +62,8 @@ impl<C: Config, D: Borrow<[u8]> + BorrowMut<[u8]>> HashTable<C, D> {
     ///
     /// # Errors
     ///
-    /// [`Error::Capacity`] where no table is large enough, else [`Error::InitLength`] where `data` has another length.
+    /// [`Error::Capacity`] where no table is large enough, else [`Error::InitLength`] where `data`
+    /// has another length.
     ///
     /// # Panics
     ///

@@ -21,8 +21,8 @@ mod host;
 #[allow(dead_code, unused_imports, unused_variables, clippy::complexity, clippy::style)]
 #[cfg_attr(feature = "checked", forbid(unsafe_code))]
 #[cfg_attr(not(feature = "checked"), allow(unsafe_code))]
-#[path = "../../src/proved"]
-mod proved {
+#[path = "../../src/generated"]
+mod library {
     pub mod base;
     pub mod header;
     pub mod raw;
@@ -32,7 +32,7 @@ mod proved {
 // What the script program shares with the program `odht`.
 #[allow(dead_code, unused_imports, unused_variables, clippy::complexity, clippy::style)]
 #[forbid(unsafe_code)]
-#[path = "../../cli/src/erased"]
+#[path = "../../cli/src/generated"]
 mod shared {
     pub mod core;
 }
@@ -40,13 +40,14 @@ mod shared {
 // The program, written as it could be proved.
 #[allow(dead_code, unused_imports, unused_variables, clippy::complexity, clippy::style)]
 #[forbid(unsafe_code)]
-mod erased {
+mod generated {
+    pub use crate::library::{base, header, raw, tables};
     pub use crate::shared::core;
     pub mod table;
 }
 
 fn main() -> std::process::ExitCode {
-    erased::table::main(host::rt::HostRuntime)
+    generated::table::main(host::rt::HostRuntime)
 }
 
 #[cfg(not(unix))]

@@ -70,5 +70,5 @@ numbers! {
     Direct, u32, u32, UnHashFn
 }
 
-/// Keys of so many bytes whose last four are the hash, and values of so many bytes.
+/// Keys of that many bytes whose last four are the hash, and values of that many bytes.
 pub type Hashed<const K: usize, const V: usize> = Plain<K, V, UnHashFn>;

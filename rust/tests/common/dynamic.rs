@@ -1,4 +1,4 @@
-//! A table whose lengths are known at run time alone, beside the second reading of its bytes.
+//! A dynamic table, beside the second reading of its bytes.
 
 use super::orders::first_order;
 use super::random::Random;

@@ -7,7 +7,8 @@ use super::reading::Reading;
 // What is added to a slot that waits.
 const WAITING: usize = 1 << 63;
 
-/// Whether there is an order of so many slots as there are pairs. It is written to `out`, or what is left of the search.
+/// Whether there is an order of that many slots as there are pairs. It is written to `out`, or what
+/// is left of the search.
 pub fn first_order(table: &Reading<'_>, out: &mut [usize]) -> bool {
     for (listed, slot) in out.iter_mut().zip(table.occupied()) {
         *listed = WAITING + slot;

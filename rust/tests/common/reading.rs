@@ -25,7 +25,7 @@ pub struct Reading<'b> {
     pub bytes: &'b [u8],
 }
 
-// The number of so many bytes, the lowest first.
+// The number of that many bytes, the lowest first.
 fn number(bytes: &[u8]) -> u128 {
     bytes.iter().rev().fold(0, |number, byte| number << 8 | u128::from(*byte))
 }
@@ -55,13 +55,13 @@ impl Format {
         (self.hash_of(key) >> 25) as u8
     }
 
-    /// The probe order of a key: all of so many slots.
+    /// The probe order of a key: all of that many slots.
     pub fn order_of(&self, key: &[u8], slots: usize) -> impl Iterator<Item = usize> {
         let home = self.hash_of(key) as usize % slots;
         (0..slots).map(move |at| (home + 8 * (at / 16) * (at / 16 + 1) + at % 16) % slots)
     }
 
-    /// The length in bytes of a table of so many slots.
+    /// The length in bytes of a table of that many slots.
     pub fn table_len(&self, slots: u128) -> u128 {
         32 + slots * (self.key + self.value) as u128 + slots + 16
     }
@@ -265,8 +265,8 @@ impl<'b> Reading<'b> {
             .then(|| format!("Header states {stated} items but at most {max} are allowed"))
     }
 
-    /// The least home of which none of so many groups has a control byte of 128 or more. A group is of sixteen control
-    /// bytes, of which those behind the last slot's are the mirror's.
+    /// The least home of which none of that many groups has a control byte of 128 or more. A group
+    /// is of sixteen control bytes, of which those behind the last slot's are the mirror's.
     pub fn first_longer(&self, groups: usize) -> Option<usize> {
         let slots = self.slots();
         let has_free = |start: usize| (start..start + 16).any(|at| self.control(at) >= 128);

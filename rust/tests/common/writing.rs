@@ -7,7 +7,7 @@ pub fn factor_of(percent: u8) -> u16 {
     (u32::from(percent) * 65535 / 100) as u16
 }
 
-/// The least slot count for so many items. There has to be one.
+/// The least slot count for that many items. There has to be one.
 pub fn slots_for(items: usize, factor: u16) -> usize {
     let is_enough = |slots: &u128| slots * u128::from(factor) >= 65536 * items as u128;
     (4..64).map(|power| 1_u128 << power).find(is_enough).expect("enough slots") as usize
@@ -21,13 +21,13 @@ pub struct Writing {
 }
 
 impl Writing {
-    /// The fresh table for so many items at this percentage.
+    /// The fresh table for that many items at this percentage.
     pub fn new(format: Format, items: usize, percent: u8) -> Writing {
         let factor = factor_of(percent);
         Writing::with_slots(format, slots_for(items, factor), factor)
     }
 
-    /// The empty table of so many slots.
+    /// The empty table of that many slots.
     pub fn with_slots(format: Format, slots: usize, factor: u16) -> Writing {
         let mut bytes = b"ODHT".to_vec();
         bytes.extend([1, format.key as u8, format.value as u8, 32]);

@@ -119,7 +119,7 @@ fn file_of(krate: &Crate<'_>, path: &str) -> String {
 
 fn write(krate: &Crate<'_>, path: &str, file: &Path, text: &str) -> Result<(), String> {
     let told = |e: std::io::Error| format!("{}: {e}", file.display());
-    let head = format!("// Made by `make rust` of crates/{}/src/{path}.rt.", krate.name);
+    let head = format!("// Generated from crates/{}/src/{path}.rt by make generate.", krate.name);
     fs::create_dir_all(file.parent().unwrap_or(file)).map_err(told)?;
     fs::write(file, format!("{head}\n{text}")).map_err(told)
 }

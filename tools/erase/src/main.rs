@@ -19,24 +19,24 @@ const WALK: &str = "odht_raw/raw_table/walk";
 const OCCUPIED: &str = "AreOccupied";
 const SCAN: &str = "odht_raw/raw_table/scan";
 const ACCEPTED: &str = "IsAccepted (format_of C.EncodedKey.LEN C.EncodedValue.LEN C.H.hash)";
-const BY_LENGTHS: &str = "crate::proved::header::layout::Layout { \
+const BY_LENGTHS: &str = "crate::generated::header::layout::Layout { \
     key_len: lengths.key_len() as u8, value_len: lengths.value_len() as u8 }";
-const TYPED: &str = "crate::proved::header::layout::Layout::of::<C>()";
+const TYPED: &str = "crate::generated::header::layout::Layout::of::<C>()";
 
 const PLAN: Plan<'static> = Plan {
     crates: &[
-        library("odht_base", "proved::base", "src/proved/base"),
-        library("odht_header", "proved::header", "src/proved/header"),
-        library("odht_raw", "proved::raw", "src/proved/raw"),
-        library("odht", "proved::tables", "src/proved/tables"),
-        library("odht_calls", "erased::calls", "c/src/erased/calls"),
-        library("odht_c", "erased::exports", "c/src/erased/exports"),
-        program("odht_tool_core", "erased::core", "cli/src/erased/core"),
-        program("odht_tool_tables", "erased::tables", "cli/src/erased/tables"),
-        program("odht_tool_reads", "erased::reads", "cli/src/erased/reads"),
-        program("odht_tool_writes", "erased::writes", "cli/src/erased/writes"),
-        program("odht_tool", "erased::tool", "cli/src/erased/tool"),
-        program("odht_table", "erased::table", "table/src/erased/table"),
+        library("odht_base", "generated::base", "src/generated/base"),
+        library("odht_header", "generated::header", "src/generated/header"),
+        library("odht_raw", "generated::raw", "src/generated/raw"),
+        library("odht", "generated::tables", "src/generated/tables"),
+        library("odht_calls", "generated::calls", "c/src/generated/calls"),
+        library("odht_c", "generated::exports", "c/src/generated/exports"),
+        program("odht_tool_core", "generated::core", "cli/src/generated/core"),
+        program("odht_tool_tables", "generated::tool_tables", "cli/src/generated/tool_tables"),
+        program("odht_tool_reads", "generated::reads", "cli/src/generated/reads"),
+        program("odht_tool_writes", "generated::writes", "cli/src/generated/writes"),
+        program("odht_tool", "generated::tool", "cli/src/generated/tool"),
+        program("odht_table", "generated::table", "table/src/generated/table"),
     ],
     dropped_traits: &["Model", "Coded", "Lossless"],
     dropped_modules: &["odht_base::laws", "odht::laws"],

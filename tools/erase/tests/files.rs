@@ -56,7 +56,7 @@ fn each_file_is_the_file_of_its_module() {
         ("src/tables/a/b.rs", "high/src/a/b.rt", "use crate::all::low::a;\nfn g() { x.f() }\n"),
     ];
     let wanted = wanted.map(|(path, of, text)| {
-        (path.to_string(), format!("// Made by `make rust` of crates/{of}.\n{text}"))
+        (path.to_string(), format!("// Generated from crates/{of} by make generate.\n{text}"))
     });
     assert_eq!(made, wanted);
 }

@@ -1,4 +1,4 @@
-//! Tables of any lengths: keys and values are so many bytes, also many of them, and their lengths are in bytes.
+//! Dynamic tables: keys and values are that many bytes, also many of them, and their lengths are in bytes.
 
 use super::{Layout, View};
 
@@ -19,7 +19,7 @@ unsafe extern "C" {
     #[link_name = "odht_any_check"]
     pub fn check(layout: *const Layout, bytes: *const u8, bytes_len: usize) -> u32;
 
-    /// The same, and whether from each slot a free one comes within so many groups: no search reads more.
+    /// The same, and whether from each slot a free one comes within that many groups: no search reads more.
     #[link_name = "odht_any_check_within"]
     pub fn check_within(layout: *const Layout, bytes: *const u8, bytes_len: usize, groups: usize) -> u32;
 
@@ -80,7 +80,7 @@ unsafe extern "C" {
     #[link_name = "odht_any_contains"]
     pub fn contains(layout: *const Layout, bytes: *const u8, bytes_len: usize, key: *const u8, key_len: usize) -> u32;
 
-    /// The values of so many keys, which lie one after the other.
+    /// The values of that many keys, which lie one after the other.
     #[link_name = "odht_any_get_all"]
     pub fn get_all(
         layout: *const Layout,
@@ -136,7 +136,7 @@ unsafe extern "C" {
         former_len: usize,
     ) -> u32;
 
-    /// Inserts so many keys with their values, up to the first that does not fit.
+    /// Inserts that many keys with their values, up to the first that does not fit.
     #[link_name = "odht_any_insert_all"]
     pub fn insert_all(
         layout: *const Layout,

@@ -1,4 +1,4 @@
--- Worked examples: what is rejected, and what an insert returns, where lengths are known at run time alone.
+-- Worked examples: what is rejected, and what an insert returns, where lengths are known only at run time.
 use Rattle.std.proofs.Common.{◌≡◌, ℕ, List, refl, Option, Some, Result, Ok, Err}
 use Rattle.std.specs.Prelude.{option_map, OnErr}
 use Rattle.std.specs.Result.{result_map_both}

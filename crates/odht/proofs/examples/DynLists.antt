@@ -1,5 +1,5 @@
--- Worked examples: lists of inserts, lookups of no keys, and tables at the front of longer bytes, where lengths are known
--- at run time alone.
+-- Worked examples: lists of inserts, lookups of no keys, and tables at the front of longer bytes, where lengths are
+-- known only at run time.
 use Rattle.std.proofs.Common.{◌≡◌, ℕ, List, [], ◌∷◌, refl, Some, None}
 use Rattle.std.specs.Prelude.{option_map}
 use Rattle.odht_base.specs.Format.{format_of}

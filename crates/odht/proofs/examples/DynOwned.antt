@@ -1,4 +1,4 @@
--- Worked examples: what the owned table of lengths that are known at run time alone returns.
+-- Worked examples: what the owned table of lengths that are known only at run time returns.
 use Rattle.std.proofs.Common.{◌≡◌, ◌+◌, ◌≤◌, ℕ, List, true, refl, arith, le-leb, Option, Result, Ok, Err, inl, inr}
 use Rattle.std.specs.Prelude.{OnErr}
 use Rattle.std.specs.Result.{result_map_both}

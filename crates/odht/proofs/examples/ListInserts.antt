@@ -188,7 +188,7 @@ pub no_fresh_image : IsFreshAfterInserts number_coding 87 ((1, 2) ∷ []) [] →
 unfolding opened
 no_fresh_image h = unequal_lists _ _ refl (the_list _ h)
 
--- ---- what is collected, and what is built anew
+-- ---- what is collected, and what is built from scratch
 pub collected : IsCollected number_coding 87 ((1, 2) ∷ []) (bytes_of (one_pair 2))
 unfolding opened
 collected = record { inserted = a_fresh_list; last_values = record { table = one_pair 2; image = one_pair_image.0; maps = λ k. go (bytes_eq k (le_bytes 8 1)) } }

@@ -17,7 +17,7 @@ pub lengths : (new_len number_coding 13 87 ≡ Some 256) × (new_len number_codi
 unfolding opened slots_for
 lengths = (refl, refl, refl)
 
--- so many bytes, one more, and any for 2^63 items
+-- that many bytes, one more, and any for 2^63 items
 pub refusals : (init_refusal number_coding 13 87 (replicate 256 0) ≡ None) × (init_refusal number_coding 13 87 (replicate 257 0) ≡ Some (InitLength 257 256))
     × (init_refusal number_coding (2 ^ 63) 87 (replicate 256 0) ≡ Some Capacity)
 unfolding opened slots_for new_refusal

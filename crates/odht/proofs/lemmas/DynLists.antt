@@ -1,4 +1,4 @@
--- Lists of inserts into a table whose lengths are known at run time alone: one more, and the one that failed.
+-- Lists of inserts into a dynamic table: one more, and the one that failed.
 use Rattle.std.proofs.Common.{◌≡◌, ◌≢◌, ◌∙◌, ◌==◌, ◌++◌, ◌+◌, inl, inr, not, ℕ, true, false, sym, ap, subst, take, length, List, [], ◌∷◌, Option, Some, None, Result, Ok, Err, All, slice_get}
 use Rattle.std.specs.Prelude.{OnErr}
 use Rattle.std.specs.Bool.{then_some}

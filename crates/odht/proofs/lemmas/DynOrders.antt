@@ -1,4 +1,4 @@
--- An order of inserts of a table whose lengths are known at run time alone, by that of its parts.
+-- An order of inserts of a dynamic table, by that of its parts.
 use Rattle.std.proofs.Common.{◌≡◌, ◌↔◌, ℕ, Bool, IsTrue, List}
 use Rattle.odht_base.specs.Format.{Format}
 use Rattle.odht_base.specs.Made.{IsMade, IsInsertOrder}

@@ -1,4 +1,4 @@
--- What the insert into a view says of the insert into an owned table whose lengths are known at run time alone.
+-- What the insert into a view says of the insert into an owned table whose lengths are known only at run time.
 use Rattle.std.proofs.Common.{◌≡◌, ◌≢◌, ◌==◌, ℕ, Bool, true, false, List, Option, Result, Ok, Err, OnErr, refl, sym, ◌∙◌, subst, ap, Some, None, true≢false, eqb-true, eq-eqb, inl, inr, arith}
 use Rattle.std.specs.Result.{result_map_both}
 use Rattle.std.proofs.lemmas.Option.{none-some}

@@ -1,4 +1,4 @@
--- A table of lengths that are known at run time alone, at the front of longer bytes: which error its header gives.
+-- A table of lengths that are known only at run time, at the front of longer bytes: which error its header gives.
 use Rattle.std.proofs.Common.{◌≡◌, ◌≤◌, ◌∙◌, ℕ, sym, ap, subst, List, Some, None, Result, Ok, Err, length, arith, le-ltb, nat_lt, take, ◌++◌, refl, Option}
 use Rattle.std.specs.Prelude.{IsOk, option_map, slice_index}
 use Rattle.std.specs.Bool.{then_some}

@@ -22,7 +22,7 @@ use Rattle.odht.specs.Growths.{table_len, grown_slots_of, grown_len}
 use Rattle.odht.proofs.lemmas.ViewInserts.{count_header, factor_header}
 
 -- ---- the length
--- the length of a layout for so many items is that of the table
+-- the length of a layout for that many items is that of the table
 pub table_len-layout : (F : Format) (n f s len : ℕ) → IsLayout F n f s len → table_len F (slots_for n f) ≡ Some len
 table_len-layout F n f s len layout =
     let short : image_len F s < 2 ^ 64 = omega (arith, layout.long, layout.fits) in
@@ -37,7 +37,7 @@ grown_len-layout F B s len layout = table_len-layout F (max 1 (2 * header_count 
 pub asked_len : (F : Format) (B : List ℕ) (s len n : ℕ) → IsLayout F (max 1 (2 * header_count B)) (header_factor B) s len → grown_len F B ≡ Some n → n ≡ image_len F s
 asked_len F B s len n layout is = some_same n len (sym is ∙ grown_len-layout F B s len layout) ∙ layout.long
 
--- where so many items are too many there is none
+-- where that many items are too many there is none
 pub grown_len-large : (F : Format) (B : List ℕ) → IsTooLarge F (max 1 (2 * header_count B)) (header_factor B) → grown_len F B ≡ None
 unfolding grown_len
 grown_len-large F B large = go (grown_slots_of B) refl
@@ -46,7 +46,7 @@ grown_len-large F B large = go (grown_slots_of B) refl
     go None e = refl
     go (Some s) e = ap (λ t. then_some t (image_len F s)) (le-ltb (image_len F s) (2 ^ 64) (large s e))
 
--- the result of a call for the layout for so many items
+-- the result of a call for the layout for that many items
 pub asked_layout : (F : Format) (B : List ℕ) (n f : ℕ) → n ≡ max 1 (2 * header_count B) → f ≡ header_factor B
     → (r : Option (ℕ × ℕ)) → IfSome r (λ l. IsLayout F n f l.0 l.1) → (IsNone r → IsTooLarge F n f)
     → MatchOption r (grown_len F B ≡ None) (λ l. IsLayout F (max 1 (2 * header_count B)) (header_factor B) l.0 l.1)

@@ -112,7 +112,7 @@ module _ (F : Format) (P : Table) (ok : IsValid F P) (n : ℕ) where
       let most : s * P.factor ≤ s * 65535 = mul-le-mul_left s ok.factor_high in
       absurd (omega (arith, least.holds, most, few_slots s least.is_count, many)))
 
--- slots for so many items take those that there are
+-- slots for that many items take those that there are
 pub reserved-room : (P : Table) (n s : ℕ) → slots_for (count P + n) P.factor ≡ Some s → count P ≤ max_items s P.factor
 reserved-room P n s slots =
     let holds : count P + n ≤ max_items s P.factor = max_items-holds (count P + n) s P.factor (slots_for-IsLeastSlots _ _ s slots).holds in

@@ -66,7 +66,7 @@ module _ (F : Format) (n f len : ℕ) where
 
 -- ---- the length of a new table
 module _ (F : Format) (n f : ℕ) where
-  -- a length is that of the slots for so many items
+  -- a length is that of the slots for that many items
   pub new_len-some : (len : ℕ) → Some len ≡ table_len F (slots_for n f) → (s : ℕ) × (slots_for n f ≡ Some s) × (len ≡ image_len F s)
   new_len-some len e = go (slots_for n f) refl e
     where

@@ -134,7 +134,7 @@ plain_list c f P Q items r A B before after list = record {
     same X is = sym (the_table c.format X A f is) ∙ the_table c.format P A f before
 
 -- ---- a collected table
--- a fresh table for as many items has at most so many pairs after them
+-- a fresh table for as many items has at most that many pairs after them
 pub fresh_few : {K V : Type 0} (c : Coding K V) (p : ℕ) (items : List (K × V)) (P Q : Table) (r : ℕ × Result Unit Error) → fresh (length items) p ≡ Some P → length items ≤ r.0
     → IsPlainList c P Q items r → count Q ≤ length items
 fresh_few {K = K} {V = V} c p items P Q r new all list =

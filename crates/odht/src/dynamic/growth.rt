@@ -1,4 +1,4 @@
-//! Growth of a table whose lengths are known at run time alone, into larger bytes.
+//! Growth of a dynamic table, into larger bytes.
 ghost use Rattle.std.specs.Prelude.{◌≡◌, ◌≤◌, All, Some, length};
 ghost use Rattle.odht_base.specs.Decoded.{header_count, header_factor};
 ghost use Rattle.odht_base.specs.Format.{format_of};
@@ -56,9 +56,9 @@ impl<H: HashFn, D: ByteStore> DynTable<H, D> {
         self.move_into(slot_count, out);
     }
 
-    /// Writes the pairs of this table, placed in slot order into so many slots, to `out`, whatever
-    /// its bytes were. `out` has the length for them. The new header has the item count and the
-    /// load factor of this table.
+    /// Writes the pairs of this table, placed in slot order into that many slots, to `out`,
+    /// whatever its bytes were. `out` has the length for them. The new header has the item count
+    /// and the load factor of this table.
     pub(super) fn move_into(&self, slot_count: usize, out: &mut [u8])
         requires slots { IsSlotCount slot_count }
         requires len { length out.old ≡ image_len (dyn_format self.now H.hash) slot_count }
@@ -75,7 +75,7 @@ impl<H: HashFn, D: ByteStore> DynTable<H, D> {
     }
 }
 
-// Writes the table of so many slots with the pairs of the walk. The new header gets `item_count`,
+// Writes the table of that many slots with the pairs of the walk. The new header gets `item_count`,
 // whatever the walk gives.
 fn write_walked<H: HashFn>(
     bytes: &mut [u8],

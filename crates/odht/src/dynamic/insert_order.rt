@@ -1,4 +1,4 @@
-//! An order of inserts that makes a table whose lengths are known at run time alone.
+//! An order of inserts that makes a dynamic table.
 ghost use Rattle.odht.specs.Tables.{OfTable};
 ghost use Rattle.std.specs.Prelude.{◌≡◌, ◌↔◌, ◌*◌, ◌-◌, ◌^◌, length, min, IsTrue};
 ghost use Rattle.odht_base.specs.Decoded.{header_slots};
@@ -34,7 +34,7 @@ impl<H: HashFn, D: ByteStore> DynTable<H, D> {
         self.as_dynamic().insert_order(out)
     }
 
-    /// `insert_order` for tables of strangers, where it has `scratch` to write to: it returns the
+    /// `insert_order` for untrusted tables, where it has `scratch` to write to: it returns the
     /// same. `scratch` has as many numbers as `insert_order_scratch` says or more, of any values;
     /// with fewer this is `insert_order`, in the time that that takes. The clauses say that `out`
     /// has an order; that it is the same one is tested.

@@ -1,4 +1,4 @@
-//! Inserts into a table whose lengths are known at run time alone.
+//! Inserts into a dynamic table.
 ghost use Rattle.std.specs.Prelude.{◌≡◌, ◌≢◌, length, Err, OnErr};
 ghost use Rattle.odht_base.specs.Format.{format_of};
 ghost use Rattle.odht_raw.specs.Frame.{IsAccepted};

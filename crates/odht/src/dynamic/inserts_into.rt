@@ -1,4 +1,4 @@
-//! Inserts into a table whose lengths are known at run time alone, which write the former value into
+//! Inserts into a dynamic table, which write the former value into
 //! bytes of the caller.
 ghost use Rattle.std.specs.Prelude.{◌≡◌, ◌≢◌, length, Err, OnErr};
 ghost use Rattle.odht_base.specs.Format.{format_of};

@@ -1,4 +1,4 @@
-//! Lists of inserts into a table whose lengths are known at run time alone.
+//! Lists of inserts into a dynamic table.
 ghost use Rattle.std.specs.Prelude.{map};
 ghost use Rattle.odht.specs.DynLists.{IsDynList};
 

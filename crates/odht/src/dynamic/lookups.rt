@@ -1,4 +1,4 @@
-//! Lookups of many keys in a table whose lengths are known at run time alone.
+//! Lookups of many keys in a dynamic table.
 ghost use Rattle.std.specs.Prelude.{◌≡◌, length, map};
 ghost use Rattle.std.specs.Option.{option_copied};
 ghost use Rattle.odht.specs.Dynamic.{dyn_coding};

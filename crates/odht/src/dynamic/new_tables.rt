@@ -1,4 +1,4 @@
-//! New tables whose lengths are known at run time alone.
+//! New dynamic tables.
 ghost use Rattle.std.specs.Prelude.{◌≡◌, ◌≤◌, length, OnErr, OnOk};
 ghost use Rattle.std.specs.Result.{result_err};
 ghost use Rattle.odht_base.specs.Format.{format_of};

@@ -1,5 +1,5 @@
-//! The table that owns its bytes, and grows, of keys and values of lengths that are known at run
-//! time alone.
+//! The table that owns its bytes, and grows, of keys and values of lengths that are known only at
+//! run time.
 ghost use Rattle.std.specs.Prelude.{◌≡◌, ◌≢◌, ◌≤◌, ◌<◌, None, All, length, IfOk, Err};
 ghost use Rattle.std.specs.Option.{option_copied};
 ghost use Rattle.odht_base.specs.Format.{format_of};

@@ -1,4 +1,4 @@
-//! A table at the front of longer bytes, of lengths that are known at run time alone.
+//! A table at the front of longer bytes, of lengths that are known only at run time.
 ghost use Rattle.std.specs.Prelude.{◌≡◌, ◌++◌, ◌≤◌, List, ℕ, Ok, IfOk, IsOk};
 ghost use Rattle.std.specs.Result.{result_err};
 ghost use Rattle.odht_base.specs.Format.{format_of};
@@ -80,7 +80,7 @@ impl<'a, H: HashFn> DynTable<H, Borrowed<'a>> {
         }
     }
 
-    // Opens the table of so many bytes at the front, and returns it with the bytes behind it.
+    // Opens the table of that many bytes at the front, and returns it with the bytes behind it.
     fn open_front(layout: Layout, bytes: &'a [u8], len: usize) -> Result<(Self, &'a [u8]), DynError>
         requires { IsFront (format_of layout.key_len layout.value_len H.hash) bytes.now len }
         ensures ok { let F = format_of layout.key_len layout.value_len H.hash

@@ -1,4 +1,4 @@
-//! Views whose searches end in time: the whole check with a bound, and the bound alone.
+//! Views whose searches end in time: the whole check with a bound, and only the bound.
 ghost use Rattle.std.specs.Prelude.{◌↔◌, IsTrue};
 ghost use Rattle.odht.specs.SearchBounds.{IsValidWithin, IsBound};
 
@@ -12,7 +12,7 @@ impl<C: Config, D: ByteStore> HashTable<C, D> {
     /// reads more. [`DEFAULT_GROUPS`](crate::memory_layout::DEFAULT_GROUPS) is a bound that tables
     /// of hashes that vary keep.
     ///
-    /// It is for bytes of strangers: whatever they are it costs no more than
+    /// It is for untrusted bytes: whatever they are it costs no more than
     /// [`memory_layout::check_all_within`](crate::memory_layout::check_all_within), which returns
     /// the error.
     pub fn verify_within(&self, groups: usize) -> bool
@@ -23,7 +23,7 @@ impl<C: Config, D: ByteStore> HashTable<C, D> {
 
     /// Whether each home has, among the first `groups` groups of its probe order, a control byte
     /// that counts as free. Then no search in valid bytes, of a present or an absent key, reads
-    /// more. It reads control bytes alone: for `s` slots at most `s * groups` groups. An insert
+    /// more. It reads only control bytes: for `s` slots at most `s * groups` groups. An insert
     /// may lengthen searches, so what holds before inserts need not hold after them.
     pub fn searches_within(&self, groups: usize) -> bool
         ensures { IsBound ⟦<C as Coded>⟧.coding (D.bytes self.now) groups result }

@@ -17,7 +17,7 @@ impl<C: Config> HashTableOwned<C> {
     /// listed. There are at most as many passes over the items as there are slots that wait for
     /// one of a higher number, and one more. In a pass a slot in the first group of its probe
     /// order and not below its home takes one step. Any other takes one or two binary searches
-    /// among the slots that wait for each group up to its own, but for those that were passed
+    /// among the slots that wait for each group up to its own, except those that were passed
     /// before from the same home, as far as that is kept, for 64 homes. Then the slots that still
     /// wait are sorted. docs/PERF.md has what an item costs.
     pub fn insert_order(&self, out: &mut [usize]) -> bool
@@ -29,7 +29,7 @@ impl<C: Config> HashTableOwned<C> {
         self.table.as_raw().insert_order(out)
     }
 
-    /// `insert_order` for tables of strangers, where it has `scratch` to write to: it returns the
+    /// `insert_order` for untrusted tables, where it has `scratch` to write to: it returns the
     /// same. `scratch` has as many numbers as `insert_order_scratch` says or more, of any values;
     /// with fewer this is `insert_order`, in the time that that takes. The clauses say that `out`
     /// has an order; that it is the same one is tested.

@@ -16,7 +16,7 @@ use crate::layout::Layout;
 use crate::reserve::sizes_for_more;
 
 impl<C: Config> HashTableOwned<C> {
-    /// Makes room for `additional` more items: so many new keys can be inserted before the table
+    /// Makes room for `additional` more items: that many new keys can be inserted before the table
     /// grows. Where it has the room nothing changes, and no memory is asked for. Otherwise the
     /// pairs are placed in slot order into the least slot count that is enough for as many items
     /// as there are and `additional` more, at the same load factor, as at a growth.
@@ -44,8 +44,8 @@ impl<C: Config> HashTableOwned<C> {
         Ok(())
     }
 
-    // The pairs of this table, placed in slot order into so many slots in new memory. `len` is the
-    // length for them.
+    // The pairs of this table, placed in slot order into that many slots in new memory. `len` is
+    // the length for them.
     #[inline(never)]
     fn moved(&self, slot_count: usize, len: usize) -> Result<HashTable<C, OwnedBytes>, Error>
         requires slots { IsSlotCount slot_count }

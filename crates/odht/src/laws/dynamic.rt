@@ -1,4 +1,4 @@
-//! A typed table and one whose lengths are known at run time alone, over the same bytes, agree.
+//! A typed table and one whose lengths are known only at run time, over the same bytes, agree.
 ghost use Rattle.std.specs.Prelude.{◌≡◌, option_map};
 ghost use Rattle.std.specs.Option.{option_copied};
 ghost use Rattle.odht_raw.specs.Walks.{decoded_all};

@@ -83,7 +83,7 @@ tagged-controls F cs i c enough lt = go (ltb i 16) refl ∙ sym after
         let high = ltb-false i 16 e in
         first ∙ ap (λ t. set each i b ++ t) (sym (take-set-le 16 each i b high))
 
--- a value alone leaves the control bytes
+-- only a value leaves the control bytes
 pub controls-set_value : (F : Format) (cs : Cells) (i : ℕ) (p q : Pair) → cell_at cs i ≡ Some q → q.key ≡ p.key → controls F (set cs i (Some p)) ≡ controls F cs
 unfolding controls
 controls-set_value F cs i p q g k = ap (λ t. t ++ take 16 t) (map-set (control_byte F) cs i (Some p) ∙ same cs i g)

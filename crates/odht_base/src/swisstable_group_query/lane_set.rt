@@ -9,7 +9,7 @@ use std::marker::Model;
 ///
 /// In a contract it is the list of the indices that are left, rising.
 // A mask of sixteen lanes is sixteen bits in a register. In a word of 64 bits the compiler cuts it
-// to sixteen once more, with each group that has a match.
+// to sixteen again, with each group that has a match.
 #[derive(Drop)]
 pub(super) struct LaneSet {
     bits: u16,

@@ -1,4 +1,4 @@
-//! The exports that open a table of any lengths, and look up in an opened one.
+//! The exports that open a dynamic table, and look up in an opened one.
 //!
 //! The header is not checked again: the caller ensures that the bytes of a view are accepted, as
 //! after `open_view` with the same lengths. `BAD_LAYOUT` as of the other exports.
@@ -62,7 +62,7 @@ pub extern "C" fn odht_any_view_contains(layout: &AnyLayout, view: &View<'_>, ke
 
 /// Looks up `count` keys, which lie in `keys` one after the other, in an opened table: status 0,
 /// and at each index `found` is 1 and the value is written, or `found` is 0 and the value is
-/// unchanged. `BAD_LENGTHS` where `keys`, `values` or `found` have another length than so many
+/// unchanged. `BAD_LENGTHS` where `keys`, `values` or `found` have another length than that many
 /// keys, values and flags; then nothing is written.
 #[unsafe(no_mangle)]
 pub extern "C" fn odht_any_view_get_all(

@@ -46,7 +46,7 @@ other_status_in_view_refused c B k h = go h.on_any.0 h.on_any.1
     go (Some v) e = absurd (omega (arith, e))
 
 -- ---- DynAnswers, AnyAnswers
--- so many bytes are as many as the layout says
+-- that many bytes are as many as the layout says
 abbrev IsLong : ℕ → ℕ → Type 0
 IsLong found said = found ≡ said
 

@@ -1,4 +1,4 @@
--- Calls for many keys of a table of any lengths: lookups so far, inserts so far, and walks over pairs that are bytes.
+-- Calls for many keys of a dynamic table: lookups so far, inserts so far, and walks over pairs that are bytes.
 use Rattle.std.proofs.Common.{◌≡◌, ◌≤◌, ◌<◌, ◌+◌, ◌*◌, ◌∙◌, ◌++◌, inl, inr, ℕ, zero, suc, suc-mul, take, get_or, length-take-le, sym, ap, subst, refl, arith, List, [], ◌∷◌, All, Bor, Option, Some, None, Result, drop, set, map, length, length-drop, slice_get}
 use Rattle.std.specs.Prelude.{filter_map, IfOk, IfSome}
 use Rattle.std.specs.Option.{option_copied}

@@ -1,4 +1,4 @@
--- Calls for tables of any lengths: the hash function that is picked, and the table that is opened.
+-- Calls for dynamic tables: the hash function that is picked, and the table that is opened.
 use Rattle.std.proofs.Common.{◌≡◌, ◌≤◌, ◌<◌, ◌*◌, ◌∙◌, ℕ, zero, suc, List, sym, ap, subst, refl, arith, length, Option, Some, Result, Ok}
 use Rattle.std.specs.Prelude.{option_map}
 use Rattle.std.specs.Result.{result_map_both}

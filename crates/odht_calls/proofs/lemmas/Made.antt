@@ -21,7 +21,7 @@ bad_needed c m p old none = record {
 }
 
 module _ {K V : Type 0} (c : Coding K V) (m p q old : ℕ) (same : q ≡ p) (within : IsPercent q) where
-  -- the length of so many slots
+  -- the length of that many slots
   pub some_needed : (slots n : ℕ) → slots_for m (factor_of q) ≡ Some slots → n ≡ image_len c.format slots → n < 2 ^ 64 → BytesNeededAnswers c m p old done n
   some_needed slots n is long fits = subst (λ x. BytesNeededAnswers c m x old done n) same (record {
     percent = λ other. absurd (other within);

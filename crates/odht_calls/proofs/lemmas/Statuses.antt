@@ -1,14 +1,14 @@
 -- No error has the status of a call that is done.
 use Rattle.std.proofs.Common.{◌≡◌, arith}
 use Rattle.odht_header.specs.declared.error.Error.{Error}
--- names: made of errors.txt by make exports
+-- begin names: generated from lists/errors.txt by make generate
 use Rattle.odht_header.specs.declared.error.Error.TheVariants.{TooShort, WrongTag, WrongVersion, WrongSizeOf, SlotCountNotPowerOfTwo, SlotCountTooSmall, WrongLength, NonZeroEmpty, ControlMismatch, LoadFactorTooSmall, NonZeroPadding, BadFreeControl, MirrorMismatch, WrongItemCount, TooManyItems, Unreachable, SearchTooLong, InitLength, Full, Memory, Capacity}
--- names: up to here
+-- end names
 use Rattle.odht_calls.specs.Statuses.{status_of, done}
 
 -- its number is from 1 on
 pub not_done : (e : Error) → status_of e ≡ done → ⊥
--- not_done: made of errors.txt by make exports
+-- begin not_done: generated from lists/errors.txt by make generate
 not_done (TooShort a) h = omega (arith, h)
 not_done (WrongTag bs) h = omega (arith, h)
 not_done (WrongVersion bs) h = omega (arith, h)
@@ -31,4 +31,4 @@ not_done Memory h = omega (arith, h)
 not_done Capacity h = omega (arith, h)
 not_done (SearchTooLong a b) h = omega (arith, h)
 
--- not_done: up to here
+-- end not_done

@@ -1,4 +1,4 @@
-//! Tables of any lengths that are built from pairs: in the caller's bytes, or in memory of their
+//! Dynamic tables that are built from pairs: in the caller's bytes, or in memory of their
 //! own and then copied to the caller's.
 ghost use Rattle.std.specs.Prelude.{◌≡◌, ◌≤◌, None, length};
 ghost use Rattle.std.specs.List.{zip};

@@ -1,4 +1,4 @@
-//! The calls for many keys of a table of any lengths: lookups, and inserts in turn.
+//! The calls for many keys of a dynamic table: lookups, and inserts in turn.
 ghost use Rattle.std.specs.Prelude.{◌≡◌, ◌≤◌, length};
 ghost use Rattle.odht_base.specs.Format.{format_of};
 ghost use Rattle.odht_raw.specs.Frame.{IsAccepted};
@@ -58,7 +58,7 @@ fn get_all_by<H: HashFn>(
 
 /// Looks up `count` keys: at the index of a key that is found, its value is written to `values`
 /// and 1 to `found`; at any other index 0 is written to `found`. BAD_LENGTHS where the arrays are
-/// not for so many keys, values and flags. It and any other error leave both unchanged.
+/// not for that many keys, values and flags. It and any other error leave both unchanged.
 pub fn get_all(
     layout: AnyLayout,
     bytes: &[u8],
@@ -126,7 +126,7 @@ fn insert_all_by<H: HashFn>(
 }
 
 /// Inserts `count` pairs in order, up to the first whose insert fails with FULL, and writes to
-/// `accepted` how many were inserted. BAD_LENGTHS where the arrays are not for so many keys and
+/// `accepted` how many were inserted. BAD_LENGTHS where the arrays are not for that many keys and
 /// values. It and an error of the header or length leave everything unchanged.
 pub fn insert_all(
     layout: AnyLayout,

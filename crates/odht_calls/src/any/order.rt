@@ -1,4 +1,4 @@
-//! The call for an order of inserts that makes a table of any lengths.
+//! The call for an order of inserts that makes a dynamic table.
 ghost use Rattle.std.specs.Prelude.{◌≡◌, ◌≤◌};
 ghost use Rattle.odht_base.specs.Format.{format_of};
 ghost use Rattle.odht_raw.specs.DynParts.{bytes_coding};

@@ -8,7 +8,7 @@ ghost use Rattle.odht_calls.specs.Pieces.{pieces, ArePieces};
 
 use odht::layout::Layout;
 
-// Whether the bytes are so many keys, and so many values.
+// Whether the bytes are that many keys, and that many values.
 pub(crate) fn are_pieces(layout: Layout, count: usize, keys: &[u8], values: &[u8]) -> bool
     ensures { IsTrue result
         ↔ ArePieces layout.key_len layout.value_len count keys.now values.now }

@@ -1,4 +1,4 @@
-//! The calls that open or check a table of any lengths and tell where the first error is.
+//! The calls that open or check a dynamic table and tell where the first error is.
 ghost use Rattle.std.specs.Prelude.{◌≡◌, ◌≤◌, Some};
 ghost use Rattle.odht_base.specs.Format.{format_of};
 ghost use Rattle.odht_header.specs.Refusals.{view_refusal, check_refusal, check_refusal_by};

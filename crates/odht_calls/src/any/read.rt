@@ -1,4 +1,4 @@
-//! The calls that read a table of any lengths.
+//! The calls that read a dynamic table.
 ghost use Rattle.std.specs.Prelude.{◌≡◌, ◌≤◌, length, IfOk, Some};
 ghost use Rattle.std.specs.Result.{result_err};
 ghost use Rattle.odht_base.specs.Format.{format_of};

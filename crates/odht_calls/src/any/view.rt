@@ -1,4 +1,4 @@
-//! Opened tables of any lengths as a caller in C keeps them, and lookups that skip the header.
+//! Opened dynamic tables as a caller in C keeps them, and lookups that skip the header.
 ghost use Rattle.std.specs.Prelude.{◌≡◌, ◌≤◌, length};
 ghost use Rattle.odht_base.specs.Format.{format_of};
 ghost use Rattle.odht_raw.specs.Frame.{IsAccepted};
@@ -161,7 +161,7 @@ fn get_all_by<H: HashFn>(
 
 /// Looks up `count` keys in an opened table: at the index of a key that is found, its value is
 /// written to `values` and 1 to `found`; at any other index 0 is written to `found`. BAD_LENGTHS
-/// where the arrays are not for so many keys, values and flags; it leaves both unchanged.
+/// where the arrays are not for that many keys, values and flags; it leaves both unchanged.
 pub fn get_all(
     layout: AnyLayout,
     view: &View<'_>,

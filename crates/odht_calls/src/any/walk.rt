@@ -1,4 +1,4 @@
-//! Walks over a table of any lengths that write its pairs to arrays, a part at a time.
+//! Walks over a dynamic table that write its pairs to arrays, a part at a time.
 ghost use Rattle.std.specs.Prelude.{◌≤◌};
 ghost use Rattle.odht_base.specs.Format.{format_of};
 ghost use Rattle.odht_calls.specs.Pieces.{ArePieces, PiecesWalkAnswers, DynWalkAnswers};

@@ -1,4 +1,4 @@
-//! The calls that write a table of any lengths.
+//! The calls that write a dynamic table.
 ghost use Rattle.std.specs.Prelude.{◌≡◌, ◌≤◌, length};
 ghost use Rattle.odht_base.specs.Format.{format_of};
 ghost use Rattle.odht_raw.specs.DynParts.{bytes_coding};
@@ -43,7 +43,7 @@ fn bytes_needed_by<H: HashFn>(
     }
 }
 
-/// Writes to `len` how many bytes a new table for so many items has. An error leaves `len`
+/// Writes to `len` how many bytes a new table for that many items has. An error leaves `len`
 /// unchanged.
 pub fn bytes_needed(
     layout: AnyLayout,
@@ -86,7 +86,7 @@ pub(crate) fn init_by<H: HashFn>(
     }
 }
 
-/// Makes an empty table for so many items in the bytes, whatever they hold. An error leaves them
+/// Makes an empty table for that many items in the bytes, whatever they hold. An error leaves them
 /// unchanged.
 pub fn init(
     layout: AnyLayout,

@@ -24,7 +24,7 @@ use Rattle.odht_header.specs.declared.error.Error.TheVariants.{WrongTag, WrongVe
 use Rattle.odht_header.specs.declared.error.Part.TheVariants.{EntryMetadata, EncodedKey, EncodedValue, Header}
 use Rattle.odht_header.proofs.lemmas.HeaderFits.{IsOpening, IsOpening-opening_refusal, opening_refusal-IsOpening}
 
--- bytes with the same header but for the count, and of the same length, have the same error
+-- bytes with the same header except the count, and of the same length, have the same error
 pub opening_refusal-same : (F : Format) (B C : List ℕ) → length B ≡ length C → take 8 B ≡ take 8 C → take 16 (drop 16 B) ≡ take 16 (drop 16 C) → opening_refusal F B ≡ opening_refusal F C
 unfolding opening_refusal header_refusal
 opening_refusal-same F B C n front back =

@@ -8,7 +8,7 @@ use Rattle.odht_base.specs.Image.{image_len}
 use Rattle.odht_raw.specs.Parts.{IsZeros}
 use Rattle.odht_raw.proofs.lemmas.NewTables.{bytes_at-overwritten_at}
 
--- what a write of so many zeros leaves
+-- what a write of that many zeros leaves
 pub cleared : (xs ys : List ℕ) (m to : ℕ) → to ≡ 32 + m → to ≤ length xs → ys ≡ replicate (length (take (to - 32) (drop 32 xs))) 0
     → put_mid 32 (to - 32) xs ys ≡ overwritten_at xs 32 (replicate m 0)
 cleared xs ys m to at fits zeros =

@@ -44,7 +44,7 @@ module _ {ns : List ℕ} {s h b p : ℕ} (f : IsFrontier ns s h b p) (count : Is
   others : (q : ℕ) → q < p → probe_slot h s q ≡ i → ⊥
   others q l e = f.free q l (subst (λ j. Contains ns (waiting j)) (sym e) waits)
 
-  -- where the first n slots of the group do not wait either, none of so many more positions has one that does
+  -- where the first n slots of the group do not wait either, none of that many more positions has one that does
   free_more : (n : ℕ) → n ≤ 16 → (WaitsBehind ns s b n → ⊥) → (q : ℕ) → q < p + n → Contains ns (waiting (probe_slot h s q)) → ⊥
   free_more n few none q l w = elim (cases_lt q p) [
     | inl before ↦ f.free q before w

@@ -143,7 +143,7 @@ module _ (ctrl : List ℕ) where
           omega (arith, at, same, least, long)
 
 -- ---- marked slots, as they are listed
--- so many of `out` list what was listed before, and the marked slots but those that are left, as far as there is room
+-- that many of `out` list what was listed before, and the marked slots but those that are left, as far as there is room
 pub record IsListing (start : ℕ) (before marks left out : List ℕ) (listed : ℕ) : Type 0 where
   pub room : listed ≤ length out
   pub low : (i : ℕ) → Contains left i → start + i < 2 ^ 63

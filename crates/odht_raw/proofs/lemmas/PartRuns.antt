@@ -104,7 +104,7 @@ run_fits c es ctrl items n es' ctrl' (IsPartsRun.accepted before k v m o es1 ctr
     subst (All (IsPairOf c.format)) (sym (encoded_push c before k v)) (All-append (IsPairOf c.format) (encoded_all c before) (encoded c k v ∷ []) (run_fits c es ctrl before m es1 ctrl1 run)
     (All-cons (IsPairOf c.format) (encoded c k v) [] fits (All-nil (IsPairOf c.format))))
 
--- ---- a run with room for so many new entries
+-- ---- a run with room for that many new entries
 module _ {K V : Type 0} (c : Coding K V) (m : ℕ) (es0 ctrl0 : List ℕ) (items : List (K × V)) (from : ℕ) where
   -- no items
   pub run_to_none : IsRunTo c m es0 ctrl0 items from from 0 es0 ctrl0

@@ -1,4 +1,4 @@
--- One insert with room for so many new entries.
+-- One insert with room for that many new entries.
 use Rattle.std.proofs.Common.{◌≡◌, ◌<◌, ◌+◌, ◌-◌, ◌∙◌, ℕ, true, true≢false, inl, inr, sym, ap, subst, refl, arith, List, [], length, slice_index, Option, Some, None, Result, Ok, Err}
 use Rattle.std.specs.Prelude.{option_map, is_none, ◌↔◌}
 use Rattle.std.specs.Result.{result_map_both}

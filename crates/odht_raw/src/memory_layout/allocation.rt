@@ -67,7 +67,7 @@ impl<C: Config, M: ByteStore> Allocation<C, M> {
         })
     }
 
-    /// Opens the bytes as those of a table by their header and length alone. The result is the
+    /// Opens the bytes as those of a table only by their header and length. The result is the
     /// first error, if any: `TooShort`, then those of [`Header::sanity_check`]. No slot is read.
     /// On an error the data is dropped.
     #[inline(always)]

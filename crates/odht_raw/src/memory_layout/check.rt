@@ -158,7 +158,7 @@ pub fn check_parts<L: Lengths, H: HashFn>(
 }
 
 /// What the whole check adds to opening, of a header and the parts behind it, with a bound of
-/// searches where there is one: the first error alone.
+/// searches where there is one: only the first error.
 pub(super) fn check_late<S: TableSlots>(
     header: &Header<'_>,
     table: &S,
@@ -172,7 +172,7 @@ pub(super) fn check_late<S: TableSlots>(
     header.check_load_factor()?;
     header.check_padding()?;
     let control = table.control_bytes();
-    // From control bytes alone, before anything is searched for.
+    // Only from control bytes, before anything is searched for.
     let longer = longer_refusal(control, groups);
     let summary = check_slots(table, longer.is_none())?;
     check_mirror(control)?;

@@ -152,7 +152,7 @@ pub fn insert_dynamic_into<H: HashFn>(
 }
 
 /// `insert_dynamic` of a key and a value of a configuration, by a group search of the caller's
-/// choice, in bytes of so many slots.
+/// choice, in bytes of that many slots.
 #[inline(always)]
 pub(crate) fn insert_typed<C: Config, Q: Group>(
     bytes: &mut [u8],

@@ -32,7 +32,7 @@ pub fn stated_layout(bytes: &[u8]) -> Result<Layout, Error>
     Ok(Header::of(bytes).layout())
 }
 
-/// Checks the bytes as those of a table of these lengths by their header and length alone, and
+/// Checks the bytes as those of a table of these lengths only by their header and length, and
 /// returns the first error: `TooShort`, then those of [`Header::check_layout`]. No slot is read,
 /// and the hash function does not matter.
 #[inline]

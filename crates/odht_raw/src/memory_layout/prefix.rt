@@ -14,7 +14,7 @@ use crate::layout::Layout;
 /// at, nor is any slot.
 ///
 /// The first error: `TooShort`, then those of [`Header::sanity_check`], but `WrongLength` only
-/// where there are fewer bytes than the table has. It is Ok exactly where so many bytes would be
+/// where there are fewer bytes than the table has. It is Ok exactly where that many bytes would be
 /// accepted by
 /// [`Allocation::from_raw_bytes_by_header`](super::Allocation::from_raw_bytes_by_header), and then
 /// no other number of bytes at the front would. Constant time.

@@ -1,4 +1,4 @@
-//! How many groups a search may read, told from control bytes alone.
+//! How many groups a search may read, computed only from control bytes.
 ghost use Rattle.std.specs.Prelude.{◌≡◌, ◌-◌, ◌<◌, ◌≤◌, ◌↔◌, ℕ, List, IsTrue, IfSome, None, false};
 ghost use Rattle.std.specs.Prelude.{length};
 ghost use Rattle.odht_base.specs.Format.{format_of};
@@ -33,7 +33,7 @@ impl<'a, L: Lengths, H: HashFn> Parts<'a, L, H> {
 impl<'a, K: ByteArray, V: ByteArray, H: HashFn> RawTable<'a, K, V, H> {
     /// Whether each home has, among the first `groups` groups of its probe order, a control byte
     /// that counts as free. Then no search in a placed table, of a present or an absent key, reads
-    /// more. It reads control bytes alone.
+    /// more. It reads only control bytes.
     pub fn searches_within(&self, groups: usize) -> bool
         ensures bytes { IsTrue result ↔ (first_longer self.now.control groups ≡ None) }
         ensures bound { let F = format_of K.LEN V.LEN H.hash
@@ -78,7 +78,7 @@ fn first_longer(control: &[EntryMetadata], groups: usize) -> Option<usize>
     None
 }
 
-// From this home and those after it, so many in all, no search reads more than `groups` groups.
+// From this home and those after it, that many in all, no search reads more than `groups` groups.
 // None where one from this home may.
 //
 // The groups that these searches read begin one slot after the other. So where one has a free

@@ -69,10 +69,10 @@ fn find_end<K: ByteArray, V: ByteArray, H: HashFn, Q: Group>(
     (end, tag_of(hash))
 }
 
-/// Writes a pair where the search for its key ended, which comes with the key's tag: the value
-/// alone into the slot that holds the key, or, where there is room, the entry with its tag into
-/// the free slot. Returns the former value; or `Full`, with nothing changed, where there is no
-/// room for a new entry, or the search met neither slot.
+/// Writes a pair where the search for its key ended, which comes with the key's tag: only the value
+/// into the slot that holds the key, or, where there is room, the entry with its tag into the free
+/// slot. Returns the former value; or `Full`, with nothing changed, where there is no room for a
+/// new entry, or the search met neither slot.
 // Each kind of end has a call of its own, so that the compiler goes from where a search ends to
 // what is written there, with no second test of the kind.
 #[inline(always)]

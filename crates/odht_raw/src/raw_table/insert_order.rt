@@ -297,7 +297,7 @@ fn is_range_waiting(start: usize, end: usize, slots: &[usize]) -> bool
     false
 }
 
-// Sorts the list, whose slots are in slot order, and of which so many are placed: these come
+// Sorts the list, whose slots are in slot order, and of which that many are placed: these come
 // first, and behind them those that wait. The placed ones keep their order as they are moved, so
 // only the others are sorted, of which there are few in most tables, and in many none.
 fn sort_placed_first(slots: &mut [usize], placed: usize)

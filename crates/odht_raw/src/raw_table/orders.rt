@@ -23,7 +23,7 @@ impl<'a, K: ByteArray, V: ByteArray, H: HashFn> RawTable<'a, K, V, H> {
     /// places none: at most one pass more than there are slots that wait for a slot of a higher
     /// index. In a pass a slot in the first group of its probe order and not below its home takes
     /// one step. Any other takes one or two binary searches in the list of the pass for each group
-    /// up to its own, but for those that were passed before from the same home, as far as that is
+    /// up to its own, except those that were passed before from the same home, as far as that is
     /// kept, for 64 homes. After each pass the slots that still wait are sorted. It allocates
     /// nothing.
     pub fn insert_order(&self, out: &mut [usize]) -> bool
@@ -42,7 +42,7 @@ impl<'a, K: ByteArray, V: ByteArray, H: HashFn> RawTable<'a, K, V, H> {
         self.parts().insert_order_scratch()
     }
 
-    /// `insert_order` for tables of strangers: it returns the same. `scratch` has as many numbers
+    /// `insert_order` for untrusted tables: it returns the same. `scratch` has as many numbers
     /// as `insert_order_scratch` says or more, of any values; with fewer this is `insert_order`,
     /// in the time that that takes. The clause says that `out` has an order; that it is the same
     /// one is tested.

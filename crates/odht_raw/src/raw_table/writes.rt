@@ -27,10 +27,10 @@ use crate::layout::Lengths;
 use crate::memory_layout::prove_bytes;
 use crate::swisstable_group_query::{Group, REFERENCE_GROUP_SIZE};
 
-/// Writes a pair where the search for its key ended, which comes with the key's tag: the value
-/// alone into the slot that holds the key, or, where there is room, the entry with its tag into
-/// the free slot. Returns whether it wrote: not, with nothing changed, where there is no room for a
-/// new entry, or the search met neither slot. The caller's error is `Full` then.
+/// Writes a pair where the search for its key ended, which comes with the key's tag: only the value
+/// into the slot that holds the key, or, where there is room, the entry with its tag into the free
+/// slot. Returns whether it wrote: not, with nothing changed, where there is no room for a new
+/// entry, or the search met neither slot. The caller's error is `Full` then.
 ///
 /// In the clause the former value stands in an Ok. It is not returned.
 // It returns no `Result`: the room for its errors is cleared, which kept the compiler from going

@@ -23,14 +23,14 @@ fn factor(rt: &impl Abort) -> Factor
     factor
 }
 
-// The slot count of a new table for so many items.
+// The slot count of a new table for that many items.
 fn slots_for(rt: &impl Abort, items: usize) -> usize
     ensures { IsSlotCount result }
 {
     slots_needed(items, factor(rt)).expect(rt, "slots")
 }
 
-// Writes a pair slot by slot into the parts of a table of so many slots.
+// Writes a pair slot by slot into the parts of a table of that many slots.
 fn insert_plainly<C: Config>(
     rt: &impl Abort,
     slots: usize,
@@ -50,7 +50,7 @@ fn insert_plainly<C: Config>(
     assert!(rt; inserted.is_ok());
 }
 
-// The bytes of a new table for so many items.
+// The bytes of a new table for that many items.
 fn empty_table<C: Config>(rt: &impl Abort, alloc: Global, items: usize) -> Vec<u8> {
     let made = HashTableOwned::<C>::with_capacity(alloc, items, 87);
     let table = made.expect(rt, "a table");

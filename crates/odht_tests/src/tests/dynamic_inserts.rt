@@ -1,4 +1,4 @@
-//! Tables whose lengths are known at run time alone, written: one of each length of keys and of
+//! Dynamic tables, written: one of each length of keys and of
 //! values, a ready shape beside its twin, and what is refused.
 use crate::tests::checks::{same, same_at, same_bytes};
 use odht::bytes::{Borrowed, BorrowedMut};

@@ -1,4 +1,4 @@
-//! Tables whose lengths are known at run time alone: lookups and inserts of lists, and a table
+//! Dynamic tables: lookups and inserts of lists, and a table
 //! inside longer bytes.
 use crate::tests::checks::{same, same_bytes};
 use crate::tests::owned_tables::byte_with_a_pair;

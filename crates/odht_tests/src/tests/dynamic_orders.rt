@@ -1,4 +1,4 @@
-//! Orders of inserts of tables whose lengths are known at run time alone: that of a typed table
+//! Orders of inserts of dynamic tables: that of a typed table
 //! with the same bytes, and of keys of five bytes, one that inserts make and one that none make.
 //! Their bytes are written by docs/FORMAT.md.
 use crate::tests::checks::same;

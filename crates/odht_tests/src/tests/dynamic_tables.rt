@@ -1,4 +1,4 @@
-//! Tables whose lengths are known at run time alone: a ready shape beside its twin, and what is
+//! Dynamic tables: a ready shape beside its twin, and what is
 //! rejected.
 use crate::tests::checks::{same, same_at};
 use odht::bytes::Borrowed;

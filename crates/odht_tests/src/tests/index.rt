@@ -13,7 +13,7 @@ const B: [u8; 16] = [1, 0, 0, 0, 0, 0, 0, 0, 0, 0, 0, 0, 5, 0, 0, 0];
 
 const PAIRS: [([u8; 16], u32); 3] = [(A, 1), (B, 2), (A, 3)];
 
-// The header for sixteen slots at 87 percent, but for the item count.
+// The header for sixteen slots at 87 percent, except the item count.
 const HEADER: [u8; 32] = [
     b'O', b'D', b'H', b'T', 1, 16, 4, 32, 0, 0, 0, 0, 0, 0, 0, 0, 16, 0, 0, 0, 0, 0, 0, 0, 0, 0, 0,
     2, 0xb7, 0xde, 0, 0,

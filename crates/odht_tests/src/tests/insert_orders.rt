@@ -101,7 +101,7 @@ fn check_linear_order<C: Config>(
     same(rt, "the same order", other.as_slice(), order);
 }
 
-/// Asserts that an order of inserts is found of a table that was made for so many items at 87
+/// Asserts that an order of inserts is found of a table that was made for that many items at 87
 /// percent, the same where its lengths are numbers, that it lists each occupied slot once, and
 /// that inserts in this order into a new table for as many leave its bytes.
 pub fn check_insert_order<C: Config>(

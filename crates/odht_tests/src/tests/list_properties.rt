@@ -151,7 +151,7 @@ fn check_bytes_deterministic<K: Short, V: Short>(
     same_bytes(rt, "bytes", table.raw_bytes(), again.raw_bytes());
 }
 
-// A new table for so many items.
+// A new table for that many items.
 fn new_table<K: Short, V: Short>(
     rt: &impl Abort,
     alloc: Global,

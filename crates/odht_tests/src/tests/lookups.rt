@@ -25,7 +25,7 @@ fn thirty_one_pairs(rt: &impl Abort, alloc: Global) -> HashTableOwned<U32ToU32> 
     table
 }
 
-// Looks up so many keys in a view.
+// Looks up that many keys in a view.
 fn look_up_in_view<D: ByteStore>(rt: &impl Abort, table: &HashTable<U32ToU32, D>, count: usize) {
     assert!(rt; count <= 17);
     let keys = &KEYS[..count];
@@ -45,7 +45,7 @@ fn look_up_in_view<D: ByteStore>(rt: &impl Abort, table: &HashTable<U32ToU32, D>
     }
 }
 
-// Looks up so many keys in a table that grows.
+// Looks up that many keys in a table that grows.
 fn look_up_in_owned(rt: &impl Abort, table: &HashTableOwned<U32ToU32>, count: usize) {
     assert!(rt; count <= 17);
     let keys = &KEYS[..count];

@@ -6,7 +6,7 @@ use crate::tests::checks::{same, same_at};
 use odht::configs::{DirectU32ToU32, U32ToU32};
 use odht::{Lossless, laws};
 
-// What the bytes of a key and of a value decode to, through the bound alone.
+// What the bytes of a key and of a value decode to, only through the bound.
 fn brought_back<C: Lossless>(key: &C::Key, value: &C::Value) -> (C::Key, C::Value)
     ensures key { result.0 ≡ key.now }
     ensures value { result.1 ≡ value.now }

@@ -37,7 +37,7 @@ fn changed_file(at: usize, byte: u8) -> [u8; 256] {
     bytes
 }
 
-// The error of so many bytes for a table that has more.
+// The error of that many bytes for a table that has more.
 fn cut(slot_count: usize, found: usize, expected: u128) -> Error {
     Error::WrongLength {
         slot_count,

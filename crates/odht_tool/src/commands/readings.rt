@@ -1,4 +1,4 @@
-//! The commands that read their file alone, over the bytes of the file.
+//! The commands that only read their file, over the bytes of the file.
 use odht_tool_core::arguments::{Keys, Reading};
 use odht_tool_core::failure::Failure;
 use odht_tool_core::forms::Kinds;
@@ -10,7 +10,7 @@ use odht_tool_tables::trials::advice_of;
 use std::alloc::Global;
 use std::io::{BufRead, Write};
 
-/// Runs a command that reads its file alone, which has these bytes, from `at` on where that is
+/// Runs a command that only reads its file, which has these bytes, from `at` on where that is
 /// told, and may be the only one.
 pub fn run_reading<I: BufRead, O: Write, E: Write>(
     alloc: Global,

@@ -1,4 +1,4 @@
--- Worked examples: bytes of a length that is known at run time alone, as text, and tables of such lengths.
+-- Worked examples: bytes of a length that is known only at run time, as text, and tables of such lengths.
 --     wide_bytes           bytes whose header states keys of six and values of eight bytes
 use Rattle.std.proofs.Common.{◌≡◌, ℕ, List, refl, [], ◌∷◌, Some, Ok, Err, arith}
 use Rattle.std.specs.Prelude.{codes}

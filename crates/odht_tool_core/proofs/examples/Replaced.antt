@@ -13,7 +13,7 @@ pub kinds : (obstacle_of 0o040755 3 true ≡ Some Folder)
     × (obstacle_of 0o120777 1 true ≡ Some Irregular)
 kinds = (refl, refl, refl, refl, refl, refl)
 
--- a regular file is where its owner may write it, whoever else may
+-- a regular file is where its owner may write it, who else may
 pub owners : (obstacle_of 0o100600 1 false ≡ None)
     × (obstacle_of 0o100200 1 false ≡ None)
     × (obstacle_of 0o100444 1 false ≡ Some ReadOnly)
@@ -33,7 +33,7 @@ pub text : obstacle_text ReadOnly ≡ 105 ∷ 116 ∷ 115 ∷ 32 ∷ 111 ∷ 119
 text = refl
 
 -- ---- the permissions of the new file
--- with the owner and the group of the old one: those of the old one, but for the rights to run as these
+-- with the owner and the group of the old one: those of the old one, except the rights to run as these
 pub kept : (kept_mode 0o100600 true true ≡ 0o600)
     × (kept_mode 0o100664 true true ≡ 0o664)
     × (kept_mode 0o106755 true true ≡ 0o755)

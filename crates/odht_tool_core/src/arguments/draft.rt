@@ -233,7 +233,7 @@ impl Draft {
     fn reading(&self) -> Reading {
         let (hash, kinds, bound) = (self.hash, self.kinds, bound_of(self.is_whole));
         match self.topic {
-            // begin readings: made of commands.txt by tools/commands; `make manual` makes it anew
+            // begin readings: generated from lists/commands.txt by make generate
             Topic::Info => Reading::Info {
                 bound,
                 is_json: self.is_json,

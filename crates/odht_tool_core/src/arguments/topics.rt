@@ -1,4 +1,4 @@
-//! The commands and their options: made of commands.txt by tools/commands; `make manual` makes it anew.
+//! The commands and their options. Generated from lists/commands.txt by make generate.
 ghost use Rattle.std.specs.Prelude.{◌≡◌, bytes_eq, find};
 ghost use Rattle.odht_tool_core.specs.Commands.{command_name, commands, option_name, options_of};
 ghost use Rattle.odht_tool_core.specs.Near.{is_near};

@@ -1,4 +1,4 @@
-//! The shapes in the help of `build`: made of shapes.txt by `make exports`.
+//! The shapes in the help of `build`. Generated from lists/shapes.txt by make generate.
 
 /// A line for each ready shape.
 pub(super) const READY: &str = "\

@@ -1,4 +1,4 @@
-//! The ready shapes: made of shapes.txt by `make exports`.
+//! The ready shapes. Generated from lists/shapes.txt by make generate.
 ghost use Rattle.std.specs.Prelude.{◌≡◌};
 ghost use Rattle.odht_tool_core.specs.ShapeList.{key_part, value_part, shape_hash};
 

@@ -50,7 +50,7 @@ pub miscounted : check_outcome (codes "a") (overwritten_at one_bytes 8 (2 ∷ []
 unfolding opened digits
 miscounted = refl
 
--- a table of other sizes, whose key has another home by its hash than the slot that it is in; and keys of three bytes,
+-- a dynamic table, whose key has another home by its hash than the slot that it is in; and keys of three bytes,
 -- which are too short for a hash function
 pub any_sizes : (check_outcome (codes "a") other_bytes (Some Unhash) None ≡ writes (codes "a: Key in slot 5 is not reachable by its search\n") NotDone)
     × (check_outcome (codes "a") (overwritten_at one_bytes 5 (3 ∷ [])) (Some Unhash) None ≡ fails (ShortKeys 3))
@@ -74,7 +74,7 @@ pub slots : dump_outcome one_bytes (Some Unhash) unsaid true false ≡ writes (c
 unfolding opened digits groups_to
 slots = refl
 
--- of other sizes in hexadecimal digits, where their types are said to be so many bytes, or nothing is said of them
+-- of other sizes in hexadecimal digits, where their types are said to be that many bytes, or nothing is said of them
 pub hexadecimal : (dump_outcome other_bytes None unsaid false false ≡ writes (codes "050000000700\t0000\n") Done)
     × (dump_outcome other_bytes None (said (kind (Bytes 6) Own) (kind (Bytes 2) Own)) true false ≡ writes (codes "5\t0\t1\t050000000700\t0000\n") Done)
     × (dump_outcome other_bytes None (said (kind (Bytes 6) Own) (kind U32 Own)) true false ≡ fails (OtherValue (Bytes 2)))

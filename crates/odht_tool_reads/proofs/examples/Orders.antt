@@ -42,7 +42,7 @@ pub written_without_memory : IsFileOrdered one_bytes (Some Unhash) unsaid None (
 unfolding opened first_longer digits
 written_without_memory h = unequal_lists (codes "ab") (codes "a") refl h
 
--- the same in hexadecimal digits, as tables of other sizes have them
+-- the same in hexadecimal digits, as dynamic tables have them
 pub in_hex : IsOrderText (other_format (other 4 4 Unhash)) (texts_of (Other (other 4 4 Unhash)) own) fifteen_first (codes "0f000000\t0f000000\n1f000000\t1f000000\n")
 in_hex = (15 ∷ 0 ∷ [], fifteen_order, refl)
 

@@ -1,4 +1,4 @@
-//! Lookups in the tables of configurations, and of lengths that are known at run time alone.
+//! Lookups in the tables of configurations, and of lengths that are known only at run time.
 ghost use Rattle.std.specs.Prelude.{IfOk};
 ghost use Rattle.odht.specs.Dynamic.{dyn_coding};
 ghost use Rattle.odht.specs.Gets.{IsGet};

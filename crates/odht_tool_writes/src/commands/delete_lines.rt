@@ -95,7 +95,7 @@ fn read_lines<K: Text, I: BufRead>(
             return Ok(KeyLines { lines, keys });
         }
     }
-    // There is no room for so many.
+    // There is no room for that many.
     Err(Failure::Memory)
 }
 

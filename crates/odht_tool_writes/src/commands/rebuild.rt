@@ -1,4 +1,4 @@
-//! `odht rebuild`: a table file anew, of another load factor or hash function.
+//! `odht rebuild`: a table file from scratch, of another load factor or hash function.
 ghost use Rattle.std.specs.Prelude.{◌≡◌, ◌≤◌, All, IfErr, IfOk, Err, OnErr, OnOk};
 ghost use Rattle.odht_base.specs.Decoded.{header_count};
 ghost use Rattle.odht_base.specs.Format.{format_of};
@@ -242,7 +242,7 @@ pub fn counted_pair<R: Clock, E: Write>(
     count
 }
 
-/// Reports that all pairs are copied, which are so many.
+/// Reports that all pairs are copied, which are that many.
 pub fn end_pairs<R: Clock, E: Write>(rt: &R, count: u64, progress: Progress, errors: &mut E) {
     // A progress line that cannot be written is no failure.
     let _ = progress.end_pairs(rt, count, errors);

@@ -1,4 +1,4 @@
-//! `odht build` and `odht put` of tables of other sizes than the ready shapes have.
+//! `odht build` and `odht put` of dynamic tables.
 ghost use Rattle.std.specs.Prelude.{◌≡◌, ◌≤◌, None, IfErr, IfOk};
 ghost use Rattle.odht_base.specs.Format.{format_of};
 ghost use Rattle.odht_header.specs.Refusals.{check_refusal_by};
@@ -92,7 +92,7 @@ where
     insert_lines(rt, place, table, forms, options, input, output, errors)
 }
 
-/// An empty table of these lengths, for so many items.
+/// An empty table of these lengths, for that many items.
 pub fn make_lengths<H: HashFn>(
     alloc: Global,
     layout: Layout,

@@ -1,4 +1,4 @@
-//! `odht delete` of tables of any lengths of keys and values.
+//! `odht delete` of dynamic tables.
 ghost use Rattle.std.specs.Prelude.{◌≡◌, ◌≤◌, ◌++◌, ◌∷◌, [], List, ℕ, IfOk, Err, OnErr, OnOk};
 ghost use Rattle.std.specs.Prelude.{All, length, map};
 ghost use Rattle.std.specs.Io.KnownBytes.{Appends};

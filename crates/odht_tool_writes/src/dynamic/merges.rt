@@ -1,4 +1,4 @@
-//! `odht merge` of tables of any lengths of keys and values.
+//! `odht merge` of dynamic tables.
 ghost use Rattle.std.specs.Prelude.{◌≡◌, ◌≤◌, ◌++◌, ◌∷◌, [], List, IfErr, IfOk, IfSome, Err};
 ghost use Rattle.std.specs.Prelude.{OnErr, OnOk, All, length, map, option_map};
 ghost use Rattle.odht_base.specs.Decoded.{decoded_pairs};

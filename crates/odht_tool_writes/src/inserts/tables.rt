@@ -1,4 +1,4 @@
-//! Inserts into the tables of configurations, and of lengths that are known at run time alone.
+//! Inserts into the tables of configurations, and of lengths that are known only at run time.
 ghost use Rattle.std.specs.Prelude.{◌≡◌, Err, IfOk, OnErr, OnOk};
 ghost use Rattle.odht_base.specs.Valid.{IsImage};
 ghost use Rattle.odht.specs.Dynamic.{dyn_coding, dyn_format};
@@ -127,7 +127,7 @@ fn insert_each<H: HashFn>(
     Ok(())
 }
 
-// The same of a table of lengths that are known at run time alone, which those of the key and the
+// The same of a table of lengths that are known only at run time, which those of the key and the
 // value are.
 fn insert_absent_bytes<H: HashFn>(
     table: &mut DynTableOwned<H>,

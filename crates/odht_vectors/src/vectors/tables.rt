@@ -149,7 +149,7 @@ fn read_whole<C: Config>(call: &str, view: &View<C>, answer: &mut Answer) -> Res
     }
 }
 
-// Reads a line of the dump, or checks so many slots.
+// Reads a line of the dump, or checks that many slots.
 fn read_slots<C: Config>(
     case: &Case<'_>,
     view: &View<C>,
@@ -193,7 +193,7 @@ fn needed<C: Config>(case: &Case<'_>, answer: &mut Answer) -> Result<(), Fault> 
     answer.number(bytes_needed::<C>(items, percent.value()))
 }
 
-// How many bytes a table of so many slots has.
+// How many bytes a table of that many slots has.
 fn table_len<C: Config>(case: &Case<'_>, answer: &mut Answer) -> Result<(), Fault> {
     let [slots] = case.args else {
         return Err(Fault::Unread);
@@ -201,7 +201,7 @@ fn table_len<C: Config>(case: &Case<'_>, answer: &mut Answer) -> Result<(), Faul
     answer.number(memory_layout::bytes_needed::<C>(number(*slots)?))
 }
 
-// A new table in so many bytes, which had other contents before.
+// A new table in that many bytes, which had other contents before.
 fn new_table<C: Config>(case: &Case<'_>, answer: &mut Answer) -> Result<(), Fault> {
     let [count, of_percent, len] = case.args else {
         return Err(Fault::Unread);

@@ -14,7 +14,8 @@ impl From<AllocError> for Error {
     }
 }
 
-/// That the system does not follow so many links. The kind for it is not in the stable part of Rust's std.
+/// That the system does not follow that many links. The kind for it is not in the stable part of
+/// Rust's std.
 pub fn filesystem_loop() -> Error {
     Error::other("filesystem loop or indirection limit (e.g. symlink loop)")
 }
@@ -69,7 +70,7 @@ pub struct BufReader<R> {
 }
 
 impl<R: Read> BufReader<R> {
-    /// With a buffer of so many bytes.
+    /// With a buffer of that many bytes.
     pub fn with_capacity(alloc: Global, len: usize, inner: R) -> Result<BufReader<R>> {
         Ok(BufReader { inner, bytes: zeroed_bytes(alloc, len)?, at: 0, end: 0 })
     }
@@ -114,7 +115,7 @@ impl<W: Write> BufWriter<W> {
         BufWriter::with_capacity(alloc, 8192, inner)
     }
 
-    /// With a buffer of so many bytes.
+    /// With a buffer of that many bytes.
     pub fn with_capacity(alloc: Global, len: usize, inner: W) -> Result<BufWriter<W>> {
         Ok(BufWriter { inner: Some(inner), bytes: with_capacity(alloc, len)? })
     }

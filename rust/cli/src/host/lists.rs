@@ -7,7 +7,7 @@ pub fn empty<T>(_alloc: Global) -> Vec<T> {
     Vec::new()
 }
 
-/// An item so many times.
+/// An item that many times.
 pub fn filled<T: Clone>(alloc: Global, item: T, count: usize) -> Result<Vec<T>, AllocError> {
     let mut list = crate::shim::with_capacity(alloc, count)?;
     list.resize(count, item);

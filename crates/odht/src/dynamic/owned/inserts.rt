@@ -1,4 +1,4 @@
-//! Inserts into the owned table whose lengths are known at run time alone, and its growth.
+//! Inserts into the owned dynamic table, and its growth.
 ghost use Rattle.std.specs.Prelude.{◌≡◌, ◌≢◌, length, IfSome, Err, OnErr};
 ghost use Rattle.odht_base.specs.Insert.{IsFullFor};
 ghost use Rattle.odht.specs.Dynamic.{dyn_format, dyn_store};
@@ -24,7 +24,7 @@ impl<H: HashFn> DynTableOwned<H> {
     /// grown table would need more than 2^63 slots, or more bytes than a `usize` counts; that it
     /// comes for no other reason, no clause says. On an error nothing changes.
     ///
-    /// The key is hashed once, and once more at a growth, which hashes and places each item again.
+    /// The key is hashed once, and again at a growth, which hashes and places each item again.
     pub fn insert(&mut self, key: &[u8], value: &[u8]) -> Result<Option<ShortBytes>, DynError>
         // Of a key and a value of the table's lengths.
         ensures inserted { length key.now ≡ self.old.key_len

@@ -1,5 +1,4 @@
-//! Room for items that are still to come, of the owned table whose lengths are known at run time
-//! alone.
+//! Room for items that are still to come, of the owned dynamic table.
 ghost use Rattle.std.specs.Prelude.{◌≡◌, IfSome, OnErr};
 ghost use Rattle.odht_base.specs.Image.{image_len};
 ghost use Rattle.odht_base.specs.Load.{IsSlotCount};
@@ -16,7 +15,7 @@ use crate::memory_layout::Header;
 use crate::reserve::sizes_for_more;
 
 impl<H: HashFn> DynTableOwned<H> {
-    /// Makes room for `additional` more items: so many new keys can be inserted before the table
+    /// Makes room for `additional` more items: that many new keys can be inserted before the table
     /// grows. Where it has the room nothing changes, and no memory is asked for. Otherwise the
     /// pairs are placed in slot order into the least slot count that is enough for as many items
     /// as there are and `additional` more, at the same load factor, as at a growth.
@@ -46,8 +45,8 @@ impl<H: HashFn> DynTableOwned<H> {
         Ok(())
     }
 
-    // The pairs of this table, placed in slot order into so many slots in new memory. `len` is the
-    // length for them. None where the allocator gives no memory.
+    // The pairs of this table, placed in slot order into that many slots in new memory. `len` is
+    // the length for them. None where the allocator gives no memory.
     #[inline(never)]
     fn moved(&self, slot_count: usize, len: usize) -> Option<DynTable<H, OwnedBytes>>
         requires slots { IsSlotCount slot_count }

@@ -1,4 +1,4 @@
-//! The bytes of new owned tables whose lengths are known at run time alone.
+//! The bytes of new owned dynamic tables.
 ghost use Rattle.std.specs.Prelude.{◌≡◌, ◌≤◌, IfOk};
 ghost use Rattle.odht_base.specs.Format.{format_of};
 ghost use Rattle.odht_base.specs.Load.{factor_of, IsPercent};
@@ -15,7 +15,7 @@ use crate::load::Factor;
 use crate::memory_layout::{check_dynamic, check_opening, init_parts};
 use std::alloc::Global;
 
-// The bytes of an empty table of these lengths with the slots for so many items.
+// The bytes of an empty table of these lengths with the slots for that many items.
 pub(super) fn empty<H: HashFn>(
     alloc: Global,
     layout: Layout,

@@ -1,5 +1,5 @@
 //! Single writes to the bytes of a table, for callers who search themselves: an entry with its
-//! tag, a value alone, and the item count. No insert of the library calls them: it writes the
+//! tag, only a value, and the item count. No insert of the library calls them: it writes the
 //! parts (`fill_slot`) and the count (`write_count`).
 ghost use Rattle.std.specs.Prelude.{◌≡◌, ◌<◌};
 ghost use Rattle.odht_base.specs.Numbers.{IsBytes};
@@ -63,7 +63,7 @@ impl<C: Config, M: ByteStoreMut> Allocation<C, M> {
         );
     }
 
-    /// Writes the value alone into the entry of a slot. No other byte changes. The clause `value`
+    /// Writes only the value into the entry of a slot. No other byte changes. The clause `value`
     /// says that it has the length of the format.
     #[inline(always)]
     pub fn write_value(&mut self, slot: usize, value: &C::EncodedValue)

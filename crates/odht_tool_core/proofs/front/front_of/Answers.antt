@@ -16,7 +16,7 @@ returns-in_err-layout-clause-err c =
     let failed : c.from_residual.result ≡ Err c.in_err-layout.field-0.0 = search rules in
     ap result_err failed ∙ ap result_err c.in_err-layout.ensures.err ∙ sym (prefix_refusal-short (format_by B Fx) B c.in_err-layout.ensures.short)
 
--- so many bytes are the front, of the lengths that the header states
+-- that many bytes are the front, of the lengths that the header states
 is_front : (c : In_ok-len) → IsFront (format_by c.args.bytes.now Fx) c.args.bytes.now c.in_ok-len.len
 is_front c =
     let B = c.args.bytes.now in

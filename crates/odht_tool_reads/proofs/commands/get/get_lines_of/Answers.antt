@@ -1,4 +1,4 @@
--- An answer for each shape: made of shapes.txt by `make exports`.
+-- An answer for each shape. Generated from lists/shapes.txt by make generate.
 use Rattle.odht_tool_reads.proofs.commands.get.get_lines_of.Goals as goal
 
 pub returns-in-U32ToU32 : goal.returns-in-U32ToU32

@@ -1,0 +1,143 @@
+// Generated from crates/odht_calls/src/any/build.rt by make generate.
+//! Dynamic tables that are built from pairs: in the caller's bytes, or in memory of their
+//! own and then copied to the caller's.
+
+use super::lists::insert_pieces;
+use super::pieces::{are_pieces, deciding_pairs, piece};
+use super::write::init_by;
+use super::{with_hash, AnyLayout};
+use crate::generated::calls::build::hand_out;
+use crate::generated::calls::status::{BAD_LENGTHS, BAD_PERCENT, CAPACITY, MEMORY, OK, TOO_SMALL};
+use crate::generated::tables::bytes::Borrowed;
+use crate::generated::tables::dynamic::{DynTable, DynTableOwned};
+use crate::generated::tables::hash::HashFn;
+use crate::generated::tables::layout::Layout;
+use crate::generated::tables::load::Percent;
+use crate::shim::Global;
+
+// Makes an empty table in the bytes, whatever they hold, and inserts the pairs in order: there is
+// room for each.
+fn insert_into_new<H: HashFn>(
+    layout: Layout,
+    bytes: &mut [u8],
+    percent: u8,
+    count: usize,
+    keys: &[u8],
+    values: &[u8],
+) {
+    let mut accepted = 0;
+    let _ = init_by::<H>(layout, bytes, count, percent);
+    let _ = insert_pieces::<H>(layout, bytes, count, keys, values, &mut accepted);
+}
+
+// The build of `count` pairs.
+fn build_pieces<H: HashFn>(
+    layout: Layout,
+    count: usize,
+    keys: &[u8],
+    values: &[u8],
+    max_load_factor_percent: u8,
+    out: &mut [u8],
+    len: &mut usize,
+) -> u32 {
+    let Some(percent) = Percent::new(max_load_factor_percent) else {
+        return BAD_PERCENT;
+    };
+    let Some(needed) = DynTable::<H, Borrowed<'_>>::bytes_needed(layout, count, percent.value())
+    else {
+        return CAPACITY;
+    };
+    *len = needed;
+    if out.len() < needed {
+        return TOO_SMALL;
+    }
+    insert_into_new::<H>(layout, &mut out[..needed], percent.value(), count, keys, values);
+    OK
+}
+
+fn build_by<H: HashFn>(
+    layout: Layout,
+    count: usize,
+    keys: &[u8],
+    values: &[u8],
+    max_load_factor_percent: u8,
+    out: &mut [u8],
+    len: &mut usize,
+) -> u32 {
+    if !are_pieces(layout, count, keys, values) {
+        return BAD_LENGTHS;
+    }
+    build_pieces::<H>(layout, count, keys, values, max_load_factor_percent, out, len)
+}
+
+/// Builds a table of `count` pairs at the front of `out`, with slots for as many items as there
+/// are pairs, and writes its length in bytes to `len`. BAD_LENGTHS, BAD_PERCENT and CAPACITY leave
+/// both unchanged, TOO_SMALL leaves `out` unchanged. Allocates nothing.
+pub fn build(
+    layout: AnyLayout,
+    count: usize,
+    keys: &[u8],
+    values: &[u8],
+    max_load_factor_percent: u8,
+    out: &mut [u8],
+    len: &mut usize,
+) -> u32 {
+    let percent = max_load_factor_percent;
+    with_hash!(layout, build_by(count, keys, values, percent, out, len))
+}
+
+// The build of `count` pairs in memory of its own.
+fn grow_pieces<H: HashFn>(
+    alloc: Global,
+    layout: Layout,
+    count: usize,
+    keys: &[u8],
+    values: &[u8],
+    out: &mut [u8],
+    len: &mut usize,
+) -> u32 {
+    // Sixteen slots are never too many, so the only error is that there is no memory.
+    let mut table = match DynTableOwned::<H>::with_capacity(alloc, layout, 12, 87) {
+        Ok(table) => table,
+        Err(_refused) => return MEMORY,
+    };
+    let deciding = deciding_pairs(layout, count);
+    for index in 0..deciding {
+        let key = piece(keys, layout.key_len, index);
+        let value = piece(values, layout.value_len, index);
+        if let Err(_refused) = table.insert(key, value) {
+            return MEMORY;
+        }
+    }
+    hand_out(table.raw_bytes(), out, len)
+}
+
+fn build_growing_by<H: HashFn>(
+    layout: Layout,
+    alloc: Global,
+    count: usize,
+    keys: &[u8],
+    values: &[u8],
+    out: &mut [u8],
+    len: &mut usize,
+) -> u32 {
+    if !are_pieces(layout, count, keys, values) {
+        return BAD_LENGTHS;
+    }
+    grow_pieces::<H>(alloc, layout, count, keys, values, out, len)
+}
+
+/// Builds a table of `count` pairs in memory of its own, which starts with sixteen slots at 87
+/// percent and grows, and copies it to the front of `out`. BAD_LENGTHS and MEMORY leave `out` and
+/// `len` unchanged, TOO_SMALL leaves `out` unchanged.
+pub fn build_growing(
+    alloc: Global,
+    layout: AnyLayout,
+    count: usize,
+    keys: &[u8],
+    values: &[u8],
+    out: &mut [u8],
+    len: &mut usize,
+) -> u32 {
+    with_hash!(layout, build_growing_by(alloc, count, keys, values, out, len))
+}

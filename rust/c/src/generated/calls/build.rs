@@ -1,0 +1,113 @@
+// Generated from crates/odht_calls/src/build.rt by make generate.
+//! Tables that are built from pairs: in the caller's bytes, or in memory of their own and then
+//! copied to the caller's.
+
+use crate::generated::calls::status::{status_of, BAD_PERCENT, CAPACITY, OK, TOO_SMALL};
+use crate::generated::tables::bytes::{BorrowedMut, ByteArray, ByteStoreMut};
+use crate::generated::tables::config::Config;
+use crate::generated::tables::items::Zipped;
+use crate::generated::tables::load::Percent;
+use crate::generated::tables::{bytes_needed, HashTable, HashTableOwned};
+use crate::shim::Global;
+
+/// Builds a table of the pairs at the front of `out`, with slots for as many items as there are
+/// pairs, and writes its length in bytes to `len`. BAD_PERCENT and CAPACITY leave both unchanged,
+/// TOO_SMALL leaves `out` unchanged. Allocates nothing.
+#[inline]
+pub fn collected<C: Config>(
+    keys: &[C::Key],
+    values: &[C::Value],
+    max_load_factor_percent: u8,
+    out: &mut [u8],
+    len: &mut usize,
+) -> u32 {
+    let Some(percent) = Percent::new(max_load_factor_percent) else {
+        return BAD_PERCENT;
+    };
+    let Some(needed) = bytes_needed::<C>(keys.len(), percent.value()) else {
+        return CAPACITY;
+    };
+    *len = needed;
+    if out.len() < needed {
+        hold_pairs::<C>(keys, values);
+        return TOO_SMALL;
+    }
+    insert_into_new::<C>(&mut out[..needed], percent, keys, values);
+    OK
+}
+
+// Encodes each key and value and drops the bytes. It changes nothing: only the clause matters,
+// which the proof needs. It is not a law of `ByteArray`, since a law speaks of every value of the
+// logic: there a `[u8; 2]` is any list of numbers, and that it has two bytes is known only of one
+// that a function has read.
+#[inline(always)]
+fn hold_pairs<C: Config>(keys: &[C::Key], values: &[C::Value]) {
+    for index in 0..keys.len() {
+        let key = C::encode_key(&keys[index]);
+        let value = C::encode_value(&values[index]);
+        let _ = key.as_slice();
+        let _ = value.as_slice();
+    }
+}
+
+// Makes an empty table in the bytes, whatever they hold, and inserts the pairs in order: there is
+// room for each.
+#[inline(always)]
+fn insert_into_new<C: Config>(
+    bytes: &mut [u8],
+    percent: Percent,
+    keys: &[C::Key],
+    values: &[C::Value],
+) {
+    let mut store = BorrowedMut::new(bytes);
+    insert_into_store::<C, BorrowedMut<'_>>(&mut store, percent, keys, values);
+}
+
+// The same in a store. It is a function of its own since the prover knows what a slice holds after
+// a store of it was lent to a call, and not after the store was moved into a table.
+#[inline(always)]
+fn insert_into_store<C: Config, M: ByteStoreMut>(
+    store: &mut M,
+    percent: Percent,
+    keys: &[C::Key],
+    values: &[C::Value],
+) {
+    let Ok(()) = HashTable::<C, M>::init_store(store, keys.len(), percent.value()) else {
+        // The bytes are as many as the table needs.
+        unreachable!()
+    };
+    let mut table = HashTable::<C, &mut M>::from_raw_bytes_unchecked(store);
+    let _ = table.insert_items(&Zipped::new(keys, values));
+    let _store = table.into_data();
+}
+
+/// Builds a table of the pairs in memory of its own, which starts with sixteen slots at 87 percent
+/// of slots and grows, and copies it to the front of `out`. MEMORY leaves `out` and `len`
+/// unchanged, TOO_SMALL leaves `out` unchanged.
+#[inline]
+pub fn grown<C: Config>(
+    alloc: Global,
+    keys: &[C::Key],
+    values: &[C::Value],
+    out: &mut [u8],
+    len: &mut usize,
+) -> u32 {
+    let mut table = match HashTableOwned::<C>::default(alloc) {
+        Ok(table) => table,
+        Err(refused) => return status_of(&refused),
+    };
+    if let (_, Err(refused)) = table.insert_items(&Zipped::new(keys, values)) {
+        return status_of(&refused);
+    }
+    hand_out(table.raw_bytes(), out, len)
+}
+
+// Copies the table to the front of `out`, if it fits, and writes its length in bytes to `len`.
+pub(crate) fn hand_out(table: &[u8], out: &mut [u8], len: &mut usize) -> u32 {
+    *len = table.len();
+    if out.len() < table.len() {
+        return TOO_SMALL;
+    }
+    out[..table.len()].copy_from_slice(table);
+    OK
+}

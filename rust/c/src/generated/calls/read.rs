@@ -1,0 +1,132 @@
+// Generated from crates/odht_calls/src/read.rt by make generate.
+//! The calls that read the bytes of a table, for every configuration.
+
+use crate::generated::calls::status::{status_of, OK};
+use crate::generated::calls::view;
+use crate::generated::tables::bytes::Borrowed;
+use crate::generated::tables::config::Config;
+use crate::generated::tables::error::Error;
+use crate::generated::tables::load::max_item_count_for;
+use crate::generated::tables::memory_layout::{is_accepted, Header};
+use crate::generated::tables::{memory_layout, HashTable};
+
+/// Opens the bytes by their header and length. Reads no slot.
+#[inline(always)]
+pub(crate) fn view<C: Config>(bytes: &[u8]) -> Result<HashTable<C, Borrowed<'_>>, Error> {
+    HashTable::from_raw_bytes_by_header(Borrowed::new(bytes))
+}
+
+/// The number of the first error of bytes whose header or length does not fit; OK where both do.
+/// It is a function of its own, so that a call that finds the header as it is to be has no code
+/// for errors.
+#[inline(never)]
+pub(crate) fn refused<C: Config>(bytes: &[u8]) -> u32 {
+    match view::<C>(bytes) {
+        Ok(_) => OK,
+        Err(refused) => status_of(&refused),
+    }
+}
+
+/// OK where the header, the length and the first ten slots are accepted, else the number of the
+/// first error.
+#[inline]
+pub fn open<C: Config>(bytes: &[u8]) -> u32 {
+    let opened: Result<HashTable<C, Borrowed<'_>>, Error> =
+        HashTable::from_raw_bytes(Borrowed::new(bytes));
+    match opened {
+        Ok(_) => OK,
+        Err(refused) => status_of(&refused),
+    }
+}
+
+/// Writes to `len` how many bytes the table at the front of the bytes has, by its header; what
+/// follows is not looked at, nor is any slot. An error leaves `len` unchanged: one of the header,
+/// or of fewer bytes than the table has.
+#[inline]
+pub fn table_len<C: Config>(bytes: &[u8], len: &mut usize) -> u32 {
+    match memory_layout::table_len::<C>(bytes) {
+        Ok(found) => {
+            *len = found;
+            OK
+        }
+        Err(refused) => status_of(&refused),
+    }
+}
+
+/// OK where the bytes are valid, else the number of the first error of the whole check.
+#[inline]
+pub fn check<C: Config>(bytes: &[u8]) -> u32 {
+    match memory_layout::check_all::<C>(bytes) {
+        Ok(()) => OK,
+        Err(refused) => status_of(&refused),
+    }
+}
+
+/// OK where the bytes are valid and each home has a control byte that counts as free among the
+/// first `groups` groups of its probe order, so that no search reads more; else the number of the
+/// first error of the whole check with this bound.
+#[inline]
+pub fn check_within<C: Config>(bytes: &[u8], groups: usize) -> u32 {
+    match memory_layout::check_all_within::<C>(bytes, groups) {
+        Ok(()) => OK,
+        Err(refused) => status_of(&refused),
+    }
+}
+
+/// Writes the value of a key to `value`. ABSENT and errors leave `value` unchanged.
+#[inline]
+pub fn get<C: Config>(bytes: &[u8], key: &C::Key, value: &mut C::Value) -> u32 {
+    if !is_accepted::<C>(bytes) {
+        return refused::<C>(bytes);
+    }
+    let table: HashTable<C, Borrowed<'_>> =
+        HashTable::from_raw_bytes_unchecked(Borrowed::new(bytes));
+    view::get(&table, key, value)
+}
+
+/// Looks up many keys: at the index of a key that is found, its value is written to `values` and 1
+/// to `found`; at any other index 0 is written to `found`. An error leaves both unchanged.
+#[inline]
+pub fn get_all<C: Config>(
+    bytes: &[u8],
+    keys: &[C::Key],
+    values: &mut [C::Value],
+    found: &mut [u8],
+) -> u32 {
+    let table = match view::<C>(bytes) {
+        Ok(table) => table,
+        Err(refused) => return status_of(&refused),
+    };
+    view::get_all(&table, keys, values, found)
+}
+
+/// Writes the header's item count to `item_count`. An error leaves it unchanged.
+pub fn len<C: Config>(bytes: &[u8], item_count: &mut usize) -> u32 {
+    match view::<C>(bytes) {
+        Ok(table) => {
+            *item_count = table.len();
+            OK
+        }
+        Err(refused) => status_of(&refused),
+    }
+}
+
+/// Writes the slot count, the maximum item count and the load factor in percent of slots, rounded
+/// down, by the header. An error leaves all three unchanged.
+pub fn sizes<C: Config>(
+    bytes: &[u8],
+    slot_count: &mut usize,
+    max_item_count: &mut usize,
+    max_load_factor_percent: &mut u8,
+) -> u32 {
+    if let Err(refused) = view::<C>(bytes) {
+        return status_of(&refused);
+    }
+    let header = Header::of(bytes);
+    let slots = header.slot_count();
+    let factor = header.max_load_factor();
+    *slot_count = slots;
+    *max_item_count = max_item_count_for(slots, factor);
+    *max_load_factor_percent = factor.to_percent() as u8;
+    OK
+}

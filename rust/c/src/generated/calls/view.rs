@@ -1,0 +1,74 @@
+// Generated from crates/odht_calls/src/view.rt by make generate.
+//! Opened tables as a caller in C keeps them, and lookups that skip the header, for every
+//! configuration.
+
+use crate::generated::calls::lookups::Arrays;
+use crate::generated::calls::status::{status_of, ABSENT, OK};
+use crate::generated::tables::bytes::Borrowed;
+use crate::generated::tables::config::Config;
+use crate::generated::tables::error::Error;
+use crate::generated::tables::{lookups, HashTable};
+
+/// The bytes of an opened table, as C keeps them: a pointer and a length. The calls that read a
+/// view require that the header and the length of its bytes are accepted, and do not check it.
+#[repr(C)]
+#[derive(Clone, Copy)]
+pub struct View<'a> {
+    /// All bytes of the table.
+    pub bytes: &'a [u8],
+}
+
+/// OK, and `view` is a view of the bytes; or the number of the first error, and `view` is
+/// unchanged. Reads the header, the length and the first ten slots.
+#[inline]
+pub fn open<'a, C: Config>(bytes: &'a [u8], view: &mut View<'a>) -> u32 {
+    let opened: Result<HashTable<C, Borrowed<'_>>, Error> =
+        HashTable::from_raw_bytes(Borrowed::new(bytes));
+    match opened {
+        Ok(_) => {
+            *view = View { bytes };
+            OK
+        }
+        Err(refused) => status_of(&refused),
+    }
+}
+
+/// The table of a view. Reads none of its bytes.
+#[inline(always)]
+pub fn table<'a, C: Config>(view: &View<'a>) -> HashTable<C, Borrowed<'a>> {
+    HashTable::from_raw_bytes_unchecked(Borrowed::new(view.bytes))
+}
+
+/// Writes the value of a key of an opened table to `value`. ABSENT leaves `value` unchanged.
+#[inline(always)]
+pub fn get<C: Config>(
+    table: &HashTable<C, Borrowed<'_>>,
+    key: &C::Key,
+    value: &mut C::Value,
+) -> u32 {
+    match table.get(key) {
+        Some(found) => {
+            *value = found;
+            OK
+        }
+        None => ABSENT,
+    }
+}
+
+/// Looks up many keys in an opened table: at the index of a key that is found, its value is
+/// written to `values` and 1 to `found`; at any other index 0 is written to `found`.
+// Not inlined, so that what it calls has one caller for each configuration: only then does the
+// compiler keep the first looks of eight keys in one function with their searches, which takes a
+// quarter fewer instructions.
+#[inline(never)]
+pub fn get_all<C: Config>(
+    table: &HashTable<C, Borrowed<'_>>,
+    keys: &[C::Key],
+    values: &mut [C::Value],
+    found: &mut [u8],
+) -> u32 {
+    let raw = table.as_raw();
+    let mut arrays = Arrays { values, found };
+    lookups::get_all::<C, Arrays<'_, '_, C::Value>>(&raw, keys, &mut arrays);
+    OK
+}

@@ -1,7 +1,0 @@
-// Made by `make rust` of crates/odht_tool_reads/src/dynamic.rt.
-//! Tables of lengths that are numbers, by command.
-
-use crate::host::prelude::*;
-
-pub mod diffs;
-pub mod gets;

@@ -1,0 +1,53 @@
+// Generated from crates/odht_tool_core/src/lib.rt by make generate.
+//! `odht_tool_core`: what the program for table files, `odht_tool`, is made of that needs no table
+//! of `odht`: words, lines, keys and values as text, files, and the numbers of a table of any
+//! sizes.
+
+use crate::host::prelude::*;
+
+pub mod advice;
+pub mod answers;
+pub mod any;
+pub mod arguments;
+mod digits;
+mod dynamic_bytes;
+pub mod dynamic_slots;
+pub mod evidence;
+pub mod failure;
+pub mod files;
+pub mod find;
+pub mod find_json;
+pub mod forms;
+pub mod found;
+pub mod front;
+mod groups;
+pub mod help;
+pub mod hexadecimal;
+mod histogram;
+pub mod info;
+mod info_json;
+pub mod inside;
+pub mod json;
+pub mod keys;
+pub mod line_messages;
+pub mod lines;
+pub mod misread;
+mod near;
+pub mod new_file;
+mod numbers;
+mod obstacles;
+pub mod percents;
+pub mod places;
+mod plain;
+pub mod progress;
+pub mod refusal;
+pub mod shapes;
+mod shown;
+mod signed;
+pub mod slots;
+pub mod status;
+pub mod stored;
+mod stretches;
+pub mod targets;
+pub mod text;
+pub mod typed;

@@ -1,0 +1,119 @@
+// Generated from crates/odht_tool_core/src/histogram.rt by make generate.
+//! How many items are found by reading one group, two groups, and so on.
+
+use crate::host::prelude::*;
+use crate::shim::{AllocError, Global};
+use std::io::{self, Write};
+
+/// How many counts there are. The last is that of all larger numbers of groups too.
+const MOST: usize = 64;
+
+/// How many `#` the longest bar has.
+const WIDTH: u128 = 40;
+
+/// For each number of groups from 1 on, how many items are found by reading that many.
+pub struct Histogram {
+    counts: Vec<usize>,
+    /// The largest number of groups that was counted.
+    pub longest: usize,
+}
+
+impl Histogram {
+    /// A histogram without items.
+    pub fn new(alloc: Global) -> Result<Self, AllocError> {
+        Ok(Histogram { counts: crate::host::lists::filled(alloc, 0, MOST)?, longest: 0 })
+    }
+
+    /// Counts an item that is found by reading that many groups, at least one.
+    pub fn add(&mut self, groups: usize) {
+        self.longest = self.longest.max(groups);
+        let index = groups.min(MOST) - 1;
+        self.counts[index] = self.counts[index].saturating_add(1);
+    }
+
+    /// Writes a line for each number of groups up to the largest: the number, the count, and a
+    /// bar.
+    pub fn write<W: Write>(&self, output: &mut W) -> io::Result<()> {
+        let most = largest_of(self.counts.as_slice());
+        for index in 0..self.longest.min(MOST) {
+            self.write_tally(index, most, output)?;
+        }
+        Ok(())
+    }
+
+    /// Writes an array of JSON: for each number of groups up to the largest the count. The last of
+    /// 64 counts is that of all larger numbers too.
+    pub fn write_array<W: Write>(&self, output: &mut W) -> io::Result<()> {
+        write_array(self.counts.as_slice(), self.longest, output)
+    }
+
+    // Writes the line of a count.
+    fn write_tally<W: Write>(&self, index: usize, most: usize, output: &mut W) -> io::Result<()> {
+        let groups = index + 1;
+        let count = self.counts[index];
+        let more = longer_mark(index, self.longest);
+        write!(output, "{groups:>8}{more}  {count:>12}  ")?;
+        write_bar(count, most, output)?;
+        output.write_all(b"\n")
+    }
+}
+
+/// Writes an array of JSON of the first `shown` counts, at most 64.
+pub(crate) fn write_array<W: Write>(
+    counts: &[usize],
+    shown: usize,
+    output: &mut W,
+) -> io::Result<()> {
+    output.write_all(b"[")?;
+    write_counts(counts, shown, output)?;
+    output.write_all(b"]")
+}
+
+// Writes the counts, with a comma before each but the first.
+fn write_counts<W: Write>(counts: &[usize], shown: usize, output: &mut W) -> io::Result<()> {
+    for index in 0..shown.min(MOST) {
+        write_count(counts, index, output)?;
+    }
+    Ok(())
+}
+
+// Writes a count, with a comma before it but before the first.
+fn write_count<W: Write>(counts: &[usize], index: usize, output: &mut W) -> io::Result<()> {
+    let count = counts[index];
+    if index == 0 {
+        write!(output, "{count}")
+    } else {
+        write!(output, ",{count}")
+    }
+}
+
+// The largest of some counts, or 0.
+fn largest_of(counts: &[usize]) -> usize {
+    let mut most = 0_usize;
+    for count in counts {
+        most = most.max(*count);
+    }
+    most
+}
+
+// A `+` after the last count, where it is also that of larger numbers of groups.
+fn longer_mark(index: usize, longest: usize) -> &'static str {
+    if index + 1 == MOST && longest > MOST {
+        "+"
+    } else {
+        ""
+    }
+}
+
+// Writes a bar. Its length over that of the longest is the count over the largest; at least 1
+// where the count is not 0.
+fn write_bar<W: Write>(count: usize, most: usize, output: &mut W) -> io::Result<()> {
+    if count == 0 {
+        return Ok(());
+    }
+    let signs = (count as u128 * WIDTH / most as u128).max(1);
+    for _ in 0..signs {
+        output.write_all(b"#")?;
+    }
+    Ok(())
+}

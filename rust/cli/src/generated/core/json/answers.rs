@@ -1,0 +1,146 @@
+// Generated from crates/odht_tool_core/src/json/answers.rt by make generate.
+//! Keys that were looked up, and their values, as lines of text or as objects of JSON.
+
+use crate::generated::core::answers::{write_answer, write_answers_as};
+use crate::generated::core::forms::{Form, Forms};
+use crate::generated::core::json::pairs::write_any_field;
+use crate::generated::core::plain::is_plain;
+use crate::generated::core::shown::Shown;
+use crate::generated::core::text::Text;
+use crate::host::prelude::*;
+use std::io::{self, Write};
+
+/// How keys and their values are written.
+#[derive(Clone, Copy)]
+pub struct AnswerStyle<F: Forms> {
+    /// The forms of their texts.
+    pub forms: F,
+    /// Whether each key and its value are an object of JSON.
+    pub is_json: bool,
+}
+
+/// Writes a line for each key: with its value, or the key alone where it has none; or an object of
+/// both, in which such a value is null. With no keys it writes nothing, and does not fail.
+pub fn write_answers_in<K: Text, V: Text, F: Forms, O: Write>(
+    keys: &[K],
+    values: &[Option<V>],
+    style: AnswerStyle<F>,
+    output: &mut O,
+) -> io::Result<()> {
+    if style.is_json {
+        write_objects(keys, values, style.forms, output)
+    } else {
+        write_answers_as(keys, values, style.forms, output)
+    }
+}
+
+/// Writes the line of one key, as [`write_answers_in`] does.
+pub fn write_answer_in<K: Text, V: Text, F: Forms, O: Write>(
+    key: &K,
+    value: &Option<V>,
+    style: AnswerStyle<F>,
+    output: &mut O,
+) -> io::Result<()> {
+    if style.is_json {
+        write_object(key, value, style.forms, output)
+    } else {
+        write_answer(key, value, style.forms, output)
+    }
+}
+
+/// Writes the line of a word that is the text of no key: the word, as it is or as messages show
+/// it, or an object of it, in which the value is null.
+pub fn write_no_key<O: Write>(word: &[u8], is_json: bool, output: &mut O) -> io::Result<()> {
+    if is_json {
+        write_no_key_object(word, output)
+    } else if is_in_line(word) {
+        output.write_all(word)?;
+        output.write_all(b"\n")
+    } else {
+        let word = Shown(word);
+        writeln!(output, "{word}")
+    }
+}
+
+// Writes the object of a word that is the text of no key.
+fn write_no_key_object<O: Write>(word: &[u8], output: &mut O) -> io::Result<()> {
+    output.write_all(b"{")?;
+    write_any_field("key", word, output)?;
+    output.write_all(b",\"value\":null}\n")
+}
+
+// Whether a word is one field of one line.
+fn is_in_line(word: &[u8]) -> bool {
+    word.iter().all(|byte| is_plain(*byte))
+}
+
+// Writes the object of each key and its value on a line.
+fn write_objects<K: Text, V: Text, F: Forms, O: Write>(
+    keys: &[K],
+    values: &[Option<V>],
+    forms: F,
+    output: &mut O,
+) -> io::Result<()> {
+    for at in 0..keys.len() {
+        write_object(&keys[at], &values[at], forms, output)?;
+    }
+    Ok(())
+}
+
+fn write_object<K: Text, V: Text, F: Forms, O: Write>(
+    key: &K,
+    value: &Option<V>,
+    forms: F,
+    output: &mut O,
+) -> io::Result<()> {
+    match value {
+        Some(value) => write_found(key, value, forms, output),
+        None => write_absent(key, forms.key(), output),
+    }
+}
+
+// Writes the object of a key and its value.
+fn write_found<K: Text, V: Text, F: Forms, O: Write>(
+    key: &K,
+    value: &V,
+    forms: F,
+    output: &mut O,
+) -> io::Result<()> {
+    output.write_all(b"{")?;
+    write_fields(key, value, forms, output)
+}
+
+// Writes the fields of a key and its value, the end of their object, and of its line.
+fn write_fields<K: Text, V: Text, F: Forms, O: Write>(
+    key: &K,
+    value: &V,
+    forms: F,
+    output: &mut O,
+) -> io::Result<()> {
+    write_text_field("key", key, forms.key(), output)?;
+    output.write_all(b",")?;
+    write_text_field("value", value, forms.value(), output)?;
+    output.write_all(b"}\n")
+}
+
+// Writes the object of a key that is absent.
+fn write_absent<K: Text, O: Write>(key: &K, form: Form, output: &mut O) -> io::Result<()> {
+    output.write_all(b"{")?;
+    write_text_field("key", key, form, output)?;
+    output.write_all(b",\"value\":null}\n")
+}
+
+// Writes a field that is the text of a key or a value.
+fn write_text_field<T: Text, O: Write>(
+    name: &str,
+    value: &T,
+    form: Form,
+    output: &mut O,
+) -> io::Result<()> {
+    if let Some(text) = value.plain_bytes(form) {
+        return write_any_field(name, text, output);
+    }
+    write!(output, "\"{name}\":\"")?;
+    value.write(form, output)?;
+    output.write_all(b"\"")
+}

@@ -1,0 +1,10 @@
+// Generated from crates/odht_tool_reads/src/lib.rt by make generate.
+//! `odht_tool_reads`: the commands of `odht_tool` that read tables and write none.
+
+use crate::host::prelude::*;
+
+pub mod commands;
+mod dynamic;
+mod lookups;
+pub mod positions;
+mod shapes;

@@ -1,0 +1,107 @@
+// Generated from crates/odht_tool_reads/src/commands/get.rt by make generate.
+//! `odht get`: lookups in a table file.
+
+use crate::generated::core::any::{read_any, AnyShape};
+use crate::generated::core::failure::Failure;
+use crate::generated::core::forms::{Forms, GivenForms, Kinds, OwnForms};
+use crate::generated::core::json::answers::AnswerStyle;
+use crate::generated::core::shapes::{Hash, Shape};
+use crate::generated::core::status::Status;
+use crate::generated::core::text::Text;
+use crate::generated::reads::dynamic::gets::{get_lines_dynamic, get_words_dynamic};
+use crate::generated::reads::lookups::answer_lines;
+use crate::generated::reads::shapes::for_shape;
+use crate::generated::tables::bytes::Borrowed;
+use crate::generated::tables::config::Config;
+use crate::generated::tables::HashTable;
+use crate::host::prelude::*;
+use crate::shim::Global;
+use std::io::{BufRead, Write};
+
+/// `odht get` of the bytes of a file, for the words of the command line: writes a line for each
+/// key, with a tab and its value, or the key alone; or an object of JSON of both.
+pub fn get_file_words<O: Write>(
+    alloc: Global,
+    bytes: &[u8],
+    hash: Option<Hash>,
+    kinds: Kinds,
+    is_json: bool,
+    words: &[String],
+    output: &mut O,
+) -> Result<Status, Failure> {
+    let found = read_any(bytes, hash, kinds)?;
+    let (shape, forms) = found;
+    get_words_dynamic(alloc, shape.types(), forms, is_json, bytes, words, output)
+}
+
+/// `odht get` of the bytes of a file, for the lines of an input.
+pub fn get_file_lines<I: BufRead, O: Write>(
+    alloc: Global,
+    bytes: &[u8],
+    hash: Option<Hash>,
+    kinds: Kinds,
+    is_json: bool,
+    input: &mut I,
+    output: &mut O,
+) -> Result<Status, Failure> {
+    let found = read_any(bytes, hash, kinds)?;
+    let (shape, forms) = found;
+    match shape {
+        AnyShape::Ready(shape) => {
+            get_lines_ready(alloc, shape, forms, is_json, bytes, input, output)
+        }
+        AnyShape::Other(shape) => {
+            get_lines_dynamic(alloc, shape, forms, is_json, bytes, input, output)
+        }
+    }
+}
+
+// The same of a ready shape, in these forms.
+fn get_lines_ready<I: BufRead, O: Write>(
+    alloc: Global,
+    shape: Shape,
+    forms: GivenForms,
+    is_json: bool,
+    bytes: &[u8],
+    input: &mut I,
+    output: &mut O,
+) -> Result<Status, Failure> {
+    if forms.are_own() {
+        let own = AnswerStyle { forms: OwnForms, is_json };
+        get_lines_of(alloc, shape, own, bytes, input, output)
+    } else {
+        let style = AnswerStyle { forms, is_json };
+        get_lines_of(alloc, shape, style, bytes, input, output)
+    }
+}
+
+fn get_lines_of<F: Forms, I: BufRead, O: Write>(
+    alloc: Global,
+    shape: Shape,
+    style: AnswerStyle<F>,
+    bytes: &[u8],
+    input: &mut I,
+    output: &mut O,
+) -> Result<Status, Failure> {
+    for_shape!(shape, get_lines[F, I, O](alloc, bytes, style, input, output))
+}
+
+// Looks up the keys of the lines, a batch at a time.
+fn get_lines<C: Config, F: Forms, I: BufRead, O: Write>(
+    alloc: Global,
+    bytes: &[u8],
+    style: AnswerStyle<F>,
+    input: &mut I,
+    output: &mut O,
+) -> Result<Status, Failure>
+where
+    C::Key: Text,
+    C::Value: Text,
+{
+    let table = open::<C>(bytes)?;
+    answer_lines(alloc, &table, style, input, output)
+}
+
+fn open<C: Config>(bytes: &[u8]) -> Result<HashTable<C, Borrowed<'_>>, Failure> {
+    HashTable::from_raw_bytes(Borrowed::new(bytes)).map_err(Failure::Refused)
+}

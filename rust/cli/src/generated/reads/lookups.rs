@@ -1,0 +1,159 @@
+// Generated from crates/odht_tool_reads/src/lookups.rt by make generate.
+//! Keys that are looked up in a table, and what is written of them: those of lines, a batch at a
+//! time, and of the words of a command line.
+
+use crate::generated::core::answers::are_found;
+use crate::generated::core::failure::{Failure, LineFault};
+use crate::generated::core::forms::Forms;
+use crate::generated::core::json::answers::{write_answers_in, AnswerStyle};
+use crate::generated::core::keys::{next_key_as, push_key, NextKey};
+use crate::generated::core::misread::Misread;
+use crate::generated::core::status::Status;
+use crate::generated::core::text::Text;
+use crate::host::prelude::*;
+use crate::shim::{AllocError, Global};
+use std::io::{self, BufRead, Write};
+
+mod tables;
+pub mod words;
+
+/// How many keys are looked up at once.
+const BATCH: usize = 1024;
+
+/// A table in which keys are looked up that have texts, as its values have.
+pub trait Lookups {
+    /// A key.
+    type Key: Text;
+
+    /// A value.
+    type Value: Text;
+
+    /// The value of each key.
+    fn look_up(
+        &self,
+        alloc: Global,
+        keys: &[Self::Key],
+    ) -> Result<Vec<Option<Self::Value>>, AllocError>;
+}
+
+/// Looks up the keys of the lines, a batch at a time, and writes a line for each.
+pub fn answer_lines<T: Lookups, F: Forms, I: BufRead, O: Write>(
+    alloc: Global,
+    table: &T,
+    style: AnswerStyle<F>,
+    input: &mut I,
+    output: &mut O,
+) -> Result<Status, Failure> {
+    let mut keys = crate::host::lists::empty(alloc);
+    let mut line = crate::host::lists::empty(alloc);
+    let mut is_all_found = true;
+    for number in 1..u64::MAX {
+        let read =
+            read_key(alloc, table, number, input, &mut line, keys.as_slice(), style, output)?;
+        match read {
+            Some(key) => {
+                is_all_found = take_key(alloc, table, &mut keys, key, is_all_found, style, output)?;
+            }
+            None => break,
+        }
+    }
+    let is_last_found = answer_keys(alloc, table, keys.as_slice(), style, output)?;
+    Ok(Status::of(is_last_found && is_all_found))
+}
+
+// Reads the key of the line of this number, if there is such a line. Where it is no key, the keys
+// before it are answered first.
+fn read_key<T: Lookups, F: Forms, I: BufRead, O: Write>(
+    alloc: Global,
+    table: &T,
+    number: u64,
+    input: &mut I,
+    line: &mut Vec<u8>,
+    keys: &[T::Key],
+    style: AnswerStyle<F>,
+    output: &mut O,
+) -> Result<Option<T::Key>, Failure> {
+    match key_of_line(input, line, style.forms) {
+        Ok(NextKey::Key(key)) => Ok(Some(key)),
+        Ok(NextKey::End) => Ok(None),
+        Ok(NextKey::NoKey) => {
+            let message = wrong_line::<T::Key, F>(alloc, number, line.as_slice(), style.forms)?;
+            answer_keys(alloc, table, keys, style, output)?;
+            Err(Failure::Misread(message))
+        }
+        Err(error) => Err(Failure::Input(error)),
+    }
+}
+
+// The key of the next line in the form of keys.
+#[inline(always)]
+fn key_of_line<K: Text, F: Forms, I: BufRead>(
+    input: &mut I,
+    line: &mut Vec<u8>,
+    forms: F,
+) -> io::Result<NextKey<K>> {
+    next_key_as(input, line, forms.key())
+}
+
+// What is said of a line that is no key.
+fn wrong_line<K: Text, F: Forms>(
+    alloc: Global,
+    number: u64,
+    line: &[u8],
+    forms: F,
+) -> Result<String, AllocError> {
+    let misread = Misread {
+        line: Some(number),
+        fault: LineFault::Key,
+        wanted: K::wanted(forms.key()),
+        text: line,
+    };
+    misread.message(alloc)
+}
+
+// Adds a key, and answers all where they are a batch. Returns whether each was found, and those
+// before.
+fn take_key<T: Lookups, F: Forms, O: Write>(
+    alloc: Global,
+    table: &T,
+    keys: &mut Vec<T::Key>,
+    key: T::Key,
+    is_all_found: bool,
+    style: AnswerStyle<F>,
+    output: &mut O,
+) -> Result<bool, Failure> {
+    push_key(keys, key)?;
+    answer_batch(alloc, table, keys, is_all_found, style, output)
+}
+
+// Answers the keys where they are a batch, and drops them. Returns whether each was found, and
+// those before.
+fn answer_batch<T: Lookups, F: Forms, O: Write>(
+    alloc: Global,
+    table: &T,
+    keys: &mut Vec<T::Key>,
+    is_all_found: bool,
+    style: AnswerStyle<F>,
+    output: &mut O,
+) -> Result<bool, Failure> {
+    if keys.len() < BATCH {
+        return Ok(is_all_found);
+    }
+    let is_found = answer_keys(alloc, table, keys.as_slice(), style, output)?;
+    keys.clear();
+    Ok(is_found && is_all_found)
+}
+
+// Looks the keys up, and writes a line for each. Returns whether each was found.
+fn answer_keys<T: Lookups, F: Forms, O: Write>(
+    alloc: Global,
+    table: &T,
+    keys: &[T::Key],
+    style: AnswerStyle<F>,
+    output: &mut O,
+) -> Result<bool, Failure> {
+    let values = table.look_up(alloc, keys)?;
+    let values = values.as_slice();
+    write_answers_in(keys, values, style, output).map_err(Failure::Output)?;
+    Ok(are_found(values))
+}

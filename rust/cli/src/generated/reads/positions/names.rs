@@ -1,0 +1,151 @@
+// Generated from crates/odht_tool_reads/src/positions/names.rt by make generate.
+//! The hash function of a table that is read by position: the one that the first groups of slots
+//! leave.
+
+use super::Start;
+use crate::generated::core::shapes::Hash;
+use crate::generated::tables::dynamic::Layout;
+use crate::generated::tables::hash::HashFn;
+use crate::generated::tables::memory_layout::{Header, HEADER_SIZE};
+use crate::generated::tables::raw_table::{tag_of, ReadPlace};
+use crate::generated::tables::read_at::{read_exact_at, ReadAt};
+use crate::generated::tables::swisstable_group_query::is_empty_or_deleted;
+use crate::generated::tables::{FxHashFn, UnHashFn, Xxh64HashFn};
+use crate::host::prelude::*;
+
+/// How many slots are read at once.
+const GROUP: usize = 16;
+
+/// The most bytes that the entries of these slots have.
+const MOST_ENTRIES: usize = 8160;
+
+/// How many groups are read before all bytes are.
+const MOST_GROUPS: usize = 64;
+
+/// Which hash functions some slots fit.
+#[derive(Clone, Copy)]
+struct Fitting {
+    fx: bool,
+    unhash: bool,
+    xxh64: bool,
+}
+
+impl Fitting {
+    // Those that both fit.
+    fn and(self, other: Fitting) -> Fitting {
+        Fitting {
+            fx: self.fx && other.fx,
+            unhash: self.unhash && other.unhash,
+            xxh64: self.xxh64 && other.xxh64,
+        }
+    }
+}
+
+/// The hash function that is to be named for a table, none where it has no items: the one that is
+/// named, or the one that is left when the first groups of slots exclude the others. None where
+/// they leave several, or none, or a read failed, or the table has no items and there is a default
+/// for such a table.
+pub(super) fn named_or_left_hash<S: ReadAt>(
+    source: &S,
+    start: &Start,
+    hash: Option<Hash>,
+    default: Option<Hash>,
+) -> Option<Option<Hash>> {
+    match hash {
+        Some(_) => Some(hash),
+        None => {
+            if Header::of(&start.header).item_count() == 0 {
+                return if default.is_none() { Some(None) } else { None };
+            }
+            let hash = left_hash(source, start)?;
+            Some(Some(hash))
+        }
+    }
+}
+
+// The hash function that is left when the first groups of slots exclude the others.
+fn left_hash<S: ReadAt>(source: &S, start: &Start) -> Option<Hash> {
+    let place = place_of(start)?;
+    let mut left = Fitting { fx: true, unhash: true, xxh64: true };
+    for group in 0..(place.slots / GROUP).min(MOST_GROUPS) {
+        left = left.and(group_fits(source, &place, group * GROUP)?);
+        match (left.fx, left.unhash, left.xxh64) {
+            (true, false, false) => return Some(Hash::Fx),
+            (false, true, false) => return Some(Hash::Unhash),
+            (false, false, true) => return Some(Hash::Xxh64),
+            (false, false, false) => return None,
+            _ => {}
+        }
+    }
+    None
+}
+
+// Where the parts of the table are, where its header and its length fit.
+fn place_of(start: &Start) -> Option<ReadPlace> {
+    let header = Header::of(&start.header);
+    let layout = header.layout();
+    match header.check_layout(layout, start.len) {
+        Ok(()) => {}
+        Err(_) => return None,
+    }
+    let slots = header.slot_count();
+    let entries_at = start.at + HEADER_SIZE as u64;
+    let control_at = entries_at + (slots * layout.entry_len()) as u64;
+    Some(ReadPlace { entries_at, control_at, slots, layout })
+}
+
+// Which hash functions the sixteen slots from one on fit.
+fn group_fits<S: ReadAt>(source: &S, place: &ReadPlace, first: usize) -> Option<Fitting> {
+    let layout = place.layout;
+    let mut control = [0; GROUP];
+    read_exact_at(source, place.control_at + first as u64, &mut control).ok()?;
+    let entries_at = place.entries_at + first as u64 * layout.entry_len() as u64;
+    let mut bytes = [0; MOST_ENTRIES];
+    let (entries, _) = bytes.split_at_mut(GROUP * layout.entry_len());
+    read_exact_at(source, entries_at, entries).ok()?;
+    Some(Fitting {
+        fx: fits(&control, &*entries, layout, Hash::Fx),
+        unhash: fits(&control, &*entries, layout, Hash::Unhash),
+        xxh64: fits(&control, &*entries, layout, Hash::Xxh64),
+    })
+}
+
+// Whether the keys are long enough for a hash function, and each occupied slot of sixteen has the
+// tag of its key by it.
+fn fits(control: &[u8], entries: &[u8], layout: Layout, hash: Hash) -> bool {
+    if (layout.key_len as usize) < least_len(hash) {
+        return false;
+    }
+    for slot in 0..GROUP {
+        if is_mismatch(control, entries, layout, hash, slot) {
+            return false;
+        }
+    }
+    true
+}
+
+// Whether a slot is occupied, and its control byte is not the tag of its key.
+fn is_mismatch(control: &[u8], entries: &[u8], layout: Layout, hash: Hash, slot: usize) -> bool {
+    let control = control[slot];
+    let at = slot * layout.entry_len();
+    let key = &entries[at..at + layout.key_len as usize];
+    !is_empty_or_deleted(control) && control != tag_of(hash_key(key, hash))
+}
+
+// How many bytes the hash function needs at least.
+fn least_len(hash: Hash) -> usize {
+    match hash {
+        Hash::Fx => FxHashFn::MIN_LEN,
+        Hash::Unhash => UnHashFn::MIN_LEN,
+        Hash::Xxh64 => Xxh64HashFn::MIN_LEN,
+    }
+}
+
+// The hash of a key.
+fn hash_key(key: &[u8], hash: Hash) -> u32 {
+    match hash {
+        Hash::Fx => FxHashFn::hash(key),
+        Hash::Unhash => UnHashFn::hash(key),
+        Hash::Xxh64 => Xxh64HashFn::hash(key),
+    }
+}

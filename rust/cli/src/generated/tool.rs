@@ -1,0 +1,44 @@
+// Generated from crates/odht_tool/src/main.rt by make generate.
+//! `odht`: prints what table files hold, checks them, makes them and adds to them.
+//!
+//! docs/TOOL.md describes each command.
+
+use crate::host::prelude::*;
+
+mod commands;
+
+use crate::generated::core::status::Status;
+use crate::host::env;
+use crate::host::io::{self, BufReader, BufWriter, ErrorKind};
+use crate::shim::Global;
+use std::process::ExitCode;
+
+/// How many bytes are read and written at once.
+const BUFFER_SIZE: usize = 1 << 16;
+
+pub fn main(rt: HostRuntime) -> ExitCode {
+    match run(&rt) {
+        Ok(status) => ExitCode::from(status.code()),
+        // Where standard error cannot be written either, only the exit status reports it.
+        Err(error) if error.kind() == ErrorKind::InvalidData => {
+            let _ = writeln!(rt.stderr(), "odht: a word is no UTF-8 text");
+            ExitCode::from(Status::Misused.code())
+        }
+        // No word was read, so the status is none that a command has as its answer.
+        Err(error) => {
+            let _ = writeln!(rt.stderr(), "odht: {error}");
+            ExitCode::from(Status::Trouble.code())
+        }
+    }
+}
+
+// Runs the command that the arguments name. An error is one of memory, or `InvalidData`: an
+// argument is no text.
+fn run(rt: &HostRuntime) -> io::Result<Status> {
+    let alloc: Global = rt.alloc();
+    let words: Vec<String> = env::args(rt)?.skip(1).try_collect(alloc)?;
+    let mut input = BufReader::with_capacity(alloc, BUFFER_SIZE, rt.stdin())?;
+    let mut output = BufWriter::with_capacity(alloc, BUFFER_SIZE, rt.stdout())?;
+    let mut errors = rt.stderr();
+    Ok(commands::run(rt, words, &mut input, &mut output, &mut errors))
+}

@@ -1,0 +1,262 @@
+// Generated from crates/odht_tool/src/commands.rt by make generate.
+//! Runs the commands, each from its parsed words to the status of the program.
+use crate::generated::core::arguments::{parse, Command, Keys, Misuse, Reading, Request};
+use crate::generated::core::failure::Failure;
+use crate::generated::core::front::table_at;
+use crate::generated::core::help::{write_help, write_version};
+use crate::generated::core::inside::{first_inside, is_followed, write_inside};
+use crate::generated::core::new_file::{ended, make_new};
+use crate::generated::core::status::{of_output, Status};
+use crate::generated::core::targets::Target;
+use crate::generated::reads::commands::diff;
+use crate::generated::reads::positions;
+use crate::generated::tool_tables::files::{finish, finish_as, read_bytes, read_table_bytes};
+use crate::generated::writes::commands::{build, delete, merge, rebuild};
+use crate::host::io::{BufRead, IsTerminal, Write};
+use crate::host::prelude::*;
+use crate::host::rt::{Clock, Files};
+use crate::shim::Global;
+use std::os::fd::AsFd;
+use std::os::unix::fs::FileExt;
+
+mod readings;
+
+use readings::run_reading;
+
+/// Does what the words ask for. Each failure is reported by a line on `errors`; where that cannot
+/// be written either, only the status reports it. Where nobody reads `output` any more, nothing
+/// is reported.
+pub fn run<R: Files + AllocGlobal + Clock, I: BufRead, O: Write, E: Write + IsTerminal>(
+    rt: &R,
+    words: Vec<String>,
+    input: &mut I,
+    output: &mut O,
+    errors: &mut E,
+) -> Status
+where
+    R::File: AsFd + FileExt,
+{
+    let alloc: Global = rt.alloc();
+    match parse(alloc, words) {
+        Ok(Request::Help(topic)) => {
+            let done = of_output(write_help(topic, output));
+            finish("help", flushed(done, output), errors)
+        }
+        Ok(Request::Version) => {
+            let done = of_output(write_version(output));
+            finish("version", flushed(done, output), errors)
+        }
+        Ok(Request::Run { file, command }) => {
+            let file = file.as_str();
+            let failed = command.failed();
+            let done = run_command(rt, file, command, input, output, errors);
+            finish_as(file, flushed(done, output), failed, errors)
+        }
+        Err(misuse) => {
+            report_misuse(&misuse, errors);
+            misuse.status()
+        }
+    }
+}
+
+// Reports why the words cannot be parsed: if there is none, by the help of all commands.
+fn report_misuse<E: Write>(misuse: &Misuse, errors: &mut E) {
+    if misuse.is_empty() {
+        let _ = write_help(None, errors);
+    } else {
+        let _ = writeln!(errors, "odht: {misuse}");
+    }
+}
+
+// How a command ended, once all that it wrote has left the buffer.
+fn flushed<O: Write>(done: Result<Status, Failure>, output: &mut O) -> Result<Status, Failure> {
+    match output.flush() {
+        Ok(()) => done,
+        Err(error) => done.and(Err(Failure::Output(error))),
+    }
+}
+
+fn run_command<R: Files + AllocGlobal + Clock, I: BufRead, O: Write, E: Write + IsTerminal>(
+    rt: &R,
+    file: &str,
+    command: Command,
+    input: &mut I,
+    output: &mut O,
+    errors: &mut E,
+) -> Result<Status, Failure>
+where
+    R::File: AsFd + FileExt,
+{
+    match command {
+        Command::Read { others, at, reading } => {
+            let others = others.as_slice();
+            read_files(rt, file, others, at, &reading, input, output, errors)
+        }
+        Command::Build(mut options) => {
+            options.watch = options.watch.with_bar(rt, errors);
+            build::build(rt, file, options, input, output, errors)
+        }
+        Command::Delete(options) => delete::delete(rt, file, &options, input, errors),
+        Command::Rebuild(options) => rebuild::rebuild(rt, file, options, errors),
+        Command::Diff(options) => diff::diff(rt, file, options, input, output, errors),
+        Command::Merge(options) => merge::merge(rt, file, options, input, output, errors),
+        Command::Put(mut options) => {
+            let target = Target::find_table(rt, file, options.breaks_links)?;
+            let mut new = make_new(rt, target)?;
+            options.watch = options.watch.with_bar(rt, errors);
+            let done = build::put(rt, &mut new, options, input, errors);
+            ended(rt, new, done)
+        }
+    }
+}
+
+// Runs a command that only reads its file, on this file and on others. Where there are others,
+// each failure is reported, and the next one is read; but where the output cannot be written, no
+// more is.
+fn read_files<R: Files + AllocGlobal, I: BufRead, O: Write, E: Write>(
+    rt: &R,
+    file: &str,
+    others: &[String],
+    at: Option<usize>,
+    reading: &Reading,
+    input: &mut I,
+    output: &mut O,
+    errors: &mut E,
+) -> Result<Status, Failure>
+where
+    R::File: FileExt,
+{
+    let is_one = others.is_empty();
+    let done = read_one(rt, file, is_one, at, reading, input, output, errors);
+    if is_one {
+        return done;
+    }
+    let mut is_done = is_read(file, done, output, errors)?;
+    for other in others {
+        let file = other.as_str();
+        let done = read_one(rt, file, is_one, at, reading, input, output, errors);
+        is_done = is_read(file, done, output, errors)? && is_done;
+    }
+    Ok(Status::of(is_done))
+}
+
+// Reports the failure of a file, but one of the output, behind what was written of the files before
+// it. Returns whether all was done.
+fn is_read<O: Write, E: Write>(
+    file: &str,
+    done: Result<Status, Failure>,
+    output: &mut O,
+    errors: &mut E,
+) -> Result<bool, Failure> {
+    match done {
+        Ok(status) => Ok(status.is_done()),
+        Err(Failure::Output(error)) => Err(Failure::Output(error)),
+        done => {
+            let written = output.flush();
+            let status = finish(file, done, errors);
+            written.map_err(Failure::Output)?;
+            Ok(status.is_done())
+        }
+    }
+}
+
+fn read_one<R: Files + AllocGlobal, I: BufRead, O: Write, E: Write>(
+    rt: &R,
+    file: &str,
+    is_one: bool,
+    at: Option<usize>,
+    reading: &Reading,
+    input: &mut I,
+    output: &mut O,
+    errors: &mut E,
+) -> Result<Status, Failure>
+where
+    R::File: FileExt,
+{
+    if let Some(status) = read_by_position(rt, file, at, reading, output)? {
+        return Ok(status);
+    }
+    let offset = at.unwrap_or(0);
+    let bytes = if reading.is_search() {
+        read_bytes(rt, file, input)?
+    } else {
+        read_table_bytes(rt, file, offset, input)?
+    };
+    let table = match at {
+        Some(offset) => table_at(bytes.as_slice(), offset)?,
+        None => bytes.as_slice(),
+    };
+    let done = run_reading(rt.alloc(), file, is_one, at, table, reading, input, output, errors);
+    if reading.is_search() {
+        done
+    } else {
+        let failed = reading.failed();
+        with_hint(rt.alloc(), file, table, offset, done, failed, output, errors)
+    }
+}
+
+// Looks the keys of words up without reading all of the file. None where that does not do.
+fn read_by_position<R: Files + AllocGlobal, O: Write>(
+    rt: &R,
+    file: &str,
+    at: Option<usize>,
+    reading: &Reading,
+    output: &mut O,
+) -> Result<Option<Status>, Failure>
+where
+    R::File: FileExt,
+{
+    match reading {
+        Reading::Get { hash, kinds, is_json, keys: Keys::Words(words) } => {
+            let Some((source, len)) = positions::open_regular(rt, file) else {
+                return Ok(None);
+            };
+            positions::get_words_at(
+                rt.alloc(),
+                source,
+                len,
+                at,
+                *hash,
+                *kinds,
+                *is_json,
+                words.as_slice(),
+                output,
+            )
+        }
+        _ => Ok(None),
+    }
+}
+
+// Where these bytes, at this offset of a file, are no table, and one is further on, or begins them:
+// reports the failure, with this status, and tells where the table is.
+fn with_hint<O: Write, E: Write>(
+    alloc: Global,
+    file: &str,
+    bytes: &[u8],
+    offset: usize,
+    done: Result<Status, Failure>,
+    failed: Status,
+    output: &mut O,
+    errors: &mut E,
+) -> Result<Status, Failure> {
+    let Some(inside) = hinted_offset(alloc, bytes) else {
+        return done;
+    };
+    let done = match flushed(done, output) {
+        Err(Failure::Output(error)) => return Err(Failure::Output(error)),
+        done => done,
+    };
+    let status = finish_as(file, done, failed, errors);
+    // A hint that cannot be written is no failure.
+    let _ = write_inside(file, offset.saturating_add(inside), errors);
+    Ok(status)
+}
+
+// Where a table is in bytes that are none. None where there is no table, memory is short, or
+// headers overlap.
+fn hinted_offset(alloc: Global, bytes: &[u8]) -> Option<usize> {
+    if is_followed(bytes) {
+        return Some(0);
+    }
+    first_inside(alloc, bytes).ok()?
+}

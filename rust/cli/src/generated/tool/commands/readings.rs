@@ -1,0 +1,146 @@
+// Generated from crates/odht_tool/src/commands/readings.rt by make generate.
+//! The commands that only read their file, over the bytes of the file.
+use crate::generated::core::arguments::{Keys, Reading};
+use crate::generated::core::failure::Failure;
+use crate::generated::core::forms::Kinds;
+use crate::generated::core::info::info_file;
+use crate::generated::core::shapes::Hash;
+use crate::generated::core::status::Status;
+use crate::generated::reads::commands::{check, check_json, count, dump, find, get, keys, order};
+use crate::generated::tool_tables::trials::advice_of;
+use crate::host::prelude::*;
+use crate::shim::Global;
+use std::io::{BufRead, Write};
+
+/// Runs a command that only reads its file, which has these bytes, from `at` on where that is
+/// told, and may be the only one.
+pub fn run_reading<I: BufRead, O: Write, E: Write>(
+    alloc: Global,
+    file: &str,
+    is_one: bool,
+    at: Option<usize>,
+    bytes: &[u8],
+    reading: &Reading,
+    input: &mut I,
+    output: &mut O,
+    errors: &mut E,
+) -> Result<Status, Failure> {
+    match reading {
+        Reading::Info { bound, is_json } => {
+            let advice = advice_of(alloc, bytes)?;
+            info_file(alloc, file, is_one, at, bytes, *bound, *is_json, advice, output)
+        }
+        Reading::Check { hash, bound, is_json } => {
+            check_one(alloc, file, bytes, *hash, *bound, *is_json, output, errors)
+        }
+        Reading::Count { hash, bound, is_checked } => {
+            let checked = if *is_checked { Some((*hash, *bound)) } else { None };
+            count_one(alloc, file, is_one, bytes, checked, output)
+        }
+        Reading::Get { hash, kinds, keys: Keys::Words(words), is_json } => {
+            let words = words.as_slice();
+            get::get_file_words(alloc, bytes, *hash, *kinds, *is_json, words, output)
+        }
+        Reading::Get { hash, kinds, keys: Keys::Lines, is_json } => {
+            get::get_file_lines(alloc, bytes, *hash, *kinds, *is_json, input, output)
+        }
+        Reading::Find { bound, is_json } => {
+            find_in(alloc, file, is_one, bytes, *bound, *is_json, output, errors)
+        }
+        Reading::Dump { hash, kinds, is_slots, is_json } => {
+            dump::dump_file(bytes, *hash, *kinds, *is_slots, *is_json, output)
+        }
+        Reading::Keys { hash, kinds } => keys::keys_file(bytes, *hash, *kinds, output),
+        Reading::Order { hash, kinds, bound } => {
+            order_in(alloc, file, bytes, *hash, *kinds, *bound, output, errors)
+        }
+    }
+}
+
+// Checks a file. Where another hash function fits, a line on `errors` names it, behind that of the
+// check.
+fn check_one<O: Write, E: Write>(
+    alloc: Global,
+    file: &str,
+    bytes: &[u8],
+    hash: Option<Hash>,
+    bound: Option<usize>,
+    is_json: bool,
+    output: &mut O,
+    errors: &mut E,
+) -> Result<Status, Failure> {
+    let status = if is_json {
+        check_json::check_file(alloc, file, bytes, hash, bound, output)?
+    } else {
+        check::check_file(file, bytes, hash, bound, output)?
+    };
+    if !status.is_done() {
+        if let Some(other) = check::hint_of(bytes, hash) {
+            output.flush().map_err(Failure::Output)?;
+            // A hint that cannot be written is no failure.
+            let _ = check::write_hint(file, other, errors);
+        }
+    }
+    Ok(status)
+}
+
+// Counts the items of a file, with its name where there are more files. It is checked before, if so
+// requested, by a hash function or none and a bound or none.
+fn count_one<O: Write>(
+    alloc: Global,
+    file: &str,
+    is_one: bool,
+    bytes: &[u8],
+    checked: Option<(Option<Hash>, Option<usize>)>,
+    output: &mut O,
+) -> Result<Status, Failure> {
+    if is_one {
+        return count::count_file("", bytes, checked, output);
+    }
+    let label = crate::host::texts::formatted(alloc, format_args!("{file}\t"))?;
+    count::count_file(label.as_str(), bytes, checked, output)
+}
+
+// Finds the tables in a file, whose name comes first where there are more files. Where there is no
+// table, a line on `errors` says so.
+fn find_in<O: Write, E: Write>(
+    alloc: Global,
+    file: &str,
+    is_one: bool,
+    bytes: &[u8],
+    bound: Option<usize>,
+    is_json: bool,
+    output: &mut O,
+    errors: &mut E,
+) -> Result<Status, Failure> {
+    if !is_one && !is_json {
+        writeln!(output, "{file}").map_err(Failure::Output)?;
+    }
+    let status = find::find_file(alloc, file, bytes, bound, is_json, output)?;
+    if !status.is_done() {
+        output.flush().map_err(Failure::Output)?;
+        // A line that cannot be written is no failure.
+        let _ = find::write_none(file, errors);
+    }
+    Ok(status)
+}
+
+// Writes the pairs of a file in an order of inserts. Where no inserts make the table, a line on
+// `errors` says so.
+fn order_in<O: Write, E: Write>(
+    alloc: Global,
+    file: &str,
+    bytes: &[u8],
+    hash: Option<Hash>,
+    kinds: Kinds,
+    bound: Option<usize>,
+    output: &mut O,
+    errors: &mut E,
+) -> Result<Status, Failure> {
+    let status = order::order_file(alloc, bytes, hash, kinds, bound, output)?;
+    if !status.is_done() {
+        // A line that cannot be written is no failure.
+        let _ = order::write_unmade(file, errors);
+    }
+    Ok(status)
+}

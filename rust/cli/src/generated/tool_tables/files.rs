@@ -1,0 +1,62 @@
+// Generated from crates/odht_tool_tables/src/files.rt by make generate.
+//! The bytes of a file, and the line that reports its failure.
+
+use crate::generated::core::arguments::is_stream;
+use crate::generated::core::failure::Failure;
+use crate::generated::core::files::{read_file, read_input, read_table_file};
+use crate::generated::core::status::Status;
+use crate::host::prelude::*;
+use crate::host::rt::Files;
+use std::io::{BufRead, ErrorKind, Write};
+
+/// All bytes of the file, or of standard input where the name stands for that. An error where they
+/// cannot be read, or where memory is lacking.
+pub fn read_bytes<R: Files + AllocGlobal, I: BufRead>(
+    rt: &R,
+    file: &str,
+    input: &mut I,
+) -> Result<Vec<u8>, Failure> {
+    if is_stream(file) {
+        read_input(rt.alloc(), input)
+    } else {
+        read_file(rt, file)
+    }
+}
+
+/// The bytes of a file that is to have a table at this offset, as
+/// [`read_table_file`](odht_tool_core::files::read_table_file) reads them; all of standard input.
+pub fn read_table_bytes<R: Files + AllocGlobal, I: BufRead>(
+    rt: &R,
+    file: &str,
+    offset: usize,
+    input: &mut I,
+) -> Result<Vec<u8>, Failure> {
+    if is_stream(file) {
+        read_input(rt.alloc(), input)
+    } else {
+        read_table_file(rt, file, offset)
+    }
+}
+
+/// How a command ends that did this with the file of this name. A failure is `NotDone`, and is
+/// reported by a line on `errors`, but where nobody reads the output any more.
+pub fn finish<E: Write>(file: &str, done: Result<Status, Failure>, errors: &mut E) -> Status {
+    finish_as(file, done, Status::NotDone, errors)
+}
+
+/// The same where a failure has the status `failed`.
+pub fn finish_as<E: Write>(
+    file: &str,
+    done: Result<Status, Failure>,
+    failed: Status,
+    errors: &mut E,
+) -> Status {
+    match done {
+        Ok(status) => status,
+        Err(Failure::Output(error)) if error.kind() == ErrorKind::BrokenPipe => failed,
+        Err(failure) => {
+            let _ = writeln!(errors, "odht: {file}: {failure}");
+            failed
+        }
+    }
+}

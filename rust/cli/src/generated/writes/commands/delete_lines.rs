@@ -1,0 +1,111 @@
+// Generated from crates/odht_tool_writes/src/commands/delete_lines.rt by make generate.
+//! `odht delete FILE -`: the keys are the lines of standard input.
+
+use crate::generated::core::any::{read_any, AnyShape};
+use crate::generated::core::arguments::DeleteOptions;
+use crate::generated::core::failure::{Failure, LineFault};
+use crate::generated::core::forms::Form;
+use crate::generated::core::keys::{next_key_as, push_key, NextKey};
+use crate::generated::core::misread::Misread;
+use crate::generated::core::progress::{Progress, Watch};
+use crate::generated::core::status::Status;
+use crate::generated::core::text::Text;
+use crate::generated::tables::dynamic::ShortBytes;
+use crate::generated::tool_tables::checks::check_any;
+use crate::generated::writes::commands::delete::deleted_for;
+use crate::host::prelude::*;
+use crate::host::rt::Clock;
+use crate::shim::Global;
+use std::io::{BufRead, Write};
+
+/// Lines, and the keys that they are the texts of.
+pub struct KeyLines<K> {
+    pub lines: Vec<Vec<u8>>,
+    pub keys: Vec<K>,
+}
+
+/// The bytes of the new table, without the keys of the lines of an input. Those of the old one are
+/// checked whole before, with the bound of searches where there is one. A line on `errors` tells
+/// of each key that is absent.
+pub fn deleted_by_lines<R: AllocGlobal + Clock, I: BufRead, E: Write>(
+    rt: &R,
+    file: &str,
+    bytes: Vec<u8>,
+    options: &DeleteOptions,
+    input: &mut I,
+    errors: &mut E,
+) -> Result<(Vec<u8>, Status), Failure> {
+    let bytes = bytes.as_slice();
+    let found = read_any(bytes, options.hash, options.kinds)?;
+    let (shape, forms) = found;
+    match check_any(shape, bytes, options.bound) {
+        Ok(()) => {
+            let read = keys_of_lines(rt.alloc(), shape, forms.key, input)?;
+            let lines = read.lines.as_slice();
+            let keys = read.keys.as_slice();
+            let progress = Progress::new(rt, Watch::of(options.has_progress));
+            deleted_for(rt, file, shape, bytes, lines, keys, progress, errors)
+        }
+        Err(error) => Err(Failure::Refused(error)),
+    }
+}
+
+// The lines, and the bytes of their keys in this form, or the first line that is no key.
+fn keys_of_lines<I: BufRead>(
+    alloc: Global,
+    shape: AnyShape,
+    form: Form,
+    input: &mut I,
+) -> Result<KeyLines<ShortBytes>, Failure> {
+    read_lines(alloc, form.of(shape.key()), input)
+}
+
+// The lines of an input, but for an empty last one that is no key, and their keys; or the first
+// line that is no key.
+fn read_lines<K: Text, I: BufRead>(
+    alloc: Global,
+    form: Form,
+    input: &mut I,
+) -> Result<KeyLines<K>, Failure> {
+    let mut lines = crate::host::lists::empty(alloc);
+    let mut keys = crate::host::lists::empty(alloc);
+    for number in 1..u64::MAX {
+        if !take_line(alloc, number, form, input, &mut lines, &mut keys)? {
+            return Ok(KeyLines { lines, keys });
+        }
+    }
+    // There is no room for that many.
+    Err(Failure::Memory)
+}
+
+// Adds the line of this number and its key, if there is such a line. Returns whether there is.
+fn take_line<K: Text, I: BufRead>(
+    alloc: Global,
+    number: u64,
+    form: Form,
+    input: &mut I,
+    lines: &mut Vec<Vec<u8>>,
+    keys: &mut Vec<K>,
+) -> Result<bool, Failure> {
+    let mut line = crate::host::lists::empty(alloc);
+    match next_key_as(input, &mut line, form) {
+        Ok(NextKey::Key(key)) => {
+            lines.try_push(line).map_err(|_| Failure::Memory)?;
+            push_key(keys, key)?;
+            Ok(true)
+        }
+        Ok(NextKey::End) => Ok(false),
+        Ok(NextKey::NoKey) => Err(wrong_line::<K>(alloc, number, line.as_slice(), form)),
+        Err(error) => Err(Failure::Input(error)),
+    }
+}
+
+// What is said of the line of this number, which is no key.
+fn wrong_line<K: Text>(alloc: Global, number: u64, line: &[u8], form: Form) -> Failure {
+    let misread =
+        Misread { line: Some(number), fault: LineFault::Key, wanted: K::wanted(form), text: line };
+    match misread.message(alloc) {
+        Ok(message) => Failure::Misread(message),
+        Err(_) => Failure::Memory,
+    }
+}

@@ -1,0 +1,260 @@
+// Generated from crates/odht_tool_writes/src/commands/merge.rt by make generate.
+//! `odht merge`: a table file of the pairs of others.
+
+use crate::generated::core::any::AnyShape;
+use crate::generated::core::arguments::{is_stream, MergeOptions};
+use crate::generated::core::failure::Failure;
+use crate::generated::core::forms::{GivenForms, Kinds};
+use crate::generated::core::keys::write_repeated;
+use crate::generated::core::new_file::{ended, make_new, replace_file, NewFile};
+use crate::generated::core::percents::new_percent;
+use crate::generated::core::progress::{Progress, Watch};
+use crate::generated::core::shapes::Hash;
+use crate::generated::core::status::{of_output, Status};
+use crate::generated::core::targets::Target;
+use crate::generated::core::typed::Texts;
+use crate::generated::tables::load::Percent;
+use crate::generated::tables::{FxHashFn, UnHashFn, Xxh64HashFn};
+use crate::generated::tool_tables::files::{finish, read_bytes};
+use crate::generated::tool_tables::whole::{have_same_sizes, read_whole, sizes_of, write_sizes};
+use crate::generated::writes::dynamic::merges::{merge_lengths, Input, MergeFailure};
+use crate::host::prelude::*;
+use crate::host::rt::{Clock, Files};
+use crate::shim::Global;
+use std::io::{BufRead, Write};
+use std::os::fd::AsFd;
+
+/// Makes a new table of the pairs of the files, and stores it as the file, in the place of an
+/// older one, which stays where something fails; or writes it to `output`, where the name stands
+/// for that. A failure of one of the files is reported here.
+pub fn merge<R: Files + AllocGlobal + Clock, I: BufRead, O: Write, E: Write>(
+    rt: &R,
+    file: &str,
+    options: MergeOptions,
+    input: &mut I,
+    output: &mut O,
+    errors: &mut E,
+) -> Result<Status, Failure>
+where
+    R::File: AsFd,
+{
+    if is_stream(file) {
+        return match merged_files(rt, &options, input, errors)? {
+            Some(bytes) => of_output(output.write_all(bytes.as_slice())),
+            None => Ok(Status::NotDone),
+        };
+    }
+    let target = Target::find(rt, file, options.allowed)?;
+    let mut new = make_new(rt, target)?;
+    let done = merge_as(rt, &mut new, &options, input, errors);
+    ended(rt, new, done)
+}
+
+// The same with the new file that becomes this file.
+fn merge_as<R: Files + AllocGlobal + Clock, I: BufRead, E: Write>(
+    rt: &R,
+    new: &mut NewFile<R::File>,
+    options: &MergeOptions,
+    input: &mut I,
+    errors: &mut E,
+) -> Result<Status, Failure>
+where
+    R::File: AsFd,
+{
+    match merged_files(rt, options, input, errors)? {
+        Some(bytes) => {
+            replace_file(rt, new, bytes.as_slice())?;
+            Ok(Status::Done)
+        }
+        None => Ok(Status::NotDone),
+    }
+}
+
+// The bytes of the new table. None where one of the files fails, which is reported.
+fn merged_files<R: Files + AllocGlobal + Clock, I: BufRead, E: Write>(
+    rt: &R,
+    options: &MergeOptions,
+    input: &mut I,
+    errors: &mut E,
+) -> Result<Option<Vec<u8>>, Failure> {
+    let name = options.first.as_str();
+    let first = match read_bytes(rt, name, input) {
+        Ok(first) => first,
+        Err(failure) => return Ok(reported(name, failure, errors)),
+    };
+    let mut others = crate::host::lists::empty(rt.alloc());
+    for name in options.others.as_slice() {
+        match read_bytes(rt, name.as_str(), input) {
+            Ok(bytes) => others.try_push(bytes).or(Err(Failure::Memory))?,
+            Err(failure) => return Ok(reported(name.as_str(), failure, errors)),
+        }
+    }
+    merged_or_told(rt, first, others, options, errors)
+}
+
+// The same of files with these bytes.
+fn merged_or_told<R: AllocGlobal + Clock, E: Write>(
+    rt: &R,
+    first: Vec<u8>,
+    others: Vec<Vec<u8>>,
+    options: &MergeOptions,
+    errors: &mut E,
+) -> Result<Option<Vec<u8>>, Failure> {
+    match merged(rt, first, others, options, errors) {
+        Ok(bytes) => Ok(Some(bytes)),
+        Err(MergeFailure::New(failure)) => Err(failure),
+        Err(unmerged) => {
+            report(options, unmerged, errors);
+            Ok(None)
+        }
+    }
+}
+
+// Reports the failure of the file of this name.
+fn reported<E: Write>(name: &str, failure: Failure, errors: &mut E) -> Option<Vec<u8>> {
+    let _ = finish(name, Err(failure), errors);
+    None
+}
+
+// Reports why the files are not merged. A line that cannot be written is no failure.
+fn report<E: Write>(options: &MergeOptions, unmerged: MergeFailure, errors: &mut E) {
+    match unmerged {
+        MergeFailure::Failed { at, failure } => {
+            let _ = finish(name_of(options, at), Err(failure), errors);
+        }
+        MergeFailure::OtherSizes { at, found, first } => {
+            let name = name_of(options, at);
+            let _ = write_sizes(name, options.first.as_str(), found, first, errors);
+        }
+        MergeFailure::Twice { at, text } => {
+            let _ = write_repeated(name_of(options, at), text.as_slice(), errors);
+        }
+        MergeFailure::New(_) => {}
+    }
+}
+
+// The name of the file of this number.
+fn name_of(options: &MergeOptions, at: usize) -> &str {
+    if 0 < at && at <= options.others.len() {
+        options.others[at - 1].as_str()
+    } else {
+        options.first.as_str()
+    }
+}
+
+// The bytes of the new table of these files. Each is checked whole before, with the bound of
+// searches where there is one.
+fn merged<R: AllocGlobal + Clock, E: Write>(
+    rt: &R,
+    first: Vec<u8>,
+    others: Vec<Vec<u8>>,
+    options: &MergeOptions,
+    errors: &mut E,
+) -> Result<Vec<u8>, MergeFailure> {
+    let bytes = first.as_slice();
+    match read_whole(bytes, options.hash, options.kinds, options.bound) {
+        Ok((shape, forms)) => {
+            let percent = new_percent(bytes, options.percent);
+            merged_for(rt, shape, forms, first, others, percent, options, errors)
+        }
+        Err(failure) => Err(MergeFailure::Failed { at: 0, failure }),
+    }
+}
+
+// The same at this load factor, where the first file is a valid table of this shape, in these
+// forms.
+fn merged_for<R: AllocGlobal + Clock, E: Write>(
+    rt: &R,
+    shape: AnyShape,
+    forms: GivenForms,
+    first: Vec<u8>,
+    others: Vec<Vec<u8>>,
+    percent: Percent,
+    options: &MergeOptions,
+    errors: &mut E,
+) -> Result<Vec<u8>, MergeFailure> {
+    let inputs = inputs_of(rt.alloc(), shape, first, others, options.hash, options.bound)?;
+    merged_inputs(rt, shape, forms, inputs.as_slice(), percent, options, errors)
+}
+
+// The same of files that are all valid tables of the lengths of this shape, which is that of the
+// first.
+fn merged_inputs<R: AllocGlobal + Clock, E: Write>(
+    rt: &R,
+    shape: AnyShape,
+    forms: GivenForms,
+    inputs: &[Input],
+    percent: Percent,
+    options: &MergeOptions,
+    errors: &mut E,
+) -> Result<Vec<u8>, MergeFailure> {
+    let texts = Texts::of(shape, forms);
+    let progress = Progress::new(rt, Watch::of(options.has_progress));
+    let duplicates = options.duplicates;
+    match shape.hash() {
+        Hash::Fx => merge_lengths::<FxHashFn, R, E>(
+            rt, texts, inputs, duplicates, percent, progress, errors,
+        ),
+        Hash::Unhash => merge_lengths::<UnHashFn, R, E>(
+            rt, texts, inputs, duplicates, percent, progress, errors,
+        ),
+        Hash::Xxh64 => merge_lengths::<Xxh64HashFn, R, E>(
+            rt, texts, inputs, duplicates, percent, progress, errors,
+        ),
+    }
+}
+
+// The files, which are valid tables of the lengths of this shape, or the first that is not; the
+// first one is.
+fn inputs_of(
+    alloc: Global,
+    shape: AnyShape,
+    first: Vec<u8>,
+    others: Vec<Vec<u8>>,
+    hash: Option<Hash>,
+    bound: Option<usize>,
+) -> Result<Vec<Input>, MergeFailure> {
+    let mut inputs = first_input(alloc, shape, first)?;
+    for bytes in others {
+        match shape_of_other(shape, hash, bound, inputs.len(), bytes.as_slice()) {
+            Ok(other) => push_input(&mut inputs, other, bytes)?,
+            Err(unmerged) => return Err(unmerged),
+        }
+    }
+    Ok(inputs)
+}
+
+// The first file alone.
+fn first_input(alloc: Global, shape: AnyShape, bytes: Vec<u8>) -> Result<Vec<Input>, MergeFailure> {
+    let mut inputs = crate::host::lists::empty(alloc);
+    push_input(&mut inputs, shape, bytes)?;
+    Ok(inputs)
+}
+
+// Adds a file.
+fn push_input(
+    inputs: &mut Vec<Input>,
+    shape: AnyShape,
+    bytes: Vec<u8>,
+) -> Result<(), MergeFailure> {
+    let input = Input { shape, bytes };
+    inputs.try_push(input).map_err(|_| MergeFailure::New(Failure::Memory))
+}
+
+// The shape of a file of this number, which has to be a valid table of the same lengths.
+fn shape_of_other(
+    shape: AnyShape,
+    hash: Option<Hash>,
+    bound: Option<usize>,
+    at: usize,
+    bytes: &[u8],
+) -> Result<AnyShape, MergeFailure> {
+    let kinds = Kinds { key: None, value: None, hash: None };
+    match read_whole(bytes, hash, kinds, bound) {
+        Ok((other, _)) if have_same_sizes(shape, other) => Ok(other),
+        Ok((other, _)) => {
+            Err(MergeFailure::OtherSizes { at, found: sizes_of(other), first: sizes_of(shape) })
+        }
+        Err(failure) => Err(MergeFailure::Failed { at, failure }),
+    }
+}

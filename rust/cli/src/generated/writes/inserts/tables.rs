@@ -1,0 +1,116 @@
+// Generated from crates/odht_tool_writes/src/inserts/tables.rt by make generate.
+//! Inserts into the tables of configurations, and of lengths that are known only at run time.
+
+use super::Inserts;
+use crate::generated::core::failure::Failure;
+use crate::generated::core::text::Text;
+use crate::generated::tables::config::Config;
+use crate::generated::tables::dynamic::{DynTableOwned, ShortBytes};
+use crate::generated::tables::hash::HashFn;
+use crate::generated::tables::HashTableOwned;
+use crate::host::prelude::*;
+
+impl<C: Config> Inserts for HashTableOwned<C>
+where
+    C::Key: Text,
+    C::Value: Text,
+{
+    type Key = C::Key;
+
+    type Value = C::Value;
+
+    fn insert_pairs(&mut self, pairs: &[(C::Key, C::Value)]) -> Result<(), Failure> {
+        insert_all(self, pairs)
+    }
+
+    fn insert_new(&mut self, key: &C::Key, value: &C::Value) -> Result<bool, Failure> {
+        insert_absent(self, key, value)
+    }
+
+    fn pair_count(&self) -> usize {
+        self.len()
+    }
+
+    fn all_bytes(&self) -> &[u8] {
+        self.raw_bytes()
+    }
+}
+
+fn insert_all<C: Config>(
+    table: &mut HashTableOwned<C>,
+    pairs: &[(C::Key, C::Value)],
+) -> Result<(), Failure> {
+    let (_, inserted) = table.insert_all(pairs);
+    match inserted {
+        Ok(()) => Ok(()),
+        Err(_) => Err(Failure::Memory),
+    }
+}
+
+// Inserts the pair where its key has no value, and returns whether that is so.
+fn insert_absent<C: Config>(
+    table: &mut HashTableOwned<C>,
+    key: &C::Key,
+    value: &C::Value,
+) -> Result<bool, Failure> {
+    if table.contains_key(key) {
+        return Ok(false);
+    }
+    match table.insert(key, value) {
+        Ok(_) => Ok(true),
+        Err(_) => Err(Failure::Memory),
+    }
+}
+
+impl<H: HashFn> Inserts for DynTableOwned<H> {
+    type Key = ShortBytes;
+
+    type Value = ShortBytes;
+
+    fn insert_pairs(&mut self, pairs: &[(ShortBytes, ShortBytes)]) -> Result<(), Failure> {
+        insert_each(self, pairs)
+    }
+
+    fn insert_new(&mut self, key: &ShortBytes, value: &ShortBytes) -> Result<bool, Failure> {
+        insert_absent_bytes(self, key.as_slice(), value.as_slice())
+    }
+
+    fn pair_count(&self) -> usize {
+        self.len()
+    }
+
+    fn all_bytes(&self) -> &[u8] {
+        self.raw_bytes()
+    }
+}
+
+fn insert_each<H: HashFn>(
+    table: &mut DynTableOwned<H>,
+    pairs: &[(ShortBytes, ShortBytes)],
+) -> Result<(), Failure> {
+    for index in 0..pairs.len() {
+        let (key, value) = &pairs[index];
+        // Keys and values of the lines have the lengths of the table.
+        if let Err(_) = table.insert(key.as_slice(), value.as_slice()) {
+            return Err(Failure::Memory);
+        }
+    }
+    Ok(())
+}
+
+// The same of a table of lengths that are known only at run time, which those of the key and the
+// value are.
+fn insert_absent_bytes<H: HashFn>(
+    table: &mut DynTableOwned<H>,
+    key: &[u8],
+    value: &[u8],
+) -> Result<bool, Failure> {
+    let is_known = table.contains_key(key);
+    if is_known {
+        return Ok(false);
+    }
+    match table.insert(key, value) {
+        Ok(_) => Ok(true),
+        Err(_) => Err(Failure::Memory),
+    }
+}

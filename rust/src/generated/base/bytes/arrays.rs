@@ -1,0 +1,176 @@
+// Generated from crates/odht_base/src/bytes/arrays.rt by make generate.
+//! Byte arrays of a fixed length, which keys and values are encoded to.
+
+use std::fmt::Debug;
+
+/// An array of a fixed number of bytes, and nothing but these bytes: an encoded key or an encoded
+/// value.
+pub trait ByteArray: Sized + Copy + Eq + Debug + 'static {
+    /// How many bytes the array has.
+    const LEN: usize;
+
+    /// The array of zeros.
+    fn zeroed() -> Self;
+
+    /// The array of the bytes of `slice`, whose length is `LEN`.
+    fn from_slice(slice: &[u8]) -> Self;
+
+    /// The bytes.
+    fn as_slice(&self) -> &[u8];
+
+    /// Whether the bytes are equal.
+    fn equals(&self, other: &Self) -> bool;
+
+    /// Whether each byte is zero.
+    #[inline]
+    fn is_all_zeros(&self) -> bool {
+        self.as_slice().iter().all(|b| *b == 0)
+    }
+}
+
+impl<const LEN: usize> ByteArray for [u8; LEN] {
+    const LEN: usize = LEN;
+
+    #[inline]
+    fn zeroed() -> Self {
+        [0; LEN]
+    }
+
+    #[inline]
+    fn from_slice(slice: &[u8]) -> Self {
+        let Some(chunk) = slice.first_chunk::<LEN>() else { unreachable!() };
+        *chunk
+    }
+
+    #[inline]
+    fn as_slice(&self) -> &[u8] {
+        as_bytes(self)
+    }
+
+    // Arrays of one to four words, and of 9, 10 and 20 bytes, are compared a word at a time, with
+    // no loop. Those of 28 bytes, and of other lengths that are not multiples of four, are
+    // compared as the compiler does it, which takes fewer instructions there: up to 7 bytes as
+    // arrays, which it keeps in registers; longer ones as lists of a known length, by loads that
+    // overlap. For the calls for C it calls a routine for such a list, which takes some thirty
+    // instructions.
+    #[inline]
+    fn equals(&self, other: &Self) -> bool {
+        let (left, right): (&[u8], &[u8]) = (self, other);
+        match LEN {
+            8 => is_same_word(left, right, 0),
+            9 => is_same_bytes(left, right),
+            10 => is_same_word(left, right, 0) && is_same_quarter(left, right, 8),
+            16 => is_same_pair(left, right, 0),
+            20 => is_same_pair(left, right, 0) && is_same_half(left, right, 16),
+            24 => is_same_pair(left, right, 0) && is_same_word(left, right, 16),
+            32 => is_same_pair(left, right, 0) && is_same_pair(left, right, 16),
+            28 => left == right,
+            _ if LEN % 4 == 0 => is_same_bytes(left, right),
+            _ if LEN < 8 => *self == *other,
+            _ => left == right,
+        }
+    }
+}
+
+// The slice itself, of which each item is a byte.
+#[inline]
+fn as_bytes(slice: &[u8]) -> &[u8] {
+    slice
+}
+
+// The number of the two bytes from `at` on, lowest byte first, at any alignment.
+#[inline]
+fn read_u16(bytes: &[u8], at: usize) -> u16 {
+    let Some(chunk) = index!(bytes[at..at + 2], "at + 2 ≤ length bytes.now").first_chunk::<2>()
+    else {
+        unreachable!()
+    };
+    u16::from_le_bytes(*chunk)
+}
+
+/// The number of the four bytes from `at` on, lowest byte first, at any alignment.
+#[inline]
+pub fn read_u32(bytes: &[u8], at: usize) -> u32 {
+    let Some(chunk) = index!(bytes[at..at + 4], "at + 4 ≤ length bytes.now").first_chunk::<4>()
+    else {
+        unreachable!()
+    };
+    u32::from_le_bytes(*chunk)
+}
+
+/// The number of the eight bytes from `at` on, lowest byte first, at any alignment.
+#[inline]
+pub fn read_u64(bytes: &[u8], at: usize) -> u64 {
+    let Some(chunk) = index!(bytes[at..at + 8], "at + 8 ≤ length bytes.now").first_chunk::<8>()
+    else {
+        unreachable!()
+    };
+    u64::from_le_bytes(*chunk)
+}
+
+/// Whether the eight bytes from `at` on are equal, at any alignment.
+#[inline]
+pub fn is_same_word(left: &[u8], right: &[u8], at: usize) -> bool {
+    read_u64(left, at) == read_u64(right, at)
+}
+
+/// Whether two slices of the same length have the same bytes. They are compared where they are.
+///
+/// Up to 64 bytes are compared in pieces of eight, then one of four, then the rest: a copy of a
+/// short key is written in such pieces too, and mostly read back fastest in the same.
+#[inline(always)]
+pub fn is_same_bytes(left: &[u8], right: &[u8]) -> bool {
+    let len = right.len();
+    if len > 64 {
+        return left == right;
+    }
+    let mut at = 0;
+    while len - at >= 8 {
+        if !is_same_word(left, right, at) {
+            return false;
+        }
+        at += 8;
+    }
+    if len - at < 4 {
+        return index!(left[at..], "length left.now ≡ length right.now")
+            == index!(right[at..], "length left.now ≡ length right.now");
+    }
+    is_same_half(left, right, at)
+        && index!(left[at + 4..], "length left.now ≡ length right.now")
+            == index!(right[at + 4..], "length left.now ≡ length right.now")
+}
+
+/// Whether each byte is zero, eight of them at a time.
+#[inline(always)]
+pub fn is_zeros(bytes: &[u8]) -> bool {
+    let len = bytes.len();
+    if len < 8 {
+        return bytes.iter().all(|b| *b == 0);
+    }
+    let mut at = 0;
+    while at + 8 < len {
+        if read_u64(bytes, at) != 0 {
+            return false;
+        }
+        at += 8;
+    }
+    read_u64(bytes, len - 8) == 0
+}
+
+// Whether the two bytes from `at` on are equal.
+#[inline]
+fn is_same_quarter(left: &[u8], right: &[u8], at: usize) -> bool {
+    read_u16(left, at) == read_u16(right, at)
+}
+
+// Whether the four bytes from `at` on are equal.
+#[inline]
+fn is_same_half(left: &[u8], right: &[u8], at: usize) -> bool {
+    read_u32(left, at) == read_u32(right, at)
+}
+
+// Whether the sixteen bytes from `at` on are equal.
+#[inline]
+fn is_same_pair(left: &[u8], right: &[u8], at: usize) -> bool {
+    is_same_word(left, right, at) && is_same_word(left, right, at + 8)
+}

@@ -1,0 +1,83 @@
+// Generated from crates/odht_raw/src/memory_layout/allocation/inserts.rt by make generate.
+//! Inserts into the bytes of a table: the parts are written, and last the item count: by a single
+//! insert where it added an entry, by a list in any case.
+
+use super::{prove_bytes, Allocation};
+use crate::generated::header::header::ITEM_COUNT_AT;
+use crate::generated::raw::bytes::{write_slice, ByteStoreMut};
+use crate::generated::raw::config::Config;
+use crate::generated::raw::error::Error;
+use crate::generated::raw::items::Items;
+use crate::generated::raw::memory_layout::inserts::insert_typed;
+use crate::generated::raw::memory_layout::{entry_at, Header, HEADER_SIZE};
+use crate::generated::raw::raw_table::insert_run;
+use crate::generated::raw::swisstable_group_query::Group;
+
+impl<C: Config, M: ByteStoreMut> Allocation<C, M> {
+    /// Gives the key this value, by a group search of the caller's choice, and returns its former
+    /// one. `Full`, with nothing changed, where the search does not find the key and the header's
+    /// item count is its maximum or more, or where it finds neither the key nor a free slot. A new
+    /// entry raises the item count by one.
+    ///
+    /// The slot count is read before the search, the rest of the header after it, and the key is
+    /// hashed once.
+    #[inline(always)]
+    pub fn insert_by<Q: Group>(
+        &mut self,
+        key: &C::Key,
+        value: &C::Value,
+    ) -> Result<Option<C::Value>, Error> {
+        let store = &mut self.store;
+        let bytes = store.bytes_mut();
+        let slots = Header::of(bytes).slot_count();
+        crate::shim::slots::check::<M>(
+            bytes.len(),
+            slots,
+            crate::generated::header::layout::Layout::of::<C>(),
+        );
+        insert_typed::<C, Q>(bytes, slots, key, value)
+    }
+
+    /// Inserts the items from index `from` on in their order, up to the first for which
+    /// `insert_by` returns `Full`, and returns the index after the last item that was inserted.
+    /// Each new entry raises the item count by one.
+    ///
+    /// The header is read once for the list, and the item count is written once. Each item costs a
+    /// search. In tables of 2^20 slots and more the group at the home slot may be read ahead, for
+    /// eight keys in turn: these keys are encoded twice, and a new key whose slot was seen free
+    /// then needs no further search.
+    #[inline(always)]
+    pub fn insert_items<I: Items<C::Key, C::Value>>(&mut self, items: &I, from: usize) -> usize {
+        let store = &mut self.store;
+        let bytes = store.bytes_mut();
+        prove_bytes(bytes);
+        let header = Header::of(bytes);
+        let count = header.item_count();
+        let slots = header.slot_count();
+        crate::shim::slots::check::<M>(
+            bytes.len(),
+            slots,
+            crate::generated::header::layout::Layout::of::<C>(),
+        );
+        let room = header.max_load_factor().apply(slots).saturating_sub(count);
+        let (table, control) = split_at_mut!(
+            bytes,
+            entry_at::<C>(slots),
+            "IsAccepted (format_of C.EncodedKey.LEN C.EncodedValue.LEN C.H.hash)"
+        );
+        let (front, entries) = split_at_mut!(
+            table,
+            HEADER_SIZE,
+            "IsAccepted (format_of C.EncodedKey.LEN C.EncodedValue.LEN C.H.hash)"
+        );
+        let (end, added) = insert_run::<C, I>(control, entries, items, from, room);
+        write_count(front, count + added);
+        end
+    }
+}
+
+// Writes the item count of a header.
+#[inline(always)]
+pub(crate) fn write_count(header: &mut [u8], item_count: usize) {
+    write_slice(header, ITEM_COUNT_AT, &(item_count as u64).to_le_bytes());
+}

@@ -1,0 +1,131 @@
+// Generated from crates/odht_raw/src/memory_layout/inserts.rt by make generate.
+//! Inserts into the bytes of a table: the parts are written, and last the item count. The lengths
+//! of keys and values are types or numbers.
+
+use super::allocation::{prove_bytes, write_count};
+use super::cuts::cut;
+use super::{Header, HEADER_SIZE};
+use crate::generated::raw::bytes::ByteArray;
+use crate::generated::raw::config::Config;
+use crate::generated::raw::error::Error;
+use crate::generated::raw::hash::HashFn;
+use crate::generated::raw::items::encode_pair;
+use crate::generated::raw::layout::{Fixed, Layout, Lengths};
+use crate::generated::raw::raw_table::{is_found, write_at_end, Parts, Search, ShortBytes};
+use crate::generated::raw::swisstable_group_query::Group;
+
+// Writes the pair where the search for its key ended, which comes with the key's tag, and counts
+// a new entry. Returns whether it wrote: not, with nothing changed, where the key is new and the
+// header's item count is its maximum or more, or no slot is free. The caller's error is `Full`
+// then. The slot count is that of the header, which is read once for an insert.
+//
+// In the clauses the former value stands in an Ok. It is not returned.
+#[inline(always)]
+fn insert_in<L: Lengths, H: HashFn>(
+    bytes: &mut [u8],
+    slots: usize,
+    lengths: L,
+    key: &[u8],
+    value: &[u8],
+    end: (Search, u8),
+) -> bool {
+    prove_bytes(bytes);
+    prove_bytes(key);
+    prove_bytes(value);
+    let at = HEADER_SIZE + slots * lengths.entry_len();
+    let (table, control) = split_at_mut!(bytes, at, "slots ≡ header_slots bytes.old");
+    let (front, entries) = split_at_mut!(table, HEADER_SIZE, "slots ≡ header_slots bytes.old");
+    // The room is that up to the maximum item count.
+    let header = Header::of(front);
+    let count = header.item_count();
+    let room = header.max_load_factor().apply(slots).saturating_sub(count);
+    if !write_at_end::<L, H>(control, entries, slots, lengths, key, value, end, room) {
+        return false;
+    }
+    if is_found(end.0) {
+        return true;
+    }
+    write_count(front, count + 1);
+    true
+}
+
+/// Gives the key this value in the bytes of a table, and returns its former one. `Full`, with
+/// nothing changed, where the search does not find the key and the header's item count is its
+/// maximum or more, or where it finds neither the key nor a free slot. A new entry raises the item
+/// count by one. The key is hashed once.
+pub fn insert_dynamic<H: HashFn>(
+    bytes: &mut [u8],
+    layout: Layout,
+    key: &[u8],
+    value: &[u8],
+) -> Result<Option<ShortBytes>, Error> {
+    let slots = Header::of(bytes).slot_count();
+    crate::shim::slots::check::<&[u8]>(bytes.len(), slots, layout);
+    let parts = cut::<Layout, H>(&*bytes, slots, layout);
+    let end = parts.insert_end(key);
+    let former = parts.short_value_at(end.0);
+    if insert_in::<Layout, H>(bytes, slots, layout, key, value, end) {
+        Ok(former)
+    } else {
+        Err(Error::Full)
+    }
+}
+
+/// `insert_dynamic`, which writes a former value to `former`. Returns whether there is one. Where
+/// there is none, and on an error, `former` is unchanged.
+#[inline(always)]
+pub fn insert_dynamic_into<H: HashFn>(
+    bytes: &mut [u8],
+    layout: Layout,
+    key: &[u8],
+    value: &[u8],
+    former: &mut [u8],
+) -> Result<bool, Error> {
+    let slots = Header::of(bytes).slot_count();
+    crate::shim::slots::check::<&[u8]>(bytes.len(), slots, layout);
+    let parts = cut::<Layout, H>(&*bytes, slots, layout);
+    let end = parts.insert_end(key);
+    let had = parts.copy_value_at(end.0, former);
+    let written = insert_in::<Layout, H>(bytes, slots, layout, key, value, end);
+    if written {
+        Ok(had)
+    } else {
+        Err(Error::Full)
+    }
+}
+
+/// `insert_dynamic` of a key and a value of a configuration, by a group search of the caller's
+/// choice, in bytes of that many slots.
+#[inline(always)]
+pub(crate) fn insert_typed<C: Config, Q: Group>(
+    bytes: &mut [u8],
+    slots: usize,
+    key: &C::Key,
+    value: &C::Value,
+) -> Result<Option<C::Value>, Error> {
+    let (key, value) = encode_pair::<C>(key, value);
+    let (key, value) = (key.as_slice(), value.as_slice());
+    let lengths: Fixed<C::EncodedKey, C::EncodedValue> = Fixed::new();
+    let parts = cut::<Fixed<C::EncodedKey, C::EncodedValue>, C::H>(&*bytes, slots, lengths);
+    let end = parts.search_end::<Q>(key);
+    let former = former_value::<C>(&parts, end.0);
+    if insert_in::<Fixed<C::EncodedKey, C::EncodedValue>, C::H>(
+        bytes, slots, lengths, key, value, end,
+    ) {
+        Ok(former)
+    } else {
+        Err(Error::Full)
+    }
+}
+
+// The value where a search ended, if it found the key.
+#[inline(always)]
+fn former_value<C: Config>(
+    parts: &Parts<'_, Fixed<C::EncodedKey, C::EncodedValue>, C::H>,
+    end: Search,
+) -> Option<C::Value> {
+    match parts.value_at(end) {
+        Some(value) => Some(C::decode_value(&C::EncodedValue::from_slice(value))),
+        None => None,
+    }
+}

@@ -1,0 +1,230 @@
+// Generated from crates/odht/src/dynamic.rt by make generate.
+//! Dynamic tables: the lengths of keys and values are known only at run time, such as those of a
+//! file.
+
+use crate::generated::tables::bytes::ByteStore;
+use crate::generated::tables::error::Error;
+use crate::generated::tables::hash::HashFn;
+pub use crate::generated::tables::layout::Layout;
+use crate::generated::tables::memory_layout::{
+    self, check_by_header, check_dynamic, check_dynamic_within, check_opening, dynamic_parts,
+    Header,
+};
+pub use crate::generated::tables::raw_table::ShortBytes;
+use crate::generated::tables::raw_table::{DynIter, DynRawTable, DynSlots};
+use std::marker::PhantomData;
+
+mod file;
+mod growth;
+mod insert_order;
+mod inserts;
+mod inserts_into;
+mod lists;
+mod lookups;
+mod new_tables;
+mod owned;
+mod prefix;
+
+pub use file::{FileError, FileTable};
+pub use owned::DynTableOwned;
+pub use prefix::table_len;
+
+/// Why bytes are not opened as a dynamic table, or such a table
+/// takes no pair.
+#[derive(Debug, PartialEq, Eq)]
+#[non_exhaustive]
+pub enum DynError {
+    /// The keys are shorter than the hash function needs.
+    KeyTooShort {
+        /// The length of a key, in bytes.
+        key_len: u8,
+        /// How many bytes the hash function needs at least.
+        least: usize,
+    },
+    /// The key has another length than the keys of the table.
+    WrongKeyLength {
+        /// The length of a key of the table, in bytes.
+        expected: u8,
+        /// The length of the key, in bytes.
+        found: usize,
+    },
+    /// The value has another length than the values of the table.
+    WrongValueLength {
+        /// The length of a value of the table, in bytes.
+        expected: u8,
+        /// The length of the value, in bytes.
+        found: usize,
+    },
+    /// The error of a table of a configuration with these lengths.
+    Rejected(Error),
+}
+
+/// A table in the bytes of a store, of keys and values of lengths that were given when it was
+/// opened, or that its header states. It cannot grow.
+///
+/// A contract speaks of it as of these lengths and the store.
+pub struct DynTable<H: HashFn, D: ByteStore> {
+    store: D,
+    layout: Layout,
+    hash: PhantomData<H>,
+}
+
+// The lengths of keys and values that the header at the front of the bytes states, or that they
+// are too few for one.
+fn stated_layout(bytes: &[u8]) -> Result<Layout, DynError> {
+    match memory_layout::stated_layout(bytes) {
+        Ok(layout) => Ok(layout),
+        Err(rejected) => Err(DynError::Rejected(rejected)),
+    }
+}
+
+impl<H: HashFn, D: ByteStore> DynTable<H, D> {
+    /// Opens bytes as a table of these lengths, or returns the first error: `KeyTooShort` where
+    /// the hash function needs longer keys; then `Rejected` with that of too few bytes, of the
+    /// header, of the length, of the first ten slots, as
+    /// [`HashTable::from_raw_bytes`](crate::generated::tables::hash_table::HashTable::from_raw_bytes) returns it. On
+    /// an error the store is dropped.
+    ///
+    /// Nothing else is checked. A table of bytes that are accepted and not valid is safe to use,
+    /// but its calls keep only what their clauses say of any bytes.
+    pub fn open(layout: Layout, data: D) -> Result<Self, DynError> {
+        if (layout.key_len as usize) < H::MIN_LEN {
+            return Err(DynError::KeyTooShort { key_len: layout.key_len, least: H::MIN_LEN });
+        }
+        match check_opening::<H>(data.bytes(), layout) {
+            Ok(()) => Ok(DynTable { store: data, layout, hash: PhantomData }),
+            Err(rejected) => Err(DynError::Rejected(rejected)),
+        }
+    }
+
+    /// [`DynTable::open`] with the lengths that the header states; [`DynTable::layout`] tells
+    /// them.
+    ///
+    /// The first error: `Rejected` with that of too few bytes, of the header, of the length; then
+    /// `KeyTooShort`; then `Rejected` with that of the first ten slots. On an error the store is
+    /// dropped. A header states no hash function: a table of another one is rejected where one of
+    /// the first ten slots is occupied and has another tag.
+    pub fn open_as_stated(data: D) -> Result<Self, DynError> {
+        let bytes = data.bytes();
+        let layout = stated_layout(bytes)?;
+        match check_by_header(bytes, layout) {
+            Ok(()) => DynTable::open(layout, data),
+            Err(rejected) => Err(DynError::Rejected(rejected)),
+        }
+    }
+
+    /// Takes the bytes as those of a table of these lengths, without a check: the caller knows
+    /// that their header and length fit, and that keys are long enough for the hash function.
+    #[inline]
+    pub fn open_unchecked(layout: Layout, data: D) -> Self {
+        // A slice's length is below 2^64, so that of the store's bytes is too.
+        let _ = data.bytes();
+        DynTable { store: data, layout, hash: PhantomData }
+    }
+
+    /// The lengths of keys and values.
+    #[inline]
+    pub fn layout(&self) -> Layout {
+        self.layout
+    }
+
+    /// The value of a key, or None. On valid bytes it is the table's value for the key; on any
+    /// bytes it is one that some entry has beside this very key. A key of another length has no
+    /// value. [`DynTable::get_counted`] counts the groups of such a search.
+    pub fn get(&self, key: &[u8]) -> Option<&[u8]> {
+        if !self.takes(key) {
+            return None;
+        }
+        self.as_dynamic().find(key)
+    }
+
+    /// `get`, and how many groups of control bytes it read: on valid bytes those up to the first
+    /// slot of the key's probe order that is free or holds the key, and on any bytes at most one
+    /// for sixteen slots. docs/FORMAT.md, "Search", counts them. For a key of another length no
+    /// group is read.
+    pub fn get_counted(&self, key: &[u8]) -> (Option<&[u8]>, usize) {
+        if !self.takes(key) {
+            return (None, 0);
+        }
+        self.as_dynamic().find_counted(key)
+    }
+
+    // Whether the key has the length of the table's keys.
+    #[inline]
+    fn takes(&self, key: &[u8]) -> bool {
+        key.len() == self.layout.key_len as usize
+    }
+
+    /// Whether the key has a value. On any bytes it is true only where the entry of some slot
+    /// holds this very key.
+    pub fn contains_key(&self, key: &[u8]) -> bool {
+        self.get(key).is_some()
+    }
+
+    /// The keys and values of the slots whose own control byte is below 128, in slot order: on
+    /// valid bytes each pair of the table once.
+    pub fn iter(&self) -> DynIter<'_, H> {
+        self.as_dynamic().iter()
+    }
+
+    /// The slots from slot `from` on whose own control byte is below 128, in slot order, each with
+    /// its key and value: on valid bytes each pair in these slots once. Nothing where `from` is
+    /// past the last slot.
+    pub fn iter_from(&self, from: usize) -> DynSlots<'_, H> {
+        self.as_dynamic().iter_from(from)
+    }
+
+    /// The item count of the header. On valid bytes it is the number of items.
+    #[inline]
+    pub fn len(&self) -> usize {
+        Header::of(self.raw_bytes()).item_count()
+    }
+
+    /// Whether the bytes are valid: those of a table that the format allows, to the last byte
+    /// (docs/FORMAT.md, "Valid bytes"). On valid bytes each lookup returns what a map would.
+    ///
+    /// All of the bytes are checked. It takes no memory, and costs what
+    /// [`crate::generated::tables::memory_layout::check_all`] does. [`crate::generated::tables::memory_layout::check_dynamic`] returns the
+    /// error.
+    pub fn verify(&self) -> bool {
+        check_dynamic::<H>(self.store.bytes(), self.layout).is_ok()
+    }
+
+    /// Whether the bytes are valid and each home has, among the first `groups` groups of its probe
+    /// order, a control byte that counts as free. Then no search, of a present or an absent key,
+    /// reads more. [`DEFAULT_GROUPS`](crate::generated::tables::memory_layout::DEFAULT_GROUPS) is a bound that tables
+    /// of hashes that vary keep.
+    ///
+    /// It is for untrusted bytes: whatever they are it costs no more than
+    /// [`crate::generated::tables::memory_layout::check_all_within`]. [`crate::generated::tables::memory_layout::check_dynamic_within`]
+    /// returns the error.
+    pub fn verify_within(&self, groups: usize) -> bool {
+        check_dynamic_within::<H>(self.store.bytes(), self.layout, groups).is_ok()
+    }
+
+    /// Whether each home has, among the first `groups` groups of its probe order, a control byte
+    /// that counts as free. Then no search in valid bytes, of a present or an absent key, reads
+    /// more. It reads only control bytes: for `s` slots at most `s * groups` groups.
+    pub fn searches_within(&self, groups: usize) -> bool {
+        self.as_dynamic().searches_within(groups)
+    }
+
+    /// All bytes. Their header and length fit.
+    #[inline]
+    pub fn raw_bytes(&self) -> &[u8] {
+        self.store.bytes()
+    }
+
+    /// The store, with the bytes as they are now. Their header and length fit.
+    #[inline]
+    pub fn into_data(self) -> D {
+        let DynTable { store, layout: _, hash: _ } = self;
+        store
+    }
+
+    /// The parts of the table. A caller that looks up many keys calls this once.
+    #[inline]
+    pub fn as_dynamic(&self) -> DynRawTable<'_, H> {
+        dynamic_parts::<H>(self.store.bytes(), self.layout)
+    }
+}

@@ -1,0 +1,55 @@
+// Generated from crates/odht/src/dynamic/owned/inserts.rt by make generate.
+//! Inserts into the owned dynamic table, and its growth.
+
+use super::DynTableOwned;
+use crate::generated::tables::bytes::OwnedBytes;
+use crate::generated::tables::dynamic::{DynError, DynTable};
+use crate::generated::tables::error::Error;
+use crate::generated::tables::hash::HashFn;
+use crate::generated::tables::raw_table::ShortBytes;
+
+impl<H: HashFn> DynTableOwned<H> {
+    /// Gives the key this value, and returns its former one, or None. At the maximum the table
+    /// grows for an absent key; a present key is given its value in place, which takes no memory.
+    /// docs/FORMAT.md, "Insert" and "Growth", has the rules.
+    ///
+    /// The first error: `WrongKeyLength` where the key has another length than the table's keys;
+    /// `WrongValueLength` where the value has another one than its values; then `Rejected` with
+    /// `Memory`, only at the maximum and for an absent key, where the allocator gives none, or the
+    /// grown table would need more than 2^63 slots, or more bytes than a `usize` counts; that it
+    /// comes for no other reason, no clause says. On an error nothing changes.
+    ///
+    /// The key is hashed once, and again at a growth, which hashes and places each item again.
+    pub fn insert(&mut self, key: &[u8], value: &[u8]) -> Result<Option<ShortBytes>, DynError> {
+        match self.table.insert(key, value) {
+            Ok(former) => Ok(former),
+            // The table is at its maximum, and the key is absent.
+            Err(DynError::Rejected(_)) => self.insert_grown(key, value),
+            Err(refused) => Err(refused),
+        }
+    }
+
+    // `insert` of an absent key of the table's length at the maximum: into the grown table.
+    #[inline(never)]
+    fn insert_grown(&mut self, key: &[u8], value: &[u8]) -> Result<Option<ShortBytes>, DynError> {
+        let Some(mut grown) = self.grown_table() else {
+            return Err(DynError::Rejected(Error::Memory));
+        };
+        let former = grown.insert(key, value)?;
+        self.table = grown;
+        Ok(former)
+    }
+
+    // The pairs of this table, placed in slot order into a table with the slots for twice as many,
+    // and for one at least. None where the allocator gives no memory for it, or it would be too
+    // large.
+    #[inline(never)]
+    fn grown_table(&self) -> Option<DynTable<H, OwnedBytes>> {
+        let len = self.table.grown_len()?;
+        let Ok(mut bytes) = crate::shim::zeroed_bytes(self.alloc, len) else {
+            return None;
+        };
+        self.table.grow_into(bytes.as_mut_slice());
+        Some(DynTable::open_unchecked(self.table.layout(), OwnedBytes::new(bytes)))
+    }
+}

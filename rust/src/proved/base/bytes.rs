@@ -1,9 +1,0 @@
-// Made by `make rust` of crates/odht_base/src/bytes.rt.
-//! Byte arrays of a fixed length, which keys and values are encoded to, and stores of bytes, which
-//! hold tables.
-
-mod arrays;
-mod stores;
-
-pub use arrays::{is_same_bytes, is_same_word, is_zeros, read_u32, read_u64, ByteArray};
-pub use stores::{write_slice, Borrowed, BorrowedMut, ByteStore, ByteStoreMut, OwnedBytes};

@@ -1,0 +1,184 @@
+"""What the program `odht` has of the list: the shapes with their definitions, and the way to each configuration."""
+import shape_list
+from shape_list import byte_count
+
+FOLDERS = []
+
+CORE = "crates/odht_tool_core"
+# the crates that go from a shape to its configuration
+OVER_SHAPES = ["odht_tool_reads", "odht_tool_writes"]
+MADE = "Generated from lists/shapes.txt by make generate"
+
+# the function that goes from a shape to its configuration and has a contract, by its crate and place, and what it calls
+DISPATCHER = ("odht_tool_reads", "commands/get/get_lines_of", "get_lines")
+
+
+def number_part(type_name):
+    """The part of a type that is no array: its name in Rattle."""
+    return {"()": "Nothing", "u32": "U32", "u64": "U64"}[type_name]
+
+
+def code_part(type_name):
+    """The type of a key or value as an expression of Rattle."""
+    if type_name.startswith("["):
+        return f"Part::Bytes({byte_count(type_name)})"
+    return f"Part::{number_part(type_name)}"
+
+
+def spec_part(type_name):
+    """The same in a definition."""
+    if type_name.startswith("["):
+        return f"Bytes {byte_count(type_name)}"
+    return number_part(type_name)
+
+
+def hash_name(shape):
+    return shape.hash.capitalize()
+
+
+def word(type_name):
+    """The word that stands for the type behind `--key` or `--value`."""
+    if type_name.startswith("["):
+        return f"hex{byte_count(type_name)}"
+    return "none" if type_name == "()" else type_name
+
+
+def method(shapes, words, name, result, definition, value):
+    """A method of `Shape` with an arm for each shape."""
+    arms = "".join(f"            Shape::{it.configuration} => {value(it)},\n" for it in shapes)
+    return f"""    /// {words}
+    pub(crate) fn {name}(self) -> {result}
+        ensures {{ result ≡ {definition} self }}
+    {{
+        match self {{
+{arms}        }}
+    }}
+"""
+
+
+def code(shapes):
+    """The shapes, with what each has."""
+    variants = "".join(f"    /// {it.words[0].upper()}{it.words[1:]}.\n    {it.configuration},\n" for it in shapes)
+    listed = "".join(f"    Shape::{it.configuration},\n" for it in shapes)
+    methods = "\n".join([
+        method(shapes, "The type of its keys.", "key", "Part", "key_part", lambda it: code_part(it.key)),
+        method(shapes, "The type of its values.", "value", "Part", "value_part", lambda it: code_part(it.value)),
+        method(shapes, "Its hash function.", "hash", "Hash", "shape_hash", lambda it: f"Hash::{hash_name(it)}"),
+    ])
+    return f"""//! The ready shapes. {MADE}.
+ghost use Rattle.std.specs.Prelude.{{◌≡◌}};
+ghost use Rattle.odht_tool_core.specs.ShapeList.{{key_part, value_part, shape_hash}};
+
+use crate::shapes::{{Hash, Part}};
+
+/// A ready shape, by the name of its configuration.
+#[derive(Clone, Copy)]
+pub enum Shape {{
+{variants}}}
+
+/// The ready shapes. Of two that a file fits the first is taken.
+pub(crate) const SHAPES: [Shape; {len(shapes)}] = [
+{listed}];
+
+impl Shape {{
+{methods}}}
+"""
+
+
+def definition(shapes, name, result, value):
+    """A definition with a clause for each shape."""
+    clauses = "".join(f"{name} {it.configuration} = {value(it)}\n" for it in shapes)
+    return f"abbrev pub {name} : Shape → {result}\n{clauses}"
+
+
+def definitions(shapes):
+    names = ", ".join(it.configuration for it in shapes)
+    declared = "Rattle.odht_tool_core.specs.declared.shapes"
+    listed = "".join(f"    {'∷ ' if at else ''}{it.configuration}\n" for at, it in enumerate(shapes))
+    parts = [
+        definition(shapes, "key_part", "Part", lambda it: spec_part(it.key)),
+        definition(shapes, "value_part", "Part", lambda it: spec_part(it.value)),
+        definition(shapes, "shape_hash", "Hash", hash_name),
+        f"abbrev pub ready_shapes : List Shape\nready_shapes =\n{listed}    ∷ []\n",
+    ]
+    return f"""-- The ready shapes. {MADE}.
+--     key_part s           the type of the keys of the shape s
+--     value_part s         that of its values
+--     shape_hash s         the name of its hash function
+--     ready_shapes         all of them; of two that a file fits the first is taken
+use Rattle.std.specs.Prelude.{{List, [], ◌∷◌}}
+use {declared}.Hash.{{Hash}}
+use {declared}.Hash.TheVariants.{{Fx, Unhash}}
+use {declared}.Part.{{Part}}
+use {declared}.Part.TheVariants.{{Nothing, U32, U64, Bytes}}
+use {declared}.ready.Shape.{{Shape}}
+use {declared}.ready.Shape.TheVariants.{{{names}}}
+
+""" + "\n".join(parts)
+
+
+def help_lines(shapes):
+    """The lines of the shapes in the help of `build`."""
+    rows = "".join(f"    {word(it.key):<7}{word(it.value):<7}{it.hash}\n" for it in shapes)
+    return f"""//! The shapes in the help of `build`. {MADE}.
+
+/// A line for each ready shape.
+pub(super) const READY: &str = "\\
+ready shapes, by --key, --value and --hash; the first that fits is taken:
+{rows}\";
+"""
+
+
+def version():
+    text = (shape_list.ROOT / "packaging/VERSION").read_text().strip()
+    return f"""//! The version. Generated from packaging/VERSION by make generate.
+
+/// The version of the program, which is that of the library.
+pub(super) const VERSION: &str = "{text}";
+"""
+
+
+def macro(shapes):
+    arms = "".join(f"""            Shape::{it.configuration} => {{
+                $function::<odht::configs::{it.configuration}, $($more),*>($($argument),*)
+            }}
+""" for it in shapes)
+    return f"""//! The configuration of each shape. {MADE}.
+
+/// Calls a function for the configuration of a shape, which is its first type parameter:
+/// `for_shape!(shape, function[more, parameters](arguments))`.
+macro_rules! for_shape {{
+    ($shape:expr, $function:ident[$($more:ty),*]($($argument:expr),*)) => {{
+        match $shape {{
+{arms}        }}
+    }};
+}}
+
+pub(crate) use for_shape;
+"""
+
+
+def answers(shapes, crate, dispatcher, called):
+    """What the prover asks for of a function that goes from a shape to its configuration: an answer for each."""
+    text = f"-- An answer for each shape. {MADE}.\n"
+    text += f"use Rattle.{crate}.proofs.{dispatcher.replace('/', '.')}.Goals as goal\n"
+    for at, shape in enumerate(shapes):
+        goal = f"returns-in-{shape.configuration}"
+        call = f"c.{called}" if at == 0 else f"c.{called}-in-{shape.configuration}"
+        text += f"\npub {goal} : goal.{goal}\n{goal} g c = rw c.in-{shape.configuration}.is {call}.ensures\n"
+    return text
+
+
+def files(shapes):
+    """The texts by path."""
+    texts = {
+        f"{CORE}/src/shapes/ready.rt": code(shapes),
+        f"{CORE}/src/help/ready.rt": help_lines(shapes),
+        f"{CORE}/src/help/version.rt": version(),
+        f"{CORE}/specs/ShapeList.antt": definitions(shapes),
+    }
+    for crate in OVER_SHAPES:
+        texts[f"crates/{crate}/src/shapes.rt"] = macro(shapes)
+    crate, dispatcher, called = DISPATCHER
+    texts[f"crates/{crate}/proofs/{dispatcher}/Answers.antt"] = answers(shapes, crate, dispatcher, called)
+    return texts
