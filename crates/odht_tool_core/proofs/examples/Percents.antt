@@ -1,7 +1,6 @@
 -- Worked examples: the load factor of a table that is made of another, and what is written of a word that is no key.
 --     of_factor low high   bytes whose header states the load factor of these two bytes
-use Rattle.std.proofs.Common.{◌≡◌, ℕ, refl, true, false, List, [], ◌∷◌, Some, None, map}
-use Rattle.std.specs.List.{range_with_len}
+use Rattle.std.proofs.Common.{◌≡◌, ℕ, refl, false, List, [], ◌∷◌, Some, None, map}
 use Rattle.std.specs.Prelude.{codes}
 use Rattle.odht_base.proofs.examples.Configs.{direct_config}
 use Rattle.odht_base.specs.Bytes.{overwritten_at}
@@ -9,7 +8,7 @@ use Rattle.odht_base.specs.Image.{image}
 use Rattle.odht_base.specs.Load.{factor_of}
 use Rattle.odht_base.specs.Table.{empty}
 use Rattle.odht_header.proofs.examples.Opened.{opened}
-use Rattle.odht_tool_core.specs.JsonAnswers.{absent_object, no_key_line}
+use Rattle.odht_tool_core.specs.JsonAnswers.{no_key_line}
 use Rattle.odht_tool_core.specs.Percents.{kept_percent, new_percent}
 use Rattle.odht_tool_core.specs.Statuses.{failure_status}
 use Rattle.odht_tool_core.specs.declared.arguments.topics.Topic.TheVariants.{Info, Get, Delete, Diff, Build}

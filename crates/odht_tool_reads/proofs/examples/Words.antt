@@ -1,14 +1,13 @@
 -- Worked examples: the answers to the words of `get`.
 --     f                 the text of keys and values of the direct shape
 --     line, other       the line of a key and its value; that of a word that is no key
-use Rattle.std.proofs.Common.{◌≡◌, Bool, false, true, ℕ, refl, sym, subst, ap, arith, lit<, List, [], ◌∷◌, Option, Some, None, slice_get}
+use Rattle.std.proofs.Common.{◌≡◌, false, ℕ, refl, sym, ap, lit<, List, [], ◌∷◌, Option, Some, None}
 use Rattle.std.specs.Prelude.{codes}
 use Rattle.std.specs.Fmt.{digits}
 use Rattle.std.specs.List.{AllZip}
 use Rattle.std.proofs.lemmas.Option.{none-some}
 use Rattle.odht_base.specs.Numbers.{le_bytes}
-use Rattle.odht_header.specs.Coding.{HasStored, value_for}
-use Rattle.odht_header.proofs.examples.Apart.{unequal_lists}
+use Rattle.odht_header.specs.Coding.{value_for}
 use Rattle.odht_header.proofs.examples.Opened.{opened}
 use Rattle.odht_tool_core.specs.JsonAnswers.{answer_in, no_key_line}
 use Rattle.odht_tool_core.specs.ReadyShapes.{typed_text}
@@ -18,7 +17,7 @@ use Rattle.odht_tool_core.specs.declared.status.Status.TheVariants.{Done, NotDon
 use Rattle.odht_tool_core.proofs.examples.Shapes.{one_item, one_bytes}
 use Rattle.odht_tool_tables.proofs.examples.KeyTexts.{R, five, six, no_key}
 use Rattle.odht_tool_tables.proofs.examples.OneTable.{C, one_image, same_table}
-use Rattle.odht_tool_reads.specs.Gets.{AreWordsAnswered, IsWordAnswer, word_lines, words_status}
+use Rattle.odht_tool_reads.specs.Gets.{AreWordsAnswered, IsWordAnswer, words_status}
 
 abbrev f : ℕ → List ℕ
 f = typed_text Own U32
