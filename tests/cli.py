@@ -161,8 +161,8 @@ def memory(program, room):
             (status, errors, is_kept), made = run_failing([program, *command], given, request, preloaded)
             if made < request:
                 break
-            # `diff` fails with 2, once its words are parsed
-            is_failed = status == 1 or status == 2 and command[0] == "diff"
+            # 2 where 1 is an answer of the command, and where its words were not read
+            is_failed = status == 2 or status == 1 and command[0] not in ("get", "delete", "diff")
             if not is_failed or not errors.endswith("out of memory\n") or not is_kept:
                 kept = "" if is_kept else ", and the files are others"
                 raise Failed(f"{' '.join(command)}: request {request} fails: status {status}{kept}\n{errors}")

@@ -69,7 +69,7 @@ def one_key(program, file):
         check(run(program, "get", file, "--key", kind, "--value", "u32", key)[0] == line, f"get {word} by {hash_name}")
         check(run(program, "get", file, "--key", kind, "-", given=f"{key}\n")[0] == line, f"get - {word} by {hash_name}")
         check("valid" in run(program, "check", file)[0], f"check {word} by {hash_name}")
-        check(run(program, "count", file)[0] == "1\n", f"count {word} by {hash_name}")
+        check(run(program, "count", "--check", file)[0] == "1\n", f"count {word} by {hash_name}")
         yield f"{word} by {hash_name}"
 
 

@@ -99,7 +99,7 @@ def is_right(program, room, run):
     wanted = (0, b"", b"")
     if fault is not None:
         key = shape[4](key_bytes(shape, numbers[fault]))
-        told = f'odht: made: standard input, line {fault + 1}: the key "{key}" was on an earlier line\n'
+        told = f'odht: made: standard input, line {fault + 1}: the key "{key}" is in the table already\n'
         wanted = (1, b"", told.encode())
     shown = ["made", "--key", shape[0], "--value", shape[1], *options]
     checked, made = ran(program, room, [*shown, "--check-only"], text), f"{room}/made"

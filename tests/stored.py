@@ -88,7 +88,8 @@ def failing(program, preloaded):
             if len(calls) < call:
                 break
             told = (command, call, calls, status, errors)
-            assert status == 1 and errors.startswith("odht: ") and errors.count("\n") == 1, told
+            assert status == (2 if command[0][0] == "delete" else 1), told
+            assert errors.startswith("odht: ") and errors.count("\n") == 1, told
             assert TEXTS[error] in errors, told
             if calls[call - 1] in ("read .", "fsync folder"):
                 assert errors.startswith("odht: table: is written, but a power cut may undo that"), told

@@ -63,7 +63,8 @@ def begun(program, room, words, given):
 def refused(program, room, *words, given=b"8\t8\n"):
     """Runs the program while another run is at work on its file: it ends with the message of that."""
     done = subprocess.run([program, *words], input=given, stdout=PIPE, stderr=PIPE, cwd=room)
-    assert (done.returncode, done.stdout, done.stderr) == (1, b"", AT_WORK), (words, done)
+    status = 2 if words[0] == "delete" else 1
+    assert (done.returncode, done.stdout, done.stderr) == (status, b"", AT_WORK), (words, done)
 
 
 def two_runs(program, room):

@@ -13,8 +13,8 @@ _odht() {
         help) COMPREPLY=($(compgen -W 'info check count get dump keys find order diff build put delete rebuild merge' -- "$word")); return;;
         --at) COMPREPLY=(); return;;
         --hash) COMPREPLY=($(compgen -W 'fx unhash xxh64' -- "$word")); return;;
-        --key) COMPREPLY=($(compgen -W 'u32 u64 i32 i64 u32be u64be hex text:' -- "$word")); return;;
-        --value) COMPREPLY=($(compgen -W 'u32 u64 i32 i64 u32be u64be none hex text:' -- "$word")); return;;
+        --key) COMPREPLY=($(compgen -W 'u32 u64 i32 i64 u32be u64be hex bytes: text:' -- "$word")); return;;
+        --value) COMPREPLY=($(compgen -W 'u32 u64 i32 i64 u32be u64be none hex bytes: text:' -- "$word")); return;;
         --duplicates) COMPREPLY=($(compgen -W 'last first error' -- "$word")); return;;
         --delimiter) COMPREPLY=(); return;;
         --percent) COMPREPLY=(); return;;
@@ -23,7 +23,7 @@ _odht() {
     case ${COMP_WORDS[1]}:$word in
         info:-*) COMPREPLY=($(compgen -W '--help --whole --json --at' -- "$word"));;
         check:-*) COMPREPLY=($(compgen -W '--help --whole --json --hash --at' -- "$word"));;
-        count:-*) COMPREPLY=($(compgen -W '--help --whole --hash --at' -- "$word"));;
+        count:-*) COMPREPLY=($(compgen -W '--help --check --whole --hash --at' -- "$word"));;
         get:-*) COMPREPLY=($(compgen -W '--help --json --key --value --hash --at' -- "$word"));;
         dump:-*) COMPREPLY=($(compgen -W '--help --slots --json --key --value --hash --at' -- "$word"));;
         keys:-*) COMPREPLY=($(compgen -W '--help --key --hash --at' -- "$word"));;
@@ -31,7 +31,7 @@ _odht() {
         order:-*) COMPREPLY=($(compgen -W '--help --whole --key --value --hash --at' -- "$word"));;
         diff:-*) COMPREPLY=($(compgen -W '--help --whole --key --value --hash' -- "$word"));;
         build:-*) COMPREPLY=($(compgen -W '--help --key --value --duplicates --delimiter --check-only --hash --percent --capacity --progress --break-links --force' -- "$word"));;
-        put:-*) COMPREPLY=($(compgen -W '--help --key --value --whole --hash --progress --break-links' -- "$word"));;
+        put:-*) COMPREPLY=($(compgen -W '--help --duplicates --delimiter --key --value --whole --hash --progress --break-links' -- "$word"));;
         delete:-*) COMPREPLY=($(compgen -W '--help --key --whole --hash --progress --break-links' -- "$word"));;
         rebuild:-*) COMPREPLY=($(compgen -W '--help --percent --whole --hash --progress --break-links' -- "$word"));;
         merge:-*) COMPREPLY=($(compgen -W '--help --duplicates --key --value --whole --hash --percent --progress --break-links --force' -- "$word"));;

@@ -25,24 +25,25 @@ complete -c odht -n '__fish_seen_subcommand_from check' -l json
 complete -c odht -n '__fish_seen_subcommand_from check' -l hash -x -a 'fx unhash xxh64' -d 'fx, unhash or xxh64'
 complete -c odht -n '__fish_seen_subcommand_from check' -l at -x -d 'a number below 2^64'
 complete -c odht -n '__fish_seen_subcommand_from count' -l help
+complete -c odht -n '__fish_seen_subcommand_from count' -l check
 complete -c odht -n '__fish_seen_subcommand_from count' -l whole
 complete -c odht -n '__fish_seen_subcommand_from count' -l hash -x -a 'fx unhash xxh64' -d 'fx, unhash or xxh64'
 complete -c odht -n '__fish_seen_subcommand_from count' -l at -x -d 'a number below 2^64'
 complete -c odht -n '__fish_seen_subcommand_from get' -l help
 complete -c odht -n '__fish_seen_subcommand_from get' -l json
-complete -c odht -n '__fish_seen_subcommand_from get' -l key -x -a 'u32 u64 i32 i64 u32be u64be hex text:' -d 'u32, u64, i32, i64, u32be, u64be, hexN or text:N'
-complete -c odht -n '__fish_seen_subcommand_from get' -l value -x -a 'u32 u64 i32 i64 u32be u64be none hex text:' -d 'u32, u64, i32, i64, u32be, u64be, none, hexN or text:N'
+complete -c odht -n '__fish_seen_subcommand_from get' -l key -x -a 'u32 u64 i32 i64 u32be u64be hex bytes: text:' -d 'u32, u64, i32, i64, u32be, u64be, hexN, bytes:N or text:N'
+complete -c odht -n '__fish_seen_subcommand_from get' -l value -x -a 'u32 u64 i32 i64 u32be u64be none hex bytes: text:' -d 'u32, u64, i32, i64, u32be, u64be, none, hexN, bytes:N or text:N'
 complete -c odht -n '__fish_seen_subcommand_from get' -l hash -x -a 'fx unhash xxh64' -d 'fx, unhash or xxh64'
 complete -c odht -n '__fish_seen_subcommand_from get' -l at -x -d 'a number below 2^64'
 complete -c odht -n '__fish_seen_subcommand_from dump' -l help
 complete -c odht -n '__fish_seen_subcommand_from dump' -l slots
 complete -c odht -n '__fish_seen_subcommand_from dump' -l json
-complete -c odht -n '__fish_seen_subcommand_from dump' -l key -x -a 'u32 u64 i32 i64 u32be u64be hex text:' -d 'u32, u64, i32, i64, u32be, u64be, hexN or text:N'
-complete -c odht -n '__fish_seen_subcommand_from dump' -l value -x -a 'u32 u64 i32 i64 u32be u64be none hex text:' -d 'u32, u64, i32, i64, u32be, u64be, none, hexN or text:N'
+complete -c odht -n '__fish_seen_subcommand_from dump' -l key -x -a 'u32 u64 i32 i64 u32be u64be hex bytes: text:' -d 'u32, u64, i32, i64, u32be, u64be, hexN, bytes:N or text:N'
+complete -c odht -n '__fish_seen_subcommand_from dump' -l value -x -a 'u32 u64 i32 i64 u32be u64be none hex bytes: text:' -d 'u32, u64, i32, i64, u32be, u64be, none, hexN, bytes:N or text:N'
 complete -c odht -n '__fish_seen_subcommand_from dump' -l hash -x -a 'fx unhash xxh64' -d 'fx, unhash or xxh64'
 complete -c odht -n '__fish_seen_subcommand_from dump' -l at -x -d 'a number below 2^64'
 complete -c odht -n '__fish_seen_subcommand_from keys' -l help
-complete -c odht -n '__fish_seen_subcommand_from keys' -l key -x -a 'u32 u64 i32 i64 u32be u64be hex text:' -d 'u32, u64, i32, i64, u32be, u64be, hexN or text:N'
+complete -c odht -n '__fish_seen_subcommand_from keys' -l key -x -a 'u32 u64 i32 i64 u32be u64be hex bytes: text:' -d 'u32, u64, i32, i64, u32be, u64be, hexN, bytes:N or text:N'
 complete -c odht -n '__fish_seen_subcommand_from keys' -l hash -x -a 'fx unhash xxh64' -d 'fx, unhash or xxh64'
 complete -c odht -n '__fish_seen_subcommand_from keys' -l at -x -d 'a number below 2^64'
 complete -c odht -n '__fish_seen_subcommand_from find' -l help
@@ -50,18 +51,18 @@ complete -c odht -n '__fish_seen_subcommand_from find' -l whole
 complete -c odht -n '__fish_seen_subcommand_from find' -l json
 complete -c odht -n '__fish_seen_subcommand_from order' -l help
 complete -c odht -n '__fish_seen_subcommand_from order' -l whole
-complete -c odht -n '__fish_seen_subcommand_from order' -l key -x -a 'u32 u64 i32 i64 u32be u64be hex text:' -d 'u32, u64, i32, i64, u32be, u64be, hexN or text:N'
-complete -c odht -n '__fish_seen_subcommand_from order' -l value -x -a 'u32 u64 i32 i64 u32be u64be none hex text:' -d 'u32, u64, i32, i64, u32be, u64be, none, hexN or text:N'
+complete -c odht -n '__fish_seen_subcommand_from order' -l key -x -a 'u32 u64 i32 i64 u32be u64be hex bytes: text:' -d 'u32, u64, i32, i64, u32be, u64be, hexN, bytes:N or text:N'
+complete -c odht -n '__fish_seen_subcommand_from order' -l value -x -a 'u32 u64 i32 i64 u32be u64be none hex bytes: text:' -d 'u32, u64, i32, i64, u32be, u64be, none, hexN, bytes:N or text:N'
 complete -c odht -n '__fish_seen_subcommand_from order' -l hash -x -a 'fx unhash xxh64' -d 'fx, unhash or xxh64'
 complete -c odht -n '__fish_seen_subcommand_from order' -l at -x -d 'a number below 2^64'
 complete -c odht -n '__fish_seen_subcommand_from diff' -l help
 complete -c odht -n '__fish_seen_subcommand_from diff' -l whole
-complete -c odht -n '__fish_seen_subcommand_from diff' -l key -x -a 'u32 u64 i32 i64 u32be u64be hex text:' -d 'u32, u64, i32, i64, u32be, u64be, hexN or text:N'
-complete -c odht -n '__fish_seen_subcommand_from diff' -l value -x -a 'u32 u64 i32 i64 u32be u64be none hex text:' -d 'u32, u64, i32, i64, u32be, u64be, none, hexN or text:N'
+complete -c odht -n '__fish_seen_subcommand_from diff' -l key -x -a 'u32 u64 i32 i64 u32be u64be hex bytes: text:' -d 'u32, u64, i32, i64, u32be, u64be, hexN, bytes:N or text:N'
+complete -c odht -n '__fish_seen_subcommand_from diff' -l value -x -a 'u32 u64 i32 i64 u32be u64be none hex bytes: text:' -d 'u32, u64, i32, i64, u32be, u64be, none, hexN, bytes:N or text:N'
 complete -c odht -n '__fish_seen_subcommand_from diff' -l hash -x -a 'fx unhash xxh64' -d 'fx, unhash or xxh64'
 complete -c odht -n '__fish_seen_subcommand_from build' -l help
-complete -c odht -n '__fish_seen_subcommand_from build' -l key -x -a 'u32 u64 i32 i64 u32be u64be hex text:' -d 'u32, u64, i32, i64, u32be, u64be, hexN or text:N'
-complete -c odht -n '__fish_seen_subcommand_from build' -l value -x -a 'u32 u64 i32 i64 u32be u64be none hex text:' -d 'u32, u64, i32, i64, u32be, u64be, none, hexN or text:N'
+complete -c odht -n '__fish_seen_subcommand_from build' -l key -x -a 'u32 u64 i32 i64 u32be u64be hex bytes: text:' -d 'u32, u64, i32, i64, u32be, u64be, hexN, bytes:N or text:N'
+complete -c odht -n '__fish_seen_subcommand_from build' -l value -x -a 'u32 u64 i32 i64 u32be u64be none hex bytes: text:' -d 'u32, u64, i32, i64, u32be, u64be, none, hexN, bytes:N or text:N'
 complete -c odht -n '__fish_seen_subcommand_from build' -l duplicates -x -a 'last first error' -d 'last, first or error'
 complete -c odht -n '__fish_seen_subcommand_from build' -l delimiter -x -d 'a printable character of ASCII that is no quote'
 complete -c odht -n '__fish_seen_subcommand_from build' -l check-only
@@ -72,14 +73,16 @@ complete -c odht -n '__fish_seen_subcommand_from build' -l progress
 complete -c odht -n '__fish_seen_subcommand_from build' -l break-links
 complete -c odht -n '__fish_seen_subcommand_from build' -l force
 complete -c odht -n '__fish_seen_subcommand_from put' -l help
-complete -c odht -n '__fish_seen_subcommand_from put' -l key -x -a 'u32 u64 i32 i64 u32be u64be hex text:' -d 'u32, u64, i32, i64, u32be, u64be, hexN or text:N'
-complete -c odht -n '__fish_seen_subcommand_from put' -l value -x -a 'u32 u64 i32 i64 u32be u64be none hex text:' -d 'u32, u64, i32, i64, u32be, u64be, none, hexN or text:N'
+complete -c odht -n '__fish_seen_subcommand_from put' -l duplicates -x -a 'last first error' -d 'last, first or error'
+complete -c odht -n '__fish_seen_subcommand_from put' -l delimiter -x -d 'a printable character of ASCII that is no quote'
+complete -c odht -n '__fish_seen_subcommand_from put' -l key -x -a 'u32 u64 i32 i64 u32be u64be hex bytes: text:' -d 'u32, u64, i32, i64, u32be, u64be, hexN, bytes:N or text:N'
+complete -c odht -n '__fish_seen_subcommand_from put' -l value -x -a 'u32 u64 i32 i64 u32be u64be none hex bytes: text:' -d 'u32, u64, i32, i64, u32be, u64be, none, hexN, bytes:N or text:N'
 complete -c odht -n '__fish_seen_subcommand_from put' -l whole
 complete -c odht -n '__fish_seen_subcommand_from put' -l hash -x -a 'fx unhash xxh64' -d 'fx, unhash or xxh64'
 complete -c odht -n '__fish_seen_subcommand_from put' -l progress
 complete -c odht -n '__fish_seen_subcommand_from put' -l break-links
 complete -c odht -n '__fish_seen_subcommand_from delete' -l help
-complete -c odht -n '__fish_seen_subcommand_from delete' -l key -x -a 'u32 u64 i32 i64 u32be u64be hex text:' -d 'u32, u64, i32, i64, u32be, u64be, hexN or text:N'
+complete -c odht -n '__fish_seen_subcommand_from delete' -l key -x -a 'u32 u64 i32 i64 u32be u64be hex bytes: text:' -d 'u32, u64, i32, i64, u32be, u64be, hexN, bytes:N or text:N'
 complete -c odht -n '__fish_seen_subcommand_from delete' -l whole
 complete -c odht -n '__fish_seen_subcommand_from delete' -l hash -x -a 'fx unhash xxh64' -d 'fx, unhash or xxh64'
 complete -c odht -n '__fish_seen_subcommand_from delete' -l progress
@@ -92,8 +95,8 @@ complete -c odht -n '__fish_seen_subcommand_from rebuild' -l progress
 complete -c odht -n '__fish_seen_subcommand_from rebuild' -l break-links
 complete -c odht -n '__fish_seen_subcommand_from merge' -l help
 complete -c odht -n '__fish_seen_subcommand_from merge' -l duplicates -x -a 'last first error' -d 'last, first or error'
-complete -c odht -n '__fish_seen_subcommand_from merge' -l key -x -a 'u32 u64 i32 i64 u32be u64be hex text:' -d 'u32, u64, i32, i64, u32be, u64be, hexN or text:N'
-complete -c odht -n '__fish_seen_subcommand_from merge' -l value -x -a 'u32 u64 i32 i64 u32be u64be none hex text:' -d 'u32, u64, i32, i64, u32be, u64be, none, hexN or text:N'
+complete -c odht -n '__fish_seen_subcommand_from merge' -l key -x -a 'u32 u64 i32 i64 u32be u64be hex bytes: text:' -d 'u32, u64, i32, i64, u32be, u64be, hexN, bytes:N or text:N'
+complete -c odht -n '__fish_seen_subcommand_from merge' -l value -x -a 'u32 u64 i32 i64 u32be u64be none hex bytes: text:' -d 'u32, u64, i32, i64, u32be, u64be, none, hexN, bytes:N or text:N'
 complete -c odht -n '__fish_seen_subcommand_from merge' -l whole
 complete -c odht -n '__fish_seen_subcommand_from merge' -l hash -x -a 'fx unhash xxh64' -d 'fx, unhash or xxh64'
 complete -c odht -n '__fish_seen_subcommand_from merge' -l percent -x -d 'a number from 1 to 100'

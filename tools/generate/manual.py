@@ -36,11 +36,19 @@ class Command:
         self.options = [it.name for it in listed.options]
 
     def paragraph(self):
-        """Returns the words of the text, without the lines that describe an option or a word each."""
-        return " ".join(line for line in self.text if not described(line))
+        """Returns the words of the text, without the lines that describe an option or a word each, and the examples."""
+        return " ".join(line for line in self.text if not described(line) and not is_example(line))
+
+    def examples(self):
+        return list(filter(is_example, self.text))
 
     def described(self):
         return [found for found in map(described, self.text) if found]
+
+
+def is_example(line):
+    """Returns whether a line is a command as one types it."""
+    return line.startswith("$ ")
 
 
 def described(line):
@@ -80,6 +88,7 @@ def page(made, general, _):
         lines += [f".SS {it.name}", roff(it.paragraph())]
         for word, text in it.described():
             lines += [".TP", f".B {roff(word)}", roff(text)]
+        lines += [".PP", ".nf", *map(roff, it.examples()), ".fi"]
         if it.name == "build":
             lines += [".PP", ".nf", *map(roff, ready_shapes()), ".fi"]
     first, *parts = general.rstrip("\n").split("\n\n")

@@ -10,8 +10,15 @@ from tables import HERE, block, cases, head, le, write_test
 HEAD = head("changes.py")
 
 
+def percent_of(table):
+    """The load factor with which a table was made, in percent: its own factor is that of 65535, rounded down."""
+    return next(it for it in range(1, 101) if it * 65535 // 100 == table.factor)
+
+
 def rebuilt(table, hash, percent):
-    """The new table for as many items, with the pairs in slot order."""
+    """The new table for as many items, with the pairs in slot order; at the load factor of the old one, if none is
+    named."""
+    percent = percent or percent_of(table)
     new = Table(table.key_size, table.value_size, hash, percent, table.count())
     for key, value in filter(None, table.cells):
         new.put(key, value)
@@ -26,18 +33,18 @@ def write_rebuilt_cases():
         made["one_home"].put(le(4096 * k, 4), le(0, 4))
     text = HEAD
     for name, words, hash, percent in [
-            ("u64_u32", "", fx, 87), ("u64_u32", "--percent 10", fx, 10), ("u32_u32", "--percent 100", fx, 100),
-            ("u32_u32", "--hash unhash --percent 30", unhash, 30), ("direct", "", unhash, 87),
-            ("direct", "--hash unhash --percent 1", unhash, 1), ("direct", "--hash=fx", fx, 87),
-            ("bytes16_set", "--percent 50 --progress", unhash, 50), ("bytes32_u64", "--whole", unhash, 87),
-            ("i64_i32", "--hash unhash", unhash, 87), ("text16_text16", "--percent 3", unhash, 3),
-            ("empty", "--percent 1", fx, 1), ("no_pairs", "", fx, 87), ("no_pairs", "--hash unhash", unhash, 87),
-            ("one_home", "--whole --hash fx", fx, 87), ("odd_sizes", "", fx, 87), ("words_12_5", "--percent 20", unhash, 20),
-            ("words_12_5", "--hash fx", fx, 87), ("long_key", "--hash unhash", unhash, 87),
-            ("bytes16_set", "--hash fx", fx, 87), ("short_direct", "--hash fx --percent 100", fx, 100),
-            ("text16_u32", "", xxh64, 87), ("text16_u32", "--hash fx", fx, 87), ("u32_xxh64", "--hash unhash", unhash, 87),
-            ("u64_u32", "--hash xxh64", xxh64, 87), ("direct", "--hash xxh64 --percent 30", xxh64, 30),
-            ("odd_sizes", "--hash=xxh64", xxh64, 87), ("one_home", "--whole --hash xxh64", xxh64, 87)]:
+            ("u64_u32", "", fx, None), ("u64_u32", "--percent 10", fx, 10), ("u32_u32", "--percent 100", fx, 100),
+            ("u32_u32", "--hash unhash --percent 30", unhash, 30), ("direct", "", unhash, None),
+            ("direct", "--hash unhash --percent 1", unhash, 1), ("direct", "--hash=fx", fx, None),
+            ("bytes16_set", "--percent 50 --progress", unhash, 50), ("bytes32_u64", "--whole", unhash, None),
+            ("i64_i32", "--hash unhash", unhash, None), ("text16_text16", "--percent 3", unhash, 3),
+            ("empty", "--percent 1", fx, 1), ("no_pairs", "", fx, None), ("no_pairs", "--hash unhash", unhash, None),
+            ("one_home", "--whole --hash fx", fx, None), ("odd_sizes", "", fx, None), ("words_12_5", "--percent 20", unhash, 20),
+            ("words_12_5", "--hash fx", fx, None), ("long_key", "--hash unhash", unhash, None),
+            ("bytes16_set", "--hash fx", fx, None), ("short_direct", "--hash fx --percent 100", fx, 100),
+            ("text16_u32", "", xxh64, None), ("text16_u32", "--hash fx", fx, None), ("u32_xxh64", "--hash unhash", unhash, None),
+            ("u64_u32", "--hash xxh64", xxh64, None), ("direct", "--hash xxh64 --percent 30", xxh64, 30),
+            ("odd_sizes", "--hash=xxh64", xxh64, None), ("one_home", "--whole --hash xxh64", xxh64, None)]:
         file = "_".join(["rebuilt", name, *(it.strip("-") for it in words.replace("=", " ").split())])
         with open(os.path.join(HERE, f"{file}.odht"), "wb") as out:
             out.write(rebuilt(made[name], hash, percent).image())
@@ -103,6 +110,7 @@ def write_deleted_cases():
 def merged(tables, duplicates, percent):
     """The new table for as many items as all have, and the number and the key of the first file with a key of one before."""
     first, seen = tables[0], set()
+    percent = percent or percent_of(first)
     new = Table(first.key_size, first.value_size, first.hash, percent, sum(it.count() for it in tables))
     slots = len(new.cells)
     for number, table in enumerate(tables):
@@ -124,21 +132,21 @@ def write_merged_cases():
     made = {case.name: case for case in cases()}
     text = HEAD
     for names, words, percent in [
-            ("u64_u32", "", 87), ("u64_u32 one_pair no_pairs", "", 87), ("one_pair u64_u32", "--percent 20", 20),
-            ("u64_u32 i64_i32 u64_u32", "", 87), ("u32_u32 direct", "", 87), ("direct u32_u32", "--percent=100", 100),
-            ("u32_u32 direct i32_u32be", "--whole", 87), ("bytes16_set", "--percent 1", 1), ("u32_u32", "", 87),
-            ("bytes16_u32 bytes16_u32", "--progress", 87), ("bytes20_u64", "", 87), ("u64_u64 u64be_i64", "", 87),
-            ("bytes32_u64 bytes32_u64", "--percent 50", 50), ("bytes32_set", "", 87), ("text16_text16", "", 87),
-            ("odd_sizes odd_sizes", "", 87), ("no_bytes no_bytes", "", 87), ("empty_key", "", 87), ("long_key", "", 87),
-            ("words_12_5 words_12_5", "--percent 30", 30), ("long_direct", "", 87), ("short_direct", "", 87),
-            ("empty no_pairs", "", 87), ("empty " * 9 + "u64_u32", "", 87), ("no_pairs " * 5 + "one_pair " * 5, "", 87),
-            ("text16_u32 text16_u32", "", 87), ("u32_xxh64 u32_u32 direct", "--percent 50", 50),
-            ("u32_u32 u32_xxh64", "", 87)]:
+            ("u64_u32", "", None), ("u64_u32 one_pair no_pairs", "", None), ("one_pair u64_u32", "--percent 20", 20),
+            ("u64_u32 i64_i32 u64_u32", "", None), ("u32_u32 direct", "", None), ("direct u32_u32", "--percent=100", 100),
+            ("u32_u32 direct i32_u32be", "--whole", None), ("bytes16_set", "--percent 1", 1), ("u32_u32", "", None),
+            ("bytes16_u32 bytes16_u32", "--progress", None), ("bytes20_u64", "", None), ("u64_u64 u64be_i64", "", None),
+            ("bytes32_u64 bytes32_u64", "--percent 50", 50), ("bytes32_set", "", None), ("text16_text16", "", None),
+            ("odd_sizes odd_sizes", "", None), ("no_bytes no_bytes", "", None), ("empty_key", "", None), ("long_key", "", None),
+            ("words_12_5 words_12_5", "--percent 30", 30), ("long_direct", "", None), ("short_direct", "", None),
+            ("empty no_pairs", "", None), ("empty " * 9 + "u64_u32", "", None), ("no_pairs " * 5 + "one_pair " * 5, "", None),
+            ("text16_u32 text16_u32", "", None), ("u32_xxh64 u32_u32 direct", "--percent 50", 50),
+            ("u32_u32 u32_xxh64", "", None)]:
         names = names.split()
         tables = [made[it].table for it in names]
         for duplicates in ["last", "first", "error"]:
             new, twice = merged(tables, duplicates, percent)
-            file = "_".join(["merged", str(len(names)), *list(dict.fromkeys(names))[:2], str(percent)])
+            file = "_".join(["merged", str(len(names)), *list(dict.fromkeys(names))[:2], str(percent or "kept")])
             if new and duplicates == "last":
                 last = new.image()
             if new and new.image() != last:

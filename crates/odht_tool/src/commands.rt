@@ -1,15 +1,15 @@
 //! Runs the commands, each from its parsed words to the status of the program.
-use odht_tool_core::arguments::{Command, Keys, Reading, Request, parse};
+use odht_tool_core::arguments::{Command, Keys, Misuse, Reading, Request, parse};
 use odht_tool_core::failure::Failure;
 use odht_tool_core::front::table_at;
 use odht_tool_core::help::{write_help, write_version};
-use odht_tool_core::inside::{first_inside, write_inside};
+use odht_tool_core::inside::{first_inside, is_followed, write_inside};
 use odht_tool_core::new_file::{ended, make_new};
 use odht_tool_core::status::{Status, of_output};
 use odht_tool_core::targets::Target;
 use odht_tool_reads::commands::diff;
 use odht_tool_reads::positions;
-use odht_tool_tables::files::{finish, finish_as, read_bytes};
+use odht_tool_tables::files::{finish, finish_as, read_bytes, read_table_bytes};
 use odht_tool_writes::commands::{build, delete, merge, rebuild};
 use std::alloc::Global;
 use std::io::{BufRead, IsTerminal, Write};
@@ -51,9 +51,18 @@ where
             finish_as(file, flushed(done, output), failed, errors)
         }
         Err(misuse) => {
-            let _ = writeln!(errors, "odht: {misuse}");
+            report_misuse(&misuse, errors);
             misuse.status()
         }
+    }
+}
+
+// Reports why the words cannot be parsed: if there is none, by the help of all commands.
+fn report_misuse<E: Write>(misuse: &Misuse, errors: &mut E) {
+    if misuse.is_empty() {
+        let _ = write_help(None, errors);
+    } else {
+        let _ = writeln!(errors, "odht: {misuse}");
     }
 }
 
@@ -93,17 +102,11 @@ where
         Command::Rebuild(options) => rebuild::rebuild(rt, file, options, errors),
         Command::Diff(options) => diff::diff(rt, file, options, input, output, errors),
         Command::Merge(options) => merge::merge(rt, file, options, input, output, errors),
-        Command::Put {
-            hash,
-            kinds,
-            bound,
-            breaks_links,
-            watch,
-        } => {
-            let target = Target::find_table(rt, file, breaks_links)?;
+        Command::Put(mut options) => {
+            let target = Target::find_table(rt, file, options.breaks_links)?;
             let mut new = make_new(rt, target)?;
-            let watch = watch.with_bar(rt, errors);
-            let done = build::put(rt, &mut new, hash, kinds, bound, watch, input, errors);
+            options.watch = options.watch.with_bar(rt, errors);
+            let done = build::put(rt, &mut new, options, input, errors);
             ended(rt, new, done)
         }
     }
@@ -175,10 +178,15 @@ where
     if let Some(status) = read_by_position(rt, file, at, reading, output)? {
         return Ok(status);
     }
-    let bytes = read_bytes(rt, file, input)?;
-    let (table, offset) = match at {
-        Some(offset) => (table_at(bytes.as_slice(), offset)?, offset),
-        None => (bytes.as_slice(), 0),
+    let offset = at.unwrap_or(0);
+    let bytes = if reading.is_search() {
+        read_bytes(rt, file, input)?
+    } else {
+        read_table_bytes(rt, file, offset, input)?
+    };
+    let table = match at {
+        Some(offset) => table_at(bytes.as_slice(), offset)?,
+        None => bytes.as_slice(),
     };
     let done = run_reading(
         rt.alloc(),
@@ -194,7 +202,17 @@ where
     if reading.is_search() {
         done
     } else {
-        with_hint(rt.alloc(), file, table, offset, done, output, errors)
+        let failed = reading.failed();
+        with_hint(
+            rt.alloc(),
+            file,
+            table,
+            offset,
+            done,
+            failed,
+            output,
+            errors,
+        )
     }
 }
 
@@ -235,27 +253,36 @@ where
     }
 }
 
-// Where these bytes, at this offset of a file, are no table, and one is further on: reports the
-// failure, and tells where.
+// Where these bytes, at this offset of a file, are no table, and one is further on, or begins them:
+// reports the failure, with this status, and tells where the table is.
 fn with_hint<O: Write, E: Write>(
     alloc: Global,
     file: &str,
     bytes: &[u8],
     offset: usize,
     done: Result<Status, Failure>,
+    failed: Status,
     output: &mut O,
     errors: &mut E,
 ) -> Result<Status, Failure> {
-    // Where memory is short, or headers overlap, there is no hint.
-    let Ok(Some(inside)) = first_inside(alloc, bytes) else {
+    let Some(inside) = hinted_offset(alloc, bytes) else {
         return done;
     };
     let done = match flushed(done, output) {
         Err(Failure::Output(error)) => return Err(Failure::Output(error)),
         done => done,
     };
-    let status = finish(file, done, errors);
+    let status = finish_as(file, done, failed, errors);
     // A hint that cannot be written is no failure.
     let _ = write_inside(file, offset.saturating_add(inside), errors);
     Ok(status)
+}
+
+// Where a table is in bytes that are none. None where there is no table, memory is short, or
+// headers overlap.
+fn hinted_offset(alloc: Global, bytes: &[u8]) -> Option<usize> {
+    if is_followed(bytes) {
+        return Some(0);
+    }
+    first_inside(alloc, bytes).ok()?
 }

@@ -22,9 +22,10 @@ fn main(rt: HostRuntime) -> ExitCode {
             let _ = eprintln!(rt; "odht: a word is no UTF-8 text");
             ExitCode::from(Status::Misused.code())
         }
+        // No word was read, so the status is none that a command has as its answer.
         Err(error) => {
             let _ = eprintln!(rt; "odht: {error}");
-            ExitCode::from(Status::NotDone.code())
+            ExitCode::from(Status::Trouble.code())
         }
     }
 }

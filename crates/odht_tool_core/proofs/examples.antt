@@ -31,3 +31,5 @@ pub mod StoredTexts
 pub mod DynTexts
 -- lines of a key and a value, and the words that say how they are read
 pub mod Pairs
+-- the load factor of a table that is made of another, and what is written of a word that is no key
+pub mod Percents

@@ -5,7 +5,7 @@
 --     options_of t         the options that the command t has
 use Rattle.std.specs.Prelude.{ℕ, List, [], ◌∷◌, codes}
 use Rattle.odht_tool_core.specs.declared.arguments.topics.Setting.{Setting}
-use Rattle.odht_tool_core.specs.declared.arguments.topics.Setting.TheVariants.{Help, Slots, Json, Whole, Progress, BreakLinks, Force, CheckOnly, At, Hash, Key, Value, Duplicates, Delimiter, Percent, Capacity}
+use Rattle.odht_tool_core.specs.declared.arguments.topics.Setting.TheVariants.{Help, Slots, Json, Check as WithCheck, Whole, Progress, BreakLinks, Force, CheckOnly, At, Hash, Key, Value, Duplicates, Delimiter, Percent, Capacity}
 use Rattle.odht_tool_core.specs.declared.arguments.topics.Topic.{Topic}
 use Rattle.odht_tool_core.specs.declared.arguments.topics.Topic.TheVariants.{Info, Check, Count, Get, Dump, Keys, Find, Order, Diff, Build, Put, Delete, Rebuild, Merge}
 
@@ -32,6 +32,7 @@ abbrev pub option_name : Setting → List ℕ
 option_name Help = codes "--help"
 option_name Slots = codes "--slots"
 option_name Json = codes "--json"
+option_name WithCheck = codes "--check"
 option_name Whole = codes "--whole"
 option_name Progress = codes "--progress"
 option_name BreakLinks = codes "--break-links"
@@ -49,7 +50,7 @@ option_name Capacity = codes "--capacity"
 abbrev pub options_of : Topic → List Setting
 options_of Info = Help ∷ Whole ∷ Json ∷ At ∷ []
 options_of Check = Help ∷ Whole ∷ Json ∷ Hash ∷ At ∷ []
-options_of Count = Help ∷ Whole ∷ Hash ∷ At ∷ []
+options_of Count = Help ∷ WithCheck ∷ Whole ∷ Hash ∷ At ∷ []
 options_of Get = Help ∷ Json ∷ Key ∷ Value ∷ Hash ∷ At ∷ []
 options_of Dump = Help ∷ Slots ∷ Json ∷ Key ∷ Value ∷ Hash ∷ At ∷ []
 options_of Keys = Help ∷ Key ∷ Hash ∷ At ∷ []
@@ -57,7 +58,7 @@ options_of Find = Help ∷ Whole ∷ Json ∷ []
 options_of Order = Help ∷ Whole ∷ Key ∷ Value ∷ Hash ∷ At ∷ []
 options_of Diff = Help ∷ Whole ∷ Key ∷ Value ∷ Hash ∷ []
 options_of Build = Help ∷ Key ∷ Value ∷ Duplicates ∷ Delimiter ∷ CheckOnly ∷ Hash ∷ Percent ∷ Capacity ∷ Progress ∷ BreakLinks ∷ Force ∷ []
-options_of Put = Help ∷ Key ∷ Value ∷ Whole ∷ Hash ∷ Progress ∷ BreakLinks ∷ []
+options_of Put = Help ∷ Duplicates ∷ Delimiter ∷ Key ∷ Value ∷ Whole ∷ Hash ∷ Progress ∷ BreakLinks ∷ []
 options_of Delete = Help ∷ Key ∷ Whole ∷ Hash ∷ Progress ∷ BreakLinks ∷ []
 options_of Rebuild = Help ∷ Percent ∷ Whole ∷ Hash ∷ Progress ∷ BreakLinks ∷ []
 options_of Merge = Help ∷ Duplicates ∷ Key ∷ Value ∷ Whole ∷ Hash ∷ Percent ∷ Progress ∷ BreakLinks ∷ Force ∷ []

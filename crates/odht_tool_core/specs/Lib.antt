@@ -81,3 +81,7 @@ pub mod PairLines
 pub mod Asking
 -- what a table shows of its types
 pub mod Evidence
+-- the status of a command that failed
+pub mod Statuses
+-- the load factor of a table that is made of another
+pub mod Percents

@@ -9,8 +9,8 @@
 --                          is no word of K; or that is one, and its back none of V
 --     line_text d n f p q line  what is said of the fault f of line n, which is this, where p is wanted of keys, q of values
 --     no_delimiter_text ds n line   what is said of line n, which is this, and has no delimiter; ds is that byte alone
---     earlier_text n key        what is said of line n where an earlier line had its key, of this text
---     repeated_text d n line    what is said of it where an earlier line had its key
+--     earlier_text n key        what is said of line n where its key, of this text, has a value already
+--     repeated_text d n line    the same of the key of the line
 use Rattle.std.specs.Prelude.{◌≡◌, ◌≢◌, ◌⊎◌, ℕ, ◌==◌, ◌||◌, ◌&&◌, not, nat_lt, Bool, List, [], ◌∷◌, ◌++◌, All, Option, Some, None, bytes_eq, codes, if◌then◌else◌}
 use Rattle.odht_tool_core.specs.Cuts.{IsCutAt}
 use Rattle.odht_tool_core.specs.InputLines.{IsNextLine}
@@ -58,7 +58,7 @@ line_text d n Key p q line = misread_text (Some n) Key p (part_of d Key line)
 line_text d n Value p q line = misread_text (Some n) Value q (part_of d Value line)
 
 abbrev pub earlier_text : ℕ → List ℕ → List ℕ
-earlier_text n key = place_text (Some n) ++ (codes "the key " ++ shown_text key ++ codes " was on an earlier line")
+earlier_text n key = place_text (Some n) ++ (codes "the key " ++ shown_text key ++ codes " is in the table already")
 
 abbrev pub repeated_text : ℕ → ℕ → List ℕ → List ℕ
 repeated_text d n line = earlier_text n (part_of d Key line)

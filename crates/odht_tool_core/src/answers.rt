@@ -84,8 +84,8 @@ pub fn are_found<V>(values: &[Option<V>]) -> bool
     values.iter().all(|value| value.is_some())
 }
 
-// Writes the line of a key with its value, or of the key alone.
-fn write_answer<K: Text, V: Text, F: Forms, O: Write>(
+/// Writes the line of a key with its value, or of the key alone.
+pub(crate) fn write_answer<K: Text, V: Text, F: Forms, O: Write>(
     key: &K,
     value: &Option<V>,
     forms: F,

@@ -41,10 +41,26 @@ pub struct BuildOptions {
     pub watch: Watch,
 }
 
+/// The options of `put`.
+#[derive(Clone, Copy)]
+pub struct PutOptions {
+    pub hash: Option<Hash>,
+    pub kinds: Kinds,
+    /// Which pair of a key counts: of the table and the lines, in this order.
+    pub duplicates: Duplicates,
+    /// The byte between key and value.
+    pub delimiter: u8,
+    /// The bound of searches, in groups, by which the file is checked; none with `--whole`.
+    pub bound: Option<usize>,
+    pub breaks_links: bool,
+    pub watch: Watch,
+}
+
 /// The options of `rebuild`.
 #[derive(Clone, Copy)]
 pub struct RebuildOptions {
-    pub percent: Percent,
+    /// The load factor of the new table; without one that of the file.
+    pub percent: Option<Percent>,
     /// The hash function of the new table; without one that of the file.
     pub hash: Option<Hash>,
     /// The bound of searches, in groups, by which the file is checked; none with `--whole`.
@@ -88,7 +104,8 @@ pub struct MergeOptions {
     pub hash: Option<Hash>,
     /// What is said of the keys and values of the first file.
     pub kinds: Kinds,
-    pub percent: Percent,
+    /// The load factor of the new table; without one that of the first file.
+    pub percent: Option<Percent>,
     /// The bound of searches, in groups, by which the files are checked; none with `--whole`.
     pub bound: Option<usize>,
     pub allowed: Allowed,
@@ -132,13 +149,7 @@ pub enum Command {
         reading: Reading,
     },
     Build(BuildOptions),
-    Put {
-        hash: Option<Hash>,
-        kinds: Kinds,
-        bound: Option<usize>,
-        breaks_links: bool,
-        watch: Watch,
-    },
+    Put(PutOptions),
     Delete(DeleteOptions),
     Rebuild(RebuildOptions),
     Diff(DiffOptions),
@@ -146,10 +157,12 @@ pub enum Command {
 }
 
 impl Command {
-    /// How the run ends where the command fails.
+    /// How the run ends if the command fails.
     pub fn failed(&self) -> Status {
         match self {
-            Command::Diff(_) => Status::Trouble,
+            Command::Read { reading, .. } => reading.failed(),
+            Command::Delete(_) => Status::of_failure(Topic::Delete),
+            Command::Diff(_) => Status::of_failure(Topic::Diff),
             _ => Status::NotDone,
         }
     }
@@ -172,6 +185,7 @@ pub enum Reading {
     Count {
         hash: Option<Hash>,
         bound: Option<usize>,
+        is_checked: bool,
     },
     Get {
         hash: Option<Hash>,
@@ -202,6 +216,14 @@ pub enum Reading {
 }
 
 impl Reading {
+    /// How the run ends if the command fails.
+    pub fn failed(&self) -> Status {
+        match self {
+            Reading::Get { .. } => Status::of_failure(Topic::Get),
+            _ => Status::NotDone,
+        }
+    }
+
     /// Whether it looks for tables at every byte of the file.
     pub fn is_search(&self) -> bool {
         match self {

@@ -47,7 +47,7 @@ fn summary_of(topic: Topic) -> &'static str {
             "odht get FILE KEY..  looks keys up; with - instead of keys, those of standard input\n",
         Topic::Dump => "odht dump FILE       tells each pair\n",
         Topic::Keys => "odht keys FILE       tells each key\n",
-        Topic::Find => "odht find FILE       tells each table that is inside a file\n",
+        Topic::Find => "odht find FILE..     tells each table that is inside a file\n",
         Topic::Order =>
             "odht order FILE      tells each pair in an order of inserts that makes the table\n",
         Topic::Diff => {
@@ -112,7 +112,8 @@ one to standard output. An option's value is the next word, or comes behind a =.
 Words that begin with a hyphen come after --, which ends the options.
 
 Status 0: done; 1: rejected, failed, a key is absent, no table is found, or
-tables differ; 2: the words are not understood, or diff failed.
+tables differ; 2: the words are not understood or not read, or get, delete or
+diff failed.
 ";
 
 // begin texts: generated from lists/commands.txt by make generate
@@ -140,6 +141,7 @@ odht info FILE.. [--whole] [--json] [--at OFFSET]
                    longest_hit (null without a hash function), longest_miss,
                    may_help (options of `odht rebuild`, or null). A number of groups
                    that is above the bound is one more than it
+    $ odht info symbols.odht
 ";
 
 const CHECK: &str = "\
@@ -156,33 +158,41 @@ odht check FILE.. [--whole] [--json] [--hash fx|unhash|xxh64]
                    breaks, or null)
     --at           the table begins at this byte of the file; bytes after its end
                    are not read
+    $ odht check *.odht
 ";
 
 const COUNT: &str = "\
-odht count FILE.. [--whole] [--hash fx|unhash|xxh64] [--at OFFSET]
-    Prints how many items the table in the file has, after the file's name and a tab
-    where there are more files. Each is checked before, as by `odht check`; --whole
-    is as there. Where one is not valid the others are still counted, and the status
-    is 1. The hash function is the one that all control bytes fit, unless --hash
-    names it.
+odht count FILE.. [--check] [--whole] [--hash fx|unhash|xxh64]
+                  [--at OFFSET]
+    Prints the item count in the header of each file, after the file's name and a
+    tab if there are more files. Only the header and the length of a file are
+    checked. If that fails, the other files are still counted, and the status is 1.
+    --check        checks each file before, as `odht check` does, also if --whole or
+                   --hash is given, which are as there
     --at           the table begins at this byte of the file; bytes after its end
                    are not read
+    $ odht count *.odht
+    $ odht count --check symbols.odht
 ";
 
 const GET: &str = "\
 odht get FILE KEY.. [--json] [--key SHAPE] [--value SHAPE]
                     [--hash fx|unhash|xxh64] [--at OFFSET]
     Writes a line for each key, in their order: KEY, a tab and VALUE; or KEY alone
-    where it is absent, and then ends with status 1. With the one word - the keys
-    are the lines of standard input, but for an empty last one that is no key. The
-    hash function, unless --hash names it, is the one that the first slots leave,
-    and of - the one that all control bytes fit. Keys and values have the texts of
-    the ready shape, or of other sizes hexadecimal digits, unless --key and --value
-    name others of these sizes, as in `odht build`.
+    if it is absent, as a KEY that cannot be a key of the table is. Status 0: all
+    keys are there; 1: a key is absent; 2: the command failed. With the one word -
+    the keys are the lines of standard input, except an empty last one that is no
+    key; another line that is no key is a failure. The hash function, unless --hash
+    names it, is the one that the first slots leave, and of - the one that all
+    control bytes fit. Keys and values have the texts of the ready shape, or of
+    other sizes hexadecimal digits, unless --key and --value name others of these
+    sizes, as in `odht build`.
     --json         an object of JSON for each key: key and value, strings as those
                    of `odht dump`; value is null where the key is absent
     --at           the table begins at this byte of the file; bytes after its end
                    are not read
+    $ odht get symbols.odht 4198400
+    $ sha256sum new.md | cut -c 1-64 | odht get known.odht -
 ";
 
 const DUMP: &str = "\
@@ -200,6 +210,8 @@ odht dump FILE [--slots] [--json] [--key SHAPE] [--value SHAPE]
                    key_hex or value_hex, the hexadecimal digits of its bytes
     --at           the table begins at this byte of the file; bytes after its end
                    are not read
+    $ odht dump symbols.odht
+    $ odht dump --json names.odht --key text:16
 ";
 
 const KEYS: &str = "\
@@ -210,19 +222,22 @@ odht keys FILE [--key SHAPE] [--hash fx|unhash|xxh64] [--at OFFSET]
     sizes, as in `odht build`.
     --at           the table begins at this byte of the file; bytes after its end
                    are not read
+    $ odht keys symbols.odht | sort -n | head -1
 ";
 
 const FIND: &str = "\
-odht find FILE [--whole] [--json]
+odht find FILE.. [--whole] [--json]
     Prints each table that is inside a file, at whatever byte it begins: its offset,
     for --at, its length, the sizes of keys and values, the item count, the slot
     count, the load in percent, the hash functions that the control bytes fit (fx,
     unhash and xxh64, with commas between them), and what the check finds: valid,
     rejected, or long where a search may read more than 128 groups of control bytes
-    (not so with --whole). Status 1 where there is none.
-    --json         an object of JSON: file, and tables, an array of objects: offset,
-                   bytes, key_bytes, value_bytes, items, slots, load_percent, hash
-                   and check, as above
+    (not so with --whole). Where there are more files, the name of each comes first,
+    on a line. Status 1: one of them has no table.
+    --json         an object of JSON for each file: file, and tables, an array of
+                   objects: offset, bytes, key_bytes, value_bytes, items, slots,
+                   load_percent, hash and check, as above
+    $ odht find *.rmeta
 ";
 
 const ORDER: &str = "\
@@ -238,6 +253,7 @@ odht order FILE [--whole] [--key SHAPE] [--value SHAPE]
     `odht build`.
     --at           the table begins at this byte of the file; bytes after its end
                    are not read
+    $ odht order a.odht | odht build b.odht --key u64 --value u32
 ";
 
 const DIFF: &str = "\
@@ -253,6 +269,7 @@ odht diff FILE OTHER [--whole] [--key SHAPE] [--value SHAPE]
     may differ; their key and value sizes may not. The hash function of each is the
     one that all its control bytes fit, unless --hash names that of both. Keys and
     values have the texts of FILE, as in `odht dump`; --key and --value name others.
+    $ odht diff old.odht new.odht
 ";
 
 const BUILD: &str = "\
@@ -286,10 +303,12 @@ odht build FILE --key SHAPE --value SHAPE [--duplicates last|first|error]
     --progress     a line on standard error each second; the last one has the totals
     --break-links  replaces this name of a file; its other names keep the old one
     --force        replaces a file that is no table, whose bytes are lost
+    $ cut -f 1,2 prices.tsv | odht build prices.odht --key text:16 --value u32
 ";
 
 const PUT: &str = "\
-odht put FILE [--key SHAPE] [--value SHAPE] [--whole]
+odht put FILE [--duplicates last|first|error] [--delimiter C]
+              [--key SHAPE] [--value SHAPE] [--whole]
               [--hash fx|unhash|xxh64] [--progress] [--break-links]
     Adds the lines of standard input, KEY, a tab and VALUE, to the table in FILE,
     which grows as needed, and stores it in the place of the older one, which
@@ -304,7 +323,12 @@ odht put FILE [--key SHAPE] [--value SHAPE] [--whole]
     Owner, group, permissions and symbolic links of the file are kept; one with hard
     links is not replaced without --break-links, with which its other names keep the
     old file.
+    --duplicates   which pair of a key counts, of those of FILE and then of the lines:
+                   last, first, or error: a line whose key FILE or an earlier line has
+                   is a failure; else last
+    --delimiter    stands between key and value, as in `odht build`
     --progress     a line on standard error each second; the last one has the totals
+    $ odht put prices.odht --key text:16 --value u32 < new-prices.tsv
 ";
 
 const DELETE: &str = "\
@@ -313,18 +337,19 @@ odht delete FILE KEY.. [--key SHAPE] [--whole] [--hash fx|unhash|xxh64]
     Makes a new table of the slot count, the load factor and the hash function of
     FILE, inserts the pairs of all other keys in slot order, and stores it in the
     place of the older one, which stays where something fails; `odht rebuild` makes
-    it smaller. A line on standard error tells of each key that is absent, and the
-    status is then 1; the others are taken out all the same. With the one word - the
-    keys are the lines of standard input, but for an empty last one that is no key.
-    Where a word or a line is no key nothing is written. The file is checked before,
-    as by `odht check`; --whole is as there. The hash function is the one that all
-    control bytes fit, unless --hash names it. Keys have the texts of the ready
-    shape, or of other sizes hexadecimal digits, unless --key names others of these
-    sizes, as in `odht build`.
+    it smaller. A line on standard error reports each key that is absent; the others
+    are taken out all the same. Status 0: all keys were there; 1: a key was absent;
+    2: the command failed. With the one word - the keys are the lines of standard
+    input, except an empty last one that is no key. A word or a line that is no key
+    is a failure. The file is checked before, as by `odht check`; --whole is as
+    there. The hash function is the one that all control bytes fit, unless --hash
+    names it. Keys have the texts of the ready shape, or of other sizes hexadecimal
+    digits, unless --key names others of these sizes, as in `odht build`.
     Owner, group, permissions and symbolic links of the file are kept; one with hard
     links is not replaced without --break-links, with which its other names keep the
     old file.
     --progress     a line on standard error each second; the last one has the totals
+    $ odht delete prices.odht --key text:16 apple pear
 ";
 
 const REBUILD: &str = "\
@@ -339,10 +364,11 @@ odht rebuild FILE [--percent P] [--whole] [--hash fx|unhash|xxh64]
     more; number keys of 8 bytes are read as hex8 then. Owner, group,
     permissions and symbolic links of the file are kept; one with hard links is not
     replaced without --break-links.
-    --percent      the load factor of the new table, 1 to 100, else 87
+    --percent      the load factor of the new table, 1 to 100, else that of the file
     --hash         the hash function of the new table, else that of the file
     --progress     a line on standard error each second; the last one has the totals
     --break-links  replaces this name of a file; its other names keep the old one
+    $ odht rebuild prices.odht --percent 50
 ";
 
 const MERGE: &str = "\
@@ -364,9 +390,11 @@ odht merge FILE INPUT.. [--duplicates last|first|error] [--key SHAPE]
                    that an earlier file has is a failure; else last
     --key, --value the types and texts of the first INPUT, as in `odht build`; where
                    --duplicates error fails, the key is told in the text of --key
-    --percent      the load factor of the new table, 1 to 100, else 87
+    --percent      the load factor of the new table, 1 to 100, else that of the first
+                   INPUT
     --progress     a line on standard error each second; the last one has the totals
     --break-links  replaces this name of a file; its other names keep the old one
     --force        replaces a file that is no table, whose bytes are lost
+    $ odht merge all.odht a.odht b.odht --duplicates error
 ";
 // end texts

@@ -2,10 +2,11 @@
 ghost use Rattle.std.specs.Prelude.{◌≡◌, IfOk, IfErr, OnOk};
 ghost use Rattle.std.specs.Io.KnownBytes.{Appends};
 ghost use Rattle.odht_tool_core.specs.Finds.{IsFindFailure};
-ghost use Rattle.odht_tool_core.specs.Insides.{IsFirstInside, inside_text, is_foreign};
+ghost use Rattle.odht_tool_core.specs.Insides.{IsFirstInside, inside_text, is_followed, is_foreign};
 
 use crate::failure::Failure;
 use crate::find::find_tables;
+use crate::front::front_of;
 use odht_header::header::{HEADER_SIZE, Header};
 use std::alloc::Global;
 use std::io::{self, Write};
@@ -28,6 +29,16 @@ fn is_foreign(bytes: &[u8]) -> bool
     ensures { result ≡ is_foreign bytes.now }
 {
     bytes.len() >= HEADER_SIZE && Header::of(bytes).check_tag().is_err()
+}
+
+/// Whether more bytes come after a table that all bytes begin with.
+pub fn is_followed(bytes: &[u8]) -> bool
+    ensures { result ≡ is_followed bytes.now }
+{
+    match front_of(bytes) {
+        Ok(table) => table.len() < bytes.len(),
+        Err(_) => false,
+    }
 }
 
 /// Writes a line that tells of the table at this offset.

@@ -1,7 +1,9 @@
 //! How a run of the program ended.
 ghost use Rattle.std.specs.Prelude.{◌≡◌, ◌↔◌, IsTrue, if◌then◌else◌};
 ghost use Rattle.odht_tool_core.specs.Endings.{IsWritten};
+ghost use Rattle.odht_tool_core.specs.Statuses.{failure_status};
 
+use crate::arguments::Topic;
 use crate::failure::Failure;
 use std::io;
 
@@ -10,11 +12,12 @@ use std::io;
 pub enum Status {
     /// All was done.
     Done,
-    /// A table was rejected, a key is absent, or the command failed.
+    /// A table was rejected, a key is absent, tables differ, or a command failed that has no such
+    /// answer.
     NotDone,
     /// The words cannot be parsed.
     Misused,
-    /// Two tables could not be compared.
+    /// `get`, `delete` or `diff` failed.
     Trouble,
 }
 
@@ -51,6 +54,17 @@ impl Status {
             Status::Done
         } else {
             Status::NotDone
+        }
+    }
+
+    /// How a command ends if it fails: `Trouble` if `NotDone` is one of its answers, that a key is
+    /// absent or that tables differ.
+    pub fn of_failure(topic: Topic) -> Status
+        ensures { result ≡ failure_status topic }
+    {
+        match topic {
+            Topic::Get | Topic::Delete | Topic::Diff => Status::Trouble,
+            _ => Status::NotDone,
         }
     }
 }

@@ -2,6 +2,8 @@
 pub mod KeyAnswers
 -- answers of lists in two parts
 pub mod AnswerLists
+-- words and their answers
+pub mod WordAnswers
 -- the lines that a loop has taken
 pub mod LinesTaken
 -- what a command does, from the shape of the bytes on

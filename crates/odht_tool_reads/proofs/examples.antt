@@ -3,6 +3,8 @@
 pub mod Commands
 -- what `get` writes
 pub mod Gots
+-- the answer to a word, and what is written of it
+pub mod Words
 -- what `get -` writes
 pub mod GotLines
 -- what `order` writes

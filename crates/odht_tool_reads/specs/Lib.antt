@@ -5,6 +5,8 @@ pub mod Outcomes
 pub mod Gets
 -- its parts
 pub mod GetParts
+-- those of words
+pub mod GetWords
 -- of the lines of an input
 pub mod GetLines
 -- the same of a file that is read by position

@@ -4,7 +4,10 @@
 --     keys_outcome B h ks  of `keys`, where the hash function h, or none, is named, and ks is said of keys
 --     counted F o B        how many items the header states, where the check of the bytes as those of the format F, by the
 --                          bound o, finds no error; else the first error
---     count_outcome label B h o    of `count`, where the label stands before the number
+--     count_checked B h o  the same of the format that is found, where the hash function h, or none, is named
+--     count_opened B       how many items the header states, where header and length have no error; else their error
+--     count_outcome label B c  of `count`, where the label stands before the number: the first, where the file is checked by
+--                          the hash function and the bound in c; else the second
 use Rattle.std.specs.Prelude.{ℕ, List, [], ◌∷◌, ◌++◌, decimal, flat_map, Option, Some, None, Result, Ok, Err}
 use Rattle.odht_base.specs.Decoded.{decoded_pairs, header_count}
 use Rattle.odht_base.specs.Format.{Format}
@@ -15,6 +18,7 @@ use Rattle.odht_tool_reads.specs.Outcomes.{by_shape}
 use Rattle.odht_tool_core.specs.Endings.{Outcome, opened_outcome}
 use Rattle.odht_tool_core.specs.Endings.Outcome.{writes, fails}
 use Rattle.odht_tool_core.specs.AnyShapes.{any_format, found_any, read_any}
+use Rattle.odht_tool_core.specs.InfoNumbers.{info_refusal}
 use Rattle.odht_tool_core.specs.StoredTexts.{key_text, texts_of}
 use Rattle.odht_tool_core.specs.declared.any.AnyShape.{AnyShape}
 use Rattle.odht_tool_core.specs.declared.failure.Failure.{Failure}
@@ -56,8 +60,19 @@ abbrev pub count_written : List ℕ → Result ℕ Failure → Outcome
 count_written label (Ok n) = writes (count_line label n) Done
 count_written label (Err failure) = fails failure
 
-abbrev pub count_of_any : List ℕ → List ℕ → Option ℕ → AnyShape → Outcome
-count_of_any label B o s = count_written label (counted (any_format s) o B)
+abbrev pub counted_as : Option ℕ → List ℕ → Result AnyShape Failure → Result ℕ Failure
+counted_as o B (Ok s) = counted (any_format s) o B
+counted_as o B (Err failure) = Err failure
 
-abbrev pub count_outcome : List ℕ → List ℕ → Option Hash → Option ℕ → Outcome
-count_outcome label B h o = by_shape (found_any B h) (count_of_any label B o)
+abbrev pub count_checked : List ℕ → Option Hash → Option ℕ → Result ℕ Failure
+count_checked B h o = counted_as o B (found_any B h)
+
+abbrev pub count_opened : List ℕ → Result ℕ Failure
+count_opened B = count_by (info_refusal B) (header_count B)
+
+abbrev pub count_of : List ℕ → Option (Option Hash × Option ℕ) → Result ℕ Failure
+count_of B (Some c) = count_checked B c.0 c.1
+count_of B None = count_opened B
+
+abbrev pub count_outcome : List ℕ → List ℕ → Option (Option Hash × Option ℕ) → Outcome
+count_outcome label B c = count_written label (count_of B c)

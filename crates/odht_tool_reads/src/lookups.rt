@@ -1,22 +1,20 @@
-//! Keys that are looked up in a table, and what is written of them: the words of a command line,
-//! or lines, a batch at a time.
+//! Keys that are looked up in a table, and what is written of them: those of lines, a batch at a
+//! time, and of the words of a command line.
 ghost use Rattle.std.specs.Prelude.{◌≡◌, Ok, Some, None, [], ◌∷◌, ◌++◌, IfOk, IfErr, OnOk};
-ghost use Rattle.std.specs.Prelude.{map, string_bytes};
-ghost use Rattle.std.specs.List.{AllZip};
-ghost use Rattle.odht_header.specs.Refusals.{view_refusal};
+ghost use Rattle.std.specs.Prelude.{string_bytes};
 ghost use Rattle.odht_tool_core.specs.JsonAnswers.{answer_in};
-ghost use Rattle.odht_tool_core.specs.Keys.{IsReadAs, IsNextKey, IsNoKeyLine, TellsFault};
+ghost use Rattle.odht_tool_core.specs.Keys.{IsReadAs, IsNextKey, IsNoKeyLine};
 ghost use Rattle.odht_tool_core.specs.Misreads.{misread_text};
 ghost use Rattle.odht_tool_reads.specs.GetLines.{AreLinesAnswered};
 ghost use Rattle.odht_tool_reads.specs.GetParts.{AreKeysAnswered, IsKeysFailure};
 ghost use Rattle.odht_tool_reads.specs.GetParts.{IsFlushed, IsReadKey, IsLineFailure};
-ghost use Rattle.odht_tool_reads.specs.Gets.{AreAnswers, AreWordsGot};
+ghost use Rattle.odht_tool_reads.specs.Gets.{AreAnswers};
 
 use odht_tool_core::answers::are_found;
 use odht_tool_core::failure::{Failure, LineFault};
 use odht_tool_core::forms::Forms;
 use odht_tool_core::json::answers::{AnswerStyle, write_answers_in};
-use odht_tool_core::keys::{NextKey, next_key_as, parse_keys, push_key};
+use odht_tool_core::keys::{NextKey, next_key_as, push_key};
 use odht_tool_core::misread::Misread;
 use odht_tool_core::status::Status;
 use odht_tool_core::text::Text;
@@ -24,6 +22,7 @@ use std::alloc::{AllocError, Global};
 use std::io::{self, BufRead, Write};
 
 mod tables;
+pub mod words;
 
 /// How many keys are looked up at once.
 const BATCH: usize = 1024;
@@ -51,44 +50,6 @@ pub trait Lookups {
     ) -> Result<Vec<Option<Self::Value>>, AllocError>
         ensures { IfOk result
             (λ values. AreAnswers (coding self.now) (bytes self.now) keys.now values.items) };
-}
-
-/// Looks up the keys of the words, and writes a line for each. The table was opened.
-pub fn answer_words<T: Lookups, F: Forms, O: Write>(
-    alloc: Global,
-    table: &T,
-    style: AnswerStyle<F>,
-    words: &[String],
-    output: &mut O,
-) -> Result<Status, Failure>
-    ensures { let c = T.coding table.now
-        in view_refusal c.format (T.bytes table.now) ≡ None
-        → AreWordsGot c
-        (answer_in style.is_json (T.Key.text (F.pair style.forms).0)
-        (T.Value.text (F.pair style.forms).1))
-        (IsReadAs (T.Key.is_word (F.pair style.forms).0) (T.Key.stands_for (F.pair style.forms).0))
-        (T.Key.wants (F.pair style.forms).0) (T.bytes table.now) (map string_bytes words.now)
-        (O.contents output.old) (O.contents output.new) result }
-{
-    let keys = keys_of_words::<T::Key, F>(alloc, words, style.forms)?;
-    let is_all_found = answer_keys(alloc, table, keys.as_slice(), style, output)?;
-    Ok(Status::of(is_all_found))
-}
-
-/// The keys of the words in the form of keys.
-pub fn keys_of_words<K: Text, F: Forms>(
-    alloc: Global,
-    words: &[String],
-    forms: F,
-) -> Result<Vec<K>, Failure>
-    ensures keys { IfOk result (λ keys. AllZip
-        (IsReadAs (K.is_word (F.pair forms).0) (K.stands_for (F.pair forms).0))
-        (map string_bytes words.now) keys.items) }
-    ensures fault { IfErr result (TellsFault
-        (IsReadAs (K.is_word (F.pair forms).0) (K.stands_for (F.pair forms).0))
-        (K.wants (F.pair forms).0) (map string_bytes words.now)) }
-{
-    parse_keys(alloc, words, forms.key())
 }
 
 /// Looks up the keys of the lines, a batch at a time, and writes a line for each.

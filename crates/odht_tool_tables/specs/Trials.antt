@@ -10,7 +10,7 @@
 --                          pairs of B in slot order
 --     has_high_load T      more than half of the slots are occupied, in percent rounded down
 --     lower_load_helps B h   the load is high, and the rebuild at 50 percent helps, by the same hash function h
---     mixing_helps B h     h is another function than xxh64, and the rebuild by xxh64 at 87 percent helps
+--     mixing_helps B h     h is another function than xxh64, and the rebuild by xxh64 at the load factor of B helps
 --     first_help B h       the first of these two that is so
 --     is_taken o           no rule is broken by the error o, or only the bound of searches, which `--whole` leaves out
 --     taken_hash B         the hash function of B, where `odht rebuild` takes it, with `--whole` where a search is too long
@@ -32,6 +32,7 @@ use Rattle.odht_header.specs.declared.error.Error.TheVariants.{SearchTooLong}
 use Rattle.odht_tool_core.specs.AnyShapes.{any_format, any_hash, found_any}
 use Rattle.odht_tool_core.specs.GroupNumbers.{capped, groups_to_free}
 use Rattle.odht_tool_core.specs.InfoNumbers.{DynParts, format_by, has_long_search, info_refusal, least_key_len, occupied, file_parts}
+use Rattle.odht_tool_core.specs.Percents.{kept_percent}
 use Rattle.odht_tool_core.specs.ReadyShapes.{same_hash}
 use Rattle.odht_tool_core.specs.declared.advice.Advice.{Advice}
 use Rattle.odht_tool_core.specs.declared.advice.Advice.TheVariants.{LowerLoad, Mixing}
@@ -76,7 +77,7 @@ abbrev pub lower_load_helps : List ℕ → Hash → Bool
 lower_load_helps B h = has_high_load (file_parts B) && helps B h 50
 
 abbrev pub mixing_helps : List ℕ → Hash → Bool
-mixing_helps B h = not (same_hash h Xxh64) && helps B Xxh64 87
+mixing_helps B h = not (same_hash h Xxh64) && helps B Xxh64 (kept_percent B)
 
 abbrev pub first_help : List ℕ → Hash → Option Advice
 first_help B h = if lower_load_helps B h then Some LowerLoad else then_some (mixing_helps B h) Mixing

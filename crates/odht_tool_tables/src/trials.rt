@@ -24,15 +24,13 @@ use odht::{FxHashFn, UnHashFn, Xxh64HashFn};
 use odht_tool_core::advice::Advice;
 use odht_tool_core::failure::Failure;
 use odht_tool_core::found::found_any;
+use odht_tool_core::percents::kept_percent;
 use odht_tool_core::shapes::Hash;
 use odht_tool_core::stored::StoredTable;
 use std::alloc::Global;
 
 /// The percentage of `Advice::LowerLoad`.
 const LOWER: u8 = 50;
-
-/// The percentage of tables that are made where none is named.
-const USUAL: u8 = 87;
 
 /// What makes the searches of the table of these bytes short: the first rebuild that has no long
 /// search, of one at a lower load, where the load is high, and of one by `xxh64`, where the table
@@ -116,7 +114,8 @@ fn lower_load_helps(alloc: Global, bytes: &[u8], hash: Hash) -> Result<bool, Fai
     }
 }
 
-// Whether the hash function is another than `xxh64`, and a rebuild by that one helps.
+// Whether the hash function is another than `xxh64`, and a rebuild by that one helps, at the load
+// factor of the table.
 fn mixing_helps(alloc: Global, bytes: &[u8], hash: Hash) -> Result<bool, Failure>
     requires { info_refusal bytes.now ≡ None }
     ensures helps { IfOk result (λ is_so. is_so ≡ mixing_helps bytes.now hash) }
@@ -125,7 +124,7 @@ fn mixing_helps(alloc: Global, bytes: &[u8], hash: Hash) -> Result<bool, Failure
     if hash.is(Hash::Xxh64) {
         Ok(false)
     } else {
-        helps(alloc, bytes, Hash::Xxh64, Percent::new(USUAL).unwrap())
+        helps(alloc, bytes, Hash::Xxh64, kept_percent(bytes))
     }
 }
 

@@ -1,5 +1,5 @@
 -- The tables that `rebuild` makes, and their failures.
-use Rattle.std.proofs.Common.{◌≡◌, ◌∙◌, ◌++◌, ℕ, false, List, [], ◌∷◌, Option, Some, None, Result, Ok, Err, sym, ap, refl, subst, arith}
+use Rattle.std.proofs.Common.{◌≡◌, ◌≤◌, ◌∙◌, ◌++◌, ℕ, length, false, List, [], ◌∷◌, Option, Some, None, Result, Ok, Err, sym, ap, refl, subst, arith}
 use Rattle.std.specs.Prelude.{IfErr, IfOk, OnOk, is_err}
 use Rattle.std.specs.Option.{option_or}
 use Rattle.odht_base.specs.Decoded.{header_count}
@@ -8,8 +8,10 @@ use Rattle.odht_base.specs.Insert.{insert_owned}
 use Rattle.odht_base.specs.Load.{max_items, factor_of}
 use Rattle.odht_base.specs.Map.{map_of}
 use Rattle.odht_base.specs.Table.{Pair, Table, count, slot_count, fresh, walk}
-use Rattle.odht_base.specs.Valid.{IsPlaced}
+use Rattle.odht_base.specs.Valid.{IsPlaced, IsValidBytes}
 use Rattle.odht_base.proofs.lemmas.DistinctKeys.{last-apart, walk-KeysApart}
+use Rattle.odht_base.proofs.lemmas.Fits.{IsSized-IsPlaced}
+use Rattle.odht_base.proofs.lemmas.Image.{length-image}
 use Rattle.odht_base.proofs.lemmas.FreeSlots.{fresh-slots, slot_count-empty, count-fresh, map_of-fresh, max_items-holds}
 use Rattle.odht_header.specs.Refusals.{check_refusal_by}
 use Rattle.odht_header.specs.Coding.{encoded}
@@ -26,6 +28,10 @@ use Rattle.odht_tool_core.specs.ReadyShapes.{hash_of, typed_len}
 use Rattle.odht_tool_core.specs.declared.any.AnyShape.{AnyShape}
 use Rattle.odht_tool_core.specs.declared.failure.Failure.{Failure}
 use Rattle.odht_tool_core.specs.declared.shapes.Hash.{Hash}
+
+-- a table has its header
+pub long_valid : (F : Format) (B : List ℕ) → IsValidBytes F B → 32 ≤ length B
+long_valid F B h = omega (arith, ap length h.1.bytes ∙ length-image F h.0 (IsSized-IsPlaced F h.0 h.1.valid.placed))
 
 -- a value, or else none
 pub or_none : {X : Type 0} (o : Option X) → option_or o None ≡ o

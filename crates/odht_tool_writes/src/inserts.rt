@@ -4,19 +4,15 @@ ghost use Rattle.odht_tool_core.specs.declared.failure.Failure.TheVariants.{Memo
 ghost use Rattle.odht_tool_writes.specs.Faults.{IsTold};
 ghost use Rattle.odht_tool_writes.specs.Inserted.{AreInserted, IsNewInsert};
 
-use crate::warnings::warn_of_long;
 use odht_tool_core::failure::Failure;
 use odht_tool_core::forms::Forms;
 use odht_tool_core::line_messages::line_message;
 use odht_tool_core::lines::read_pair_as;
-use odht_tool_core::new_file::{NewFile, replace_file};
-use odht_tool_core::progress::{Progress, Taken, Watch};
-use odht_tool_core::status::Status;
+use odht_tool_core::progress::{Progress, Taken};
 use odht_tool_core::text::Text;
 use std::alloc::Global;
 use std::io::{BufRead, Write};
-use std::os::fd::AsFd;
-use std::rt::{Clock, Files};
+use std::rt::Clock;
 
 pub mod lines;
 mod tables;
@@ -62,26 +58,6 @@ pub trait Inserts: Drop {
         ensures { (P : Table)
             → stands_for self.now P
             → IsImage (coding self.now).format P result.now };
-}
-
-/// Adds the lines to the table, and stores it by the new file.
-pub fn insert_into_file<T: Inserts, F: Forms, R: Files + AllocGlobal + Clock, I: BufRead, E: Write>(
-    rt: &R,
-    new: &mut NewFile<R::File>,
-    mut table: T,
-    forms: F,
-    watch: Watch,
-    input: &mut I,
-    errors: &mut E,
-) -> Result<Status, Failure>
-where
-    R::File: AsFd,
-{
-    let progress = Progress::new(rt, watch);
-    fill(rt, &mut table, progress, forms, input, errors)?;
-    replace_file(rt, new, table.all_bytes())?;
-    warn_of_long(rt.alloc(), new.path(), table.all_bytes(), errors);
-    Ok(Status::Done)
 }
 
 // Inserts the pairs of the lines, a batch at a time.

@@ -91,12 +91,13 @@ status: 2
 
 def absent(commands):
     """A file that is not there, by each command that reads one."""
-    lines = rows(f"{it.name} absent.odht{' 1' * (len(it.words) - 1)}" for it in commands if not it.is_making and not it.is_comparing)
+    made = [it for it in commands if not it.is_making and not it.is_comparing]
+    lines = rows(f"{it.name} absent.odht{' 1' * (len(it.words) - 1)} | {it.failed}" for it in made)
     return f"""== a file that is not there
-for words:
+for words | status:
 {lines}args: \\{{words}}
 stderr: odht: absent.odht: cannot be read: No such file...
-status: 1
+status: \\{{status}}
 """
 
 

@@ -92,6 +92,11 @@ class Command:
         """Whether it makes its file: then the shape has to be given, or other files that have it."""
         return "--key SHAPE" in self.written or "INPUT.." in self.words
 
+    @property
+    def failed(self):
+        """The status with which it fails: 2 if 1 is an answer, that a key is absent or that tables differ."""
+        return 2 if self.is_comparing or "KEY.." in self.words else 1
+
     def has(self, option):
         return any(it.name == option for it in self.options)
 

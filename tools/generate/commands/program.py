@@ -18,6 +18,7 @@ FIELDS = {
     "--hash": ("hash", "Option<Hash>", "hash"),
     "--key": ("kinds", "Kinds", "kinds"),
     "--whole": ("bound", "Option<usize>", "bound"),
+    "--check": ("is_checked", "bool", "is_checked: self.is_checking()"),
     "KEY..": ("keys", "Keys", "keys"),
     "--slots": ("is_slots", "bool", "is_slots: self.is_slots"),
     "--json": ("is_json", "bool", "is_json: self.is_json"),
@@ -38,6 +39,8 @@ def arm(patterns, value):
     text = line(12, f"{names} => {value},")
     if fits(text):
         return text
+    if value.startswith("Some("):
+        return line(12, f"{names} => Some(") + line(16, f"{value[len('Some('):-1]},") + line(12, "),")
     front = line(12, f"{names} =>")
     return front + line(16, f"{value},") if fits(front) else text.replace(" | ", f"\n{' ' * 12}| ")
 
@@ -85,22 +88,28 @@ def topics(commands, options):
 
 
 def definition(name, kind, records, value):
-    """A definition with a clause for each command or option."""
-    clauses = "".join(f"{name} {it.variant} = {value(it)}\n" for it in records)
+    """A definition with a clause for each command or option, by the name of its variant."""
+    clauses = "".join(f"{name} {variant} = {value(it)}\n" for variant, it in records)
     return f"abbrev pub {name} : {kind}\n{clauses}"
 
 
-def spec_list(records):
-    return " ∷ ".join([*(it.variant for it in records), "[]"])
+def spec_list(names):
+    return " ∷ ".join([*names, "[]"])
 
 
 def definitions(commands, options):
+    topics = {it.variant for it in commands}
+    # an option of the name of a command has a longer one
+    settings = {it: f"With{it.variant}" if it.variant in topics else it.variant for it in options}
+    imported = [it.variant if it.variant == name else f"{it.variant} as {name}" for it, name in settings.items()]
+    of_topics = [(it.variant, it) for it in commands]
+    of_settings = [(name, it) for it, name in settings.items()]
     declared = "Rattle.odht_tool_core.specs.declared.arguments.topics"
     parts = [
-        definition("command_name", "Topic → List ℕ", commands, lambda it: f'codes "{it.name}"'),
-        f"abbrev pub commands : List Topic\ncommands = {spec_list(commands)}\n",
-        definition("option_name", "Setting → List ℕ", options, lambda it: f'codes "{it.name}"'),
-        definition("options_of", "Topic → List Setting", commands, lambda it: spec_list(it.options)),
+        definition("command_name", "Topic → List ℕ", of_topics, lambda it: f'codes "{it.name}"'),
+        f"abbrev pub commands : List Topic\ncommands = {spec_list(it.variant for it in commands)}\n",
+        definition("option_name", "Setting → List ℕ", of_settings, lambda it: f'codes "{it.name}"'),
+        definition("options_of", "Topic → List Setting", of_topics, lambda of: spec_list(settings[it] for it in of.options)),
     ]
     return f"""-- The commands of the program and their options. {MADE}.
 --     command_name t       the name of the command t
@@ -109,7 +118,7 @@ def definitions(commands, options):
 --     options_of t         the options that the command t has
 use Rattle.std.specs.Prelude.{{ℕ, List, [], ◌∷◌, codes}}
 use {declared}.Setting.{{Setting}}
-use {declared}.Setting.TheVariants.{{{', '.join(it.variant for it in options)}}}
+use {declared}.Setting.TheVariants.{{{', '.join(imported)}}}
 use {declared}.Topic.{{Topic}}
 use {declared}.Topic.TheVariants.{{{', '.join(it.variant for it in commands)}}}
 

@@ -35,8 +35,17 @@ pub fn run_reading<I: BufRead, O: Write, E: Write>(
             bound,
             is_json,
         } => check_one(alloc, file, bytes, *hash, *bound, *is_json, output, errors),
-        Reading::Count { hash, bound } => {
-            count_one(alloc, file, is_one, bytes, *hash, *bound, output)
+        Reading::Count {
+            hash,
+            bound,
+            is_checked,
+        } => {
+            let checked = if *is_checked {
+                Some((*hash, *bound))
+            } else {
+                None
+            };
+            count_one(alloc, file, is_one, bytes, checked, output)
         }
         Reading::Get {
             hash,
@@ -54,7 +63,7 @@ pub fn run_reading<I: BufRead, O: Write, E: Write>(
             is_json,
         } => get::get_file_lines(alloc, bytes, *hash, *kinds, *is_json, input, output),
         Reading::Find { bound, is_json } => {
-            find_in(alloc, file, bytes, *bound, *is_json, output, errors)
+            find_in(alloc, file, is_one, bytes, *bound, *is_json, output, errors)
         }
         Reading::Dump {
             hash,
@@ -96,33 +105,38 @@ fn check_one<O: Write, E: Write>(
     Ok(status)
 }
 
-// Counts the items of a file, with its name where there are more files.
+// Counts the items of a file, with its name where there are more files. It is checked before, if so
+// requested, by a hash function or none and a bound or none.
 fn count_one<O: Write>(
     alloc: Global,
     file: &str,
     is_one: bool,
     bytes: &[u8],
-    hash: Option<Hash>,
-    bound: Option<usize>,
+    checked: Option<(Option<Hash>, Option<usize>)>,
     output: &mut O,
 ) -> Result<Status, Failure> {
     if is_one {
-        return count::count_file("", bytes, hash, bound, output);
+        return count::count_file("", bytes, checked, output);
     }
     let label = format!(in alloc; "{file}\t")?;
-    count::count_file(label.as_str(), bytes, hash, bound, output)
+    count::count_file(label.as_str(), bytes, checked, output)
 }
 
-// Finds the tables in a file. Where there is none, a line on `errors` says so.
+// Finds the tables in a file, whose name comes first where there are more files. Where there is no
+// table, a line on `errors` says so.
 fn find_in<O: Write, E: Write>(
     alloc: Global,
     file: &str,
+    is_one: bool,
     bytes: &[u8],
     bound: Option<usize>,
     is_json: bool,
     output: &mut O,
     errors: &mut E,
 ) -> Result<Status, Failure> {
+    if !is_one && !is_json {
+        writeln!(output, "{file}").map_err(Failure::Output)?;
+    }
     let status = find::find_file(alloc, file, bytes, bound, is_json, output)?;
     if !status.is_done() {
         output.flush().map_err(Failure::Output)?;

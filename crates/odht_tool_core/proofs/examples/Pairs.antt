@@ -45,6 +45,6 @@ pub told : (line_text 44 2 NoTab U32 U32 (codes "1") ≡ codes "standard input, 
     × (line_text 9 2 NoTab U32 U32 (codes "1") ≡ codes "standard input, line 2: \"1\" has no tab between key and value")
     × (line_text 44 2 Key U32 U32 (codes "x,1,2") ≡ codes "standard input, line 2: the key \"x\" is not a number below 2^32")
     × (line_text 44 2 Value U32 U32 (codes "1,1,2") ≡ codes "standard input, line 2: the value \"1,2\" is not a number below 2^32")
-    × (repeated_text 44 5 (codes "7,1") ≡ codes "standard input, line 5: the key \"7\" was on an earlier line")
+    × (repeated_text 44 5 (codes "7,1") ≡ codes "standard input, line 5: the key \"7\" is in the table already")
 unfolding digits
 told = (refl, refl, refl, refl, refl)

@@ -86,7 +86,7 @@ fn write_wanted<W: fmt::Write>(option: Setting, f: &mut fmt::Formatter<W>) -> fm
 impl fmt::Display for Misuse {
     fn fmt<W: fmt::Write>(&self, f: &mut fmt::Formatter<W>) -> fmt::Result {
         match self {
-            Misuse::NoCommand => write!(f, "a command is missing; try `odht --help`"),
+            Misuse::NoCommand => write!(f, "a command is missing"),
             Misuse::UnknownCommand(word) => {
                 write!(f, "no command is named {word:?}")?;
                 match nearest_name(word.as_str()) {
@@ -141,12 +141,20 @@ fn write_nearest<W: fmt::Write>(
 impl std::error::Error for Misuse {}
 
 impl Misuse {
-    /// How the program ends: where the words cannot be parsed for want of memory alone, they may
-    /// be right.
+    /// How the program ends. If only memory is short, the words may be right, and the command
+    /// failed.
     pub fn status(&self) -> Status {
         match self {
-            Misuse::InCommand(_, CommandMisuse::Memory) => Status::NotDone,
+            Misuse::InCommand(topic, CommandMisuse::Memory) => Status::of_failure(*topic),
             _ => Status::Misused,
+        }
+    }
+
+    /// Whether there is no word.
+    pub fn is_empty(&self) -> bool {
+        match self {
+            Misuse::NoCommand => true,
+            _ => false,
         }
     }
 }

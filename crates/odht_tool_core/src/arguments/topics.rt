@@ -93,6 +93,7 @@ impl Topic {
             | Topic::Check
             | Topic::Count
             | Topic::Get
+            | Topic::Find
             | Topic::Diff
             | Topic::Delete
             | Topic::Merge => true,
@@ -113,7 +114,13 @@ impl Topic {
                 Setting::Hash,
                 Setting::At,
             ],
-            Topic::Count => &[Setting::Help, Setting::Whole, Setting::Hash, Setting::At],
+            Topic::Count => &[
+                Setting::Help,
+                Setting::Check,
+                Setting::Whole,
+                Setting::Hash,
+                Setting::At,
+            ],
             Topic::Get => &[
                 Setting::Help,
                 Setting::Json,
@@ -164,6 +171,8 @@ impl Topic {
             ],
             Topic::Put => &[
                 Setting::Help,
+                Setting::Duplicates,
+                Setting::Delimiter,
                 Setting::Key,
                 Setting::Value,
                 Setting::Whole,
@@ -215,6 +224,7 @@ pub enum Setting {
     Help,
     Slots,
     Json,
+    Check,
     Whole,
     Progress,
     BreakLinks,
@@ -262,6 +272,7 @@ impl Setting {
             Setting::Help => "--help",
             Setting::Slots => "--slots",
             Setting::Json => "--json",
+            Setting::Check => "--check",
             Setting::Whole => "--whole",
             Setting::Progress => "--progress",
             Setting::BreakLinks => "--break-links",
@@ -284,6 +295,7 @@ impl Setting {
             Setting::Help
             | Setting::Slots
             | Setting::Json
+            | Setting::Check
             | Setting::Whole
             | Setting::Progress
             | Setting::BreakLinks
@@ -291,8 +303,10 @@ impl Setting {
             | Setting::CheckOnly => None,
             Setting::At | Setting::Capacity => Some("a number below 2^64"),
             Setting::Hash => Some("fx, unhash or xxh64"),
-            Setting::Key => Some("u32, u64, i32, i64, u32be, u64be, hexN or text:N"),
-            Setting::Value => Some("u32, u64, i32, i64, u32be, u64be, none, hexN or text:N"),
+            Setting::Key => Some("u32, u64, i32, i64, u32be, u64be, hexN, bytes:N or text:N"),
+            Setting::Value => Some(
+                "u32, u64, i32, i64, u32be, u64be, none, hexN, bytes:N or text:N",
+            ),
             Setting::Duplicates => Some("last, first or error"),
             Setting::Delimiter => Some("a printable character of ASCII that is no quote"),
             Setting::Percent => Some("a number from 1 to 100"),

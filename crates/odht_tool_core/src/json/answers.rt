@@ -1,13 +1,18 @@
 //! Keys that were looked up, and their values, as lines of text or as objects of JSON.
 ghost use Rattle.std.specs.Prelude.{◌≡◌, ◌<◌, length, OnErr, OnOk};
 ghost use Rattle.std.specs.Io.KnownBytes.{Appends};
+ghost use Rattle.std.specs.List.{list_all};
 ghost use Rattle.odht_tool_core.specs.Json.{json_field, pair_fields_text, pair_object, text_field};
 ghost use Rattle.odht_tool_core.specs.JsonAnswers.{absent_object, answer_in, answer_object};
+ghost use Rattle.odht_tool_core.specs.JsonAnswers.{no_key_line};
+ghost use Rattle.odht_tool_core.specs.PlainTexts.{is_plain};
 ghost use Rattle.odht_tool_core.specs.Texts.{answers_by};
 
-use crate::answers::write_answers_as;
+use crate::answers::{write_answer, write_answers_as};
 use crate::forms::{Form, Forms};
 use crate::json::pairs::write_any_field;
+use crate::plain::is_plain;
+use crate::shown::Shown;
 use crate::text::Text;
 use std::io::{self, Write};
 
@@ -40,6 +45,58 @@ pub fn write_answers_in<K: Text, V: Text, F: Forms, O: Write>(
     } else {
         write_answers_as(keys, values, style.forms, output)
     }
+}
+
+/// Writes the line of one key, as [`write_answers_in`] does.
+pub fn write_answer_in<K: Text, V: Text, F: Forms, O: Write>(
+    key: &K,
+    value: &Option<V>,
+    style: AnswerStyle<F>,
+    output: &mut O,
+) -> io::Result<()>
+    ensures { let f = K.text (F.pair style.forms).0 in let g = V.text (F.pair style.forms).1
+        in OnOk result (Appends (O.contents output.old) (O.contents output.new)
+        (answer_in style.is_json f g (key.now, value.now))) }
+{
+    if style.is_json {
+        write_object(key, value, style.forms, output)
+    } else {
+        write_answer(key, value, style.forms, output)
+    }
+}
+
+/// Writes the line of a word that is the text of no key: the word, as it is or as messages show
+/// it, or an object of it, in which the value is null.
+pub fn write_no_key<O: Write>(word: &[u8], is_json: bool, output: &mut O) -> io::Result<()>
+    ensures { OnOk result (Appends (O.contents output.old) (O.contents output.new)
+        (no_key_line is_json word.now)) }
+{
+    if is_json {
+        write_no_key_object(word, output)
+    } else if is_in_line(word) {
+        output.write_all(word)?;
+        output.write_all(b"\n")
+    } else {
+        let word = Shown(word);
+        writeln!(output, "{word}")
+    }
+}
+
+// Writes the object of a word that is the text of no key.
+fn write_no_key_object<O: Write>(word: &[u8], output: &mut O) -> io::Result<()>
+    ensures { OnOk result (Appends (O.contents output.old) (O.contents output.new)
+        (absent_object word.now)) }
+{
+    output.write_all(b"{")?;
+    write_any_field("key", word, output)?;
+    output.write_all(b",\"value\":null}\n")
+}
+
+// Whether a word is one field of one line.
+fn is_in_line(word: &[u8]) -> bool
+    ensures { result ≡ list_all is_plain word.now }
+{
+    word.iter().all(|byte| is_plain(*byte))
 }
 
 // Writes the object of each key and its value on a line.

@@ -3,13 +3,14 @@ ghost use Rattle.std.specs.Prelude.{◌≤◌, map, string_bytes};
 ghost use Rattle.odht_base.specs.Format.{format_of};
 ghost use Rattle.odht_raw.specs.DynParts.{bytes_coding};
 ghost use Rattle.odht_tool_core.specs.InfoNumbers.{least_key_len};
-ghost use Rattle.odht_tool_core.specs.JsonAnswers.{answer_in};
+ghost use Rattle.odht_tool_core.specs.JsonAnswers.{answer_in, no_key_line};
 ghost use Rattle.odht_tool_core.specs.ReadyShapes.{typed_len};
 ghost use Rattle.odht_tool_core.specs.DynTexts.{IsDynamicOf, dynamic_text, dynamic_wanted};
 ghost use Rattle.odht_tool_reads.specs.GetLines.{AreLinesGot, lines_of_other};
 ghost use Rattle.odht_tool_reads.specs.Gets.{AreWordsGot, words_of_types};
 
-use crate::lookups::{answer_lines, answer_words};
+use crate::lookups::answer_lines;
+use crate::lookups::words::answer_words;
 use odht::dynamic::Layout;
 use odht::hash::HashFn;
 use odht::{FxHashFn, UnHashFn, Xxh64HashFn};
@@ -91,8 +92,7 @@ fn get_words_hashed<H: HashFn, O: Write>(
     requires { H.MIN_LEN ≤ layout.key_len }
     ensures { let c = bytes_coding (format_of layout.key_len layout.value_len H.hash)
         in AreWordsGot c (answer_in is_json (dynamic_text forms.key) (dynamic_text forms.value))
-        (IsDynamicOf forms.key) (dynamic_wanted forms.key)
-        bytes.now (map string_bytes words.now)
+        (no_key_line is_json) (IsDynamicOf forms.key) bytes.now (map string_bytes words.now)
         (O.contents output.old) (O.contents output.new) result }
 {
     let table = open_lengths::<H>(layout, bytes)?;

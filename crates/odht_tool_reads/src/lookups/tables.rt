@@ -70,8 +70,11 @@ fn values_of<H: HashFn>(
     Ok(values)
 }
 
-// The value of a key, if it has one.
-fn value_of<H: HashFn>(table: &DynTable<H, Borrowed<'_>>, key: &ShortBytes) -> Option<ShortBytes>
+/// The value of a key, if it has one.
+pub(super) fn value_of<H: HashFn>(
+    table: &DynTable<H, Borrowed<'_>>,
+    key: &ShortBytes,
+) -> Option<ShortBytes>
     ensures { IsGet (dyn_coding table.now H.hash) table.now.store.0.now key.now result }
 {
     // To look at the lengths is what tells that a value is short.

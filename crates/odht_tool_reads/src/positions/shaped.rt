@@ -6,9 +6,9 @@ ghost use Rattle.odht_base.specs.Format.{format_of};
 ghost use Rattle.odht_header.specs.Refusals.{view_refusal};
 ghost use Rattle.odht_raw.specs.DynParts.{bytes_coding};
 ghost use Rattle.odht_tool_core.specs.InfoNumbers.{least_key_len};
-ghost use Rattle.odht_tool_core.specs.JsonAnswers.{answer_in};
+ghost use Rattle.odht_tool_core.specs.JsonAnswers.{answer_in, no_key_line};
 ghost use Rattle.odht_tool_core.specs.ReadyShapes.{typed_len};
-ghost use Rattle.odht_tool_core.specs.DynTexts.{IsDynamicOf, dynamic_text, dynamic_wanted};
+ghost use Rattle.odht_tool_core.specs.DynTexts.{IsDynamicOf, dynamic_text};
 ghost use Rattle.odht_tool_reads.specs.Gets.{AreWordsGot, words_of_types};
 ghost use Rattle.odht_tool_reads.specs.Positions.{ByPosition, IsTableAt};
 
@@ -78,8 +78,8 @@ fn words_dynamic<H: HashFn, S: ReadAt + Drop, O: Write>(
         in (B : List ℕ) → S.gives source B → at + len ≤ length B → at + len < 2 ^ 64
         → (let old = O.contents output.old in let new = O.contents output.new
         in ByPosition old new (AreWordsGot c (answer_in is_json
-        (dynamic_text forms.key) (dynamic_text forms.value)) (IsDynamicOf forms.key)
-        (dynamic_wanted forms.key) (bytes_at B at len) (map string_bytes words.now)
+        (dynamic_text forms.key) (dynamic_text forms.value)) (no_key_line is_json)
+        (IsDynamicOf forms.key) (bytes_at B at len) (map string_bytes words.now)
         old new) result) }
 {
     match open_file::<H, S>(layout, source, at, len) {

@@ -6,22 +6,22 @@ ghost use Rattle.odht_header.specs.Refusals.{check_refusal_by};
 ghost use Rattle.odht_tool_writes.specs.Inserted.{copy_failure};
 
 use crate::dynamic::builds::{build_dynamic, put_dynamic};
-use crate::inserts::insert_into_file;
-use crate::inserts::lines::{Place, check_lines, insert_lines, left, makes_no_table, place_of};
+use crate::inserts::lines::{
+    Place, check_lines, insert_into_file, insert_lines, left, makes_no_table, place_of,
+};
 use crate::shapes::for_shape;
 use odht::HashTableOwned;
 use odht::config::{Coded, Config};
 use odht::dynamic::Layout;
 use odht::load::Percent;
 use odht_tool_core::any::{AnyShape, read_any};
-use odht_tool_core::arguments::BuildOptions;
+use odht_tool_core::arguments::{BuildOptions, PutOptions};
 use odht_tool_core::evidence::ask_kinds;
 use odht_tool_core::failure::Failure;
 use odht_tool_core::files::read_file;
-use odht_tool_core::forms::{Forms, GivenForms, Kinds, LineForms, OwnForms};
+use odht_tool_core::forms::{Forms, GivenForms, LineForms, OwnForms};
 use odht_tool_core::new_file::NewFile;
-use odht_tool_core::progress::Watch;
-use odht_tool_core::shapes::{Hash, Shape};
+use odht_tool_core::shapes::Shape;
 use odht_tool_core::status::Status;
 use odht_tool_core::text::Text;
 use odht_tool_tables::dynamic::check_lengths;
@@ -133,10 +133,7 @@ fn make_table<C: Config>(
 pub fn put<R: Files + AllocGlobal + Clock, I: BufRead, E: Write>(
     rt: &R,
     new: &mut NewFile<R::File>,
-    hash: Option<Hash>,
-    kinds: Kinds,
-    bound: Option<usize>,
-    watch: Watch,
+    options: PutOptions,
     input: &mut I,
     errors: &mut E,
 ) -> Result<Status, Failure>
@@ -144,15 +141,11 @@ where
     R::File: AsFd,
 {
     let bytes = read_file(rt, new.path())?;
-    let (shape, forms) = read_any(bytes.as_slice(), hash, kinds)?;
-    ask_kinds(bytes.as_slice(), shape, kinds)?;
+    let (shape, forms) = read_any(bytes.as_slice(), options.hash, options.kinds)?;
+    ask_kinds(bytes.as_slice(), shape, options.kinds)?;
     match shape {
-        AnyShape::Ready(shape) => put_ready(
-            rt, new, shape, forms, bytes, bound, watch, input, errors,
-        ),
-        AnyShape::Other(shape) => put_dynamic(
-            rt, new, shape, forms, bytes, bound, watch, input, errors,
-        ),
+        AnyShape::Ready(shape) => put_ready(rt, new, shape, forms, bytes, options, input, errors),
+        AnyShape::Other(shape) => put_dynamic(rt, new, shape, forms, bytes, options, input, errors),
     }
 }
 
@@ -163,18 +156,19 @@ fn put_ready<R: Files + AllocGlobal + Clock, I: BufRead, E: Write>(
     shape: Shape,
     forms: GivenForms,
     bytes: Vec<u8>,
-    bound: Option<usize>,
-    watch: Watch,
+    options: PutOptions,
     input: &mut I,
     errors: &mut E,
 ) -> Result<Status, Failure>
 where
     R::File: AsFd,
 {
-    if forms.are_own() {
-        put_in(rt, new, shape, OwnForms, bytes, bound, watch, input, errors)
+    let delimiter = options.delimiter;
+    if forms.are_own() && delimiter == b'\t' {
+        put_in(rt, new, shape, OwnForms, bytes, options, input, errors)
     } else {
-        put_in(rt, new, shape, forms, bytes, bound, watch, input, errors)
+        let forms = LineForms { forms, delimiter };
+        put_in(rt, new, shape, forms, bytes, options, input, errors)
     }
 }
 
@@ -185,8 +179,7 @@ fn put_in<F: Forms, R: Files + AllocGlobal + Clock, I: BufRead, E: Write>(
     shape: Shape,
     forms: F,
     bytes: Vec<u8>,
-    bound: Option<usize>,
-    watch: Watch,
+    options: PutOptions,
     input: &mut I,
     errors: &mut E,
 ) -> Result<Status, Failure>
@@ -195,7 +188,7 @@ where
 {
     for_shape!(
         shape,
-        put_file[F, R, I, E](rt, new, forms, bytes, bound, watch, input, errors)
+        put_file[F, R, I, E](rt, new, forms, bytes, options, input, errors)
     )
 }
 
@@ -205,8 +198,7 @@ fn put_file<C: Config, F: Forms, R: Files + AllocGlobal + Clock, I: BufRead, E: 
     new: &mut NewFile<R::File>,
     forms: F,
     bytes: Vec<u8>,
-    bound: Option<usize>,
-    watch: Watch,
+    options: PutOptions,
     input: &mut I,
     errors: &mut E,
 ) -> Result<Status, Failure>
@@ -215,8 +207,8 @@ where
     C::Value: Text,
     R::File: AsFd,
 {
-    let table = copy_table::<C>(rt.alloc(), bytes, bound)?;
-    insert_into_file(rt, new, table, forms, watch, input, errors)
+    let table = copy_table::<C>(rt.alloc(), bytes, options.bound)?;
+    insert_into_file(rt, new, table, forms, options, input, errors)
 }
 
 fn copy_table<C: Config>(

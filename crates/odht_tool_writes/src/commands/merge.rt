@@ -4,6 +4,7 @@ ghost use Rattle.std.specs.Prelude.{map};
 ghost use Rattle.std.specs.Vec.{vec_len};
 ghost use Rattle.odht_base.specs.Valid.{IsValidBytes};
 ghost use Rattle.odht_tool_core.specs.AnyShapes.{HasLongKeys, any_format, any_key, any_value};
+ghost use Rattle.odht_tool_core.specs.Percents.{new_percent};
 ghost use Rattle.odht_tool_core.specs.ReadyShapes.{typed_len};
 ghost use Rattle.odht_tool_core.specs.declared.failure.Failure.TheVariants.{Memory};
 ghost use Rattle.odht_tool_writes.specs.Merges.{IsInputOf, IsLateStop, IsMergeFailure, IsMerged};
@@ -11,6 +12,7 @@ ghost use Rattle.odht_tool_writes.specs.Merges.{IsMergedFrom, IsMergedOf, IsRead
 ghost use Rattle.odht_tool_writes.specs.Merges.{IsTableOf, all_pairs, input_pairs, shape_of_other};
 
 use crate::dynamic::merges::{Input, MergeFailure, merge_lengths};
+use odht::load::Percent;
 use odht::{FxHashFn, UnHashFn, Xxh64HashFn};
 use odht_tool_core::any::AnyShape;
 use odht_tool_core::arguments::{MergeOptions, is_stream};
@@ -18,6 +20,7 @@ use odht_tool_core::failure::Failure;
 use odht_tool_core::forms::{GivenForms, Kinds};
 use odht_tool_core::keys::write_repeated;
 use odht_tool_core::new_file::{NewFile, ended, make_new, replace_file};
+use odht_tool_core::percents::new_percent;
 use odht_tool_core::progress::{Progress, Watch};
 use odht_tool_core::shapes::Hash;
 use odht_tool_core::status::{Status, of_output};
@@ -107,11 +110,13 @@ fn merged_or_told<R: AllocGlobal + Clock, E: Write>(
     errors: &mut E,
 ) -> Result<Option<Vec<u8>>, Failure>
     ensures made { let o = options.now in let Bs = map (λ bytes. bytes.items) others.items
+        in let p = new_percent first.items o.percent
         in IfOk result (λ made. IfSome made (λ new. IsMergedOf first.items Bs o.hash o.kinds
-        o.bound o.duplicates o.percent new.items)) }
+        o.bound o.duplicates p new.items)) }
     ensures failed { let o = options.now in let Bs = map (λ bytes. bytes.items) others.items
+        in let p = new_percent first.items o.percent
         in IfErr result (λ failure. IsMergeFailure first.items Bs o.hash o.kinds o.bound
-        o.duplicates o.percent (MergeFailure.New failure)) }
+        o.duplicates p (MergeFailure.New failure)) }
 {
     match merged(rt, first, others, options, errors) {
         Ok(bytes) => Ok(Some(bytes)),
@@ -165,35 +170,42 @@ fn merged<R: AllocGlobal + Clock, E: Write>(
     errors: &mut E,
 ) -> Result<Vec<u8>, MergeFailure>
     ensures ok { let o = options.now in let Bs = map (λ bytes. bytes.items) others.items
+        in let p = new_percent first.items o.percent
         in IfOk result (λ new. IsMergedOf first.items Bs o.hash o.kinds o.bound o.duplicates
-        o.percent new.items) }
+        p new.items) }
     ensures err { let o = options.now in let Bs = map (λ bytes. bytes.items) others.items
-        in IfErr result (IsMergeFailure first.items Bs o.hash o.kinds o.bound o.duplicates
-        o.percent) }
+        in let p = new_percent first.items o.percent
+        in IfErr result (IsMergeFailure first.items Bs o.hash o.kinds o.bound o.duplicates p) }
 {
-    match read_whole(first.as_slice(), options.hash, options.kinds, options.bound) {
-        Ok((shape, forms)) => merged_for(rt, shape, forms, first, others, options, errors),
+    let bytes = first.as_slice();
+    match read_whole(bytes, options.hash, options.kinds, options.bound) {
+        Ok((shape, forms)) => {
+            let percent = new_percent(bytes, options.percent);
+            merged_for(rt, shape, forms, first, others, percent, options, errors)
+        }
         Err(failure) => Err(MergeFailure::Failed { at: 0, failure }),
     }
 }
 
-// The same where the first file is a valid table of this shape, in these forms.
+// The same at this load factor, where the first file is a valid table of this shape, in these
+// forms.
 fn merged_for<R: AllocGlobal + Clock, E: Write>(
     rt: &R,
     shape: AnyShape,
     forms: GivenForms,
     first: Vec<u8>,
     others: Vec<Vec<u8>>,
+    percent: Percent,
     options: &MergeOptions,
     errors: &mut E,
 ) -> Result<Vec<u8>, MergeFailure>
     requires long { HasLongKeys shape }
     requires valid { IsValidBytes (any_format shape) first.items }
     ensures ok { let o = options.now in let Bs = map (λ bytes. bytes.items) others.items
-        in IfOk result (λ new. IsMergedFrom first.items Bs o.hash o.bound o.duplicates o.percent
+        in IfOk result (λ new. IsMergedFrom first.items Bs o.hash o.bound o.duplicates percent
         new.items shape) }
     ensures err { let o = options.now in let Bs = map (λ bytes. bytes.items) others.items
-        in IfErr result (λ u. IsLateStop first.items Bs o.hash o.bound o.duplicates o.percent u
+        in IfErr result (λ u. IsLateStop first.items Bs o.hash o.bound o.duplicates percent u
         (shape, forms)) }
 {
     let inputs = inputs_of(
@@ -204,7 +216,15 @@ fn merged_for<R: AllocGlobal + Clock, E: Write>(
         options.hash,
         options.bound,
     )?;
-    merged_inputs(rt, shape, forms, inputs.as_slice(), options, errors)
+    merged_inputs(
+        rt,
+        shape,
+        forms,
+        inputs.as_slice(),
+        percent,
+        options,
+        errors,
+    )
 }
 
 // The same of files that are all valid tables of the lengths of this shape, which is that of the
@@ -214,18 +234,19 @@ fn merged_inputs<R: AllocGlobal + Clock, E: Write>(
     shape: AnyShape,
     forms: GivenForms,
     inputs: &[Input],
+    percent: Percent,
     options: &MergeOptions,
     errors: &mut E,
 ) -> Result<Vec<u8>, MergeFailure>
     requires { All (IsInputOf (typed_len (any_key shape)) (typed_len (any_value shape))) inputs.now }
     ensures ok { let o = options.now in IfOk result (λ new. IsMerged (any_format shape)
-        o.duplicates o.percent (map input_pairs inputs.now) new.items) }
+        o.duplicates percent (map input_pairs inputs.now) new.items) }
     ensures err { let o = options.now in IfErr result (λ u. IsStoppedOf (shape, forms)
-        o.duplicates o.percent u (map input_pairs inputs.now)) }
+        o.duplicates percent u (map input_pairs inputs.now)) }
 {
     let texts = Texts::of(shape, forms);
     let progress = Progress::new(rt, Watch::of(options.has_progress));
-    let (duplicates, percent) = (options.duplicates, options.percent);
+    let duplicates = options.duplicates;
     match shape.hash() {
         Hash::Fx => merge_lengths::<FxHashFn, R, E>(
             rt, texts, inputs, duplicates, percent, progress, errors,

@@ -9,6 +9,7 @@ ghost use Rattle.odht.specs.Plain.{IsRunOf};
 ghost use Rattle.odht.specs.Tables.{OfTable};
 ghost use Rattle.odht_tool_core.specs.AnyShapes.{HasLongKeys, any_format};
 ghost use Rattle.odht_tool_core.specs.InfoNumbers.{least_key_len};
+ghost use Rattle.odht_tool_core.specs.Percents.{new_percent};
 ghost use Rattle.odht_tool_core.specs.ReadyShapes.{hash_of};
 ghost use Rattle.odht_tool_core.specs.declared.failure.Failure.TheVariants.{Memory};
 ghost use Rattle.odht_tool_writes.specs.Rebuilds.{IsRebuilt, IsRebuiltOf, IsNewFailure};
@@ -27,6 +28,7 @@ use odht_tool_core::failure::Failure;
 use odht_tool_core::files::read_file;
 use odht_tool_core::found::found_any;
 use odht_tool_core::new_file::{NewFile, ended, make_new, replace_file};
+use odht_tool_core::percents::new_percent;
 use odht_tool_core::progress::{Progress, Watch};
 use odht_tool_core::shapes::Hash;
 use odht_tool_core::status::Status;
@@ -80,18 +82,19 @@ fn rebuilt<R: AllocGlobal + Clock, E: Write>(
     options: RebuildOptions,
     errors: &mut E,
 ) -> Result<Vec<u8>, Failure>
-    ensures ok { IfOk result (λ new. let p = options.percent
+    ensures ok { IfOk result (λ new. let p = new_percent bytes.items options.percent
         in IsRebuiltOf bytes.items options.hash options.bound p new.items) }
-    ensures err { IfErr result
-        (IsRebuildFailure bytes.items options.hash options.bound options.percent) }
+    ensures err { let p = new_percent bytes.items options.percent
+        in IfErr result (IsRebuildFailure bytes.items options.hash options.bound p) }
 {
     let bytes = bytes.as_slice();
     let shape = found_any(bytes, None)?;
     let hash = new_hash(bytes, shape, options.hash)?;
     match check_any(shape, bytes, options.bound) {
         Ok(()) => {
+            let percent = new_percent(bytes, options.percent);
             let progress = Progress::new(rt, Watch::of(options.has_progress));
-            rebuilt_for(rt, shape, hash, bytes, options.percent, progress, errors)
+            rebuilt_for(rt, shape, hash, bytes, percent, progress, errors)
         }
         Err(error) => Err(Failure::Refused(error)),
     }

@@ -11,18 +11,16 @@ ghost use Rattle.odht_tool_writes.specs.Inserted.{copy_failure};
 ghost use Rattle.odht_tool_writes.specs.Rebuilds.{IsNewFailure};
 ghost use Rattle.odht.specs.DynOwned.{IsDynWith};
 
-use crate::inserts::insert_into_file;
-use crate::inserts::lines::{Place, check_lines, insert_lines, makes_no_table};
+use crate::inserts::lines::{Place, check_lines, insert_into_file, insert_lines, makes_no_table};
 use odht::dynamic::{DynError, DynTableOwned, Layout, ShortBytes};
 use odht::hash::HashFn;
 use odht::load::Percent;
 use odht::{FxHashFn, UnHashFn, Xxh64HashFn};
 use odht_tool_core::any::OtherShape;
-use odht_tool_core::arguments::BuildOptions;
+use odht_tool_core::arguments::{BuildOptions, PutOptions};
 use odht_tool_core::failure::Failure;
 use odht_tool_core::forms::{GivenForms, LineForms};
 use odht_tool_core::new_file::NewFile;
-use odht_tool_core::progress::Watch;
 use odht_tool_core::shapes::Hash;
 use odht_tool_core::status::Status;
 use odht_tool_tables::dynamic::{check_lengths, lengths_of};
@@ -124,8 +122,7 @@ pub fn put_dynamic<R: Files + AllocGlobal + Clock, I: BufRead, E: Write>(
     shape: OtherShape,
     forms: GivenForms,
     bytes: Vec<u8>,
-    bound: Option<usize>,
-    watch: Watch,
+    options: PutOptions,
     input: &mut I,
     errors: &mut E,
 ) -> Result<Status, Failure>
@@ -133,16 +130,17 @@ where
     R::File: AsFd,
     requires { least_key_len shape.hash ≤ typed_len shape.key }
 {
-    let (layout, forms) = (lengths_of(shape.key, shape.value), forms.of(shape));
+    let layout = lengths_of(shape.key, shape.value);
+    let forms = line_forms(shape, forms, options.delimiter);
     match shape.hash {
         Hash::Fx => put_lengths::<FxHashFn, R, I, E>(
-            rt, new, layout, forms, bytes, bound, watch, input, errors,
+            rt, new, layout, forms, bytes, options, input, errors,
         ),
         Hash::Unhash => put_lengths::<UnHashFn, R, I, E>(
-            rt, new, layout, forms, bytes, bound, watch, input, errors,
+            rt, new, layout, forms, bytes, options, input, errors,
         ),
         Hash::Xxh64 => put_lengths::<Xxh64HashFn, R, I, E>(
-            rt, new, layout, forms, bytes, bound, watch, input, errors,
+            rt, new, layout, forms, bytes, options, input, errors,
         ),
     }
 }
@@ -152,10 +150,9 @@ fn put_lengths<H: HashFn, R: Files + AllocGlobal + Clock, I: BufRead, E: Write>(
     rt: &R,
     new: &mut NewFile<R::File>,
     layout: Layout,
-    forms: GivenForms,
+    forms: LineForms,
     bytes: Vec<u8>,
-    bound: Option<usize>,
-    watch: Watch,
+    options: PutOptions,
     input: &mut I,
     errors: &mut E,
 ) -> Result<Status, Failure>
@@ -163,8 +160,8 @@ where
     R::File: AsFd,
     requires { H.MIN_LEN ≤ layout.key_len }
 {
-    let table = copy_lengths::<H>(rt.alloc(), layout, bytes, bound)?;
-    insert_into_file(rt, new, table, forms, watch, input, errors)
+    let table = copy_lengths::<H>(rt.alloc(), layout, bytes, options.bound)?;
+    insert_into_file(rt, new, table, forms, options, input, errors)
 }
 
 fn copy_lengths<H: HashFn>(

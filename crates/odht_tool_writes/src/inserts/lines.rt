@@ -8,7 +8,7 @@ ghost use Rattle.odht_tool_writes.specs.Inserted.{IsLineRefused, IsLineTaken};
 
 use crate::inserts::{BATCH, Inserts, fill, report, report_all, told, with_line};
 use crate::warnings::warn_of_long;
-use odht_tool_core::arguments::{BuildOptions, Duplicates, is_stream};
+use odht_tool_core::arguments::{BuildOptions, Duplicates, PutOptions, is_stream};
 use odht_tool_core::failure::Failure;
 use odht_tool_core::forms::Forms;
 use odht_tool_core::line_messages::repeated_message;
@@ -94,11 +94,15 @@ where
     R::File: AsFd,
 {
     let progress = Progress::new(rt, options.watch);
-    match options.duplicates {
-        Duplicates::Last => fill(rt, &mut table, progress, forms, input, errors)?,
-        Duplicates::First => fill_new(rt, &mut table, progress, forms, false, input, errors)?,
-        Duplicates::Error => fill_new(rt, &mut table, progress, forms, true, input, errors)?,
-    }
+    fill_by(
+        rt,
+        &mut table,
+        options.duplicates,
+        progress,
+        forms,
+        input,
+        errors,
+    )?;
     match place {
         Place::Nowhere => Ok(Status::Done),
         Place::Output => {
@@ -111,6 +115,52 @@ where
             warn_of_long(rt.alloc(), new.path(), table.all_bytes(), errors);
             Ok(Status::Done)
         }
+    }
+}
+
+/// Adds the lines to the table as the options say, and stores it by the new file.
+pub fn insert_into_file<T: Inserts, F: Forms, R: Files + AllocGlobal + Clock, I: BufRead, E: Write>(
+    rt: &R,
+    new: &mut NewFile<R::File>,
+    mut table: T,
+    forms: F,
+    options: PutOptions,
+    input: &mut I,
+    errors: &mut E,
+) -> Result<Status, Failure>
+where
+    R::File: AsFd,
+{
+    let progress = Progress::new(rt, options.watch);
+    fill_by(
+        rt,
+        &mut table,
+        options.duplicates,
+        progress,
+        forms,
+        input,
+        errors,
+    )?;
+    replace_file(rt, new, table.all_bytes())?;
+    warn_of_long(rt.alloc(), new.path(), table.all_bytes(), errors);
+    Ok(Status::Done)
+}
+
+// Inserts the pairs of the lines. Which pair of a key counts is said.
+#[inline(always)]
+fn fill_by<T: Inserts, F: Forms, R: AllocGlobal + Clock, I: BufRead, E: Write>(
+    rt: &R,
+    table: &mut T,
+    duplicates: Duplicates,
+    progress: Progress,
+    forms: F,
+    input: &mut I,
+    errors: &mut E,
+) -> Result<(), Failure> {
+    match duplicates {
+        Duplicates::Last => fill(rt, table, progress, forms, input, errors),
+        Duplicates::First => fill_new(rt, table, progress, forms, false, input, errors),
+        Duplicates::Error => fill_new(rt, table, progress, forms, true, input, errors),
     }
 }
 

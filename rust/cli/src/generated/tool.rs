@@ -24,9 +24,10 @@ pub fn main(rt: HostRuntime) -> ExitCode {
             let _ = writeln!(rt.stderr(), "odht: a word is no UTF-8 text");
             ExitCode::from(Status::Misused.code())
         }
+        // No word was read, so the status is none that a command has as its answer.
         Err(error) => {
             let _ = writeln!(rt.stderr(), "odht: {error}");
-            ExitCode::from(Status::NotDone.code())
+            ExitCode::from(Status::Trouble.code())
         }
     }
 }

@@ -1,8 +1,8 @@
-use Rattle.std.proofs.Common.{rules, ◌≡◌, ◌∙◌, ℕ, Bool, true, false, not, List, Some, None, length, sym, ap, subst}
+use Rattle.std.proofs.Common.{rules, ◌≡◌, ◌∙◌, true, false, not, Some, length, sym, ap, subst}
 use Rattle.odht_base.specs.Decoded.{decoded_pairs}
 use Rattle.odht_base.specs.Format.{Format, format_of}
 use Rattle.odht_base.specs.Hashes.{fx}
-use Rattle.odht_base.specs.Table.{Pair, Table, fresh}
+use Rattle.odht_base.specs.Table.{fresh}
 use Rattle.odht_base.specs.Valid.{IsImage}
 use Rattle.odht_raw.specs.Frame.{IsAccepted}
 use Rattle.odht.specs.Dynamic.{DynStore, dyn_format}

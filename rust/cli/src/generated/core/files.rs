@@ -1,15 +1,53 @@
 // Generated from crates/odht_tool_core/src/files.rt by make generate.
 //! Whole files, read at once.
 use crate::generated::core::failure::Failure;
+use crate::generated::core::front::begins_table;
+use crate::generated::header::header::HEADER_SIZE;
 use crate::host::fs::{self, OpenFile};
 use crate::host::prelude::*;
 use crate::host::rt::Files;
 use crate::shim::Global;
 use std::io::{self, BufRead, Read};
 
+/// In how many bytes after the header of no table another table is looked for.
+const MOST_LOOKED: u64 = 1 << 24;
+
 /// All bytes of a file. The memory is allocated once, for the length that the file has at first.
 pub fn read_file<R: Files + AllocGlobal>(rt: &R, path: &str) -> Result<Vec<u8>, Failure> {
     read_bytes(rt, path).map_err(of_reading)
+}
+
+/// All bytes of a file that is to have a table at this offset. If none begins there by its header,
+/// they are those up to [`MOST_LOOKED`] bytes after the header: what is wrong with the header does
+/// not depend on later bytes.
+pub fn read_table_file<R: Files + AllocGlobal>(
+    rt: &R,
+    path: &str,
+    offset: usize,
+) -> Result<Vec<u8>, Failure> {
+    read_from(rt, path, offset).map_err(of_reading)
+}
+
+fn read_from<R: Files + AllocGlobal>(rt: &R, path: &str, offset: usize) -> io::Result<Vec<u8>> {
+    let alloc: Global = rt.alloc();
+    let file = fs::open(rt, path)?;
+    let len = usize::try_from(file.metadata()?.len()).unwrap_or(0);
+    let mut front = crate::shim::with_capacity(alloc, HEADER_SIZE)?;
+    let mut first = file.take(offset.saturating_add(HEADER_SIZE) as u64);
+    first.read_to_end(&mut front)?;
+    let mut file = first.into_inner();
+    if !begins_table_at(front.as_slice(), offset) {
+        file.take(MOST_LOOKED).read_to_end(&mut front)?;
+        return Ok(front);
+    }
+    let mut bytes = crate::shim::with_capacity(alloc, len.max(front.len()))?;
+    bytes.try_extend_from_slice(front.as_slice())?;
+    file.read_to_end(&mut bytes)?;
+    Ok(bytes)
+}
+
+fn begins_table_at(bytes: &[u8], offset: usize) -> bool {
+    offset <= bytes.len() && begins_table(&bytes[offset..])
 }
 
 fn of_reading(error: io::Error) -> Failure {

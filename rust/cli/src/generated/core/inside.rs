@@ -3,6 +3,7 @@
 
 use crate::generated::core::failure::Failure;
 use crate::generated::core::find::find_tables;
+use crate::generated::core::front::front_of;
 use crate::generated::header::header::{Header, HEADER_SIZE};
 use crate::host::prelude::*;
 use crate::shim::Global;
@@ -21,6 +22,14 @@ pub fn first_inside(alloc: Global, bytes: &[u8]) -> Result<Option<usize>, Failur
 // Whether there are as many bytes as a header has, and the first of them are not the tag.
 fn is_foreign(bytes: &[u8]) -> bool {
     bytes.len() >= HEADER_SIZE && Header::of(bytes).check_tag().is_err()
+}
+
+/// Whether more bytes come after a table that all bytes begin with.
+pub fn is_followed(bytes: &[u8]) -> bool {
+    match front_of(bytes) {
+        Ok(table) => table.len() < bytes.len(),
+        Err(_) => false,
+    }
 }
 
 /// Writes a line that tells of the table at this offset.

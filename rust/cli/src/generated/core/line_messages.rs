@@ -66,6 +66,6 @@ impl<'a> fmt::Display for Repeated<'a> {
     fn fmt(&self, f: &mut fmt::Formatter<'_>) -> fmt::Result {
         write_place(Some(self.number), f)?;
         let key = Shown(self.key);
-        write!(f, "the key {key} was on an earlier line")
+        write!(f, "the key {key} is in the table already")
     }
 }

@@ -97,9 +97,9 @@ fn percent_of(item_count: usize, slot_count: usize) -> u128 {
     item_count as u128 * 100 / slot_count as u128
 }
 
-// The percentage that a load factor is nearest to: that which it was made from, if it was made
-// from one.
-fn nearest_percent(factor: Factor) -> u32 {
+/// The percentage that a load factor is nearest to: that which it was made from, if it was made
+/// from one.
+pub(crate) fn nearest_percent(factor: Factor) -> u32 {
     let Factor(factor) = factor;
     (factor as u32 * 100 + 32767) / 65535
 }

@@ -30,7 +30,8 @@ pub(crate) fn are_plain(word: &[u8]) -> bool {
     word.iter().all(|byte| is_plain(*byte))
 }
 
-fn is_plain(byte: u8) -> bool {
+/// Whether a byte may be in a plain text.
+pub(crate) fn is_plain(byte: u8) -> bool {
     byte != 0 && byte != b'\t' && byte != b'\n' && byte != b'\r'
 }
 

@@ -1,6 +1,7 @@
 // Generated from crates/odht_tool_core/src/status.rt by make generate.
 //! How a run of the program ended.
 
+use crate::generated::core::arguments::Topic;
 use crate::generated::core::failure::Failure;
 use crate::host::prelude::*;
 use std::io;
@@ -10,11 +11,12 @@ use std::io;
 pub enum Status {
     /// All was done.
     Done,
-    /// A table was rejected, a key is absent, or the command failed.
+    /// A table was rejected, a key is absent, tables differ, or a command failed that has no such
+    /// answer.
     NotDone,
     /// The words cannot be parsed.
     Misused,
-    /// Two tables could not be compared.
+    /// `get`, `delete` or `diff` failed.
     Trouble,
 }
 
@@ -42,6 +44,15 @@ impl Status {
             Status::Done
         } else {
             Status::NotDone
+        }
+    }
+
+    /// How a command ends if it fails: `Trouble` if `NotDone` is one of its answers, that a key is
+    /// absent or that tables differ.
+    pub fn of_failure(topic: Topic) -> Status {
+        match topic {
+            Topic::Get | Topic::Delete | Topic::Diff => Status::Trouble,
+            _ => Status::NotDone,
         }
     }
 }

@@ -1,12 +1,12 @@
 // Generated from crates/odht_tool_reads/src/lookups.rt by make generate.
-//! Keys that are looked up in a table, and what is written of them: the words of a command line,
-//! or lines, a batch at a time.
+//! Keys that are looked up in a table, and what is written of them: those of lines, a batch at a
+//! time, and of the words of a command line.
 
 use crate::generated::core::answers::are_found;
 use crate::generated::core::failure::{Failure, LineFault};
 use crate::generated::core::forms::Forms;
 use crate::generated::core::json::answers::{write_answers_in, AnswerStyle};
-use crate::generated::core::keys::{next_key_as, parse_keys, push_key, NextKey};
+use crate::generated::core::keys::{next_key_as, push_key, NextKey};
 use crate::generated::core::misread::Misread;
 use crate::generated::core::status::Status;
 use crate::generated::core::text::Text;
@@ -15,6 +15,7 @@ use crate::shim::{AllocError, Global};
 use std::io::{self, BufRead, Write};
 
 mod tables;
+pub mod words;
 
 /// How many keys are looked up at once.
 const BATCH: usize = 1024;
@@ -33,28 +34,6 @@ pub trait Lookups {
         alloc: Global,
         keys: &[Self::Key],
     ) -> Result<Vec<Option<Self::Value>>, AllocError>;
-}
-
-/// Looks up the keys of the words, and writes a line for each. The table was opened.
-pub fn answer_words<T: Lookups, F: Forms, O: Write>(
-    alloc: Global,
-    table: &T,
-    style: AnswerStyle<F>,
-    words: &[String],
-    output: &mut O,
-) -> Result<Status, Failure> {
-    let keys = keys_of_words::<T::Key, F>(alloc, words, style.forms)?;
-    let is_all_found = answer_keys(alloc, table, keys.as_slice(), style, output)?;
-    Ok(Status::of(is_all_found))
-}
-
-/// The keys of the words in the form of keys.
-pub fn keys_of_words<K: Text, F: Forms>(
-    alloc: Global,
-    words: &[String],
-    forms: F,
-) -> Result<Vec<K>, Failure> {
-    parse_keys(alloc, words, forms.key())
 }
 
 /// Looks up the keys of the lines, a batch at a time, and writes a line for each.

@@ -4,6 +4,7 @@
 use crate::generated::core::advice::Advice;
 use crate::generated::core::failure::Failure;
 use crate::generated::core::found::found_any;
+use crate::generated::core::percents::kept_percent;
 use crate::generated::core::shapes::Hash;
 use crate::generated::core::stored::StoredTable;
 use crate::generated::tables::bytes::Borrowed;
@@ -21,9 +22,6 @@ use crate::shim::Global;
 
 /// The percentage of `Advice::LowerLoad`.
 const LOWER: u8 = 50;
-
-/// The percentage of tables that are made where none is named.
-const USUAL: u8 = 87;
 
 /// What makes the searches of the table of these bytes short: the first rebuild that has no long
 /// search, of one at a lower load, where the load is high, and of one by `xxh64`, where the table
@@ -90,12 +88,13 @@ fn lower_load_helps(alloc: Global, bytes: &[u8], hash: Hash) -> Result<bool, Fai
     }
 }
 
-// Whether the hash function is another than `xxh64`, and a rebuild by that one helps.
+// Whether the hash function is another than `xxh64`, and a rebuild by that one helps, at the load
+// factor of the table.
 fn mixing_helps(alloc: Global, bytes: &[u8], hash: Hash) -> Result<bool, Failure> {
     if hash.is(Hash::Xxh64) {
         Ok(false)
     } else {
-        helps(alloc, bytes, Hash::Xxh64, Percent::new(USUAL).unwrap())
+        helps(alloc, bytes, Hash::Xxh64, kept_percent(bytes))
     }
 }
 

@@ -5,16 +5,12 @@ use crate::generated::core::failure::Failure;
 use crate::generated::core::forms::Forms;
 use crate::generated::core::line_messages::line_message;
 use crate::generated::core::lines::read_pair_as;
-use crate::generated::core::new_file::{replace_file, NewFile};
-use crate::generated::core::progress::{Progress, Taken, Watch};
-use crate::generated::core::status::Status;
+use crate::generated::core::progress::{Progress, Taken};
 use crate::generated::core::text::Text;
-use crate::generated::writes::warnings::warn_of_long;
 use crate::host::prelude::*;
-use crate::host::rt::{Clock, Files};
+use crate::host::rt::Clock;
 use crate::shim::Global;
 use std::io::{BufRead, Write};
-use std::os::fd::AsFd;
 
 pub mod lines;
 mod tables;
@@ -42,32 +38,6 @@ pub trait Inserts {
 
     /// All bytes.
     fn all_bytes(&self) -> &[u8];
-}
-
-/// Adds the lines to the table, and stores it by the new file.
-pub fn insert_into_file<
-    T: Inserts,
-    F: Forms,
-    R: Files + AllocGlobal + Clock,
-    I: BufRead,
-    E: Write,
->(
-    rt: &R,
-    new: &mut NewFile<R::File>,
-    mut table: T,
-    forms: F,
-    watch: Watch,
-    input: &mut I,
-    errors: &mut E,
-) -> Result<Status, Failure>
-where
-    R::File: AsFd,
-{
-    let progress = Progress::new(rt, watch);
-    fill(rt, &mut table, progress, forms, input, errors)?;
-    replace_file(rt, new, table.all_bytes())?;
-    warn_of_long(rt.alloc(), new.path(), table.all_bytes(), errors);
-    Ok(Status::Done)
 }
 
 // Inserts the pairs of the lines, a batch at a time.

@@ -1,26 +1,28 @@
-use Rattle.std.proofs.Common.{◌∙◌, ap, subst₂}
-use Rattle.std.specs.Prelude.{IfSome}
+use Rattle.std.proofs.Common.{◌∙◌, map, ap, subst}
 use Rattle.std.specs.Io.KnownBytes.{Appends}
+use Rattle.std.specs.List.{AllZip}
+use Rattle.std.specs.Prelude.{IfSome, string_bytes}
 use Rattle.odht.specs.Files.{file_coding}
-use Rattle.odht_tool_core.specs.JsonAnswers.{answer_in}
-use Rattle.odht_tool_core.specs.DynTexts.{dynamic_text}
-use Rattle.odht_tool_core.specs.Texts.{answers_by}
-use Rattle.odht_tool_reads.specs.Gets.{AreAnswers, answered_status}
+use Rattle.odht_tool_core.specs.JsonAnswers.{answer_in, no_key_line}
+use Rattle.odht_tool_core.specs.DynTexts.{IsDynamicOf, dynamic_text}
+use Rattle.odht_tool_reads.specs.Gets.{IsWordAnswer, word_lines, words_status}
 use Rattle.odht_tool_reads.proofs.positions.lookups.answer_words_at.Goals as goal
 
-pub returns-in-Some : goal.returns-in-Some
-returns-in-Some g c B over opens = (
-  opens,
-  record {
-    keys = c.in_ok-keys.keys.items;
-    texts = c.in_ok-keys.ensures.keys;
-    values = c.in-Some.values.items;
-    answers =
-        subst₂ (λ ks o. IfSome o (λ v. AreAnswers (file_coding c.args.table.now g.H.HashFn.hash) B ks v.items)) c.as_slice.ensures.value c.in-Some.is (c.in_ok-values.ensures.given B over);
-    written =
-        subst₂ (λ ks vs. Appends (g.O.Write.contents c.args.output.now) (g.O.Write.contents c.write_values.new.output)
-        (answers_by (answer_in c.args.style.is_json (dynamic_text c.args.style.forms.key) (dynamic_text c.args.style.forms.value)) ks vs))
-        c.as_slice-in-Some.ensures.value c.as_slice-in-Some-2.ensures.value c.in_ok-status-in-Some.ensures.written;
-    status = c.in_ok-status-in-Some.ensures.status ∙ ap answered_status c.as_slice-in-Some-2.ensures.value;
-  },
-)
+pub returns-in_ok-status-in-Some : goal.returns-in_ok-status-in-Some
+returns-in_ok-status-in-Some g c B over opens =
+    let coding = file_coding c.args.table.now g.H.HashFn.hash in
+    let o = g.O.Write.contents in
+    let style = c.args.style in
+    let ws = map string_bytes c.args.words.now in (
+      opens,
+      record {
+        answers = c.in-Some.answers.items;
+        each =
+            subst (λ found. IfSome found (λ v. AllZip (IsWordAnswer coding (IsDynamicOf style.forms.key) B) ws v.items)) c.in-Some.is (c.in_ok-answers.ensures.given B over);
+        written =
+            subst (λ answers. Appends (o c.args.output.now) (o c.write_words.new.output)
+            (word_lines (answer_in style.is_json (dynamic_text style.forms.key) (dynamic_text style.forms.value)) (no_key_line style.is_json) ws answers))
+            c.as_slice.ensures.value c.in_ok-status-in-Some.ensures.written;
+        status = c.in_ok-status-in-Some.ensures.status ∙ ap words_status c.as_slice.ensures.value;
+      },
+    )

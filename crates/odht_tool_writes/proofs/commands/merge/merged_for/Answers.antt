@@ -13,8 +13,8 @@ returns-clause-ok g c =
     let s = c.args.shape in
     let r = c.merged_inputs.result in
     let pairs = ap (map input_pairs) c.as_slice.ensures.value in
-    let made = subst (λ xss. IfOk r (λ new. IsMerged (any_format s) o.duplicates o.percent xss new.items)) pairs c.merged_inputs.ensures.ok in
-    subst (λ q. IfOk r (λ new. MatchResult q (λ xss. IsMerged (any_format s) o.duplicates o.percent xss new.items) (λ u. ⊥))) (sym c.in_ok-inputs.ensures.ok) made
+    let made = subst (λ xss. IfOk r (λ new. IsMerged (any_format s) o.duplicates c.args.percent xss new.items)) pairs c.merged_inputs.ensures.ok in
+    subst (λ q. IfOk r (λ new. MatchResult q (λ xss. IsMerged (any_format s) o.duplicates c.args.percent xss new.items) (λ u. ⊥))) (sym c.in_ok-inputs.ensures.ok) made
 
 pub returns-clause-err : goal.returns-clause-err
 returns-clause-err g c =
@@ -23,6 +23,6 @@ returns-clause-err g c =
     let r = c.merged_inputs.result in
     let pairs = ap (map input_pairs) c.as_slice.ensures.value in
     let xss = map input_pairs c.in_ok-inputs.inputs.items in
-    let failed = subst (λ yss. IfErr r (λ u. IsStoppedOf x o.duplicates o.percent u yss)) pairs c.merged_inputs.ensures.err in
-    subst (λ q. IfErr r (λ u. or_memory u (MatchResult q (IsStoppedOf x o.duplicates o.percent u) (λ v. u ≡ v)))) (sym c.in_ok-inputs.ensures.ok)
-    (on_unmerged r (λ u. IsStoppedOf x o.duplicates o.percent u xss) (λ u. or_memory u (IsStoppedOf x o.duplicates o.percent u xss)) (λ u h. said u (IsStoppedOf x o.duplicates o.percent u xss) h) failed)
+    let failed = subst (λ yss. IfErr r (λ u. IsStoppedOf x o.duplicates c.args.percent u yss)) pairs c.merged_inputs.ensures.err in
+    subst (λ q. IfErr r (λ u. or_memory u (MatchResult q (IsStoppedOf x o.duplicates c.args.percent u) (λ v. u ≡ v)))) (sym c.in_ok-inputs.ensures.ok)
+    (on_unmerged r (λ u. IsStoppedOf x o.duplicates c.args.percent u xss) (λ u. or_memory u (IsStoppedOf x o.duplicates c.args.percent u xss)) (λ u h. said u (IsStoppedOf x o.duplicates c.args.percent u xss) h) failed)

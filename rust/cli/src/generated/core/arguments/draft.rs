@@ -2,20 +2,17 @@
 //! A command of which some words are parsed.
 use super::delimiters::delimiter_named;
 use super::topics::{Setting, Topic};
-use super::{
-    is_stream, BuildOptions, Command, CommandMisuse, DeleteOptions, DiffOptions, Duplicates, Keys,
-    MergeOptions, Misuse, Reading, RebuildOptions, Request,
-};
+use super::{is_stream, Command, CommandMisuse, Duplicates, Misuse, Reading, Request};
 use crate::generated::base::load::Percent;
-use crate::generated::core::any::AnyShape;
 use crate::generated::core::digits::parse_number;
-use crate::generated::core::forms::{GivenForms, Kind, Kinds};
-use crate::generated::core::progress::Watch;
+use crate::generated::core::forms::{Kind, Kinds};
 use crate::generated::core::shapes::Hash;
 use crate::generated::core::targets::Allowed;
 use crate::generated::raw::memory_layout::DEFAULT_GROUPS;
 use crate::host::prelude::*;
 use crate::shim::Global;
+
+mod commands;
 
 /// A command of which some words are parsed.
 pub(super) struct Draft {
@@ -32,8 +29,9 @@ pub(super) struct Draft {
     kinds: Kinds,
     duplicates: Duplicates,
     delimiter: u8,
-    percent: Percent,
+    percent: Option<Percent>,
     capacity: usize,
+    is_checked: bool,
     is_help: bool,
     is_slots: bool,
     is_json: bool,
@@ -56,8 +54,9 @@ impl Draft {
             kinds: Kinds { key: None, value: None, hash: None },
             duplicates: Duplicates::Last,
             delimiter: b'\t',
-            percent: Percent::new(87).unwrap(),
+            percent: None,
             capacity: 12,
+            is_checked: false,
             is_help: false,
             is_slots: false,
             is_json: false,
@@ -112,6 +111,7 @@ impl Draft {
             Setting::Slots => self.is_slots = true,
             Setting::Json => self.is_json = true,
             Setting::Whole => self.is_whole = true,
+            Setting::Check => self.is_checked = true,
             Setting::CheckOnly => self.is_check = true,
             Setting::Progress => self.has_progress = true,
             Setting::BreakLinks => self.allowed.breaks_links = true,
@@ -140,7 +140,7 @@ impl Draft {
             Setting::Value => self.kinds.value = Some(Kind::named(value)?),
             Setting::Duplicates => self.duplicates = Duplicates::named(value)?,
             Setting::Delimiter => self.delimiter = delimiter_named(value)?,
-            Setting::Percent => self.percent = parse_percent(value)?,
+            Setting::Percent => self.percent = Some(parse_percent(value)?),
             Setting::Capacity => self.capacity = parse_number(value.as_bytes())? as usize,
             _ => return None,
         }
@@ -191,13 +191,7 @@ impl Draft {
             }
             Topic::Delete => self.delete(),
             Topic::Rebuild => Ok(Command::Rebuild(self.rebuilding())),
-            Topic::Put => Ok(Command::Put {
-                hash: self.hash,
-                kinds: self.kinds,
-                bound: bound_of(self.is_whole),
-                breaks_links: self.allowed.breaks_links,
-                watch: Watch::of(self.has_progress),
-            }),
+            Topic::Put => Ok(Command::Put(self.putting())),
             Topic::Get => self.get(is_stream),
             Topic::Diff => self.diff(is_stream),
             Topic::Merge => self.merge(),
@@ -206,32 +200,6 @@ impl Draft {
                 let reading = self.reading();
                 Ok(Command::Read { others: self.words, at: self.at, reading })
             }
-        }
-    }
-
-    // `delete`, of which the words are keys.
-    fn delete(self) -> Result<Command, CommandMisuse> {
-        if self.words.is_empty() {
-            return Err(CommandMisuse::Missing("KEY"));
-        }
-        Ok(Command::Delete(DeleteOptions {
-            keys: Keys::of_words(self.words),
-            hash: self.hash,
-            kinds: self.kinds,
-            bound: bound_of(self.is_whole),
-            breaks_links: self.allowed.breaks_links,
-            has_progress: self.has_progress,
-        }))
-    }
-
-    // What is said to `rebuild`.
-    fn rebuilding(&self) -> RebuildOptions {
-        RebuildOptions {
-            percent: self.percent,
-            hash: self.hash,
-            bound: bound_of(self.is_whole),
-            breaks_links: self.allowed.breaks_links,
-            has_progress: self.has_progress,
         }
     }
 
@@ -249,6 +217,11 @@ impl Draft {
         false
     }
 
+    // Whether `count` checks the files: so it does with each option that says how.
+    fn is_checking(&self) -> bool {
+        self.is_checked || self.is_whole || self.hash.is_some()
+    }
+
     // What is read of each file, where all words name files.
     fn reading(&self) -> Reading {
         let (hash, kinds, bound) = (self.hash, self.kinds, bound_of(self.is_whole));
@@ -256,7 +229,7 @@ impl Draft {
             // begin readings: generated from lists/commands.txt by make generate
             Topic::Info => Reading::Info { bound, is_json: self.is_json },
             Topic::Check => Reading::Check { hash, bound, is_json: self.is_json },
-            Topic::Count => Reading::Count { hash, bound },
+            Topic::Count => Reading::Count { hash, bound, is_checked: self.is_checking() },
             Topic::Dump => {
                 Reading::Dump { hash, kinds, is_slots: self.is_slots, is_json: self.is_json }
             }
@@ -265,93 +238,6 @@ impl Draft {
             _ => Reading::Order { hash, kinds, bound },
             // end readings
         }
-    }
-
-    // `get`, of which the words are keys.
-    fn get(self, is_stream: bool) -> Result<Command, CommandMisuse> {
-        if self.words.is_empty() {
-            return Err(CommandMisuse::Missing("KEY"));
-        }
-        let keys = Keys::of_words(self.words);
-        if is_stream && keys.are_lines() {
-            return Err(CommandMisuse::BothInput);
-        }
-        Ok(Command::Read {
-            others: crate::host::lists::empty(self.alloc),
-            at: self.at,
-            reading: Reading::Get {
-                hash: self.hash,
-                kinds: self.kinds,
-                keys,
-                is_json: self.is_json,
-            },
-        })
-    }
-
-    // `diff`, of which the one word is the other file.
-    fn diff(mut self, is_stream_first: bool) -> Result<Command, CommandMisuse> {
-        if self.words.is_empty() {
-            return Err(CommandMisuse::Missing("OTHER"));
-        }
-        let other = self.words.remove(0);
-        if !self.words.is_empty() {
-            return Err(CommandMisuse::ExtraWord(self.words.remove(0)));
-        }
-        if is_stream_first && is_stream(other.as_str()) {
-            return Err(CommandMisuse::TwiceInput);
-        }
-        Ok(Command::Diff(DiffOptions {
-            other,
-            hash: self.hash,
-            kinds: self.kinds,
-            bound: bound_of(self.is_whole),
-        }))
-    }
-
-    // `merge`, of which the words are the files whose pairs it takes. One of them may be standard
-    // input.
-    fn merge(mut self) -> Result<Command, CommandMisuse> {
-        if self.words.is_empty() {
-            return Err(CommandMisuse::Missing("INPUT"));
-        }
-        if self.has_second_stream(false) {
-            return Err(CommandMisuse::TwiceInput);
-        }
-        Ok(Command::Merge(MergeOptions {
-            first: self.words.remove(0),
-            others: self.words,
-            duplicates: self.duplicates,
-            hash: self.hash,
-            kinds: self.kinds,
-            percent: self.percent,
-            bound: bound_of(self.is_whole),
-            allowed: self.allowed,
-            has_progress: self.has_progress,
-        }))
-    }
-
-    fn build(self) -> Result<Command, CommandMisuse> {
-        let Some(key) = self.kinds.key else {
-            return Err(CommandMisuse::Missing("--key"));
-        };
-        let Some(value) = self.kinds.value else {
-            return Err(CommandMisuse::Missing("--value"));
-        };
-        let hash = self.hash.or(self.kinds.hash);
-        let Some(shape) = AnyShape::of_kinds(key, value, hash) else {
-            return Err(CommandMisuse::NoShape);
-        };
-        Ok(Command::Build(BuildOptions {
-            shape,
-            forms: GivenForms { key: key.form, value: value.form },
-            duplicates: self.duplicates,
-            delimiter: self.delimiter,
-            is_check: self.is_check,
-            capacity: self.capacity,
-            percent: self.percent,
-            allowed: self.allowed,
-            watch: Watch::of(self.has_progress),
-        }))
     }
 }
 

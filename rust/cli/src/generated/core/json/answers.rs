@@ -1,9 +1,11 @@
 // Generated from crates/odht_tool_core/src/json/answers.rt by make generate.
 //! Keys that were looked up, and their values, as lines of text or as objects of JSON.
 
-use crate::generated::core::answers::write_answers_as;
+use crate::generated::core::answers::{write_answer, write_answers_as};
 use crate::generated::core::forms::{Form, Forms};
 use crate::generated::core::json::pairs::write_any_field;
+use crate::generated::core::plain::is_plain;
+use crate::generated::core::shown::Shown;
 use crate::generated::core::text::Text;
 use crate::host::prelude::*;
 use std::io::{self, Write};
@@ -30,6 +32,46 @@ pub fn write_answers_in<K: Text, V: Text, F: Forms, O: Write>(
     } else {
         write_answers_as(keys, values, style.forms, output)
     }
+}
+
+/// Writes the line of one key, as [`write_answers_in`] does.
+pub fn write_answer_in<K: Text, V: Text, F: Forms, O: Write>(
+    key: &K,
+    value: &Option<V>,
+    style: AnswerStyle<F>,
+    output: &mut O,
+) -> io::Result<()> {
+    if style.is_json {
+        write_object(key, value, style.forms, output)
+    } else {
+        write_answer(key, value, style.forms, output)
+    }
+}
+
+/// Writes the line of a word that is the text of no key: the word, as it is or as messages show
+/// it, or an object of it, in which the value is null.
+pub fn write_no_key<O: Write>(word: &[u8], is_json: bool, output: &mut O) -> io::Result<()> {
+    if is_json {
+        write_no_key_object(word, output)
+    } else if is_in_line(word) {
+        output.write_all(word)?;
+        output.write_all(b"\n")
+    } else {
+        let word = Shown(word);
+        writeln!(output, "{word}")
+    }
+}
+
+// Writes the object of a word that is the text of no key.
+fn write_no_key_object<O: Write>(word: &[u8], output: &mut O) -> io::Result<()> {
+    output.write_all(b"{")?;
+    write_any_field("key", word, output)?;
+    output.write_all(b",\"value\":null}\n")
+}
+
+// Whether a word is one field of one line.
+fn is_in_line(word: &[u8]) -> bool {
+    word.iter().all(|byte| is_plain(*byte))
 }
 
 // Writes the object of each key and its value on a line.

@@ -55,8 +55,11 @@ fn values_of<H: HashFn>(
     Ok(values)
 }
 
-// The value of a key, if it has one.
-fn value_of<H: HashFn>(table: &DynTable<H, Borrowed<'_>>, key: &ShortBytes) -> Option<ShortBytes> {
+/// The value of a key, if it has one.
+pub(super) fn value_of<H: HashFn>(
+    table: &DynTable<H, Borrowed<'_>>,
+    key: &ShortBytes,
+) -> Option<ShortBytes> {
     // To look at the lengths is what tells that a value is short.
     let _ = table.layout();
     match table.get(key.as_slice()) {

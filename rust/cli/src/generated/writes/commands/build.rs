@@ -2,14 +2,13 @@
 //! `odht build` and `odht put`: tables from the lines of standard input.
 
 use crate::generated::core::any::{read_any, AnyShape};
-use crate::generated::core::arguments::BuildOptions;
+use crate::generated::core::arguments::{BuildOptions, PutOptions};
 use crate::generated::core::evidence::ask_kinds;
 use crate::generated::core::failure::Failure;
 use crate::generated::core::files::read_file;
-use crate::generated::core::forms::{Forms, GivenForms, Kinds, LineForms, OwnForms};
+use crate::generated::core::forms::{Forms, GivenForms, LineForms, OwnForms};
 use crate::generated::core::new_file::NewFile;
-use crate::generated::core::progress::Watch;
-use crate::generated::core::shapes::{Hash, Shape};
+use crate::generated::core::shapes::Shape;
 use crate::generated::core::status::Status;
 use crate::generated::core::text::Text;
 use crate::generated::tables::config::Config;
@@ -18,9 +17,8 @@ use crate::generated::tables::load::Percent;
 use crate::generated::tables::HashTableOwned;
 use crate::generated::tool_tables::dynamic::check_lengths;
 use crate::generated::writes::dynamic::builds::{build_dynamic, put_dynamic};
-use crate::generated::writes::inserts::insert_into_file;
 use crate::generated::writes::inserts::lines::{
-    check_lines, insert_lines, left, makes_no_table, place_of, Place,
+    check_lines, insert_into_file, insert_lines, left, makes_no_table, place_of, Place,
 };
 use crate::generated::writes::shapes::for_shape;
 use crate::host::prelude::*;
@@ -135,10 +133,7 @@ fn make_table<C: Config>(
 pub fn put<R: Files + AllocGlobal + Clock, I: BufRead, E: Write>(
     rt: &R,
     new: &mut NewFile<R::File>,
-    hash: Option<Hash>,
-    kinds: Kinds,
-    bound: Option<usize>,
-    watch: Watch,
+    options: PutOptions,
     input: &mut I,
     errors: &mut E,
 ) -> Result<Status, Failure>
@@ -146,15 +141,11 @@ where
     R::File: AsFd,
 {
     let bytes = read_file(rt, new.path())?;
-    let (shape, forms) = read_any(bytes.as_slice(), hash, kinds)?;
-    ask_kinds(bytes.as_slice(), shape, kinds)?;
+    let (shape, forms) = read_any(bytes.as_slice(), options.hash, options.kinds)?;
+    ask_kinds(bytes.as_slice(), shape, options.kinds)?;
     match shape {
-        AnyShape::Ready(shape) => {
-            put_ready(rt, new, shape, forms, bytes, bound, watch, input, errors)
-        }
-        AnyShape::Other(shape) => {
-            put_dynamic(rt, new, shape, forms, bytes, bound, watch, input, errors)
-        }
+        AnyShape::Ready(shape) => put_ready(rt, new, shape, forms, bytes, options, input, errors),
+        AnyShape::Other(shape) => put_dynamic(rt, new, shape, forms, bytes, options, input, errors),
     }
 }
 
@@ -165,18 +156,19 @@ fn put_ready<R: Files + AllocGlobal + Clock, I: BufRead, E: Write>(
     shape: Shape,
     forms: GivenForms,
     bytes: Vec<u8>,
-    bound: Option<usize>,
-    watch: Watch,
+    options: PutOptions,
     input: &mut I,
     errors: &mut E,
 ) -> Result<Status, Failure>
 where
     R::File: AsFd,
 {
-    if forms.are_own() {
-        put_in(rt, new, shape, OwnForms, bytes, bound, watch, input, errors)
+    let delimiter = options.delimiter;
+    if forms.are_own() && delimiter == b'\t' {
+        put_in(rt, new, shape, OwnForms, bytes, options, input, errors)
     } else {
-        put_in(rt, new, shape, forms, bytes, bound, watch, input, errors)
+        let forms = LineForms { forms, delimiter };
+        put_in(rt, new, shape, forms, bytes, options, input, errors)
     }
 }
 
@@ -187,8 +179,7 @@ fn put_in<F: Forms, R: Files + AllocGlobal + Clock, I: BufRead, E: Write>(
     shape: Shape,
     forms: F,
     bytes: Vec<u8>,
-    bound: Option<usize>,
-    watch: Watch,
+    options: PutOptions,
     input: &mut I,
     errors: &mut E,
 ) -> Result<Status, Failure>
@@ -197,7 +188,7 @@ where
 {
     for_shape!(
         shape,
-        put_file[F, R, I, E](rt, new, forms, bytes, bound, watch, input, errors)
+        put_file[F, R, I, E](rt, new, forms, bytes, options, input, errors)
     )
 }
 
@@ -207,8 +198,7 @@ fn put_file<C: Config, F: Forms, R: Files + AllocGlobal + Clock, I: BufRead, E: 
     new: &mut NewFile<R::File>,
     forms: F,
     bytes: Vec<u8>,
-    bound: Option<usize>,
-    watch: Watch,
+    options: PutOptions,
     input: &mut I,
     errors: &mut E,
 ) -> Result<Status, Failure>
@@ -217,8 +207,8 @@ where
     C::Value: Text,
     R::File: AsFd,
 {
-    let table = copy_table::<C>(rt.alloc(), bytes, bound)?;
-    insert_into_file(rt, new, table, forms, watch, input, errors)
+    let table = copy_table::<C>(rt.alloc(), bytes, options.bound)?;
+    insert_into_file(rt, new, table, forms, options, input, errors)
 }
 
 fn copy_table<C: Config>(

@@ -7,11 +7,13 @@ use crate::generated::core::failure::Failure;
 use crate::generated::core::forms::{GivenForms, Kinds};
 use crate::generated::core::keys::write_repeated;
 use crate::generated::core::new_file::{ended, make_new, replace_file, NewFile};
+use crate::generated::core::percents::new_percent;
 use crate::generated::core::progress::{Progress, Watch};
 use crate::generated::core::shapes::Hash;
 use crate::generated::core::status::{of_output, Status};
 use crate::generated::core::targets::Target;
 use crate::generated::core::typed::Texts;
+use crate::generated::tables::load::Percent;
 use crate::generated::tables::{FxHashFn, UnHashFn, Xxh64HashFn};
 use crate::generated::tool_tables::files::{finish, read_bytes};
 use crate::generated::tool_tables::whole::{have_same_sizes, read_whole, sizes_of, write_sizes};
@@ -149,24 +151,30 @@ fn merged<R: AllocGlobal + Clock, E: Write>(
     options: &MergeOptions,
     errors: &mut E,
 ) -> Result<Vec<u8>, MergeFailure> {
-    match read_whole(first.as_slice(), options.hash, options.kinds, options.bound) {
-        Ok((shape, forms)) => merged_for(rt, shape, forms, first, others, options, errors),
+    let bytes = first.as_slice();
+    match read_whole(bytes, options.hash, options.kinds, options.bound) {
+        Ok((shape, forms)) => {
+            let percent = new_percent(bytes, options.percent);
+            merged_for(rt, shape, forms, first, others, percent, options, errors)
+        }
         Err(failure) => Err(MergeFailure::Failed { at: 0, failure }),
     }
 }
 
-// The same where the first file is a valid table of this shape, in these forms.
+// The same at this load factor, where the first file is a valid table of this shape, in these
+// forms.
 fn merged_for<R: AllocGlobal + Clock, E: Write>(
     rt: &R,
     shape: AnyShape,
     forms: GivenForms,
     first: Vec<u8>,
     others: Vec<Vec<u8>>,
+    percent: Percent,
     options: &MergeOptions,
     errors: &mut E,
 ) -> Result<Vec<u8>, MergeFailure> {
     let inputs = inputs_of(rt.alloc(), shape, first, others, options.hash, options.bound)?;
-    merged_inputs(rt, shape, forms, inputs.as_slice(), options, errors)
+    merged_inputs(rt, shape, forms, inputs.as_slice(), percent, options, errors)
 }
 
 // The same of files that are all valid tables of the lengths of this shape, which is that of the
@@ -176,12 +184,13 @@ fn merged_inputs<R: AllocGlobal + Clock, E: Write>(
     shape: AnyShape,
     forms: GivenForms,
     inputs: &[Input],
+    percent: Percent,
     options: &MergeOptions,
     errors: &mut E,
 ) -> Result<Vec<u8>, MergeFailure> {
     let texts = Texts::of(shape, forms);
     let progress = Progress::new(rt, Watch::of(options.has_progress));
-    let (duplicates, percent) = (options.duplicates, options.percent);
+    let duplicates = options.duplicates;
     match shape.hash() {
         Hash::Fx => merge_lengths::<FxHashFn, R, E>(
             rt, texts, inputs, duplicates, percent, progress, errors,

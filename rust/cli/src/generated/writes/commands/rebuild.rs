@@ -7,6 +7,7 @@ use crate::generated::core::failure::Failure;
 use crate::generated::core::files::read_file;
 use crate::generated::core::found::found_any;
 use crate::generated::core::new_file::{ended, make_new, replace_file, NewFile};
+use crate::generated::core::percents::new_percent;
 use crate::generated::core::progress::{Progress, Watch};
 use crate::generated::core::shapes::Hash;
 use crate::generated::core::status::Status;
@@ -73,8 +74,9 @@ fn rebuilt<R: AllocGlobal + Clock, E: Write>(
     let hash = new_hash(bytes, shape, options.hash)?;
     match check_any(shape, bytes, options.bound) {
         Ok(()) => {
+            let percent = new_percent(bytes, options.percent);
             let progress = Progress::new(rt, Watch::of(options.has_progress));
-            rebuilt_for(rt, shape, hash, bytes, options.percent, progress, errors)
+            rebuilt_for(rt, shape, hash, bytes, percent, progress, errors)
         }
         Err(error) => Err(Failure::Refused(error)),
     }

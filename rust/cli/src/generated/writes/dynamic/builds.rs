@@ -2,11 +2,10 @@
 //! `odht build` and `odht put` of tables of other sizes than the ready shapes have.
 
 use crate::generated::core::any::OtherShape;
-use crate::generated::core::arguments::BuildOptions;
+use crate::generated::core::arguments::{BuildOptions, PutOptions};
 use crate::generated::core::failure::Failure;
 use crate::generated::core::forms::{GivenForms, LineForms};
 use crate::generated::core::new_file::NewFile;
-use crate::generated::core::progress::Watch;
 use crate::generated::core::shapes::Hash;
 use crate::generated::core::status::Status;
 use crate::generated::tables::dynamic::{DynError, DynTableOwned, Layout, ShortBytes};
@@ -14,8 +13,9 @@ use crate::generated::tables::hash::HashFn;
 use crate::generated::tables::load::Percent;
 use crate::generated::tables::{FxHashFn, UnHashFn, Xxh64HashFn};
 use crate::generated::tool_tables::dynamic::{check_lengths, lengths_of};
-use crate::generated::writes::inserts::insert_into_file;
-use crate::generated::writes::inserts::lines::{check_lines, insert_lines, makes_no_table, Place};
+use crate::generated::writes::inserts::lines::{
+    check_lines, insert_into_file, insert_lines, makes_no_table, Place,
+};
 use crate::host::prelude::*;
 use crate::host::rt::{Clock, Files};
 use crate::shim::Global;
@@ -104,24 +104,24 @@ pub fn put_dynamic<R: Files + AllocGlobal + Clock, I: BufRead, E: Write>(
     shape: OtherShape,
     forms: GivenForms,
     bytes: Vec<u8>,
-    bound: Option<usize>,
-    watch: Watch,
+    options: PutOptions,
     input: &mut I,
     errors: &mut E,
 ) -> Result<Status, Failure>
 where
     R::File: AsFd,
 {
-    let (layout, forms) = (lengths_of(shape.key, shape.value), forms.of(shape));
+    let layout = lengths_of(shape.key, shape.value);
+    let forms = line_forms(shape, forms, options.delimiter);
     match shape.hash {
-        Hash::Fx => put_lengths::<FxHashFn, R, I, E>(
-            rt, new, layout, forms, bytes, bound, watch, input, errors,
-        ),
-        Hash::Unhash => put_lengths::<UnHashFn, R, I, E>(
-            rt, new, layout, forms, bytes, bound, watch, input, errors,
-        ),
+        Hash::Fx => {
+            put_lengths::<FxHashFn, R, I, E>(rt, new, layout, forms, bytes, options, input, errors)
+        }
+        Hash::Unhash => {
+            put_lengths::<UnHashFn, R, I, E>(rt, new, layout, forms, bytes, options, input, errors)
+        }
         Hash::Xxh64 => put_lengths::<Xxh64HashFn, R, I, E>(
-            rt, new, layout, forms, bytes, bound, watch, input, errors,
+            rt, new, layout, forms, bytes, options, input, errors,
         ),
     }
 }
@@ -131,18 +131,17 @@ fn put_lengths<H: HashFn, R: Files + AllocGlobal + Clock, I: BufRead, E: Write>(
     rt: &R,
     new: &mut NewFile<R::File>,
     layout: Layout,
-    forms: GivenForms,
+    forms: LineForms,
     bytes: Vec<u8>,
-    bound: Option<usize>,
-    watch: Watch,
+    options: PutOptions,
     input: &mut I,
     errors: &mut E,
 ) -> Result<Status, Failure>
 where
     R::File: AsFd,
 {
-    let table = copy_lengths::<H>(rt.alloc(), layout, bytes, bound)?;
-    insert_into_file(rt, new, table, forms, watch, input, errors)
+    let table = copy_lengths::<H>(rt.alloc(), layout, bytes, options.bound)?;
+    insert_into_file(rt, new, table, forms, options, input, errors)
 }
 
 fn copy_lengths<H: HashFn>(

@@ -1,0 +1,141 @@
+// Generated from crates/odht_tool_core/src/arguments/draft/commands.rt by make generate.
+//! Commands with options of their own, or with words that are no files.
+use super::{bound_of, Draft};
+use crate::generated::base::load::Percent;
+use crate::generated::core::any::AnyShape;
+use crate::generated::core::arguments::{
+    is_stream, BuildOptions, Command, CommandMisuse, DeleteOptions, DiffOptions, Keys,
+    MergeOptions, PutOptions, Reading, RebuildOptions,
+};
+use crate::generated::core::forms::GivenForms;
+use crate::generated::core::progress::Watch;
+use crate::host::prelude::*;
+
+impl Draft {
+    /// `delete`, of which the words are keys.
+    pub(super) fn delete(self) -> Result<Command, CommandMisuse> {
+        if self.words.is_empty() {
+            return Err(CommandMisuse::Missing("KEY"));
+        }
+        Ok(Command::Delete(DeleteOptions {
+            keys: Keys::of_words(self.words),
+            hash: self.hash,
+            kinds: self.kinds,
+            bound: bound_of(self.is_whole),
+            breaks_links: self.allowed.breaks_links,
+            has_progress: self.has_progress,
+        }))
+    }
+
+    /// The options of `put`.
+    pub(super) fn putting(&self) -> PutOptions {
+        PutOptions {
+            hash: self.hash,
+            kinds: self.kinds,
+            duplicates: self.duplicates,
+            delimiter: self.delimiter,
+            bound: bound_of(self.is_whole),
+            breaks_links: self.allowed.breaks_links,
+            watch: Watch::of(self.has_progress),
+        }
+    }
+
+    /// The options of `rebuild`.
+    pub(super) fn rebuilding(&self) -> RebuildOptions {
+        RebuildOptions {
+            percent: self.percent,
+            hash: self.hash,
+            bound: bound_of(self.is_whole),
+            breaks_links: self.allowed.breaks_links,
+            has_progress: self.has_progress,
+        }
+    }
+
+    /// `get`, of which the words are keys.
+    pub(super) fn get(self, is_stream: bool) -> Result<Command, CommandMisuse> {
+        if self.words.is_empty() {
+            return Err(CommandMisuse::Missing("KEY"));
+        }
+        let keys = Keys::of_words(self.words);
+        if is_stream && keys.are_lines() {
+            return Err(CommandMisuse::BothInput);
+        }
+        Ok(Command::Read {
+            others: crate::host::lists::empty(self.alloc),
+            at: self.at,
+            reading: Reading::Get {
+                hash: self.hash,
+                kinds: self.kinds,
+                keys,
+                is_json: self.is_json,
+            },
+        })
+    }
+
+    /// `diff`, of which the one word is the other file.
+    pub(super) fn diff(mut self, is_stream_first: bool) -> Result<Command, CommandMisuse> {
+        if self.words.is_empty() {
+            return Err(CommandMisuse::Missing("OTHER"));
+        }
+        let other = self.words.remove(0);
+        if !self.words.is_empty() {
+            return Err(CommandMisuse::ExtraWord(self.words.remove(0)));
+        }
+        if is_stream_first && is_stream(other.as_str()) {
+            return Err(CommandMisuse::TwiceInput);
+        }
+        Ok(Command::Diff(DiffOptions {
+            other,
+            hash: self.hash,
+            kinds: self.kinds,
+            bound: bound_of(self.is_whole),
+        }))
+    }
+
+    /// `merge`, of which the words are the files whose pairs it takes. One of them may be standard
+    /// input.
+    pub(super) fn merge(mut self) -> Result<Command, CommandMisuse> {
+        if self.words.is_empty() {
+            return Err(CommandMisuse::Missing("INPUT"));
+        }
+        if self.has_second_stream(false) {
+            return Err(CommandMisuse::TwiceInput);
+        }
+        Ok(Command::Merge(MergeOptions {
+            first: self.words.remove(0),
+            others: self.words,
+            duplicates: self.duplicates,
+            hash: self.hash,
+            kinds: self.kinds,
+            percent: self.percent,
+            bound: bound_of(self.is_whole),
+            allowed: self.allowed,
+            has_progress: self.has_progress,
+        }))
+    }
+
+    /// `build`, which needs the types of keys and values.
+    pub(super) fn build(self) -> Result<Command, CommandMisuse> {
+        let Some(key) = self.kinds.key else {
+            return Err(CommandMisuse::Missing("--key"));
+        };
+        let Some(value) = self.kinds.value else {
+            return Err(CommandMisuse::Missing("--value"));
+        };
+        let hash = self.hash.or(self.kinds.hash);
+        let Some(shape) = AnyShape::of_kinds(key, value, hash) else {
+            return Err(CommandMisuse::NoShape);
+        };
+        Ok(Command::Build(BuildOptions {
+            shape,
+            forms: GivenForms { key: key.form, value: value.form },
+            duplicates: self.duplicates,
+            delimiter: self.delimiter,
+            is_check: self.is_check,
+            capacity: self.capacity,
+            percent: self.percent.unwrap_or(Percent::new(87).unwrap()),
+            allowed: self.allowed,
+            watch: Watch::of(self.has_progress),
+        }))
+    }
+}
