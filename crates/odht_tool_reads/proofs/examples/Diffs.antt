@@ -74,9 +74,9 @@ pub ends : (compared (1 ∷ []) (1 ∷ []) [] ≡ writes (codes "same bytes\n") 
     × (compared (1 ∷ []) (1 ∷ []) (codes "-\ta\t1\n") ≡ writes (codes "-\ta\t1\n") NotDone)
 ends = (refl, refl, refl)
 
-pub compared : (pairs_diff same same (1 ∷ []) (2 ∷ []) old new ≡ writes (codes "-\ta\t1\n~\tb\t2\t9\n+\td\t4\n") NotDone)
+pub compared_pairs : (pairs_diff same same (1 ∷ []) (2 ∷ []) old new ≡ writes (codes "-\ta\t1\n~\tb\t2\t9\n+\td\t4\n") NotDone)
     × (pairs_diff same same (1 ∷ []) (2 ∷ []) old old ≡ writes (codes "same pairs, other bytes\n") Done)
-compared = (refl, refl)
+compared_pairs = (refl, refl)
 
 -- a table of the value 7 for the key 5, and the same with the value 9
 pub tables : (diff_of (Ready DirectU32ToU32) (record { key = Own; value = Own }) one_bytes (Ready DirectU32ToU32) one_bytes ≡ writes (codes "same bytes\n") Done)

@@ -2,7 +2,7 @@ use Rattle.std.proofs.Common.{rules, ◌≡◌, ◌∙◌, true, false, not, Som
 use Rattle.odht_base.specs.Decoded.{decoded_pairs}
 use Rattle.odht_base.specs.Format.{Format, format_of}
 use Rattle.odht_base.specs.Hashes.{fx}
-use Rattle.odht_base.specs.Table.{fresh}
+use Rattle.odht_base.specs.Table.{Table, fresh}
 use Rattle.odht_base.specs.Valid.{IsImage}
 use Rattle.odht_raw.specs.Frame.{IsAccepted}
 use Rattle.odht.specs.Dynamic.{DynStore, dyn_format}
