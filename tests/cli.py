@@ -31,7 +31,7 @@ LISTED = command_list.read()[0]
 COMMANDS = [([it.name, "table"], b"") for it in LISTED if it.is_reading and it.is_of_files]
 COMMANDS += [
     (["dump", "-"], None),
-    *(([it, "table", "--json"], b"") for it in ("info", "check", "find", "dump")),
+    *(([it, "table", "--json"], b"") for it in ("info", "check", "find", "dump", "keys")),
     *((["get", "table", it, "--json"], b"3\n7\n") for it in ("3", "-")),
     (["count", "table", "-"], None),
     (["diff", "table", "-"], None),

@@ -88,6 +88,10 @@ def as_dump(name, text, words):
     return [pair(line.split(b"\t"), "--slots" in words) for line in text.split(b"\n")[:-1]]
 
 
+def as_keys(name, text, words):
+    return [field("key", line) for line in text.split(b"\n")[:-1]]
+
+
 def as_get(name, text, words):
     rows = [line.split(b"\t") for line in text.split(b"\n")[:-1]]
     return [pair(row, False) if len(row) == 2 else {**field("key", row[0]), "value": None} for row in rows]
@@ -105,12 +109,19 @@ def field(name, text):
         return {f"{name}_hex": text.hex()}
 
 
-READ = {"info": as_info, "check": as_check, "find": as_find, "dump": as_dump, "get": as_get}
+READ = {"info": as_info, "check": as_check, "find": as_find, "dump": as_dump, "keys": as_keys,
+        "get": as_get}
 WORDS = [["info"], ["info", "--whole"], ["check"], ["check", "--whole"], ["check", "--hash=unhash"],
-         ["check", "--hash=xxh64"], ["find"], ["find", "--whole"], ["dump"], ["dump", "--slots"], ["get"]]
+         ["check", "--hash=xxh64"], ["find"], ["find", "--whole"], ["dump"], ["dump", "--slots"], ["keys"],
+         ["get"]]
 # those that write keys and values
-LISTS = WORDS[-3:]
+LISTS = WORDS[-4:]
 TEXTS = ["--key=text:16", "--value=text:16"]
+
+
+def as_texts(words):
+    """The words of a command whose keys and values are texts; `keys` has no values."""
+    return [*words, *(TEXTS[:1] if words[0] == "keys" else TEXTS)]
 
 
 def run(program, words, room, lines=b""):
@@ -149,10 +160,10 @@ def files(program, room):
     for it in sorted(os.listdir(TABLES)):
         if it.endswith((".odht", ".bin")):
             with open(f"{TABLES}/{it}", "rb") as file:
-                yield it, file.read(), [[*words, *TEXTS] for words in LISTS if it.startswith("text16")]
+                yield it, file.read(), [as_texts(words) for words in LISTS if it.startswith("text16")]
     lines = b"".join(b"%s\t%s\n" % (it, PLAIN[at - 1]) for at, it in enumerate(PLAIN))
     built = subprocess.run([program, "build", "-", *TEXTS], input=lines, capture_output=True, cwd=room)
-    yield "plain texts", built.stdout, [[*words, *TEXTS] for words in LISTS]
+    yield "plain texts", built.stdout, [as_texts(words) for words in LISTS]
     yield "no table", b"no table, but longer than a header of thirty-two bytes", []
 
 

@@ -26,7 +26,7 @@ _odht() {
         count:-*) COMPREPLY=($(compgen -W '--help --check --whole --hash --at' -- "$word"));;
         get:-*) COMPREPLY=($(compgen -W '--help --json --key --value --hash --at' -- "$word"));;
         dump:-*) COMPREPLY=($(compgen -W '--help --slots --json --key --value --hash --at' -- "$word"));;
-        keys:-*) COMPREPLY=($(compgen -W '--help --key --hash --at' -- "$word"));;
+        keys:-*) COMPREPLY=($(compgen -W '--help --json --key --hash --at' -- "$word"));;
         find:-*) COMPREPLY=($(compgen -W '--help --whole --json' -- "$word"));;
         order:-*) COMPREPLY=($(compgen -W '--help --whole --key --value --hash --at' -- "$word"));;
         diff:-*) COMPREPLY=($(compgen -W '--help --whole --key --value --hash' -- "$word"));;

@@ -45,6 +45,10 @@ whole_line r a b c d x xs h k l =
     subst (λ t. OnOk r (Appends a d t)) (end_of_line x xs)
     (then_appends r a b d (123 ∷ json_field x) (more_fields xs ++ (125 ∷ 10 ∷ [])) h (then_appends r b c d (more_fields xs) (125 ∷ 10 ∷ []) k l))
 
+-- the field of a key
+pub key_parts : (k : List ℕ × List ℕ) → 123 ∷ (json_field k ++ (125 ∷ 10 ∷ [])) ≡ json_object (k ∷ []) ++ (10 ∷ [])
+key_parts k = end_of_line k []
+
 -- the two fields of a pair
 pub pair_parts : (k v : List ℕ × List ℕ) → 123 ∷ (json_field k ++ (44 ∷ (json_field v ++ (125 ∷ 10 ∷ [])))) ≡ json_object (k ∷ v ∷ []) ++ (10 ∷ [])
 pair_parts k v = ap (λ t. 123 ∷ (json_field k ++ t)) (sym (append_assoc (44 ∷ json_field v) [] (125 ∷ 10 ∷ []))) ∙ end_of_line k (v ∷ [])

@@ -12,6 +12,7 @@
 --     number_or_null o     the number, or null where there is none
 --     truth b              true or false
 --     is_simple b          the byte b is a character of ASCII that stands for itself in a string
+--     key_object f k       a line of the object of a key, with the text f
 --     pair_fields f g x    the fields of a key and its value, with the texts f and g
 --     pair_object f g x    a line of the object of these
 --     pair_objects f g xs  that of each pair in turn
@@ -60,7 +61,10 @@ truth b = if b then codes "true" else codes "false"
 abbrev pub is_simple : ℕ → Bool
 is_simple b = nat_lt 31 b && (nat_lt b 128 && (not (b == 34) && not (b == 92)))
 
--- ---- pairs
+-- ---- keys and pairs
+unfoldable pub key_object : {K : Type 0} → (K → List ℕ) → K → List ℕ
+key_object f k = json_object (text_field (codes "key") (f k) ∷ []) ++ (10 ∷ [])
+
 abbrev pub pair_fields : {K V : Type 0} → (K → List ℕ) → (V → List ℕ) → K × V → List (List ℕ × List ℕ)
 pair_fields f g x = text_field (codes "key") (f x.0) ∷ text_field (codes "value") (g x.1) ∷ []
 

@@ -202,6 +202,7 @@ pub enum Reading {
     Keys {
         hash: Option<Hash>,
         kinds: Kinds,
+        is_json: bool,
     },
     Find {
         bound: Option<usize>,

@@ -215,11 +215,14 @@ odht dump FILE [--slots] [--json] [--key SHAPE] [--value SHAPE]
 ";
 
 const KEYS: &str = "\
-odht keys FILE [--key SHAPE] [--hash fx|unhash|xxh64] [--at OFFSET]
+odht keys FILE [--json] [--key SHAPE] [--hash fx|unhash|xxh64]
+               [--at OFFSET]
     Writes each key on a line, in slot order. The hash function is the one that all
     control bytes fit, unless --hash names it. Keys have the texts of the ready
     shape, or of other sizes hexadecimal digits, unless --key names others of these
     sizes, as in `odht build`.
+    --json         an object of JSON on each line: key, a string of this text. A text:N
+                   that is no UTF-8 is, as key_hex, the hexadecimal digits of its bytes
     --at           the table begins at this byte of the file; bytes after its end
                    are not read
     $ odht keys symbols.odht | sort -n | head -1

@@ -9,7 +9,7 @@ pub mod Words
 pub mod GotLines
 -- what `order` writes
 pub mod Orders
--- what `check`, `dump` and `find` write with --json
+-- what `check`, `dump`, `keys` and `find` write with --json
 pub mod Objects
 -- what `diff` does
 pub mod Diffs

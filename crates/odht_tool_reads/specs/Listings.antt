@@ -1,14 +1,17 @@
 -- What `keys` and `count` do with the bytes B of a file.
 --     keys_text f ps       a line of the key of each of the pairs ps, where f is the text of its stored bytes
---     listed F t B         of `keys` for bytes of the format F in the texts t: the keys that the slots hold, in slot order
---     keys_outcome B h ks  of `keys`, where the hash function h, or none, is named, and ks is said of keys
+--     key_objects f ps     the object of each of these keys
+--     keys_as j t ps       the keys of the pairs ps in the texts t: their objects, or with j false their lines
+--     listed j F t B       of `keys` for bytes of the format F in the texts t: the keys that the slots hold, in slot order
+--     keys_outcome B h ks j    of `keys`, where the hash function h, or none, is named, ks is said of keys, and j says whether
+--                          they are objects
 --     counted F o B        how many items the header states, where the check of the bytes as those of the format F, by the
 --                          bound o, finds no error; else the first error
 --     count_checked B h o  the same of the format that is found, where the hash function h, or none, is named
 --     count_opened B       how many items the header states, where header and length have no error; else their error
 --     count_outcome label B c  of `count`, where the label stands before the number: the first, where the file is checked by
 --                          the hash function and the bound in c; else the second
-use Rattle.std.specs.Prelude.{ℕ, List, [], ◌∷◌, ◌++◌, decimal, flat_map, Option, Some, None, Result, Ok, Err}
+use Rattle.std.specs.Prelude.{ℕ, Bool, if◌then◌else◌, List, [], ◌∷◌, ◌++◌, decimal, flat_map, Option, Some, None, Result, Ok, Err}
 use Rattle.odht_base.specs.Decoded.{decoded_pairs, header_count}
 use Rattle.odht_base.specs.Format.{Format}
 use Rattle.odht_base.specs.Table.{Pair}
@@ -19,6 +22,7 @@ use Rattle.odht_tool_core.specs.Endings.{Outcome, opened_outcome}
 use Rattle.odht_tool_core.specs.Endings.Outcome.{writes, fails}
 use Rattle.odht_tool_core.specs.AnyShapes.{any_format, found_any, read_any}
 use Rattle.odht_tool_core.specs.InfoNumbers.{info_refusal}
+use Rattle.odht_tool_core.specs.Json.{key_object}
 use Rattle.odht_tool_core.specs.StoredTexts.{key_text, texts_of}
 use Rattle.odht_tool_core.specs.declared.any.AnyShape.{AnyShape}
 use Rattle.odht_tool_core.specs.declared.failure.Failure.{Failure}
@@ -36,14 +40,20 @@ key_line f p = f p.key ++ (10 ∷ [])
 abbrev pub keys_text : (List ℕ → List ℕ) → List Pair → List ℕ
 keys_text f ps = flat_map (key_line f) ps
 
-abbrev pub listed : Format → Texts → List ℕ → Outcome
-listed F t B = opened_outcome (view_refusal F B) (keys_text (key_text t) (decoded_pairs F B))
+abbrev pub key_objects : (List ℕ → List ℕ) → List Pair → List ℕ
+key_objects f ps = flat_map (λ p. key_object f p.key) ps
 
-abbrev pub keys_of_forms : List ℕ → AnyShape × GivenForms → Outcome
-keys_of_forms B x = listed (any_format x.0) (texts_of x.0 x.1) B
+abbrev pub keys_as : Bool → Texts → List Pair → List ℕ
+keys_as is_json t ps = if is_json then key_objects (key_text t) ps else keys_text (key_text t) ps
 
-abbrev pub keys_outcome : List ℕ → Option Hash → Kinds → Outcome
-keys_outcome B h ks = by_shape (read_any B h ks) (keys_of_forms B)
+abbrev pub listed : Bool → Format → Texts → List ℕ → Outcome
+listed is_json F t B = opened_outcome (view_refusal F B) (keys_as is_json t (decoded_pairs F B))
+
+abbrev pub keys_of_forms : List ℕ → Bool → AnyShape × GivenForms → Outcome
+keys_of_forms B is_json x = listed is_json (any_format x.0) (texts_of x.0 x.1) B
+
+abbrev pub keys_outcome : List ℕ → Option Hash → Kinds → Bool → Outcome
+keys_outcome B h ks is_json = by_shape (read_any B h ks) (keys_of_forms B is_json)
 
 -- ---- count
 abbrev pub count_by : Option Error → ℕ → Result ℕ Failure

@@ -71,7 +71,11 @@ pub fn run_reading<I: BufRead, O: Write, E: Write>(
             is_slots,
             is_json,
         } => dump::dump_file(bytes, *hash, *kinds, *is_slots, *is_json, output),
-        Reading::Keys { hash, kinds } => keys::keys_file(bytes, *hash, *kinds, output),
+        Reading::Keys {
+            hash,
+            kinds,
+            is_json,
+        } => keys::keys_file(bytes, *hash, *kinds, *is_json, output),
         Reading::Order { hash, kinds, bound } => {
             order_in(alloc, file, bytes, *hash, *kinds, *bound, output, errors)
         }

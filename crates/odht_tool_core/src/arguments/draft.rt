@@ -254,7 +254,11 @@ impl Draft {
                 is_slots: self.is_slots,
                 is_json: self.is_json,
             },
-            Topic::Keys => Reading::Keys { hash, kinds },
+            Topic::Keys => Reading::Keys {
+                hash,
+                kinds,
+                is_json: self.is_json,
+            },
             Topic::Find => Reading::Find {
                 bound,
                 is_json: self.is_json,

@@ -138,7 +138,13 @@ impl Topic {
                 Setting::Hash,
                 Setting::At,
             ],
-            Topic::Keys => &[Setting::Help, Setting::Key, Setting::Hash, Setting::At],
+            Topic::Keys => &[
+                Setting::Help,
+                Setting::Json,
+                Setting::Key,
+                Setting::Hash,
+                Setting::At,
+            ],
             Topic::Find => &[Setting::Help, Setting::Whole, Setting::Json],
             Topic::Order => &[
                 Setting::Help,

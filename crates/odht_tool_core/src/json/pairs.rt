@@ -1,7 +1,8 @@
-//! Pairs as objects of JSON, each on a line.
+//! Keys and pairs as objects of JSON, each on a line.
 ghost use Rattle.std.specs.Prelude.{◌≡◌, OnOk, length};
 ghost use Rattle.std.specs.Io.KnownBytes.{Appends};
-ghost use Rattle.odht_tool_core.specs.Json.{json_field, pair_fields_text, pair_object, text_field};
+ghost use Rattle.odht_tool_core.specs.Json.{json_field, key_object, pair_fields_text, pair_object};
+ghost use Rattle.odht_tool_core.specs.Json.{text_field};
 ghost use Rattle.odht_tool_core.specs.ReadyShapes.{typed_len};
 ghost use Rattle.odht_tool_core.specs.StoredTexts.{key_text, stored_text, value_text};
 
@@ -12,6 +13,17 @@ use crate::text::write_bytes;
 use crate::typed::{Texts, plain_bytes, write_stored};
 use std::io::{self, Write};
 use std::str::from_utf8;
+
+/// Writes the object of the key that is stored as these bytes, on a line.
+pub fn write_key_object<O: Write>(texts: Texts, key: &[u8], output: &mut O) -> io::Result<()>
+    requires { length key.now ≡ typed_len texts.key }
+    ensures { OnOk result (Appends (O.contents output.old) (O.contents output.new)
+        (key_object (key_text texts) key.now)) }
+{
+    output.write_all(b"{")?;
+    write_stored_field("key", texts.key, texts.forms.key, key, output)?;
+    output.write_all(b"}\n")
+}
 
 /// Writes the object of the pair that is stored as these bytes, on a line.
 pub fn write_pair_object<O: Write>(

@@ -78,7 +78,7 @@ slots = refl
 pub hexadecimal : (dump_outcome other_bytes None unsaid false false ≡ writes (codes "050000000700\t0000\n") Done)
     × (dump_outcome other_bytes None (said (kind (Bytes 6) Own) (kind (Bytes 2) Own)) true false ≡ writes (codes "5\t0\t1\t050000000700\t0000\n") Done)
     × (dump_outcome other_bytes None (said (kind (Bytes 6) Own) (kind U32 Own)) true false ≡ fails (OtherValue (Bytes 2)))
-    × (keys_outcome other_bytes None unsaid ≡ writes (codes "050000000700\n") Done)
+    × (keys_outcome other_bytes None unsaid false ≡ writes (codes "050000000700\n") Done)
 unfolding opened digits groups_to
 hexadecimal = (refl, refl, refl, refl)
 
@@ -89,8 +89,8 @@ unfolding opened digits
 formed = (refl, refl)
 
 -- ---- keys
-pub keys : (keys_outcome one_bytes (Some Unhash) unsaid ≡ writes (codes "5\n") Done)
-    × (keys_outcome one_bytes (Some Unhash) (said (kind U32 BigEndian) (kind U32 Own)) ≡ writes (codes "83886080\n") Done)
+pub keys : (keys_outcome one_bytes (Some Unhash) unsaid false ≡ writes (codes "5\n") Done)
+    × (keys_outcome one_bytes (Some Unhash) (said (kind U32 BigEndian) (kind U32 Own)) false ≡ writes (codes "83886080\n") Done)
 unfolding opened digits
 keys = (refl, refl)
 

@@ -1,4 +1,4 @@
--- Worked examples: what `check`, `dump` and `find` write with --json.
+-- Worked examples: what `check`, `dump`, `keys` and `find` write with --json.
 use Rattle.std.proofs.Common.{◌≡◌, true, false, refl, [], ◌∷◌, Some, None}
 use Rattle.std.specs.Prelude.{codes}
 use Rattle.std.specs.Char.{encode_utf8}
@@ -11,9 +11,10 @@ use Rattle.odht_header.proofs.examples.Opened.{opened}
 use Rattle.odht_tool_core.specs.Endings.Outcome.{writes, fails}
 use Rattle.odht_tool_core.specs.FindJson.{table_object}
 use Rattle.odht_tool_core.specs.GroupNumbers.{groups_to}
-use Rattle.odht_tool_core.specs.Json.{pair_object}
+use Rattle.odht_tool_core.specs.Json.{key_object, pair_object}
 use Rattle.odht_tool_core.specs.JsonSlots.{slot_object}
 use Rattle.odht_tool_reads.specs.JsonTexts.{check_json_outcome, tables_object}
+use Rattle.odht_tool_reads.specs.Listings.{keys_outcome}
 use Rattle.odht_tool_reads.specs.Outcomes.{dump_outcome}
 use Rattle.odht_tool_core.specs.declared.failure.Failure.TheVariants.{Refused, NoHash, ShortKeys}
 use Rattle.odht_tool_core.specs.declared.shapes.Hash.TheVariants.{Unhash}
@@ -49,6 +50,12 @@ pub refused : (dump_outcome (79 ∷ 68 ∷ []) None unsaid false true ≡ fails 
     × (dump_outcome (overwritten_at one_bytes 165 (1 ∷ [])) None unsaid false true ≡ fails (NoHash 4 4))
 unfolding opened
 refused = (refl, refl)
+
+-- ---- keys
+pub keys : (keys_outcome one_bytes (Some Unhash) unsaid true ≡ writes (codes "{\"key\":\"5\"}\n") Done)
+    × (keys_outcome other_bytes None unsaid true ≡ writes (codes "{\"key\":\"050000000700\"}\n") Done)
+unfolding opened digits chars is_utf8 encode_utf8 key_object
+keys = (refl, refl)
 
 -- ---- find
 -- no table, and one at the byte 0

@@ -173,7 +173,7 @@ pub enum Reading {
     Count { hash: Option<Hash>, bound: Option<usize>, is_checked: bool },
     Get { hash: Option<Hash>, kinds: Kinds, keys: Keys, is_json: bool },
     Dump { hash: Option<Hash>, kinds: Kinds, is_slots: bool, is_json: bool },
-    Keys { hash: Option<Hash>, kinds: Kinds },
+    Keys { hash: Option<Hash>, kinds: Kinds, is_json: bool },
     Find { bound: Option<usize>, is_json: bool },
     Order { hash: Option<Hash>, kinds: Kinds, bound: Option<usize> },
     // end readings

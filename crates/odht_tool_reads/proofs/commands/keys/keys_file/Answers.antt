@@ -14,7 +14,7 @@ returns-in_err-found g c =
     let x = c.in_err-found.field-0.0 in
     let old = g.O.Write.contents c.args.output.now in
     let failed : c.from_residual.result ≡ Err x = search rules in
-    rw failed (without_shape (read_any B c.args.hash c.args.kinds) (keys_of_forms B) old x (sym c.in_err-found.was ∙ c.read_any.ensures.forms))
+    rw failed (without_shape (read_any B c.args.hash c.args.kinds) (keys_of_forms B c.args.is_json) old x (sym c.in_err-found.was ∙ c.read_any.ensures.forms))
 
 pub returns-in-Fx : goal.returns-in-Fx
 returns-in-Fx g c =
@@ -23,8 +23,8 @@ returns-in-Fx g c =
     let new = g.O.Write.contents c.list_keys.new.output in
     let found = c.in_ok-found.found in
     let table = table_of found.0 found.1 c.of-texts.result Fx c.of-texts.ensures (sym c.hash.ensures ∙ c.in-Fx.is) in
-    with_shape (read_any B c.args.hash c.args.kinds) (keys_of_forms B) found old new _ (sym c.in_ok-found.was ∙ c.read_any.ensures.forms)
-    (subst (λ (x : Format × Texts). IsDone (listed x.0 x.1 B) old new c.list_keys.result) table c.list_keys.ensures)
+    with_shape (read_any B c.args.hash c.args.kinds) (keys_of_forms B c.args.is_json) found old new _ (sym c.in_ok-found.was ∙ c.read_any.ensures.forms)
+    (subst (λ (x : Format × Texts). IsDone (listed c.args.is_json x.0 x.1 B) old new c.list_keys.result) table c.list_keys.ensures)
 
 pub returns-in-Unhash : goal.returns-in-Unhash
 returns-in-Unhash g c =
@@ -33,8 +33,8 @@ returns-in-Unhash g c =
     let new = g.O.Write.contents c.list_keys-in-Unhash.new.output in
     let found = c.in_ok-found.found in
     let table = table_of found.0 found.1 c.of-texts.result Unhash c.of-texts.ensures (sym c.hash.ensures ∙ c.in-Unhash.is) in
-    with_shape (read_any B c.args.hash c.args.kinds) (keys_of_forms B) found old new _ (sym c.in_ok-found.was ∙ c.read_any.ensures.forms)
-    (subst (λ (x : Format × Texts). IsDone (listed x.0 x.1 B) old new c.list_keys-in-Unhash.result) table c.list_keys-in-Unhash.ensures)
+    with_shape (read_any B c.args.hash c.args.kinds) (keys_of_forms B c.args.is_json) found old new _ (sym c.in_ok-found.was ∙ c.read_any.ensures.forms)
+    (subst (λ (x : Format × Texts). IsDone (listed c.args.is_json x.0 x.1 B) old new c.list_keys-in-Unhash.result) table c.list_keys-in-Unhash.ensures)
 
 pub returns-in-Xxh64 : goal.returns-in-Xxh64
 returns-in-Xxh64 g c =
@@ -43,5 +43,5 @@ returns-in-Xxh64 g c =
     let new = g.O.Write.contents c.list_keys-in-Xxh64.new.output in
     let found = c.in_ok-found.found in
     let table = table_of found.0 found.1 c.of-texts.result Xxh64 c.of-texts.ensures (sym c.hash.ensures ∙ c.in-Xxh64.is) in
-    with_shape (read_any B c.args.hash c.args.kinds) (keys_of_forms B) found old new _ (sym c.in_ok-found.was ∙ c.read_any.ensures.forms)
-    (subst (λ (x : Format × Texts). IsDone (listed x.0 x.1 B) old new c.list_keys-in-Xxh64.result) table c.list_keys-in-Xxh64.ensures)
+    with_shape (read_any B c.args.hash c.args.kinds) (keys_of_forms B c.args.is_json) found old new _ (sym c.in_ok-found.was ∙ c.read_any.ensures.forms)
+    (subst (λ (x : Format × Texts). IsDone (listed c.args.is_json x.0 x.1 B) old new c.list_keys-in-Xxh64.result) table c.list_keys-in-Xxh64.ensures)

@@ -233,7 +233,7 @@ impl Draft {
             Topic::Dump => {
                 Reading::Dump { hash, kinds, is_slots: self.is_slots, is_json: self.is_json }
             }
-            Topic::Keys => Reading::Keys { hash, kinds },
+            Topic::Keys => Reading::Keys { hash, kinds, is_json: self.is_json },
             Topic::Find => Reading::Find { bound, is_json: self.is_json },
             _ => Reading::Order { hash, kinds, bound },
             // end readings

@@ -1,5 +1,5 @@
 // Generated from crates/odht_tool_core/src/json/pairs.rt by make generate.
-//! Pairs as objects of JSON, each on a line.
+//! Keys and pairs as objects of JSON, each on a line.
 
 use crate::generated::core::forms::Form;
 use crate::generated::core::json::write_string;
@@ -9,6 +9,13 @@ use crate::generated::core::typed::{plain_bytes, write_stored, Texts};
 use crate::host::prelude::*;
 use std::io::{self, Write};
 use std::str::from_utf8;
+
+/// Writes the object of the key that is stored as these bytes, on a line.
+pub fn write_key_object<O: Write>(texts: Texts, key: &[u8], output: &mut O) -> io::Result<()> {
+    output.write_all(b"{")?;
+    write_stored_field("key", texts.key, texts.forms.key, key, output)?;
+    output.write_all(b"}\n")
+}
 
 /// Writes the object of the pair that is stored as these bytes, on a line.
 pub fn write_pair_object<O: Write>(

@@ -4,6 +4,7 @@
 use crate::generated::core::any::read_any;
 use crate::generated::core::failure::Failure;
 use crate::generated::core::forms::{Form, Kinds};
+use crate::generated::core::json::pairs::write_key_object;
 use crate::generated::core::shapes::{Hash, Part};
 use crate::generated::core::status::{of_output, Status};
 use crate::generated::core::typed::stored::{Digits32, Digits64, TextWriter, Typed};
@@ -15,20 +16,22 @@ use crate::generated::tool_tables::dynamic::{lengths_of, open_lengths};
 use crate::host::prelude::*;
 use std::io::{self, Write};
 
-/// `odht keys` of the bytes of a file: writes each key on a line, in slot order.
+/// `odht keys` of the bytes of a file, with `--json` or without: writes each key on a line, in slot
+/// order.
 pub fn keys_file<O: Write>(
     bytes: &[u8],
     hash: Option<Hash>,
     kinds: Kinds,
+    is_json: bool,
     output: &mut O,
 ) -> Result<Status, Failure> {
     let found = read_any(bytes, hash, kinds)?;
     let (shape, forms) = found;
     let texts = Texts::of(shape, forms);
     match shape.hash() {
-        Hash::Fx => list_keys::<FxHashFn, O>(texts, bytes, output),
-        Hash::Unhash => list_keys::<UnHashFn, O>(texts, bytes, output),
-        Hash::Xxh64 => list_keys::<Xxh64HashFn, O>(texts, bytes, output),
+        Hash::Fx => list_keys::<FxHashFn, O>(texts, bytes, is_json, output),
+        Hash::Unhash => list_keys::<UnHashFn, O>(texts, bytes, is_json, output),
+        Hash::Xxh64 => list_keys::<Xxh64HashFn, O>(texts, bytes, is_json, output),
     }
 }
 
@@ -36,10 +39,26 @@ pub fn keys_file<O: Write>(
 fn list_keys<H: HashFn, O: Write>(
     texts: Texts,
     bytes: &[u8],
+    is_json: bool,
     output: &mut O,
 ) -> Result<Status, Failure> {
     let table = open_lengths::<H>(lengths_of(texts.key, texts.value), bytes)?;
+    if is_json {
+        return of_output(write_objects(texts, table.iter(), output));
+    }
     of_output(write_lines(texts, table.iter(), output))
+}
+
+// Writes the object of the key of each pair on a line.
+fn write_objects<H: HashFn, O: Write>(
+    texts: Texts,
+    pairs: DynIter<'_, H>,
+    output: &mut O,
+) -> io::Result<()> {
+    for (key, _) in pairs {
+        write_key_object(texts, key, output)?;
+    }
+    Ok(())
 }
 
 // Writes the key of each pair on a line. What is written of it is known first.
