@@ -66,7 +66,7 @@ pub fn are_found<V>(values: &[Option<V>]) -> bool {
     values.iter().all(|value| value.is_some())
 }
 
-/// Writes the line of a key with its value, or of the key alone.
+/// Writes the line of a key with its value, or only the key.
 pub(crate) fn write_answer<K: Text, V: Text, F: Forms, O: Write>(
     key: &K,
     value: &Option<V>,
