@@ -121,6 +121,7 @@ UNDONE = {
     "a list of items": (r"crate :: shim :: (collect|to_vec) \( (\w+) , ", r"\2 . \1 ( "),
     "memory": (r"(?<=use )crate :: shim", "std :: alloc"),
     "a cut": (r"split_at_mut ! \( (\w+) , (\w+ (?::: < C > )?(?:\( \w+ \) )?), \"[^\"]*\" \)", r"\1 . split_at_mut ( \2)"),
+    "a chunk": (r"\bchunk ! \( (\w+) , (\w+) , (\w+) , \"[^\"]*\" \)", r"\1 [ \2 * \3 . . \2 * \3 + \3 ]"),
     "a slot count": (r"(?<=slot_count \( \) ; )crate :: shim :: slots :: check :: < [^;]* ; ", ""),
     "a push": (r"list \. push \(", "list . push_reserved ("),
     "a formatter": (r"Formatter < '_ >", "Formatter < W >"),

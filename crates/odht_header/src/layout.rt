@@ -1,6 +1,7 @@
 //! The lengths of encoded keys and values: as types, known at compile time, or as numbers, known
 //! only at run time.
-ghost use Rattle.std.specs.Prelude.{◌≡◌, ◌↔◌, ◌+◌, ◌<◌, ◌≤◌, ◌^◌, ℕ, length, slice_index, IsTrue};
+ghost use Rattle.std.specs.Prelude.{◌≡◌, ◌↔◌, ◌+◌, ◌*◌, ◌<◌, ◌≤◌, ◌^◌, ℕ, length, slice_index, IsTrue};
+ghost use Rattle.odht_base.specs.Bytes.{bytes_at};
 
 use crate::bytes::{ByteArray, is_same_bytes, is_same_word};
 use crate::config::Config;
@@ -32,6 +33,12 @@ pub trait Lengths: Copy {
     fn entry_len(self) -> usize
         requires { key_len self + value_len self < 2 ^ 64 }
         ensures { result ≡ key_len self + value_len self };
+
+    /// The entry of a slot, out of the bytes of all entries.
+    fn entry<'a>(self, entries: &'a [u8], slot: usize) -> &'a [u8]
+        requires { (slot + 1) * (key_len self + value_len self) ≤ length entries.now }
+        ensures { result.now ≡ bytes_at entries.now (slot * (key_len self + value_len self))
+            (key_len self + value_len self) };
 
     /// Whether two keys of this length are equal. The lengths say how keys are compared: each kind
     /// has the comparison that takes the fewest instructions for it.
@@ -79,11 +86,20 @@ impl<K: ByteArray, V: ByteArray> Lengths for Fixed<K, V> {
         K::LEN + V::LEN
     }
 
-    // Short keys are loaded whole, and compared as their length allows; longer ones are compared
-    // where they are.
+    // The plain-Rust build reads this as an index into arrays of `len` bytes, for which the
+    // compiler finds shorter addresses.
+    #[inline(always)]
+    fn entry<'a>(self, entries: &'a [u8], slot: usize) -> &'a [u8] {
+        let len = K::LEN + V::LEN;
+        &entries[slot * len..slot * len + len]
+    }
+
+    // Short keys are loaded whole, and compared as their length allows. Longer ones are compared
+    // where they are, word by word, and so are those of 32 bytes: loaded whole, half of such a key
+    // is compared as a vector, which takes longer.
     #[inline(always)]
     fn is_same_key(self, left: &[u8], right: &[u8]) -> bool {
-        if K::LEN > SHORT {
+        if K::LEN > SHORT || K::LEN == 32 {
             return is_same_bytes(left, right);
         }
         K::from_slice(left).equals(&K::from_slice(right))
@@ -153,6 +169,13 @@ impl Lengths for Layout {
     #[inline(always)]
     fn entry_len(self) -> usize {
         self.key_len as usize + self.value_len as usize
+    }
+
+    #[inline(always)]
+    fn entry<'a>(self, entries: &'a [u8], slot: usize) -> &'a [u8] {
+        let len = self.entry_len();
+        let at = slot * len;
+        &entries[at..at + len]
     }
 
     #[inline(always)]

@@ -20,6 +20,14 @@ macro_rules! index_mut {
     };
 }
 
+/// `list[number * len..number * len + len]`, to be read, where the clause holds.
+#[cfg(feature = "checked")]
+macro_rules! chunk {
+    ($list:ident, $number:ident, $len:ident, $clause:literal) => {
+        $list[$number * $len..$number * $len + $len]
+    };
+}
+
 /// `list.split_at_mut(index)`, where the clause holds.
 #[cfg(feature = "checked")]
 macro_rules! split_at_mut {
@@ -52,6 +60,15 @@ macro_rules! index_mut {
     };
 }
 
+/// `list[number * len..number * len + len]`, to be read, where the clause holds.
+#[cfg(not(feature = "checked"))]
+macro_rules! chunk {
+    ($list:ident, $number:ident, $len:ident, $clause:literal) => {
+        // SAFETY: as in `index!`.
+        *unsafe { $crate::shim::index::chunk($list, $number, $len, $clause) }
+    };
+}
+
 /// `list.split_at_mut(index)`, where the clause holds.
 #[cfg(not(feature = "checked"))]
 macro_rules! split_at_mut {
@@ -64,7 +81,7 @@ macro_rules! split_at_mut {
 }
 
 #[cfg(not(feature = "checked"))]
-pub(crate) use unchecked::{at, at_mut, split_at_mut};
+pub(crate) use unchecked::{at, at_mut, chunk, split_at_mut};
 
 #[cfg(not(feature = "checked"))]
 #[allow(unsafe_code)]
@@ -109,6 +126,38 @@ mod unchecked {
         );
         // SAFETY: the caller ensures that the index is in bounds.
         unsafe { list.get_unchecked_mut(index) }
+    }
+
+    /// `&list[number * len..number * len + len]`, with `len` a constant where it is called.
+    ///
+    /// # Safety
+    ///
+    /// The index is in bounds. `clause` says by what.
+    #[inline(always)]
+    #[track_caller]
+    pub(crate) unsafe fn chunk<'l>(
+        list: &'l [u8],
+        number: usize,
+        len: usize,
+        clause: &str,
+    ) -> &'l [u8] {
+        debug_assert!(
+            number.checked_mul(len).and_then(|at| list.get(at..)?.get(..len)).is_some(),
+            "out of bounds, against the clause: {clause}"
+        );
+        // These lengths are 3, 5 or 9 times a power of two. LLVM computes the address of an item of an array with one
+        // instruction less than that of the byte at `number * len`. So it does for 12 bytes, but then it places the
+        // branches of a search such that an absent key takes a tenth longer.
+        macro_rules! item {
+            ($($of:literal),*) => {
+                match len {
+                    $($of => list.as_ptr().cast::<[u8; $of]>().add(number).cast::<u8>(),)*
+                    _ => list.as_ptr().add(number * len),
+                }
+            };
+        }
+        // SAFETY: the caller ensures that the index is in bounds.
+        unsafe { std::slice::from_raw_parts(item!(6, 10, 18, 20, 24, 36, 40, 72), len) }
     }
 
     /// `list.split_at_mut(index)`.

@@ -7,13 +7,18 @@ use crate::SlotCount;
 
 impl<'e> Eraser<'e> {
     /// `list[index]`, of a name or of a field of a name, in a function that the plan lists, is `index!(list[index],
-    /// "clause")`, or `index_mut!` where it is written: the clause says why it is in bounds.
+    /// "clause")`, or `index_mut!` where it is written: the clause says why it is in bounds. The chunk
+    /// `list[number * len..number * len + len]` is `chunk!(list, number, len, "clause")`.
     pub fn index(&mut self, at: usize) -> Done<Option<usize>> {
         if !self.is_index(at) {
             return Ok(None);
         }
         let Some(clause) = self.clause_at(at) else { return Ok(None) };
         let end = self.source.close(at)?;
+        if let Some(chunk) = self.chunk(at) {
+            self.source.replace(at - 1, end, &format!("{chunk}, {clause:?})"));
+            return Ok(Some(end));
+        }
         let mut base = at - 1;
         while self.source.is(base - 1, ".") && self.source.kind(base - 2) == Kind::Word {
             base -= 2;
@@ -25,6 +30,14 @@ impl<'e> Eraser<'e> {
         self.source.replace(base, base, &first);
         self.source.replace(end, end, &format!("], {clause:?})"));
         Ok(Some(at))
+    }
+
+    // The macro of a chunk without its clause, if the bracket at a place begins the index of one.
+    fn chunk(&self, at: usize) -> Option<String> {
+        let (list, number, len) =
+            (self.source.text(at - 1), self.source.text(at + 1), self.source.text(at + 3));
+        let index = format!("{number} * {len} . . {number} * {len} + {len} ]");
+        self.source.has(at + 1, &index).then(|| format!("chunk!({list}, {number}, {len}"))
     }
 
     /// `list.split_at_mut(index)`, in a function that the plan lists, is `split_at_mut!(list, index, "clause")`.

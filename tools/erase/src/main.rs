@@ -10,6 +10,7 @@ const INSERTS: &str = "odht_raw/memory_layout/allocation/inserts";
 const CUTS: &str = "odht_raw/memory_layout/cuts";
 const BYTE_INSERTS: &str = "odht_raw/memory_layout/inserts";
 const WRITES: &str = "odht_raw/raw_table/writes";
+const LAYOUT: &str = "odht_header/layout";
 const STORED: &str = "odht_raw/raw_table/stored";
 const FIRST_LOOK: &str = "odht_raw/raw_table/first_look";
 const STORES: &str = "odht_base/bytes/stores";
@@ -46,7 +47,7 @@ const PLAN: Plan<'static> = Plan {
         unchecked("read_u32", ARRAYS, "at + 4 ≤ length bytes.now", ARRAYS),
         unchecked("read_u64", ARRAYS, "at + 8 ≤ length bytes.now", ARRAYS),
         unchecked("is_same_bytes", ARRAYS, "length left.now ≡ length right.now", ARRAYS),
-        unchecked("entry", STORED, "slot < self.now.entries.slots", STORED),
+        unchecked("entry", LAYOUT, "≤ length entries.now", LAYOUT),
         unchecked("key", STORED, "slot < self.now.entries.slots", STORED),
         unchecked("value", STORED, "slot < self.now.entries.slots", STORED),
         unchecked("has_key", STORED, "length key.now ≡ self.now.key_len", STORED),

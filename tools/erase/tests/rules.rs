@@ -181,6 +181,8 @@ fn an_index_in_a_function_of_the_plan_is_a_macro_with_its_clause() {
             "fn f() { split_at_mut!(a,g(index!(b[i], \"i ≤ n\")), \"i ≤ n\") }",
         ),
         ("fn f() { &self.a[i..j] }", "fn f() { &index!(self.a[i..j], \"i ≤ n\") }"),
+        ("fn f() { &a[i * n..i * n + n] }", "fn f() { &chunk!(a, i, n, \"i ≤ n\") }"),
+        ("fn f() { &a[i * n..i * n + m] }", "fn f() { &index!(a[i * n..i * n + m], \"i ≤ n\") }"),
         (
             "fn f() { g(&mut a[i..i + b.len()]) }",
             "fn f() { g(&mut index_mut!(a[i..i + b.len()], \"i ≤ n\")) }",

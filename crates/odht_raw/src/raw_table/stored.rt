@@ -82,10 +82,7 @@ impl<'a, L: Lengths> Stored<'a, L> {
             ≡ slot_entry (stored_format self.now) self.now.entries.bytes slot }
         ensures len { length result.now ≡ self.now.key_len + self.now.value_len }
     {
-        let bytes = self.bytes;
-        let entry_len = self.lengths.entry_len();
-        let at = slot * entry_len;
-        &bytes[at..at + entry_len]
+        self.lengths.entry(self.bytes, slot)
     }
 
     /// The key of a slot.

@@ -25,6 +25,9 @@ pub trait Lengths: Copy {
     /// The length of an entry, in bytes.
     fn entry_len(self) -> usize;
 
+    /// The entry of a slot, out of the bytes of all entries.
+    fn entry<'a>(self, entries: &'a [u8], slot: usize) -> &'a [u8];
+
     /// Whether two keys of this length are equal. The lengths say how keys are compared: each kind
     /// has the comparison that takes the fewest instructions for it.
     fn is_same_key(self, left: &[u8], right: &[u8]) -> bool;
@@ -61,11 +64,20 @@ impl<K: ByteArray, V: ByteArray> Lengths for Fixed<K, V> {
         K::LEN + V::LEN
     }
 
-    // Short keys are loaded whole, and compared as their length allows; longer ones are compared
-    // where they are.
+    // The plain-Rust build reads this as an index into arrays of `len` bytes, for which the
+    // compiler finds shorter addresses.
+    #[inline(always)]
+    fn entry<'a>(self, entries: &'a [u8], slot: usize) -> &'a [u8] {
+        let len = K::LEN + V::LEN;
+        &chunk!(entries, slot, len, "≤ length entries.now")
+    }
+
+    // Short keys are loaded whole, and compared as their length allows. Longer ones are compared
+    // where they are, word by word, and so are those of 32 bytes: loaded whole, half of such a key
+    // is compared as a vector, which takes longer.
     #[inline(always)]
     fn is_same_key(self, left: &[u8], right: &[u8]) -> bool {
-        if K::LEN > SHORT {
+        if K::LEN > SHORT || K::LEN == 32 {
             return is_same_bytes(left, right);
         }
         K::from_slice(left).equals(&K::from_slice(right))
@@ -115,6 +127,13 @@ impl Lengths for Layout {
     #[inline(always)]
     fn entry_len(self) -> usize {
         self.key_len as usize + self.value_len as usize
+    }
+
+    #[inline(always)]
+    fn entry<'a>(self, entries: &'a [u8], slot: usize) -> &'a [u8] {
+        let len = self.entry_len();
+        let at = slot * len;
+        &index!(entries[at..at + len], "≤ length entries.now")
     }
 
     #[inline(always)]

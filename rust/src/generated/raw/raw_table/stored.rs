@@ -42,10 +42,7 @@ impl<'a, L: Lengths> Stored<'a, L> {
     /// The entry of a slot: key, then value.
     #[inline(always)]
     pub fn entry(&self, slot: usize) -> &'a [u8] {
-        let bytes = self.bytes;
-        let entry_len = self.lengths.entry_len();
-        let at = slot * entry_len;
-        &index!(bytes[at..at + entry_len], "slot < self.now.entries.slots")
+        self.lengths.entry(self.bytes, slot)
     }
 
     /// The key of a slot.
