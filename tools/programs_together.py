@@ -98,10 +98,7 @@ def lowered(names, room):
     with open(root, "w", encoding="utf-8") as it:
         it.write(f"{HEAD}{calls}    ExitCode::SUCCESS\n}}\n{entries}")
     os.mkdir(f"{room}/front")
-    module = unproved.lowered(ROOT, root, [], f"{room}/front", library_words(names, room))
-    text = f"{room}/module.ll"
-    unproved.call(unproved.CLANG, "-Wno-override-module", "-x", "ir", module, "-S", "-emit-llvm", "-O0", "-o", text)
-    with open(text, encoding="utf-8") as it:
+    with open(unproved.lowered(ROOT, root, [], f"{room}/front", library_words(names, room)), encoding="utf-8") as it:
         return it.read()
 
 
