@@ -35,7 +35,7 @@ pub trait Lengths: Copy {
         ensures { result ≡ key_len self + value_len self };
 
     /// The entry of a slot, out of the bytes of all entries.
-    fn entry<'a>(self, entries: &'a [u8], slot: usize) -> &'a [u8]
+    fn entry(self, entries: &[u8], slot: usize) -> &[u8]
         requires { (slot + 1) * (key_len self + value_len self) ≤ length entries.now }
         ensures { result.now ≡ bytes_at entries.now (slot * (key_len self + value_len self))
             (key_len self + value_len self) };
@@ -89,7 +89,7 @@ impl<K: ByteArray, V: ByteArray> Lengths for Fixed<K, V> {
     // The plain-Rust build reads this as an index into arrays of `len` bytes, for which the
     // compiler finds shorter addresses.
     #[inline(always)]
-    fn entry<'a>(self, entries: &'a [u8], slot: usize) -> &'a [u8] {
+    fn entry(self, entries: &[u8], slot: usize) -> &[u8] {
         let len = K::LEN + V::LEN;
         &entries[slot * len..slot * len + len]
     }
@@ -172,7 +172,7 @@ impl Lengths for Layout {
     }
 
     #[inline(always)]
-    fn entry<'a>(self, entries: &'a [u8], slot: usize) -> &'a [u8] {
+    fn entry(self, entries: &[u8], slot: usize) -> &[u8] {
         let len = self.entry_len();
         let at = slot * len;
         &entries[at..at + len]

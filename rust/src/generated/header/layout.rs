@@ -26,7 +26,7 @@ pub trait Lengths: Copy {
     fn entry_len(self) -> usize;
 
     /// The entry of a slot, out of the bytes of all entries.
-    fn entry<'a>(self, entries: &'a [u8], slot: usize) -> &'a [u8];
+    fn entry(self, entries: &[u8], slot: usize) -> &[u8];
 
     /// Whether two keys of this length are equal. The lengths say how keys are compared: each kind
     /// has the comparison that takes the fewest instructions for it.
@@ -67,7 +67,7 @@ impl<K: ByteArray, V: ByteArray> Lengths for Fixed<K, V> {
     // The plain-Rust build reads this as an index into arrays of `len` bytes, for which the
     // compiler finds shorter addresses.
     #[inline(always)]
-    fn entry<'a>(self, entries: &'a [u8], slot: usize) -> &'a [u8] {
+    fn entry(self, entries: &[u8], slot: usize) -> &[u8] {
         let len = K::LEN + V::LEN;
         &chunk!(entries, slot, len, "≤ length entries.now")
     }
@@ -130,7 +130,7 @@ impl Lengths for Layout {
     }
 
     #[inline(always)]
-    fn entry<'a>(self, entries: &'a [u8], slot: usize) -> &'a [u8] {
+    fn entry(self, entries: &[u8], slot: usize) -> &[u8] {
         let len = self.entry_len();
         let at = slot * len;
         &index!(entries[at..at + len], "≤ length entries.now")
