@@ -4,5 +4,7 @@
 mod arrays;
 mod stores;
 
-pub use arrays::{ByteArray, is_same_bytes, is_same_word, is_zeros, read_u32, read_u64};
+pub use arrays::{
+    ByteArray, is_same_bytes, is_same_four, is_same_word, is_zeros, read_u32, read_u64,
+};
 pub use stores::{Borrowed, BorrowedMut, ByteStore, ByteStoreMut, OwnedBytes, write_slice};

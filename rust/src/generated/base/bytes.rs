@@ -5,5 +5,7 @@
 mod arrays;
 mod stores;
 
-pub use arrays::{is_same_bytes, is_same_word, is_zeros, read_u32, read_u64, ByteArray};
+pub use arrays::{
+    is_same_bytes, is_same_four, is_same_word, is_zeros, read_u32, read_u64, ByteArray,
+};
 pub use stores::{write_slice, Borrowed, BorrowedMut, ByteStore, ByteStoreMut, OwnedBytes};

@@ -2,7 +2,7 @@
 //! The lengths of encoded keys and values: as types, known at compile time, or as numbers, known
 //! only at run time.
 
-use crate::generated::header::bytes::{is_same_bytes, is_same_word, ByteArray};
+use crate::generated::header::bytes::{is_same_bytes, is_same_four, is_same_word, ByteArray};
 use crate::generated::header::config::Config;
 use crate::generated::header::header::Header;
 use std::marker::PhantomData;
@@ -72,13 +72,15 @@ impl<K: ByteArray, V: ByteArray> Lengths for Fixed<K, V> {
         &chunk!(entries, slot, len, "≤ length entries.now")
     }
 
-    // Short keys are loaded whole, and compared as their length allows. Longer ones are compared
-    // where they are, word by word, and so are those of 32 bytes: loaded whole, half of such a key
-    // is compared as a vector, which takes longer.
+    // Short keys are loaded whole, and compared as their length allows. Longer ones, and those of
+    // 32 bytes, are compared where they are.
     #[inline(always)]
     fn is_same_key(self, left: &[u8], right: &[u8]) -> bool {
-        if K::LEN > SHORT || K::LEN == 32 {
+        if K::LEN > SHORT {
             return is_same_bytes(left, right);
+        }
+        if K::LEN == 32 {
+            return is_same_four(left, right);
         }
         K::from_slice(left).equals(&K::from_slice(right))
     }

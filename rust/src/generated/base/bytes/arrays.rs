@@ -63,7 +63,7 @@ impl<const LEN: usize> ByteArray for [u8; LEN] {
             16 => is_same_pair(left, right, 0),
             20 => is_same_pair(left, right, 0) && is_same_half(left, right, 16),
             24 => is_same_pair(left, right, 0) && is_same_word(left, right, 16),
-            32 => is_same_pair(left, right, 0) && is_same_pair(left, right, 16),
+            32 => is_same_four(left, right),
             28 => left == right,
             _ if LEN % 4 == 0 => is_same_bytes(left, right),
             _ if LEN < 8 => *self == *other,
@@ -138,6 +138,13 @@ pub fn is_same_bytes(left: &[u8], right: &[u8]) -> bool {
     is_same_half(left, right, at)
         && index!(left[at + 4..], "length left.now ≡ length right.now")
             == index!(right[at + 4..], "length left.now ≡ length right.now")
+}
+
+/// Whether two slices of 32 bytes are equal. They are compared where they are, word by word: of
+/// copies, the compiler compares half as a vector, which takes longer.
+#[inline(always)]
+pub fn is_same_four(left: &[u8], right: &[u8]) -> bool {
+    is_same_pair(left, right, 0) && is_same_pair(left, right, 16)
 }
 
 /// Whether each byte is zero, eight of them at a time.

@@ -14,8 +14,3 @@ pub returns-then-is_same_pair-2 : goal.returns-then-is_same_pair-2
 returns-then-is_same_pair-2 g c =
     whole_decides c.args.self.now c.args.other.now 24 _ (c.told-self ∙ c.in-24.is) (c.told-other ∙ c.in-24.is)
     (pair_decides c.args.self.now c.args.other.now 0 16 8 _ (c.is_same_pair-in-24.ensures.0 c.if-is_same_pair-2.true) c.is_same_word-then-is_same_pair-2.ensures)
-
-pub returns-then-is_same_pair-3 : goal.returns-then-is_same_pair-3
-returns-then-is_same_pair-3 g c =
-    whole_decides c.args.self.now c.args.other.now 32 _ (c.told-self ∙ c.in-32.is) (c.told-other ∙ c.in-32.is)
-    (pair_decides c.args.self.now c.args.other.now 0 16 16 _ (c.is_same_pair-in-32.ensures.0 c.if-is_same_pair-3.true) c.is_same_pair-then-is_same_pair-3.ensures)
