@@ -1,10 +1,11 @@
 //! Inserts into a dynamic table.
-ghost use Rattle.std.specs.Prelude.{◌≡◌, ◌≢◌, length, Err, OnErr};
+ghost use Rattle.std.specs.Prelude.{◌≡◌, length, None, IfSome, Err, OnErr};
 ghost use Rattle.odht_base.specs.Format.{format_of};
 ghost use Rattle.odht_raw.specs.Frame.{IsAccepted};
 ghost use Rattle.odht_raw.specs.DynParts.{bytes_coding};
 ghost use Rattle.odht.specs.Dynamic.{dyn_coding, dyn_format, dyn_store, IsOpened};
 ghost use Rattle.odht.specs.DynInserts.{IsDynInsert, IsStoreInsert};
+ghost use Rattle.odht.specs.DynLists.{length_error};
 
 use super::{DynError, DynTable};
 use crate::bytes::ByteStoreMut;
@@ -26,16 +27,11 @@ impl<H: HashFn, D: ByteStoreMut> DynTable<H, D> {
     ///
     /// The key is hashed once. [`DynTable::get_counted`] counts the groups of such a search.
     pub fn insert(&mut self, key: &[u8], value: &[u8]) -> Result<Option<ShortBytes>, DynError>
-        // Of a key and a value of the table's lengths.
-        ensures inserted { length key.now ≡ self.old.key_len → length value.now ≡ self.old.value_len
+        ensures lengths { IfSome (length_error self.old (key.now, value.now))
+            (λ e. result ≡ Err e) }
+        ensures inserted { length_error self.old (key.now, value.now) ≡ None
             → IsDynInsert (dyn_coding self.old H.hash) (D.bytes self.old.store)
             key.now value.now result (D.bytes self.new.store) }
-        // Of others.
-        ensures key { length key.now ≢ self.old.key_len
-            → result ≡ Err (DynError.WrongKeyLength self.old.key_len (length key.now)) }
-        ensures value { length key.now ≡ self.old.key_len → length value.now ≢ self.old.value_len
-            → result ≡ Err (DynError.WrongValueLength self.old.value_len (length value.now)) }
-        // Of any.
         ensures refused { OnErr result (self.new ≡ self.old) }
         ensures same_store { self.new ≡ dyn_store self.old.key_len self.old.value_len
             (D.holding self.old.store (D.bytes self.new.store)) }
