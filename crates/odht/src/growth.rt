@@ -1,6 +1,6 @@
 //! Growth: a table with the slots for twice as many items, written into larger bytes.
 ghost use Rattle.odht.specs.Tables.{InTable};
-ghost use Rattle.std.specs.Prelude.{◌≡◌, All, Some, length};
+ghost use Rattle.std.specs.Prelude.{◌≡◌, All, length};
 ghost use Rattle.odht_base.specs.Decoded.{header_count, header_factor};
 ghost use Rattle.odht_base.specs.Format.{format_of};
 ghost use Rattle.odht_base.specs.Insert.{grown_slots};
@@ -10,7 +10,7 @@ ghost use Rattle.odht_base.specs.Valid.{IsPartsOf};
 ghost use Rattle.odht_raw.specs.DynParts.{HasLengthsOf};
 ghost use Rattle.odht_raw.specs.Frame.{IsAccepted};
 ghost use Rattle.odht_raw.specs.PartLengths.{ArePairLengths, ArePartLengths};
-ghost use Rattle.odht.specs.Growths.{grown_len, table_len};
+ghost use Rattle.odht.specs.Growths.{grown_len, table_len, HasGrownLen};
 ghost use Rattle.odht.specs.Reserves.{IsMove};
 ghost use Rattle.odht.specs.Growths.{IsWritten, IsGrownFrom, IsGrownLayout, IsRoomFor, IsPlacing};
 
@@ -58,8 +58,7 @@ impl<C: Config, D: ByteStore> HashTable<C, D> {
     /// On any bytes the new header has the item count and the load factor of this one. The pairs
     /// of the walk are then placed as long as a slot is free, which no clause says.
     pub fn grow_into(&self, out: &mut [u8])
-        requires { grown_len ⟦<C as Coded>⟧.coding.format (D.bytes self.now)
-            ≡ Some (length out.old) }
+        requires { HasGrownLen ⟦<C as Coded>⟧.coding.format (D.bytes self.now) out.old }
         ensures { IsGrownFrom ⟦<C as Coded>⟧.coding.format (D.bytes self.now) out.new }
     {
         let Some((slot_count, _)) = grown_layout::<C>(&self.allocation.header()) else {
