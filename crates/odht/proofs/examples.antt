@@ -3,6 +3,8 @@
 pub mod SmallTables
 -- what a new table is, and what an insert leaves
 pub mod Inserts
+-- what an insert leaves of bytes that need not be valid
+pub mod AnyInserts
 -- how long new tables are, and why there is none
 pub mod NewTables
 -- lists of items that are inserted in turn

@@ -30,7 +30,7 @@ use Rattle.odht.proofs.lemmas.ListInserts.{inserted_none, inserted_more}
 module _ {K V : Type 0} (c : Coding K V) (B B' : List ℕ) (k : K) (v : V) where
   -- where it was accepted
   pub dyn_accepted : (o : Option V) → IsDynInsert c B k v (Ok o) B' → (a : Option V) × OfTable c.format B (λ P. IsInsertInto c P k v (Ok a) B') × IsFramed c B k v (Ok a) B'
-  dyn_accepted o h = go h.answer h.is h.insert.on_valid h.insert.frame
+  dyn_accepted o h = go h.answer h.is h.insert.on_valid h.insert.on_any.frame
     where
       go : (r : Result (Option V) Error) → Ok o ≡ result_map_both (λ o. o) Rejected r → OfTable c.format B (λ P. IsInsertInto c P k v r B') → IsFramed c B k v r B'
           → (a : Option V) × OfTable c.format B (λ P. IsInsertInto c P k v (Ok a) B') × IsFramed c B k v (Ok a) B'
@@ -39,7 +39,7 @@ module _ {K V : Type 0} (c : Coding K V) (B B' : List ℕ) (k : K) (v : V) where
 
   -- and where it was not
   pub dyn_refused : (x : DynError) → IsDynInsert c B k v (Err x) B' → (x ≡ Rejected Full) × OfTable c.format B (λ P. IsFullFor P (c.key_bytes k)) × IsFramed c B k v (Err Full) B'
-  dyn_refused x h = go h.answer h.is h.insert.on_valid h.insert.frame h.insert.only_full
+  dyn_refused x h = go h.answer h.is h.insert.on_valid h.insert.on_any.frame h.insert.on_any.only_full
     where
       go : (r : Result (Option V) Error) → Err x ≡ result_map_both (λ o. o) Rejected r → OfTable c.format B (λ P. IsInsertInto c P k v r B') → IsFramed c B k v r B' → OnErr r (r ≡ Err Full)
           → (x ≡ Rejected Full) × OfTable c.format B (λ P. IsFullFor P (c.key_bytes k)) × IsFramed c B k v (Err Full) B'

@@ -29,7 +29,7 @@ module _ {K V : Type 0} (c : Coding K V) (B B' : List ℕ) (k : K) (v : V) (r : 
 
   -- one that fails finds the table full
   pub found_full : (e : DynError) → r ≡ Err e → IsFullFor P (c.key_bytes k)
-  found_full e was = go h.answer h.is (h.insert.on_valid P is) h.insert.only_full
+  found_full e was = go h.answer h.is (h.insert.on_valid P is) h.insert.on_any.only_full
     where
       go : (a : Result (Option V) Error) → r ≡ result_map_both (λ x. x) Rejected a → IsInsertInto c P k v a B' → OnErr a (a ≡ Err Full) → IsFullFor P (c.key_bytes k)
       go (Ok p) e into full = absurd cc
