@@ -9,6 +9,8 @@ pub mod AnyInserts
 pub mod NewTables
 -- lists of items that are inserted in turn
 pub mod ListInserts
+-- the table of a list of items
+pub mod CollectedItems
 -- the last value of a key in a list of items
 pub mod LastValues
 -- items that make a table again
