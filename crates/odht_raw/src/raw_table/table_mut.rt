@@ -32,7 +32,9 @@ pub struct RawTableMut<'c, 'e, K: ByteArray, V: ByteArray, H: HashFn> {
 
 impl<'c, 'e, K: ByteArray, V: ByteArray, H: HashFn> RawTableMut<'c, 'e, K, V, H> {
     ghost use Rattle.odht_raw.specs.PartsMut.{mut_control, mut_entries, control_loan, entries_loan};
-    ghost use Rattle.odht_raw.specs.PartsMut.{IsMutInsert, IsMutPlacing};
+    ghost use Rattle.odht_raw.specs.PartsMut.{table_format, pair_of, IsParts, IsMutPlacing};
+    ghost use Rattle.odht_raw.specs.PartsInserts.{IsPartsInsert, IsInsertChange};
+    ghost use Rattle.odht_base.specs.Table.{Table};
 
     /// The table of these parts. No control byte and no entry is checked or written.
     #[inline]
@@ -61,7 +63,17 @@ impl<'c, 'e, K: ByteArray, V: ByteArray, H: HashFn> RawTableMut<'c, 'e, K, V, H>
     /// the key.
     #[inline(always)]
     pub fn insert(&mut self, key: K, value: V) -> Result<Option<V>, Error>
-        ensures { IsMutInsert self.old key value result self.new }
+        // On the parts of a placed table.
+        ensures placed { let F = table_format self.old in let p = pair_of self.old key value
+            in (P : Table) → IsParts P self.old
+            → IsPartsInsert F V.of_bytes P p result (mut_entries self.new) (mut_control self.new) }
+        // On any parts.
+        ensures any { let F = table_format self.old in let p = pair_of self.old key value
+            in IsInsertChange F V.of_bytes (mut_entries self.old) (mut_control self.old) p
+            result (mut_entries self.new) (mut_control self.new) }
+        // Both slices stay borrowed.
+        ensures control_loan { control_loan self.new ≡ control_loan self.old }
+        ensures entries_loan { entries_loan self.new ≡ entries_loan self.old }
     {
         self.insert_by::<GroupQuery>(key, value)
     }
@@ -70,7 +82,17 @@ impl<'c, 'e, K: ByteArray, V: ByteArray, H: HashFn> RawTableMut<'c, 'e, K, V, H>
     /// searches leave the same parts.
     #[inline(always)]
     pub fn insert_by<Q: Group>(&mut self, key: K, value: V) -> Result<Option<V>, Error>
-        ensures { IsMutInsert self.old key value result self.new }
+        // On the parts of a placed table.
+        ensures placed { let F = table_format self.old in let p = pair_of self.old key value
+            in (P : Table) → IsParts P self.old
+            → IsPartsInsert F V.of_bytes P p result (mut_entries self.new) (mut_control self.new) }
+        // On any parts.
+        ensures any { let F = table_format self.old in let p = pair_of self.old key value
+            in IsInsertChange F V.of_bytes (mut_entries self.old) (mut_control self.old) p
+            result (mut_entries self.new) (mut_control self.new) }
+        // Both slices stay borrowed.
+        ensures control_loan { control_loan self.new ≡ control_loan self.old }
+        ensures entries_loan { entries_loan self.new ≡ entries_loan self.old }
     {
         // As many entries may be added as there are free slots.
         insert_step::<K, V, H, Q>(self.control, self.entries, key, value, usize::MAX)
