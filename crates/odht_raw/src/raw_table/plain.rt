@@ -58,14 +58,15 @@ pub fn plain_insert<K: ByteArray, V: ByteArray, H: HashFn>(
     value: V,
 ) -> Result<Option<V>, Error>
     requires { ArePartLengths H.MIN_LEN K.LEN V.LEN (length entries.old) (length control.old) }
-    ensures placed { let p : Pair = record { key = K.bytes key; value = V.bytes value }
-        in (P : Table)
-        → IsPartsOf (format_of K.LEN V.LEN H.hash) P entries.old control.old
-        → IsPartsInsert
-        (format_of K.LEN V.LEN H.hash) V.of_bytes P p result entries.new control.new }
-    ensures any { let p : Pair = record { key = K.bytes key; value = V.bytes value }
-        in IsInsertChange (format_of K.LEN V.LEN H.hash) V.of_bytes entries.old control.old p result
-        entries.new control.new }
+    // On the parts of a placed table.
+    ensures placed { let F = format_of K.LEN V.LEN H.hash
+        in let p : Pair = record { key = K.bytes key; value = V.bytes value }
+        in (P : Table) → IsPartsOf F P entries.old control.old
+        → IsPartsInsert F V.of_bytes P p result entries.new control.new }
+    // On any parts.
+    ensures any { let F = format_of K.LEN V.LEN H.hash
+        in let p : Pair = record { key = K.bytes key; value = V.bytes value }
+        in IsInsertChange F V.of_bytes entries.old control.old p result entries.new control.new }
 {
     let slots = slot_count_of(control);
     let hash = H::hash(key.as_slice());
