@@ -64,8 +64,6 @@ impl<'a, L: Lengths, H: HashFn> Parts<'a, L, H> {
         ensures { let F = parts_format self.now H.hash
             in IsOrderAnswer F self.now.parts (length out.old) out.new result }
     {
-        // A clause of it is used: the parts are as long as these lengths say.
-        let _ = self.len();
         find_order(self, out)
     }
 
@@ -84,8 +82,6 @@ impl<'a, L: Lengths, H: HashFn> Parts<'a, L, H> {
         ensures { let F = parts_format self.now H.hash
             in IsOrderAnswer F self.now.parts (length out.old) out.new result }
     {
-        // A clause of it is used here too.
-        let _ = self.len();
         find_order_with(self, out, scratch)
     }
 }

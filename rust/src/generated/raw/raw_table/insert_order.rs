@@ -23,7 +23,7 @@ struct Frontier {
     position: usize,
 }
 
-/// `RawTable::insert_order` of any parts whose keys have homes.
+/// `RawTable::insert_order` of any parts.
 ///
 /// A slot waits until all slots before it in the probe order of its key are placed. A pass goes
 /// through the waiting slots in slot order, and places each that waits for no slot by then. At its

@@ -47,8 +47,6 @@ impl<'a, K: ByteArray, V: ByteArray, H: HashFn> RawTable<'a, K, V, H> {
 impl<'a, L: Lengths, H: HashFn> Parts<'a, L, H> {
     /// [`RawTable::insert_order`] of these parts.
     pub fn insert_order(&self, out: &mut [usize]) -> bool {
-        // A clause of it is used: the parts are as long as these lengths say.
-        let _ = self.len();
         find_order(self, out)
     }
 
@@ -61,8 +59,6 @@ impl<'a, L: Lengths, H: HashFn> Parts<'a, L, H> {
 
     /// [`RawTable::insert_order_with`] of these parts.
     pub fn insert_order_with(&self, out: &mut [usize], scratch: &mut [usize]) -> bool {
-        // A clause of it is used here too.
-        let _ = self.len();
         find_order_with(self, out, scratch)
     }
 }
