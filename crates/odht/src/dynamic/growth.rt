@@ -17,8 +17,8 @@ use crate::layout::Layout;
 use crate::memory_layout::{Header, clear_entries};
 
 impl<H: HashFn, D: ByteStore> DynTable<H, D> {
-    /// The length in bytes of the table that this one grows into, as
-    /// [`HashTable::grown_len`](crate::hash_table::HashTable::grown_len) is.
+    /// Returns the length in bytes of the table that this one grows into, like
+    /// [`HashTable::grown_len`](crate::hash_table::HashTable::grown_len).
     pub fn grown_len(&self) -> Option<usize>
         ensures by_header { result
             ≡ grown_len (dyn_format self.now H.hash) (D.bytes self.now.store) }
@@ -31,8 +31,8 @@ impl<H: HashFn, D: ByteStore> DynTable<H, D> {
         }
     }
 
-    /// Writes the table that this one grows into to `out`, whatever its bytes were, as
-    /// [`HashTable::grow_into`](crate::hash_table::HashTable::grow_into) does. `out` has
+    /// Writes the table that this one grows into to `out`, over any bytes that are there, like
+    /// [`HashTable::grow_into`](crate::hash_table::HashTable::grow_into). `out` must have
     /// [`DynTable::grown_len`] bytes.
     pub fn grow_into(&self, out: &mut [u8])
         requires { HasGrownLen (dyn_format self.now H.hash) (D.bytes self.now.store) out.old }
