@@ -3,10 +3,14 @@
 pub mod SmallTables
 -- what a new table is, and what an insert leaves
 pub mod Inserts
+-- what an insert leaves of bytes that need not be valid
+pub mod AnyInserts
 -- how long new tables are, and why there is none
 pub mod NewTables
 -- lists of items that are inserted in turn
 pub mod ListInserts
+-- the table of a list of items
+pub mod CollectedItems
 -- the last value of a key in a list of items
 pub mod LastValues
 -- items that make a table again

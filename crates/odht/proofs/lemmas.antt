@@ -17,6 +17,8 @@ pub mod GrownMoves
 pub mod SameMaps
 -- inserts in turn
 pub mod ListInserts
+-- the error of the lengths of a key and a value
+pub mod DynLengths
 -- inserts in turn into a dynamic table
 pub mod DynLists
 -- keys and values that their bytes decode to

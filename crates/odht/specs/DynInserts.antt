@@ -1,24 +1,21 @@
 -- What an insert into a dynamic table returns and leaves.
---     IsStoreInsert c B k v r B'  an insert of the key k with the value v returns r and leaves B' of the bytes B. On the
---                          bytes of a valid table it does what an insert into a view does (`on_valid`), on any bytes it
---                          changes no more (`frame`), and `Full` is the only error (`only_full`)
+--     IsStoreInsert c B k v r B'  an insert of the key k with the value v returns r and leaves B' of the bytes B. It does
+--                          what an insert into a view does, on the bytes of a valid table (`on_valid`) and on any bytes
+--                          (`on_any`)
 --     IsDynInsert c B k v r B'  the same of a key and a value that have the lengths of the table, where an error is a
 --                          `Rejected`
-use Rattle.std.specs.Prelude.{◌≡◌, List, ℕ, Option, Result, Err, OnErr}
+use Rattle.std.specs.Prelude.{◌≡◌, List, ℕ, Option, Result}
 use Rattle.std.specs.Result.{result_map_both}
 use Rattle.odht_header.specs.Coding.{Coding}
 use Rattle.odht_header.specs.declared.error.Error.{Error}
-use Rattle.odht_header.specs.declared.error.Error.TheVariants.{Full}
-use Rattle.odht_raw.specs.Frame.{IsFramed}
 use Rattle.odht.specs.declared.dynamic.DynError.{DynError}
 use Rattle.odht.specs.declared.dynamic.DynError.TheVariants.{Rejected}
-use Rattle.odht.specs.Inserts.{IsInsertInto}
+use Rattle.odht.specs.Inserts.{IsInsertInto, IsInsertIntoAny}
 use Rattle.odht.specs.Tables.{OfTable}
 
 pub record IsStoreInsert {K V : Type 0} (c : Coding K V) (B : List ℕ) (k : K) (v : V) (r : Result (Option V) Error) (B' : List ℕ) : Type 0 where
   pub on_valid : OfTable c.format B (λ P. IsInsertInto c P k v r B')
-  pub frame : IsFramed c B k v r B'
-  pub only_full : OnErr r (r ≡ Err Full)
+  pub on_any : IsInsertIntoAny c B k v r B'
 
 pub record IsDynInsert {K V : Type 0} (c : Coding K V) (B : List ℕ) (k : K) (v : V) (r : Result (Option V) DynError) (B' : List ℕ) : Type 0 where
   pub answer : Result (Option V) Error

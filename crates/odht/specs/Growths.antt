@@ -3,6 +3,7 @@
 --     grown_slots_of B     the slots for twice the item count of the header of B, and for one item at least, at the
 --                          header's load factor
 --     grown_len F B        how many bytes the table has that the bytes B grow into
+--     HasGrownLen F B T    T are that many bytes
 --     IsGrownLayout F B r  r is the slot count and the length in bytes of the table that the bytes B grow into; None exactly
 --                          where there is none
 --     IsGrownImage F P T   T is the image of the grown table of P
@@ -38,6 +39,9 @@ grown_slots_of B = slots_for (max 1 (2 * header_count B)) (header_factor B)
 
 unfoldable pub grown_len : Format → List ℕ → Option ℕ
 grown_len F B = table_len F (grown_slots_of B)
+
+abbrev pub HasGrownLen : Format → List ℕ → List ℕ → Type 0
+HasGrownLen F B T = grown_len F B ≡ Some (length T)
 
 abbrev pub IsGrownLayout : Format → List ℕ → Option (ℕ × ℕ) → Type 0
 IsGrownLayout F B r = MatchOption r (grown_len F B ≡ None) (λ l. IsLayout F (max 1 (2 * header_count B)) (header_factor B) l.0 l.1)

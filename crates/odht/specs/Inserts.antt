@@ -5,7 +5,10 @@
 --     IsInsertInto c P k v r B    an insert of the key k with the value v into P, in bytes that cannot grow, returns r and
 --                          leaves the bytes B. Where it succeeds it returns the former value (`former`), and the key has
 --                          the new one (`inserted`). It is full exactly where P is at its maximum and has no such key
---     IsInsertOwned c P k v r B    the same in a table that grows: it fails at most where P is at its maximum and has no
+--     IsInsertIntoAny c B k v r B'   an insert of the key k with the value v into any bytes B returns r and leaves the
+--                          bytes B'. It overwrites one value, adds one entry or fails, and no other byte changes
+--                          (`frame`); its only error is `Full` (`only_full`); header and length still fit (`accepted`)
+--     IsInsertOwned c P k v r B    IsInsertInto in a table that grows: it fails at most where P is at its maximum and has no
 --                          such key (`at_maximum`)
 use Rattle.std.specs.Prelude.{◌≡◌, ◌↔◌, ℕ, List, Option, Some, Result, Err, bytes_eq, if◌then◌else◌, IfOk, OnOk, OnErr}
 use Rattle.odht_base.specs.Format.{Format}
@@ -16,6 +19,7 @@ use Rattle.odht_base.specs.Valid.{IsImage}
 use Rattle.odht_header.specs.Coding.{Coding, encoded, value_for}
 use Rattle.odht_header.specs.declared.error.Error.{Error}
 use Rattle.odht_header.specs.declared.error.Error.TheVariants.{Full}
+use Rattle.odht_raw.specs.Frame.{IsAccepted, IsFramed}
 
 pub record IsFresh (F : Format) (n percent : ℕ) (B : List ℕ) : Type 0 where
   pub table : Table
@@ -32,6 +36,11 @@ pub record IsInsertInto {K V : Type 0} (c : Coding K V) (P : Table) (k : K) (v :
   pub former : IfOk r (λ former. former ≡ value_for c P k)
   pub inserted : OnOk r (IsInserted c.format (insert_view c.format) P (encoded c k v) B)
   pub full : (r ≡ Err Full) ↔ IsFullFor P (c.key_bytes k)
+
+pub record IsInsertIntoAny {K V : Type 0} (c : Coding K V) (B : List ℕ) (k : K) (v : V) (r : Result (Option V) Error) (B' : List ℕ) : Type 0 where
+  pub frame : IsFramed c B k v r B'
+  pub only_full : OnErr r (r ≡ Err Full)
+  pub accepted : IsAccepted c.format B'
 
 pub record IsInsertOwned {K V : Type 0} (c : Coding K V) (P : Table) (k : K) (v : V) (r : Result (Option V) Error) (B : List ℕ) : Type 0 where
   pub former : IfOk r (λ former. former ≡ value_for c P k)

@@ -5,6 +5,7 @@
 --                          values. Where P has room for them, Q has its slots and load factor, and at most as many more pairs
 --     IsCollectedIn c p items Q   Q is the fresh table for as many items at p percent, after inserts of the items in turn.
 --                          It has not grown, and has their last values
+--     AreTooMany c p items no table at p percent is large enough for as many items
 --     HasValuesOver P ps Q the map of Q is that of P, overwritten by the last values of the pairs ps
 --     KeepsSize P n Q      where P has room for n more pairs, Q has its slot count and load factor, and at most n more pairs
 --     IsPlainList c P Q items r   inserts of the items in turn into P leave Q, and return r: how many were accepted, and
@@ -17,7 +18,7 @@
 use Rattle.std.specs.Prelude.{◌≡◌, ◌↔◌, ◌≤◌, ◌+◌, ℕ, List, length, take, Option, Some, Result, Err, IsOk, OnOk, OnErr, bytes_eq, if◌then◌else◌}
 use Rattle.odht_base.specs.Format.{Format}
 use Rattle.odht_base.specs.Insert.{insert_owned, run}
-use Rattle.odht_base.specs.Load.{max_items}
+use Rattle.odht_base.specs.Load.{factor_of, max_items}
 use Rattle.odht_base.specs.Map.{map_of, last, overwritten}
 use Rattle.odht_base.specs.Table.{Pair, Table, fresh, count, slot_count}
 use Rattle.odht_header.specs.Coding.{Coding}
@@ -63,6 +64,9 @@ pub record IsCollectedIn {K V : Type 0} (c : Coding K V) (percent : ℕ) (items 
   pub never_grown : HasSizeOf start Q
   pub few : count Q ≤ length items
   pub last_values : HasLastValuesIn c items Q
+
+abbrev pub AreTooMany : {K V : Type 0} → Coding K V → ℕ → List (K × V) → Type 0
+AreTooMany c percent items = IsTooLarge c.format (length items) (factor_of percent)
 
 pub record IsPlainReserve {K V : Type 0} (c : Coding K V) (P : Table) (n : ℕ) (r : Result Unit Error) (Q : Table) : Type 0 where
   pub table : OnOk r (reserved c.format P n ≡ Some Q)

@@ -5,9 +5,9 @@ ghost use Rattle.std.specs.Result.{result_err};
 ghost use Rattle.odht_base.specs.Load.{IsPercent};
 ghost use Rattle.odht_base.specs.Valid.{IsPartsOf, IsValidBytes};
 ghost use Rattle.odht.specs.Gets.{IsGet, IsCountedGet, IsKnown, AreGot};
-ghost use Rattle.odht.specs.Inserts.{IsFresh, IsInsertInto};
+ghost use Rattle.odht.specs.Inserts.{IsFresh, IsInsertInto, IsInsertIntoAny};
 ghost use Rattle.odht.specs.Tables.{OfTable, InTable};
-ghost use Rattle.odht_raw.specs.Frame.{IsAccepted, IsFramed};
+ghost use Rattle.odht_raw.specs.Frame.{IsAccepted};
 ghost use Rattle.odht_header.specs.Refusals.{opening_refusal};
 ghost use Rattle.odht_header.specs.Refusals.{view_refusal};
 ghost use Rattle.odht.specs.NewTables.{new_len, init_refusal};
@@ -310,14 +310,11 @@ impl<C: Config, D: ByteStoreMut> HashTable<C, D> {
         // On the bytes of a valid table.
         ensures on_valid { InTable ⟦<C as Coded>⟧.coding (D.bytes self.old)
             (λ c P. IsInsertInto c P key.now value.now result (D.bytes self.new)) }
-        // On failure.
-        ensures only_full { OnErr result (result ≡ Err Error.Full) }
-        ensures refused { OnErr result (self.new ≡ self.old) }
         // On any bytes.
-        ensures frame { IsFramed ⟦<C as Coded>⟧.coding
+        ensures on_any { IsInsertIntoAny ⟦<C as Coded>⟧.coding
             (D.bytes self.old) key.now value.now result (D.bytes self.new) }
+        ensures refused { OnErr result (self.new ≡ self.old) }
         ensures same_store { self.new ≡ D.holding self.old (D.bytes self.new) }
-        ensures accepted { IsAccepted ⟦<C as Coded>⟧.coding.format (D.bytes self.new) }
     {
         self.allocation.insert_by::<GroupQuery>(key, value)
     }

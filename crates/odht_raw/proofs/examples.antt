@@ -15,8 +15,6 @@ pub mod Placings
 pub mod Checked
 -- and what it knows of the slots that it has been through
 pub mod Summaries
--- what an insert through borrowed parts may not do
-pub mod MutInserts
 -- what placing a key through borrowed parts may not do
 pub mod MutPlacings
 -- the same where lengths are numbers

@@ -44,8 +44,6 @@ pub mod Walks
 pub mod Dumps
 -- the parts of a table, borrowed to be written
 pub mod PartsMut
--- what an order of inserts requires of the parts of a table
-pub mod Homes
 -- the slots that wait while an order of inserts is searched for
 pub mod Waiting
 -- and how far those in the probe orders of some homes are placed

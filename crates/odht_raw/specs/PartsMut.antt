@@ -7,11 +7,9 @@
 --     table_format t       the format of the table's keys, values and hash
 --     IsParts P t          the parts are those of the placed table P
 --     pair_of t k v        the key k and the value v, in bytes
---     IsMutInsert t k v r t'  an insert of k and v through t answers r and leaves t': what an insert into parts does,
---                          and both borrows stay
 --     IsMutPlacing t k v r t'  placing k and v through t answers r and leaves t': what placing a pair with a new key
 --                          into parts does, and both borrows stay
-use Rattle.std.specs.Prelude.{◌≡◌, ℕ, ◌-◌, List, length, Option, Result}
+use Rattle.std.specs.Prelude.{◌≡◌, ℕ, ◌-◌, List, length, Result}
 use Rattle.std.specs.Borrow.{GName}
 use Rattle.std.specs.declared.cmp.PartialEq.{Ghosts as PartialEqOf}
 use Rattle.std.specs.declared.fmt.Debug.{Ghosts as DebugOf}
@@ -21,7 +19,6 @@ use Rattle.odht_base.specs.Format.{Format, format_of}
 use Rattle.odht_base.specs.Table.{Pair, Table}
 use Rattle.odht_base.specs.Valid.{IsPartsOf}
 use Rattle.odht_raw.specs.Parts.{TableParts}
-use Rattle.odht_raw.specs.PartsInserts.{IsPartsInsert, IsInsertChange}
 use Rattle.odht_raw.specs.PartsPlacings.{IsNewTo, IsNewPlacing, IsAddition}
 use Rattle.odht_header.specs.declared.error.Error.{Error}
 use Rattle.odht_raw.specs.declared.raw_table.table_mut.RawTableMut.{RawTableMut}
@@ -52,15 +49,6 @@ module _ {K V H : Type 0} {key : ByteArrayOf K} {key_eq : PartialEqOf K} {key_de
 
   abbrev pub pair_of : RawTableMut K V H key key_eq key_debug value value_eq value_debug hash hash_eq → K → V → Pair
   pair_of t k v = record { key = key.bytes k; value = value.bytes v }
-
-  pub record IsMutInsert
-      (t : RawTableMut K V H key key_eq key_debug value value_eq value_debug hash hash_eq)
-      (k : K) (v : V) (r : Result (Option V) Error)
-      (t' : RawTableMut K V H key key_eq key_debug value value_eq value_debug hash hash_eq) : Type 0 where
-    pub parts : (P : Table) → IsParts P t → IsPartsInsert (table_format t) value.of_bytes P (pair_of t k v) r (mut_entries t') (mut_control t')
-    pub change : IsInsertChange (table_format t) value.of_bytes (mut_entries t) (mut_control t) (pair_of t k v) r (mut_entries t') (mut_control t')
-    pub control_loan : control_loan t' ≡ control_loan t
-    pub entries_loan : entries_loan t' ≡ entries_loan t
 
   pub record IsMutPlacing
       (t : RawTableMut K V H key key_eq key_debug value value_eq value_debug hash hash_eq)

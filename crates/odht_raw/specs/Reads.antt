@@ -7,20 +7,15 @@
 --     IsHeldBy p B             B is long enough to have the parts at the place p
 --     IsFoundWithin s r        the slot of a key that is found is below s
 --     IsLooking F p k t b      a search for the key k with the tag t is at the slots from b on
---     IsGroupLook F E bs b k r r is what a look at the sixteen slots from b on finds, whose control bytes are bs: on a
---                              placed table the answer of the search if it ends there (`on_placed`), on any parts such
---                              an end (`slot`), and None where the search goes on from each slot (`none`)
 --     read_groups p B n        the control bytes at the place p, of which n groups were read
-use Rattle.std.specs.Prelude.{⊤, ◌≡◌, ℕ, ◌+◌, ◌*◌, ◌<◌, ◌≤◌, List, length, Option, IfSome, IsNone}
+use Rattle.std.specs.Prelude.{⊤, ◌≡◌, ℕ, ◌+◌, ◌*◌, ◌<◌, ◌≤◌, List, length}
 use Rattle.odht_base.specs.Bytes.{bytes_at}
 use Rattle.odht_base.specs.Decoded.{slot_key}
 use Rattle.odht_base.specs.Format.{Format, IsFormat}
 use Rattle.odht_base.specs.Load.{IsSlotCount}
-use Rattle.odht_base.specs.Table.{Table}
 use Rattle.odht_raw.specs.Parts.{EntryBytes, ReadGroups, entry_format}
 use Rattle.odht_raw.specs.SearchResults.{MatchSearchResult}
-use Rattle.odht_raw.specs.SearchEnds.{IsEndAmong, GoesOnAmong}
-use Rattle.odht_raw.specs.SearchSteps.{IsGroupAt, IsLook, IsTag}
+use Rattle.odht_raw.specs.SearchSteps.{IsTag}
 use Rattle.odht_raw.specs.declared.raw_table.search_result.Search.{Search}
 use Rattle.odht_raw.specs.declared.raw_table.read_search.ReadPlace.{ReadPlace}
 
@@ -55,11 +50,6 @@ pub record IsLooking (F : Format) (p : ReadPlace) (k : List ℕ) (t b : ℕ) : T
   pub key : length k ≡ F.key_len
   pub tag : IsTag F k t
   pub start : b < p.slots
-
-pub record IsGroupLook (F : Format) (E : EntryBytes) (bs : List ℕ) (b : ℕ) (k : List ℕ) (r : Option Search) : Type 0 where
-  pub slot : IfSome r (IsEndAmong F E bs b 16 k)
-  pub none : IsNone r → GoesOnAmong F E bs b k 16
-  pub on_placed : (P : Table) (p : ℕ) → IsGroupAt F P E k p b bs → IsLook F P k p 16 r
 
 abbrev pub read_groups : ReadPlace → List ℕ → ℕ → ReadGroups
 read_groups p B n = record { control = read_controls p B; groups = n }

@@ -7,14 +7,18 @@
 --     EndsWithin F P k p n   the search ends at one of the n positions from p on
 --     IsLook F P k p n r     r is the result of a look at these n positions: the answer where the search ends there,
 --                            else None
+--     IsGroupLook F E bs b n k r   r is what a look at the n slots from b on finds, whose control bytes are bs: on a placed
+--                            table the answer of the search if it ends there (`on_placed`), on any parts such an end
+--                            (`slot`), and None where the search goes on from each slot (`none`)
 --     IsTag F k t            t is the tag of k, which is below that of any free slot
-use Rattle.std.specs.Prelude.{◌≡◌, ℕ, ◌+◌, ◌%◌, ◌<◌, ◌≤◌, false, List, length, slice_index, Option, Some, MatchOption}
+use Rattle.std.specs.Prelude.{◌≡◌, ℕ, ◌+◌, ◌%◌, ◌<◌, ◌≤◌, false, List, length, slice_index, Option, Some, MatchOption, IfSome, IsNone}
 use Rattle.odht_base.specs.Format.{Format, home, tag}
 use Rattle.odht_base.specs.Image.{entries, control_byte}
 use Rattle.odht_base.specs.Probe.{probe_slot}
 use Rattle.odht_base.specs.Search.{stops_at, reach}
 use Rattle.odht_base.specs.Table.{Table, slot_count, cell_at}
 use Rattle.odht_base.specs.Valid.{IsPlaced}
+use Rattle.odht_raw.specs.SearchEnds.{IsEndAmong, GoesOnAmong}
 use Rattle.odht_raw.specs.SearchResults.{answer}
 use Rattle.odht_raw.specs.Parts.{EntryBytes}
 use Rattle.odht_raw.specs.declared.raw_table.search_result.Search.{Search}
@@ -39,6 +43,11 @@ EndsWithin F P k p n = (q : ℕ) × (p ≤ q) × (q < p + n) × (reach F P.cells
 
 abbrev pub IsLook : Format → Table → List ℕ → ℕ → ℕ → Option Search → Type 0
 IsLook F P k p n r = MatchOption r (Passed F P k (p + n)) (λ a. (a ≡ answer F P.cells k) × EndsWithin F P k p n)
+
+pub record IsGroupLook (F : Format) (E : EntryBytes) (bs : List ℕ) (b n : ℕ) (k : List ℕ) (r : Option Search) : Type 0 where
+  pub slot : IfSome r (IsEndAmong F E bs b n k)
+  pub none : IsNone r → GoesOnAmong F E bs b k n
+  pub on_placed : (P : Table) (p : ℕ) → IsGroupAt F P E k p b bs → IsLook F P k p n r
 
 pub record IsTag (F : Format) (k : List ℕ) (t : ℕ) : Type 0 where
   pub is : t ≡ tag F k

@@ -7,10 +7,9 @@ use Rattle.odht_header.specs.Coding.{Coding}
 use Rattle.odht_header.specs.Refusals.{new_refusal, view_refusal}
 use Rattle.odht_header.specs.declared.error.Error.{Error}
 use Rattle.odht_header.specs.declared.error.Error.TheVariants.{Full, TooShort}
-use Rattle.odht_raw.specs.Frame.{IsFramed}
 use Rattle.odht.specs.Dynamic.{dyn_refusal, dyn_new_refusal}
 use Rattle.odht.specs.DynInserts.{IsDynInsert}
-use Rattle.odht.specs.Inserts.{IsInsertInto}
+use Rattle.odht.specs.Inserts.{IsInsertInto, IsInsertIntoAny}
 use Rattle.odht.specs.Tables.{OfTable}
 use Rattle.odht.specs.declared.dynamic.DynError.TheVariants.{KeyTooShort, WrongKeyLength, Rejected}
 
@@ -31,13 +30,13 @@ new_long_keys h n f len = refl
 -- ---- inserts
 module _ {K V : Type 0} (c : Coding K V) (B B' : List ℕ) (k : K) (v : V) where
   -- what an insert into a view returns, with its error as a Rejected
-  pub of_a_view : (r : Result (Option V) Error) → OfTable c.format B (λ P. IsInsertInto c P k v r B') → IsFramed c B k v r B' → OnErr r (r ≡ Err Full)
+  pub of_a_view : (r : Result (Option V) Error) → OfTable c.format B (λ P. IsInsertInto c P k v r B') → IsInsertIntoAny c B k v r B'
       → IsDynInsert c B k v (result_map_both (λ o. o) Rejected r) B'
-  of_a_view r valid frame full = record { answer = r; is = refl; insert = record { on_valid = valid; frame = frame; only_full = full } }
+  of_a_view r valid any = record { answer = r; is = refl; insert = record { on_valid = valid; on_any = any } }
 
   -- no other error than Full
   pub other_error_refused : (n : ℕ) → IsDynInsert c B k v (Err (Rejected (TooShort n))) B' → ⊥
-  other_error_refused n h = go h.answer h.is h.insert.only_full
+  other_error_refused n h = go h.answer h.is h.insert.on_any.only_full
     where
       go : (r : Result (Option V) Error) → Err (Rejected (TooShort n)) ≡ result_map_both (λ o. o) Rejected r → OnErr r (r ≡ Err Full) → ⊥
       go (Ok o) is full = cc

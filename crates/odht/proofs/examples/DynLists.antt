@@ -6,6 +6,7 @@ use Rattle.odht_base.specs.Format.{format_of}
 use Rattle.odht_header.specs.Coding.{Coding}
 use Rattle.odht_raw.specs.Prefixes.{front_refusal}
 use Rattle.odht.specs.Dynamic.{DynStore, dyn_store}
+use Rattle.odht.specs.DynFormers.{lengths_error}
 use Rattle.odht.specs.DynLists.{length_error}
 use Rattle.odht.specs.DynPrefixes.{dyn_front_refusal}
 use Rattle.odht.specs.Gets.{AreGot}
@@ -28,6 +29,20 @@ module _ {D : Type 0} (store : D) where
   -- the error of the key comes first
   pub neither_fits : length_error table (1 ∷ [], []) ≡ Some (WrongKeyLength 3 1)
   neither_fits = refl
+
+  -- the bytes for the former value have the length of the values
+  pub fitting_former : lengths_error table (1 ∷ 2 ∷ 3 ∷ []) (9 ∷ []) (0 ∷ []) ≡ None
+  fitting_former = refl
+
+  pub long_former : lengths_error table (1 ∷ 2 ∷ 3 ∷ []) (9 ∷ []) (0 ∷ 0 ∷ []) ≡ Some (WrongValueLength 1 2)
+  long_former = refl
+
+  -- the errors of the key and of the value come first
+  pub no_key_first : lengths_error table [] (9 ∷ []) (0 ∷ 0 ∷ []) ≡ Some (WrongKeyLength 3 0)
+  no_key_first = refl
+
+  pub no_value_first : lengths_error table (1 ∷ 2 ∷ 3 ∷ []) [] (0 ∷ 0 ∷ []) ≡ Some (WrongValueLength 1 0)
+  no_value_first = refl
 
 -- ---- keys of three bytes, where the hash function needs four: before all other errors
 pub short_keys : (h : List ℕ → ℕ) (B : List ℕ) → dyn_front_refusal 4 (format_of 3 1 h) B ≡ Some (KeyTooShort 3 4)

@@ -5,10 +5,11 @@ use Rattle.odht_base.specs.Load.{factor_of, slots_for}
 use Rattle.odht_base.proofs.examples.Configs.{my_config, pair64}
 use Rattle.odht_base.proofs.lemmas.FreeSlots.{map_of-empty}
 use Rattle.odht_base.proofs.lemmas.Least.{slots_for-IsLeastSlots}
+use Rattle.odht_base.proofs.lemmas.Options.{some_same}
 use Rattle.odht_header.specs.declared.error.Error.TheVariants.{Capacity, InitLength, Memory, TooShort}
 use Rattle.odht_header.specs.Refusals.{new_refusal}
 use Rattle.odht_header.proofs.examples.Opened.{opened}
-use Rattle.odht.specs.Growths.{grown_len, IsGrownLayout, IsRoomFor, IsPlacing}
+use Rattle.odht.specs.Growths.{grown_len, HasGrownLen, IsGrownLayout, IsRoomFor, IsPlacing}
 use Rattle.odht.specs.NewTables.{new_len, init_refusal, IsEmptyFor, IsCapacityOrMemory, FailsAsNew, FailsBy}
 use Rattle.odht.proofs.examples.SmallTables.{number_coding, no_pairs, one_pair, bytes_of, no_pairs_image}
 
@@ -36,6 +37,11 @@ grown_layout = record { slots = refl; least = slots_for-IsLeastSlots 1 (factor_o
 pub no_layout_refused : IsGrownLayout my_config (bytes_of no_pairs) None → ⊥
 unfolding opened slots_for grown_len
 no_layout_refused h = absurd cc
+
+-- so it grows into 256 bytes, and not into 255
+pub grown_lengths : HasGrownLen my_config (bytes_of no_pairs) (replicate 256 0) × (HasGrownLen my_config (bytes_of no_pairs) (replicate 255 0) → ⊥)
+unfolding opened slots_for grown_len
+grown_lengths = (refl, λ h. omega (arith, some_same 256 255 h))
 
 -- ---- errors
 pub either_error : IsCapacityOrMemory {T = ℕ} (Err Capacity) × IsCapacityOrMemory {T = ℕ} (Err Memory)

@@ -1,10 +1,9 @@
 -- What is told of a former value that is written into bytes of the caller.
-use Rattle.std.proofs.Common.{◌≡◌, ◌∙◌, ℕ, Bool, List, Option, Result, Ok, Err, ap, refl}
+use Rattle.std.proofs.Common.{◌≡◌, ℕ, Bool, List, Option, Result, Ok, Err, ap}
 use Rattle.std.specs.Prelude.{is_some, OnErr}
 use Rattle.std.specs.Result.{result_map_both}
 use Rattle.odht_header.specs.declared.error.Error.{Error}
-use Rattle.odht_raw.specs.FormerWrites.{IsFormerTo, former_or}
-use Rattle.odht.specs.declared.dynamic.DynError.{DynError}
+use Rattle.odht_raw.specs.FormerWrites.{IsFormerTo}
 use Rattle.odht.specs.declared.dynamic.DynError.TheVariants.{Rejected}
 
 -- what holds where the answer is an error holds where the error is told

@@ -1,5 +1,5 @@
 -- What the insert into a view says of the insert into an owned table whose lengths are known only at run time.
-use Rattle.std.proofs.Common.{◌≡◌, ◌≢◌, ◌==◌, ℕ, Bool, true, false, List, Option, Result, Ok, Err, OnErr, refl, sym, ◌∙◌, subst, ap, Some, None, true≢false, eqb-true, eq-eqb, inl, inr, arith}
+use Rattle.std.proofs.Common.{◌≡◌, ℕ, List, Option, Result, Ok, Err, OnErr, refl, sym, ◌∙◌, subst, ap, Some, None, inl, inr, arith}
 use Rattle.std.specs.Result.{result_map_both}
 use Rattle.std.proofs.lemmas.Option.{none-some}
 use Rattle.odht_base.specs.Insert.{IsFullFor}
@@ -29,19 +29,11 @@ module _ {K V : Type 0} (c : Coding K V) (B B' : List ℕ) (k : K) (v : V) (r : 
 
   -- one that fails finds the table full
   pub found_full : (e : DynError) → r ≡ Err e → IsFullFor P (c.key_bytes k)
-  found_full e was = go h.answer h.is (h.insert.on_valid P is) h.insert.only_full
+  found_full e was = go h.answer h.is (h.insert.on_valid P is) h.insert.on_any.only_full
     where
       go : (a : Result (Option V) Error) → r ≡ result_map_both (λ x. x) Rejected a → IsInsertInto c P k v a B' → OnErr a (a ≡ Err Full) → IsFullFor P (c.key_bytes k)
       go (Ok p) e into full = absurd cc
       go (Err x) e into full = into.full.0 full
-
--- numbers that are not different are the same
-pub not_other : (m n : ℕ) → ((m ≢ n) → ⊥) → m ≡ n
-not_other m n h = go (m == n) refl
-  where
-    go : (b : Bool) → (m == n) ≡ b → m ≡ n
-    go true e = eqb-true m n e
-    go false e = absurd (h (λ same. true≢false (sym (eq-eqb m n same) ∙ e)))
 
 -- ---- the errors of a new table
 module _ {K V : Type 0} (c : Coding K V) (n f : ℕ) where

@@ -1,22 +1,18 @@
 -- The owned dynamic table, as its lengths and its plain table.
-use Rattle.std.proofs.Common.{◌≡◌, ◌≢◌, ◌==◌, ◌≤◌, ◌+◌, ◌∙◌, ℕ, Bool, true, false, List, Option, Some, None, Result, Ok, Err, refl, sym, ap, subst, eqb-true, eq-eqb, true≢false, length}
+use Rattle.std.proofs.Common.{◌≡◌, ◌≢◌, ◌==◌, ◌∙◌, ℕ, Bool, true, false, List, Option, Some, None, Ok, refl, sym, ap, subst, eqb-true, eq-eqb, true≢false, length}
 use Rattle.std.specs.Prelude.{option_map}
 use Rattle.odht_base.specs.Decoded.{decoded_table}
 use Rattle.odht_base.specs.Format.{Format, IsFormat, format_of}
 use Rattle.odht_base.specs.Insert.{insert_owned}
 use Rattle.odht_base.specs.Map.{map_of}
 use Rattle.odht_base.specs.Table.{Table}
-use Rattle.odht_base.specs.Valid.{IsImage, IsValidBytes}
+use Rattle.odht_base.specs.Valid.{IsImage}
 use Rattle.odht_header.specs.Coding.{encoded}
-use Rattle.odht_header.specs.declared.error.Error.{Error}
 use Rattle.odht.specs.Dynamic.{DynStore, dyn_coding, dyn_format, dyn_plain, dyn_store, IsDynImage}
 use Rattle.odht.specs.DynOwned.{IsDynWith}
 use Rattle.odht.specs.Inserts.{IsInsertOwned}
 use Rattle.odht.specs.Plain.{HasMapWith, KeepsSize}
-use Rattle.odht.specs.declared.dynamic.DynError.{DynError}
-use Rattle.odht.specs.declared.dynamic.DynError.TheVariants.{WrongKeyLength, WrongValueLength, Rejected}
 use Rattle.odht.proofs.lemmas.DynLookups.{other_length}
-use Rattle.odht.proofs.lemmas.DynOwned.{not_other}
 use Rattle.odht.proofs.lemmas.Plain.{the_table, decoded_image}
 use Rattle.odht.proofs.lemmas.PlainRuns.{one_stays}
 
@@ -87,14 +83,3 @@ module _ (h : List ℕ → ℕ) (t t' : DynStore (List ℕ)) (is : IsDynImage t 
         subst (HasMapWith P (encoded c k v)) at into.maps,
         subst (KeepsSize P 1) at (one_stays F P (encoded c k v) into.table t.store t'.store is.image into.inserted into.image),
       )
-
--- a result that is a value comes of a key and a value of the table's lengths
-pub fitting : {T : Type 0} (r : Result T DynError) (o : T) (e : DynError) (m n : ℕ) → r ≡ Ok o → (m ≢ n → r ≡ Err e) → m ≡ n
-fitting r o e m n was other = not_other m n (λ apart. let both : Ok o ≡ Err e = sym was ∙ other apart in cc)
-
--- and so does one that is rejected
-pub rejected_key : {T : Type 0} (r : Result T DynError) (e : Error) (m n a b : ℕ) → r ≡ Err (Rejected e) → (m ≢ n → r ≡ Err (WrongKeyLength a b)) → m ≡ n
-rejected_key {T = T} r e m n a b was other = not_other m n (λ apart. let both : ◌≡◌ {A = Result T DynError} (Err (Rejected e)) (Err (WrongKeyLength a b)) = sym was ∙ other apart in cc)
-
-pub rejected_value : {T : Type 0} (r : Result T DynError) (e : Error) (m n a b : ℕ) → r ≡ Err (Rejected e) → (m ≢ n → r ≡ Err (WrongValueLength a b)) → m ≡ n
-rejected_value {T = T} r e m n a b was other = not_other m n (λ apart. let both : ◌≡◌ {A = Result T DynError} (Err (Rejected e)) (Err (WrongValueLength a b)) = sym was ∙ other apart in cc)

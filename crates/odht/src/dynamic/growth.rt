@@ -1,11 +1,11 @@
 //! Growth of a dynamic table, into larger bytes.
-ghost use Rattle.std.specs.Prelude.{◌≡◌, Some, length};
+ghost use Rattle.std.specs.Prelude.{◌≡◌, length};
 ghost use Rattle.odht_base.specs.Decoded.{header_count, header_factor};
 ghost use Rattle.odht_base.specs.Image.{image_len};
 ghost use Rattle.odht_base.specs.Insert.{grown_slots};
 ghost use Rattle.odht_base.specs.Load.{IsSlotCount};
 ghost use Rattle.odht.specs.Dynamic.{dyn_format};
-ghost use Rattle.odht.specs.Growths.{grown_len, table_len, IsGrownFrom};
+ghost use Rattle.odht.specs.Growths.{grown_len, table_len, HasGrownLen, IsGrownFrom};
 ghost use Rattle.odht.specs.Reserves.{IsMove};
 ghost use Rattle.odht.specs.Tables.{OfTable};
 
@@ -17,8 +17,8 @@ use crate::layout::Layout;
 use crate::memory_layout::{Header, clear_entries};
 
 impl<H: HashFn, D: ByteStore> DynTable<H, D> {
-    /// The length in bytes of the table that this one grows into, as
-    /// [`HashTable::grown_len`](crate::hash_table::HashTable::grown_len) is.
+    /// Returns the length in bytes of the table that this one grows into, like
+    /// [`HashTable::grown_len`](crate::hash_table::HashTable::grown_len).
     pub fn grown_len(&self) -> Option<usize>
         ensures by_header { result
             ≡ grown_len (dyn_format self.now H.hash) (D.bytes self.now.store) }
@@ -31,12 +31,11 @@ impl<H: HashFn, D: ByteStore> DynTable<H, D> {
         }
     }
 
-    /// Writes the table that this one grows into to `out`, whatever its bytes were, as
-    /// [`HashTable::grow_into`](crate::hash_table::HashTable::grow_into) does. `out` has
+    /// Writes the table that this one grows into to `out`, over any bytes that are there, like
+    /// [`HashTable::grow_into`](crate::hash_table::HashTable::grow_into). `out` must have
     /// [`DynTable::grown_len`] bytes.
     pub fn grow_into(&self, out: &mut [u8])
-        requires { grown_len (dyn_format self.now H.hash) (D.bytes self.now.store)
-            ≡ Some (length out.old) }
+        requires { HasGrownLen (dyn_format self.now H.hash) (D.bytes self.now.store) out.old }
         ensures { IsGrownFrom (dyn_format self.now H.hash) (D.bytes self.now.store) out.new }
     {
         let header = Header::of(self.raw_bytes());

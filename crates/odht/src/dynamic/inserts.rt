@@ -1,10 +1,11 @@
 //! Inserts into a dynamic table.
-ghost use Rattle.std.specs.Prelude.{◌≡◌, ◌≢◌, length, Err, OnErr};
+ghost use Rattle.std.specs.Prelude.{◌≡◌, length, None, IfSome, Err, OnErr};
 ghost use Rattle.odht_base.specs.Format.{format_of};
 ghost use Rattle.odht_raw.specs.Frame.{IsAccepted};
 ghost use Rattle.odht_raw.specs.DynParts.{bytes_coding};
 ghost use Rattle.odht.specs.Dynamic.{dyn_coding, dyn_format, dyn_store, IsOpened};
 ghost use Rattle.odht.specs.DynInserts.{IsDynInsert, IsStoreInsert};
+ghost use Rattle.odht.specs.DynLists.{length_error};
 
 use super::{DynError, DynTable};
 use crate::bytes::ByteStoreMut;
@@ -15,27 +16,24 @@ use crate::memory_layout::insert_dynamic;
 use crate::raw_table::ShortBytes;
 
 impl<H: HashFn, D: ByteStoreMut> DynTable<H, D> {
-    /// Gives the key this value, and returns its former one: on valid bytes the table's value for
-    /// the key. No memory is allocated.
+    /// Inserts a pair, and returns the former value of the key: on valid bytes the table's value
+    /// for the key. It allocates nothing.
     ///
-    /// The first error: `WrongKeyLength` where the key has another length than the table's keys;
-    /// `WrongValueLength` where the value has another one than its values; then `Rejected` with
-    /// `Full`, as [`HashTable::insert`](crate::hash_table::HashTable::insert) returns it: on valid
-    /// bytes exactly where the table has its maximum of items and the key is not among them. On an
-    /// error nothing changes. On bytes that are not valid no more changes than that call changes.
+    /// It returns the first error, and then nothing changes:
     ///
-    /// The key is hashed once. [`DynTable::get_counted`] counts the groups of such a search.
+    /// - `WrongKeyLength` if the key has another length than the table's keys.
+    /// - `WrongValueLength` if the value has another length than the table's values.
+    /// - `Rejected` with `Full`, as [`HashTable::insert`](crate::hash_table::HashTable::insert)
+    ///   returns it: on valid bytes exactly if the table is at its maximum and the key is absent.
+    ///
+    /// On bytes that are not valid no more changes than that call changes. The key is hashed once.
+    /// [`DynTable::get_counted`] counts the groups that such a search reads.
     pub fn insert(&mut self, key: &[u8], value: &[u8]) -> Result<Option<ShortBytes>, DynError>
-        // Of a key and a value of the table's lengths.
-        ensures inserted { length key.now ≡ self.old.key_len → length value.now ≡ self.old.value_len
+        ensures lengths { IfSome (length_error self.old (key.now, value.now))
+            (λ e. result ≡ Err e) }
+        ensures inserted { length_error self.old (key.now, value.now) ≡ None
             → IsDynInsert (dyn_coding self.old H.hash) (D.bytes self.old.store)
             key.now value.now result (D.bytes self.new.store) }
-        // Of others.
-        ensures key { length key.now ≢ self.old.key_len
-            → result ≡ Err (DynError.WrongKeyLength self.old.key_len (length key.now)) }
-        ensures value { length key.now ≡ self.old.key_len → length value.now ≢ self.old.value_len
-            → result ≡ Err (DynError.WrongValueLength self.old.value_len (length value.now)) }
-        // Of any.
         ensures refused { OnErr result (self.new ≡ self.old) }
         ensures same_store { self.new ≡ dyn_store self.old.key_len self.old.value_len
             (D.holding self.old.store (D.bytes self.new.store)) }

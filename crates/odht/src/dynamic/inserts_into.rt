@@ -1,11 +1,11 @@
 //! Inserts into a dynamic table, which write the former value into
 //! bytes of the caller.
-ghost use Rattle.std.specs.Prelude.{◌≡◌, ◌≢◌, length, Err, OnErr};
+ghost use Rattle.std.specs.Prelude.{◌≡◌, length, None, IfSome, Err, OnErr};
 ghost use Rattle.odht_base.specs.Format.{format_of};
 ghost use Rattle.odht_raw.specs.Frame.{IsAccepted};
 ghost use Rattle.odht_raw.specs.DynParts.{bytes_coding};
 ghost use Rattle.odht.specs.Dynamic.{dyn_coding, dyn_format, dyn_store, IsOpened};
-ghost use Rattle.odht.specs.DynFormers.{IsDynInsertInto, IsStoreInsertInto};
+ghost use Rattle.odht.specs.DynFormers.{IsDynInsertInto, IsStoreInsertInto, lengths_error};
 
 use super::{DynError, DynTable};
 use crate::bytes::ByteStoreMut;
@@ -15,10 +15,10 @@ use crate::layout::Layout;
 use crate::memory_layout::insert_dynamic_into;
 
 impl<H: HashFn, D: ByteStoreMut> DynTable<H, D> {
-    /// [`DynTable::insert`], which writes the former value to `former`, and returns whether there is one: no
-    /// value passes through memory of its own. `WrongValueLength` too where `former` has another
-    /// length than the table's values. Where the key has no value, and on an error, `former` is
-    /// unchanged.
+    /// Like [`DynTable::insert`], but writes the former value to `former`, and returns whether there
+    /// is one. So no value passes through memory of its own. If `former` has another length than
+    /// the table's values, the error is `WrongValueLength`, too. If the key has no value, and on an
+    /// error, `former` is unchanged.
     #[inline(always)]
     pub fn insert_into(
         &mut self,
@@ -26,20 +26,11 @@ impl<H: HashFn, D: ByteStoreMut> DynTable<H, D> {
         value: &[u8],
         former: &mut [u8],
     ) -> Result<bool, DynError>
-        // Of a key, a value and bytes of the table's lengths.
-        ensures inserted { length key.now ≡ self.old.key_len → length value.now ≡ self.old.value_len
-            → length former.old ≡ self.old.value_len
+        ensures lengths { IfSome (lengths_error self.old key.now value.now former.old)
+            (λ e. result ≡ Err e) }
+        ensures inserted { lengths_error self.old key.now value.now former.old ≡ None
             → IsDynInsertInto (dyn_coding self.old H.hash) (D.bytes self.old.store)
             key.now value.now former.old result (D.bytes self.new.store) former.new }
-        // Of others.
-        ensures key { length key.now ≢ self.old.key_len
-            → result ≡ Err (DynError.WrongKeyLength self.old.key_len (length key.now)) }
-        ensures value { length key.now ≡ self.old.key_len → length value.now ≢ self.old.value_len
-            → result ≡ Err (DynError.WrongValueLength self.old.value_len (length value.now)) }
-        ensures former { length key.now ≡ self.old.key_len → length value.now ≡ self.old.value_len
-            → length former.old ≢ self.old.value_len
-            → result ≡ Err (DynError.WrongValueLength self.old.value_len (length former.old)) }
-        // Of any.
         ensures refused { OnErr result (self.new ≡ self.old) }
         ensures kept { OnErr result (former.new ≡ former.old) }
         ensures same_store { self.new ≡ dyn_store self.old.key_len self.old.value_len

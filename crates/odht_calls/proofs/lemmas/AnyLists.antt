@@ -99,8 +99,8 @@ answer_len F B accepted k (Some v) stored = stored_len F B accepted k v.now stor
 
 -- ---- an insert of a key and a value of the lengths of the format is what a table's insert is
 pub dynamic_insert : (F : Format) → IsFormat F → (B k v : List ℕ) (r : Result (Option (List ℕ)) Error) (B' : List ℕ)
-    → ((P : Table) → IsImage F P B → IfOk r (λ old. IsOnePlaced (bytes_coding F) P k v old B')) → IsFramed (bytes_coding F) B k v r B' → IsStoreInsert (bytes_coding F) B k v r B'
-dynamic_insert F fits B k v r B' placed framed =
+    → ((P : Table) → IsImage F P B → IfOk r (λ old. IsOnePlaced (bytes_coding F) P k v old B')) → IsFramed (bytes_coding F) B k v r B' → IsAccepted F B' → IsStoreInsert (bytes_coding F) B k v r B'
+dynamic_insert F fits B k v r B' placed framed accepted =
     let K = bytes_coding F in
     record {
       on_valid = λ P is. record {
@@ -108,8 +108,7 @@ dynamic_insert F fits B k v r B' placed framed =
         inserted = if_inserted K P B k v r B' is (placed P is);
         full = (λ e. framed-full K B k v fits P is r B' e framed, λ full. full-framed K B k v fits P is r B' (placed P is) framed full);
       };
-      frame = framed;
-      only_full = framed-only_full K B k v r B' framed;
+      on_any = record { frame = framed; only_full = framed-only_full K B k v r B' framed; accepted = accepted };
     }
 
 -- ---- pairs of accepted bytes have the lengths of the format

@@ -1,14 +1,18 @@
 -- Worked examples: parts of a table that are read by position, here behind 40 other bytes.
 use Rattle.std.proofs.Common.{◌≡◌, ℕ, ◌+◌, ◌%◌, ◌++◌, refl, List, replicate, length, Some, None, lit<, arith}
 use Rattle.odht_base.specs.Decoded.{slot_key}
-use Rattle.odht_base.specs.Format.{IsFormat}
+use Rattle.odht_base.specs.Format.{Format, IsFormat}
 use Rattle.odht_base.specs.Load.{IsSlotCount}
 use Rattle.odht_base.specs.Table.{Table, slot_count}
 use Rattle.odht_base.proofs.examples.Configs.{direct_config}
 use Rattle.odht_header.specs.Refusals.{lists_differ}
 use Rattle.odht_header.proofs.examples.Apart.{unequal, unequal_lists, tested}
 use Rattle.odht_header.proofs.examples.Opened.{opened}
-use Rattle.odht_raw.specs.Reads.{entry_size, read_entries, read_controls, read_key, read_groups, IsPlaceFitting, IsHeldBy, IsFoundWithin, IsGroupLook, IsLooking}
+use Rattle.odht_raw.specs.Parts.{EntryBytes}
+use Rattle.odht_raw.specs.SearchResults.{answer}
+use Rattle.odht_raw.specs.SearchSteps.{IsGroupAt, IsGroupLook}
+use Rattle.odht_raw.specs.declared.raw_table.search_result.Search.{Search}
+use Rattle.odht_raw.specs.Reads.{entry_size, read_entries, read_controls, read_key, read_groups, IsPlaceFitting, IsHeldBy, IsFoundWithin, IsLooking}
 use Rattle.odht_raw.specs.declared.raw_table.read_search.ReadPlace.{ReadPlace}
 use Rattle.odht_raw.specs.declared.raw_table.search_result.Search.TheVariants.{Found, Free, Neither}
 use Rattle.odht_raw.proofs.examples.FrameRefusals.{occupied_controls}
@@ -88,7 +92,7 @@ no_table : (P : Table) → IsSlotCount (slot_count P) → 5 ≡ slot_count P →
 no_table P count is = omega (arith, count.least, is)
 
 -- so of five slots a look at the bytes of slots 2 to 17 finds the key that is in slot 3
-pub looked : IsGroupLook direct_config (five_in_three 5) (replicate 16 0) 2 five (Some (Found 3))
+pub looked : IsGroupLook direct_config (five_in_three 5) (replicate 16 0) 2 16 five (Some (Found 3))
 looked = record {
   slot = (
     1,
@@ -103,10 +107,15 @@ looked = record {
 }
 
 -- and no other
-pub looked_elsewhere_refused : IsGroupLook direct_config (five_in_three 5) (replicate 16 0) 2 five (Some (Found 4)) → ⊥
+pub looked_elsewhere_refused : IsGroupLook direct_config (five_in_three 5) (replicate 16 0) 2 16 five (Some (Found 4)) → ⊥
 looked_elsewhere_refused h = unequal_lists (slot_key direct_config (five_in_three 5).bytes 4) five refl h.slot.3
 
 -- nor is it passed
-pub passed_refused : IsGroupLook direct_config (five_in_three 5) (replicate 16 0) 2 five None → ⊥
+pub passed_refused : IsGroupLook direct_config (five_in_three 5) (replicate 16 0) 2 16 five None → ⊥
 unfolding opened
 passed_refused h = (h.none refl 1 (lit< tt)).1 refl refl
+
+-- and on the group of a placed table there is no other answer than the table's
+pub other_answer_refused : (F : Format) (P : Table) (E : EntryBytes) (k bs : List ℕ) (p b n : ℕ) (a : Search) → IsGroupAt F P E k p b bs
+    → (a ≡ answer F P.cells k → ⊥) → IsGroupLook F E bs b n k (Some a) → ⊥
+other_answer_refused F P E k bs p b n a at other h = other (h.on_placed P p at).0

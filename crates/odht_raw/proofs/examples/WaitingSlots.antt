@@ -18,7 +18,7 @@ use Rattle.odht_base.proofs.lemmas.Parts.{decoded_cells-parts}
 use Rattle.odht_base.proofs.lemmas.Placed.{IsPlaced-tests}
 use Rattle.odht_base.proofs.lemmas.SoFar.{so_far_none}
 use Rattle.odht_raw.specs.Frontiers.{AreFrontiers}
-use Rattle.odht_raw.specs.Homes.{HasHomes}
+use Rattle.odht_raw.proofs.lemmas.Homes.{HasHomes}
 use Rattle.odht_raw.specs.Parts.{TableParts}
 use Rattle.odht_raw.specs.Waiting.{waiting, slot_of, placed_of, IsWaiting, AreRising, WaitsWithin, WaitsBehind, IsLeft, IsFrontier, IsUnblocked, IsPending, AreListed, IsBegun, IsFar, AreWholeParts, IsWhole, IsOrderAnswer}
 use Rattle.odht_raw.specs.declared.raw_table.insert_order.Frontier.{Frontier}

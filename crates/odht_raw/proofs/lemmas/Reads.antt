@@ -12,9 +12,9 @@ use Rattle.odht_base.proofs.lemmas.ByteRanges.{bytes_at-bytes_at, bytes_at-take,
 use Rattle.odht_base.proofs.lemmas.SlotCounts.{few_slots}
 use Rattle.odht_raw.specs.ControlBytes.{order_slot}
 use Rattle.odht_raw.specs.Parts.{EntryBytes}
-use Rattle.odht_raw.specs.Reads.{entry_size, read_key, read_entries, read_controls, read_groups, IsHeldBy, IsGroupLook}
+use Rattle.odht_raw.specs.Reads.{entry_size, read_key, read_entries, read_controls, read_groups, IsHeldBy}
 use Rattle.odht_raw.specs.SearchEnds.{GoesOnAmong, IsEndAmong}
-use Rattle.odht_raw.specs.SearchSteps.{IsGroupAt}
+use Rattle.odht_raw.specs.SearchSteps.{IsGroupAt, IsGroupLook}
 use Rattle.odht_raw.specs.Searches.{IsPassed, IsSearch, IsSearchEnd}
 use Rattle.odht_raw.specs.declared.raw_table.read_search.ReadPlace.{ReadPlace}
 use Rattle.odht_raw.specs.declared.read_at.ReadError.{ReadError}
@@ -64,14 +64,14 @@ module _ (F : Format) (p : ReadPlace) (B k : List ℕ) (f : IsFormat F) (count :
   placed_group P h = subst (IsGroupAt F P E k pos start) (sym group) (IsGroupAt-group F P E ctrl k f h long pos start aligned within begins (before.on_placed P h))
 
   -- where the search goes on from it, it passed all positions up to the next group
-  pub read_more : IsGroupLook F E bs start k None → IsPassed F E ctrl k (pos + 16)
+  pub read_more : IsGroupLook F E bs start 16 k None → IsPassed F E ctrl k (pos + 16)
   read_more look = record {
     on = goes_on-more F E ctrl k start pos long count.least aligned within begins 16 (omega arith) (subst (λ b. GoesOnAmong F E b start k 16) group (look.none refl)) before.on;
     on_placed = λ P h. look.on_placed P pos (placed_group P h);
   }
 
   -- where it ends there, the search ends
-  pub read_end : (n : ℕ) (end : Search) → n ≡ pos / 16 + 1 → IsGroupLook F E bs start k (Some end) → IsSearch F E k (read_groups p B 0) (read_groups p B n) end
+  pub read_end : (n : ℕ) (end : Search) → n ≡ pos / 16 + 1 → IsGroupLook F E bs start 16 k (Some end) → IsSearch F E k (read_groups p B 0) (read_groups p B n) end
   read_end n end counted look =
       let ends = subst (λ b. IsEndAmong F E b start 16 k end) group look.slot in
       let placed = λ (P : Table) (h : IsPartsOf F P E.bytes ctrl). look.on_placed P pos (placed_group P h) in

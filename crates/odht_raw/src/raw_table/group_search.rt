@@ -1,13 +1,11 @@
 //! The search by groups of control bytes along the probe order.
-ghost use Rattle.std.specs.Prelude.{◌≡◌, ℕ, ◌+◌, ◌<◌, ◌≤◌, length, IfSome, IsNone};
+ghost use Rattle.std.specs.Prelude.{◌≡◌, ◌+◌, ◌<◌, ◌≤◌, length};
 ghost use Rattle.odht_base.specs.Load.{IsSlotCount};
 ghost use Rattle.odht_base.specs.Format.{format_of};
-ghost use Rattle.odht_base.specs.Table.{Table};
 ghost use Rattle.odht_raw.specs.PartLengths.{AreSearchLengths};
 ghost use Rattle.odht_raw.specs.Parts.{hashed_by};
 ghost use Rattle.odht_raw.specs.ProbeSeqs.{place_of};
-ghost use Rattle.odht_raw.specs.SearchEnds.{IsEndAmong, GoesOnAmong};
-ghost use Rattle.odht_raw.specs.SearchSteps.{IsGroupAt, IsLook, IsTag};
+ghost use Rattle.odht_raw.specs.SearchSteps.{IsGroupLook, IsTag};
 ghost use Rattle.odht_raw.specs.Searches.{IsRest, IsSearch, IsSearchEnd};
 ghost use Rattle.odht_raw.specs.Searches.{IsUnderWay, IsPassed};
 ghost use Rattle.odht_raw.specs.Stored.{IsSought, stored_format};
@@ -165,13 +163,8 @@ fn search_group<L: Lengths, H: HashFn, Q: Group>(
     requires start { start < stored.now.entries.slots }
     requires tag { IsTag (hashed_by H.hash (stored_format stored.now)) key.now tag }
     requires sought { IsSought H.hash stored.now key.now }
-    ensures slot { IfSome result (IsEndAmong (hashed_by H.hash (stored_format stored.now))
-        stored.now.entries bytes.now start 16 key.now) }
-    ensures none { IsNone result → GoesOnAmong (hashed_by H.hash (stored_format stored.now))
-        stored.now.entries bytes.now start key.now 16 }
-    ensures on_placed { let F = hashed_by H.hash (stored_format stored.now) in let k = key.now
-        in (P : Table) (p : ℕ) → IsGroupAt F P stored.now.entries k p start bytes.now
-        → IsLook F P k p 16 result }
+    ensures { let F = hashed_by H.hash (stored_format stored.now)
+        in IsGroupLook F stored.now.entries bytes.now start 16 key.now result }
 {
     // One piece is told apart here, not by a loop of one turn: so the compiler knows early that a
     // match ends the search.
@@ -202,13 +195,8 @@ fn search_piece<L: Lengths, H: HashFn, Q: Group>(
     requires start { start + Q.SIZE ≤ stored.now.entries.slots + 16 }
     requires tag { IsTag (hashed_by H.hash (stored_format stored.now)) key.now tag }
     requires sought { IsSought H.hash stored.now key.now }
-    ensures slot { IfSome result (IsEndAmong (hashed_by H.hash (stored_format stored.now))
-        stored.now.entries bytes.now start Q.SIZE key.now) }
-    ensures none { IsNone result → GoesOnAmong (hashed_by H.hash (stored_format stored.now))
-        stored.now.entries bytes.now start key.now Q.SIZE }
-    ensures on_placed { let F = hashed_by H.hash (stored_format stored.now) in let k = key.now
-        in (P : Table) (p : ℕ) → IsGroupAt F P stored.now.entries k p start bytes.now
-        → IsLook F P k p Q.SIZE result }
+    ensures { let F = hashed_by H.hash (stored_format stored.now)
+        in IsGroupLook F stored.now.entries bytes.now start Q.SIZE key.now result }
 {
     let mask = stored.slots() - 1;
     let mut group = Q::of(bytes, tag);

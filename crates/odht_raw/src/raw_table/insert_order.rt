@@ -7,7 +7,6 @@ ghost use Rattle.odht_base.specs.Ready.{IsReady};
 ghost use Rattle.odht_base.specs.Table.{Table, Pair};
 ghost use Rattle.odht_base.specs.Valid.{HoldsPair, IsPartsOf};
 ghost use Rattle.odht_raw.specs.DynParts.{parts_format};
-ghost use Rattle.odht_raw.specs.Homes.{HasHomes};
 ghost use Rattle.odht_raw.specs.Frontiers.{AreFrontiers};
 ghost use Rattle.odht_raw.specs.Waiting.{placed_of, IsWaiting, AreRising, IsPending};
 ghost use Rattle.odht_raw.specs.Waiting.{IsWhole, IsOrderAnswer, AreListed, IsBegun, IsFar, IsPass};
@@ -35,12 +34,20 @@ struct Frontier {
     position: usize,
 }
 
-/// `RawTable::insert_order` of any parts whose keys have homes.
+/// `RawTable::insert_order` of any parts.
 ///
-/// It goes through the slots once, up to the first that is not near its home, and then pass by
-/// pass.
+/// A slot waits until all slots before it in the probe order of its key are placed. A pass goes
+/// through the waiting slots in slot order, and places each that waits for no slot by then. At its
+/// end the slots that still wait are sorted. Passes are made until no slot waits, or a pass places
+/// none: at most `n + 1` passes, if `n` slots wait for one with a higher index.
+///
+/// In a pass a slot in the first group of its probe order and not below its home takes one step.
+/// Any other takes one or two binary searches among the waiting slots for each group up to its own.
+/// Groups that were passed before from the same home are skipped: `FRONTIERS` homes are kept.
+///
+/// The slots before the first one that is not near its home are placed in turn, before any frontier
+/// is needed.
 pub(super) fn find_order<L: Lengths, H: HashFn>(table: &Parts<'_, L, H>, out: &mut [usize]) -> bool
-    requires homes { HasHomes (parts_format table.now H.hash) table.now.parts }
     requires whole { IsWhole (parts_format table.now H.hash) table.now.parts (length out.old) }
     ensures { let F = parts_format table.now H.hash
         in IsOrderAnswer F table.now.parts (length out.old) out.new result }
@@ -56,7 +63,6 @@ pub(super) fn find_order<L: Lengths, H: HashFn>(table: &Parts<'_, L, H>, out: &m
 // Places slots in their order, as long as each is near its home. None that waits is before it in
 // the probe order of its key then, so that it is ready. Returns how many were placed.
 fn place_near<L: Lengths, H: HashFn>(table: &Parts<'_, L, H>, slots: &mut [usize]) -> usize
-    requires homes { HasHomes (parts_format table.now H.hash) table.now.parts }
     requires whole { IsWhole (parts_format table.now H.hash) table.now.parts (length slots.old) }
     requires begun { IsBegun (parts_format table.now H.hash) table.now.parts slots.old 0 }
     ensures begun { IsBegun (parts_format table.now H.hash) table.now.parts slots.new result }
@@ -83,7 +89,7 @@ fn place_others<L: Lengths, H: HashFn>(
     out: &mut [usize],
     placed: usize,
 ) -> bool
-    requires homes { HasHomes (parts_format table.now H.hash) table.now.parts }
+    requires slots { IsSlotCount table.now.parts.entries.slots }
     requires whole { IsWhole (parts_format table.now H.hash) table.now.parts (length out.old) }
     requires begun { IsBegun (parts_format table.now H.hash) table.now.parts out.old placed }
     ensures { let F = parts_format table.now H.hash
@@ -108,7 +114,6 @@ fn place_ready<L: Lengths, H: HashFn>(
     slots: &mut [usize],
     frontiers: &mut [Frontier; FRONTIERS],
 ) -> usize
-    requires homes { HasHomes (parts_format table.now H.hash) table.now.parts }
     requires listed { AreListed (parts_format table.now H.hash) table.now.parts slots.old }
     requires frontiers { AreFrontiers slots.old table.now.parts.entries.slots frontiers.old }
     ensures few { result ≤ length slots.new }
@@ -148,7 +153,6 @@ fn is_ready<L: Lengths, H: HashFn>(
     slots: &[usize],
     frontiers: &mut [Frontier; FRONTIERS],
 ) -> bool
-    requires homes { HasHomes (parts_format table.now H.hash) table.now.parts }
     requires slot { slot < table.now.parts.entries.slots }
     requires next { IsNext slots.now slot left }
     requires frontiers { AreFrontiers slots.now table.now.parts.entries.slots frontiers.old }

@@ -42,15 +42,16 @@ pub fn plain_find<K: ByteArray, V: ByteArray, H: HashFn>(
     }
 }
 
-/// Overwrites the value stored with the key, or writes the pair into the first free slot of the
-/// key's probe order: entry, tag, and for a slot below 16 the mirror. Returns the former value.
-/// There is no maximum here: the item count is not in the parts.
+/// Inserts a pair, and returns the former value of the key. It overwrites the value that is stored
+/// with the key, or writes the pair into the first free slot of the key's probe order: entry, tag,
+/// and for a slot below 16 the mirror. There is no maximum, since the parts have no item count.
 ///
-/// On the parts of a placed table it leaves the parts of the table with the pair placed, and
-/// returns `Full`, with nothing changed, exactly where each slot is occupied and none has the key.
-/// On any parts either one value stored with an equal key is overwritten, or one entry is written
-/// with its tag into a slot that counted as free, and no other byte changes; `Full` is returned
-/// only where each slot counts as occupied and a search slot by slot can end without the key.
+/// On the parts of a placed table it leaves the parts of the table with the pair placed. It returns
+/// `Full`, with nothing changed, exactly if each slot is occupied and none has the key.
+///
+/// On any parts it overwrites one value that is stored with an equal key, or writes one entry and
+/// its tag into a slot that counted as free. No other byte changes. It returns `Full` only if each
+/// slot counts as occupied and a search slot by slot can end without the key.
 pub fn plain_insert<K: ByteArray, V: ByteArray, H: HashFn>(
     control: &mut [EntryMetadata],
     entries: &mut [u8],
@@ -58,14 +59,15 @@ pub fn plain_insert<K: ByteArray, V: ByteArray, H: HashFn>(
     value: V,
 ) -> Result<Option<V>, Error>
     requires { ArePartLengths H.MIN_LEN K.LEN V.LEN (length entries.old) (length control.old) }
-    ensures placed { let p : Pair = record { key = K.bytes key; value = V.bytes value }
-        in (P : Table)
-        → IsPartsOf (format_of K.LEN V.LEN H.hash) P entries.old control.old
-        → IsPartsInsert
-        (format_of K.LEN V.LEN H.hash) V.of_bytes P p result entries.new control.new }
-    ensures any { let p : Pair = record { key = K.bytes key; value = V.bytes value }
-        in IsInsertChange (format_of K.LEN V.LEN H.hash) V.of_bytes entries.old control.old p result
-        entries.new control.new }
+    // On the parts of a placed table.
+    ensures placed { let F = format_of K.LEN V.LEN H.hash
+        in let p : Pair = record { key = K.bytes key; value = V.bytes value }
+        in (P : Table) → IsPartsOf F P entries.old control.old
+        → IsPartsInsert F V.of_bytes P p result entries.new control.new }
+    // On any parts.
+    ensures any { let F = format_of K.LEN V.LEN H.hash
+        in let p : Pair = record { key = K.bytes key; value = V.bytes value }
+        in IsInsertChange F V.of_bytes entries.old control.old p result entries.new control.new }
 {
     let slots = slot_count_of(control);
     let hash = H::hash(key.as_slice());

@@ -4,7 +4,8 @@ ghost use Rattle.std.specs.Prelude.{IfSome};
 ghost use Rattle.odht_base.specs.Format.{format_of};
 ghost use Rattle.odht_base.specs.Load.{IsSlotCount};
 ghost use Rattle.odht_raw.specs.Reads.{read_entries, read_groups, read_key};
-ghost use Rattle.odht_raw.specs.Reads.{IsPlaceFitting, IsHeldBy, IsGroupLook};
+ghost use Rattle.odht_raw.specs.Reads.{IsPlaceFitting, IsHeldBy};
+ghost use Rattle.odht_raw.specs.SearchSteps.{IsGroupLook};
 ghost use Rattle.odht_raw.specs.Reads.{IsFoundWithin, IsLooking};
 ghost use Rattle.odht_raw.specs.Searches.{IsSearch};
 
@@ -85,7 +86,7 @@ fn look_at_read<S: ReadAt, H: HashFn, Q: Group>(
         in IsLooking F place.now key.now tag start }
     ensures given { let F = format_of place.now.layout.key_len place.now.layout.value_len H.hash
         in (B : List ℕ) → S.gives source.now B → IfOk result
-        (IsGroupLook F (read_entries place.now B) bytes.now start key.now) }
+        (IsGroupLook F (read_entries place.now B) bytes.now start 16 key.now) }
     ensures failed { (B : List ℕ) → S.gives source.now B → IsHeldBy place.now B
         → IfErr result (S.fails source.now) }
     ensures found { IfOk result (λ r. IfSome r (IsFoundWithin place.now.slots)) }

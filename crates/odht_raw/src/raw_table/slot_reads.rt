@@ -3,7 +3,7 @@ ghost use Rattle.std.specs.Prelude.{◌≡◌, ◌↔◌, ◌%◌, ◌<◌, ◌�
 ghost use Rattle.odht_base.specs.Decoded.{slot_entry, slot_key};
 ghost use Rattle.odht_base.specs.Format.{entry_len};
 ghost use Rattle.odht_raw.specs.Checks.{IsHashAt};
-ghost use Rattle.odht_raw.specs.DynParts.{parts_format};
+ghost use Rattle.odht_raw.specs.DynParts.{parts_format, AreWhole};
 ghost use Rattle.odht_raw.specs.Parts.{IsZeros};
 
 use super::Parts;
@@ -27,8 +27,10 @@ impl<'a, L: Lengths, H: HashFn> Parts<'a, L, H> {
     #[inline(always)]
     pub(super) fn home_of(&self, slot: usize) -> usize
         requires { slot < self.now.parts.entries.slots }
-        ensures { let T = self.now.parts in let F = parts_format self.now H.hash
+        ensures home { let T = self.now.parts in let F = parts_format self.now H.hash
             in result ≡ F.hash (slot_key F T.entries.bytes slot) % T.entries.slots }
+        ensures below { result < self.now.parts.entries.slots }
+        ensures whole { AreWhole H.MIN_LEN self.now }
     {
         hash_by_len::<H>(self.listed_key(slot)) as usize & (self.len() - 1)
     }

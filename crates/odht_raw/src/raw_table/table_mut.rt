@@ -32,7 +32,9 @@ pub struct RawTableMut<'c, 'e, K: ByteArray, V: ByteArray, H: HashFn> {
 
 impl<'c, 'e, K: ByteArray, V: ByteArray, H: HashFn> RawTableMut<'c, 'e, K, V, H> {
     ghost use Rattle.odht_raw.specs.PartsMut.{mut_control, mut_entries, control_loan, entries_loan};
-    ghost use Rattle.odht_raw.specs.PartsMut.{IsMutInsert, IsMutPlacing};
+    ghost use Rattle.odht_raw.specs.PartsMut.{table_format, pair_of, IsParts, IsMutPlacing};
+    ghost use Rattle.odht_raw.specs.PartsInserts.{IsPartsInsert, IsInsertChange};
+    ghost use Rattle.odht_base.specs.Table.{Table};
 
     /// The table of these parts. No control byte and no entry is checked or written.
     #[inline]
@@ -50,27 +52,48 @@ impl<'c, 'e, K: ByteArray, V: ByteArray, H: HashFn> RawTableMut<'c, 'e, K, V, H>
         }
     }
 
-    /// Overwrites the value stored with the key, or writes the pair into the first free slot of
-    /// the key's probe order, as `plain_insert` does. Returns the former value.
+    /// Inserts a pair like `plain_insert`, and returns the former value of the key. It overwrites
+    /// the value that is stored with the key, or writes the pair into the first free slot of the
+    /// key's probe order.
     ///
-    /// On the parts of a placed table it leaves the parts of the table with the pair placed, and
-    /// returns `Full`, with nothing changed, exactly where each slot is occupied and none has the
-    /// key. On any parts either one value stored with an equal key is overwritten, or one entry is
-    /// written with its tag into a slot that counted as free, and no other byte changes; `Full` is
-    /// returned only where each slot counts as occupied and a search slot by slot can end without
-    /// the key.
+    /// On the parts of a placed table it leaves the parts of the table with the pair placed. It
+    /// returns `Full`, with nothing changed, exactly if each slot is occupied and none has the key.
+    ///
+    /// On any parts it overwrites one value that is stored with an equal key, or writes one entry
+    /// and its tag into a slot that counted as free. No other byte changes. It returns `Full` only
+    /// if each slot counts as occupied and a search slot by slot can end without the key.
     #[inline(always)]
     pub fn insert(&mut self, key: K, value: V) -> Result<Option<V>, Error>
-        ensures { IsMutInsert self.old key value result self.new }
+        // On the parts of a placed table.
+        ensures placed { let F = table_format self.old in let p = pair_of self.old key value
+            in (P : Table) → IsParts P self.old
+            → IsPartsInsert F V.of_bytes P p result (mut_entries self.new) (mut_control self.new) }
+        // On any parts.
+        ensures any { let F = table_format self.old in let p = pair_of self.old key value
+            in IsInsertChange F V.of_bytes (mut_entries self.old) (mut_control self.old) p
+            result (mut_entries self.new) (mut_control self.new) }
+        // Both slices stay borrowed.
+        ensures control_loan { control_loan self.new ≡ control_loan self.old }
+        ensures entries_loan { entries_loan self.new ≡ entries_loan self.old }
     {
         self.insert_by::<GroupQuery>(key, value)
     }
 
-    /// `insert` by a group search of the caller's choice. On the parts of a placed table all
-    /// searches leave the same parts.
+    /// Like `insert`, by a group search of the caller's choice. On the parts of a placed table all
+    /// group searches leave the same parts.
     #[inline(always)]
     pub fn insert_by<Q: Group>(&mut self, key: K, value: V) -> Result<Option<V>, Error>
-        ensures { IsMutInsert self.old key value result self.new }
+        // On the parts of a placed table.
+        ensures placed { let F = table_format self.old in let p = pair_of self.old key value
+            in (P : Table) → IsParts P self.old
+            → IsPartsInsert F V.of_bytes P p result (mut_entries self.new) (mut_control self.new) }
+        // On any parts.
+        ensures any { let F = table_format self.old in let p = pair_of self.old key value
+            in IsInsertChange F V.of_bytes (mut_entries self.old) (mut_control self.old) p
+            result (mut_entries self.new) (mut_control self.new) }
+        // Both slices stay borrowed.
+        ensures control_loan { control_loan self.new ≡ control_loan self.old }
+        ensures entries_loan { entries_loan self.new ≡ entries_loan self.old }
     {
         // As many entries may be added as there are free slots.
         insert_step::<K, V, H, Q>(self.control, self.entries, key, value, usize::MAX)

@@ -12,16 +12,16 @@ use crate::generated::tables::raw_table::{write_new, PartPairs};
 use crate::generated::tables::swisstable_group_query::GroupQuery;
 
 impl<C: Config, D: ByteStore> HashTable<C, D> {
-    /// The length in bytes of the table that this one grows into: with the slots for twice the
-    /// header's item count, and for one item at least, at the same load factor. None exactly where
-    /// no slot count is enough, or the length passes `usize`. docs/FORMAT.md, "Growth", has the
-    /// rule.
+    /// Returns the length in bytes of the table that this one grows into. That table has the slots
+    /// for twice the header's item count, and for at least one item, at the same load factor.
+    /// Returns `None` exactly if no slot count is large enough, or the length exceeds `usize::MAX`.
+    /// docs/FORMAT.md, "Growth", specifies the rule.
     ///
     /// The load factor of valid bytes is at least 655 65536ths of the slots, one percent rounded
-    /// down. A smaller one is taken as it is: for 0 no slot count is enough, so the result is
-    /// None.
+    /// down. A smaller one is used as it is. For 0 no slot count is large enough, so the result is
+    /// `None`.
     ///
-    /// The count is the header's. Of bytes that were not checked it may be any number: check them,
+    /// The count is the header's. In bytes that were not checked it may be any number: check them,
     /// or bound the length, before you allocate.
     pub fn grown_len(&self) -> Option<usize> {
         match grown_layout::<C>(&self.allocation.header()) {
@@ -30,16 +30,16 @@ impl<C: Config, D: ByteStore> HashTable<C, D> {
         }
     }
 
-    /// Writes the table that this one grows into to `out`, whatever its bytes were. `out` has
-    /// [`HashTable::grown_len`] bytes. The pairs are placed in slot order into the slots for twice
-    /// as many items, and for one at least, at the same load factor. The owned table grows in this
-    /// way at its maximum (docs/FORMAT.md, "Growth").
+    /// Writes the table that this one grows into to `out`, over any bytes that are there. `out`
+    /// must have [`HashTable::grown_len`] bytes. The pairs are placed in slot order into the slots
+    /// for twice as many items, and for at least one, at the same load factor. The owned table
+    /// grows in this way at its maximum (docs/FORMAT.md, "Growth").
     ///
-    /// One pass over `out`, and one over the slots of this table; each item is hashed once. No key
-    /// is compared.
+    /// It makes one pass over `out`, and one over the slots of this table. It hashes each item
+    /// once, and compares no key.
     ///
     /// On any bytes the new header has the item count and the load factor of this one. The pairs
-    /// of the walk are then placed as long as a slot is free, which no clause says.
+    /// of the walk are placed as long as a slot is free. The contract does not state this.
     pub fn grow_into(&self, out: &mut [u8]) {
         let Some((slot_count, _)) = grown_layout::<C>(&self.allocation.header()) else {
             // `out` has the length of the grown table.

@@ -20,7 +20,7 @@ returns-in-Ok-Some-clause-answer g c =
     let accepted : None ≡ opening_refusal F (bytes c.args.store.now) = sym (c.is_accepted.ensures.0 c.if-not-is_accepted.false) ∙ ap (opening_refusal F) c.bytes.ensures in
     let reads : bytes c.from_raw_bytes_unchecked-table.result.now ≡ bytes c.args.store.now = ap (λ s. bytes s.now) c.from_raw_bytes_unchecked-table.ensures in
     accepted_insert _ _ _ _ _ _ _ _ _ _ accepted reads (ap bytes (search (rules, c.into_data-store.ensures.data, c.insert-answer.ensures.same_store, c.from_raw_bytes_unchecked-table.ensures)))
-    c.in-Ok-Some.field-0 (rw c.in-Ok-Some.field-0-is (refl, refl)) (λ P is. (c.in-Ok-Some.ensures.on_valid P is).former) (λ P is. (c.in-Ok-Some.ensures.on_valid P is).inserted) c.in-Ok-Some.ensures.frame
+    c.in-Ok-Some.field-0 (rw c.in-Ok-Some.field-0-is (refl, refl)) (λ P is. (c.in-Ok-Some.ensures.on_valid P is).former) (λ P is. (c.in-Ok-Some.ensures.on_valid P is).inserted) c.in-Ok-Some.ensures.on_any.frame
 
 pub returns-in-Ok-None-clause-answer : goal.returns-in-Ok-None-clause-answer
 returns-in-Ok-None-clause-answer g c =
@@ -29,7 +29,7 @@ returns-in-Ok-None-clause-answer g c =
     let accepted : None ≡ opening_refusal F (bytes c.args.store.now) = sym (c.is_accepted.ensures.0 c.if-not-is_accepted.false) ∙ ap (opening_refusal F) c.bytes.ensures in
     let reads : bytes c.from_raw_bytes_unchecked-table.result.now ≡ bytes c.args.store.now = ap (λ s. bytes s.now) c.from_raw_bytes_unchecked-table.ensures in
     accepted_insert _ _ _ _ _ _ _ _ _ _ accepted reads (ap bytes (search (rules, c.into_data-store.ensures.data, c.insert-answer.ensures.same_store, c.from_raw_bytes_unchecked-table.ensures)))
-    c.in-Ok-None.field-0 (rw c.in-Ok-None.field-0-is (refl, refl)) (λ P is. (c.in-Ok-None.ensures.on_valid P is).former) (λ P is. (c.in-Ok-None.ensures.on_valid P is).inserted) c.in-Ok-None.ensures.frame
+    c.in-Ok-None.field-0 (rw c.in-Ok-None.field-0-is (refl, refl)) (λ P is. (c.in-Ok-None.ensures.on_valid P is).former) (λ P is. (c.in-Ok-None.ensures.on_valid P is).inserted) c.in-Ok-None.ensures.on_any.frame
 
 pub returns-in-Err-clause-answer : goal.returns-in-Err-clause-answer
 returns-in-Err-clause-answer g c =
@@ -37,8 +37,8 @@ returns-in-Err-clause-answer g c =
     let bytes = g.M.ByteStore.bytes in
     let accepted : None ≡ opening_refusal F (bytes c.args.store.now) = sym (c.is_accepted.ensures.0 c.if-not-is_accepted.false) ∙ ap (opening_refusal F) c.bytes.ensures in
     let reads : bytes c.from_raw_bytes_unchecked-table.result.now ≡ bytes c.args.store.now = ap (λ s. bytes s.now) c.from_raw_bytes_unchecked-table.ensures in
-    let full : c.insert-answer.result ≡ Err Full = c.in-Err.is ∙ c.in-Err.ensures.only_full in
-    let only : c.in-Err.refused ≡ Full = (let both = c.in-Err.ensures.only_full in cc) in
+    let full : c.insert-answer.result ≡ Err Full = c.in-Err.is ∙ c.in-Err.ensures.on_any.only_full in
+    let only : c.in-Err.refused ≡ Full = (let both = c.in-Err.ensures.on_any.only_full in cc) in
     full_insert _ _ _ _ _ _ _ _ _ _ accepted reads (ap bytes (search (rules, c.into_data-store.ensures.data, c.insert-answer.ensures.same_store, c.from_raw_bytes_unchecked-table.ensures)))
     c.insert-answer.result full (ap (λ s. bytes s.now) c.in-Err.ensures.refused) (c.status_of.ensures ∙ ap status_of only) refl
-    (λ P is. (c.insert-answer.ensures.on_valid P is).full) c.insert-answer.ensures.frame
+    (λ P is. (c.insert-answer.ensures.on_valid P is).full) c.insert-answer.ensures.on_any.frame

@@ -53,18 +53,19 @@ impl<'a, L: Lengths, H: HashFn> Parts<'a, L, H> {
 }
 
 impl<'a, K: ByteArray, V: ByteArray, H: HashFn> RawTable<'a, K, V, H> {
-    /// The first look of the search for a key, from which [`RawTable::find_from`] goes on. It
-    /// hashes the key and reads one group of control bytes, and no entry.
+    /// Returns the first look of the search for a key, from which [`RawTable::find_from`]
+    /// continues. It hashes the key and reads one group of control bytes, and no entry.
     #[inline(always)]
     pub fn first_look(&self, key: &K) -> FirstLook {
         self.parts().first_look(key.as_slice())
     }
 
-    /// The value of the key, from its first look in this very table: on the parts of a placed
-    /// table what `find` returns, on any parts a value that is stored with this very key, or None.
+    /// Returns the value of the key, or `None`. `look` must be what [`RawTable::first_look`]
+    /// returned for this key in this table. On the parts of a placed table the result is that of
+    /// [`RawTable::find`], on any parts a value that is stored with exactly this key.
     ///
-    /// The matches of the look are compared in turn. Where none holds the key and the group has no
-    /// free byte, the search goes on with the second group.
+    /// It compares the matches of the look in turn. If none has the key and the group has no free
+    /// byte, the search continues with the second group.
     #[inline(always)]
     pub fn find_from(&self, look: FirstLook, key: &K) -> Option<V> {
         match self.parts().find_from(look, key.as_slice()) {

@@ -23,10 +23,19 @@ struct Frontier {
     position: usize,
 }
 
-/// `RawTable::insert_order` of any parts whose keys have homes.
+/// `RawTable::insert_order` of any parts.
 ///
-/// It goes through the slots once, up to the first that is not near its home, and then pass by
-/// pass.
+/// A slot waits until all slots before it in the probe order of its key are placed. A pass goes
+/// through the waiting slots in slot order, and places each that waits for no slot by then. At its
+/// end the slots that still wait are sorted. Passes are made until no slot waits, or a pass places
+/// none: at most `n + 1` passes, if `n` slots wait for one with a higher index.
+///
+/// In a pass a slot in the first group of its probe order and not below its home takes one step.
+/// Any other takes one or two binary searches among the waiting slots for each group up to its own.
+/// Groups that were passed before from the same home are skipped: `FRONTIERS` homes are kept.
+///
+/// The slots before the first one that is not near its home are placed in turn, before any frontier
+/// is needed.
 pub(super) fn find_order<L: Lengths, H: HashFn>(
     table: &Parts<'_, L, H>,
     out: &mut [usize],

@@ -29,22 +29,23 @@ impl<'c, 'e, K: ByteArray, V: ByteArray, H: HashFn> RawTableMut<'c, 'e, K, V, H>
         RawTableMut { control, entries, types: PhantomData }
     }
 
-    /// Overwrites the value stored with the key, or writes the pair into the first free slot of
-    /// the key's probe order, as `plain_insert` does. Returns the former value.
+    /// Inserts a pair like `plain_insert`, and returns the former value of the key. It overwrites
+    /// the value that is stored with the key, or writes the pair into the first free slot of the
+    /// key's probe order.
     ///
-    /// On the parts of a placed table it leaves the parts of the table with the pair placed, and
-    /// returns `Full`, with nothing changed, exactly where each slot is occupied and none has the
-    /// key. On any parts either one value stored with an equal key is overwritten, or one entry is
-    /// written with its tag into a slot that counted as free, and no other byte changes; `Full` is
-    /// returned only where each slot counts as occupied and a search slot by slot can end without
-    /// the key.
+    /// On the parts of a placed table it leaves the parts of the table with the pair placed. It
+    /// returns `Full`, with nothing changed, exactly if each slot is occupied and none has the key.
+    ///
+    /// On any parts it overwrites one value that is stored with an equal key, or writes one entry
+    /// and its tag into a slot that counted as free. No other byte changes. It returns `Full` only
+    /// if each slot counts as occupied and a search slot by slot can end without the key.
     #[inline(always)]
     pub fn insert(&mut self, key: K, value: V) -> Result<Option<V>, Error> {
         self.insert_by::<GroupQuery>(key, value)
     }
 
-    /// `insert` by a group search of the caller's choice. On the parts of a placed table all
-    /// searches leave the same parts.
+    /// Like `insert`, by a group search of the caller's choice. On the parts of a placed table all
+    /// group searches leave the same parts.
     #[inline(always)]
     pub fn insert_by<Q: Group>(&mut self, key: K, value: V) -> Result<Option<V>, Error> {
         // As many entries may be added as there are free slots.

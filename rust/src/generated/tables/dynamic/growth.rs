@@ -9,8 +9,8 @@ use crate::generated::tables::layout::Layout;
 use crate::generated::tables::memory_layout::{clear_entries, Header};
 
 impl<H: HashFn, D: ByteStore> DynTable<H, D> {
-    /// The length in bytes of the table that this one grows into, as
-    /// [`HashTable::grown_len`](crate::generated::tables::hash_table::HashTable::grown_len) is.
+    /// Returns the length in bytes of the table that this one grows into, like
+    /// [`HashTable::grown_len`](crate::generated::tables::hash_table::HashTable::grown_len).
     pub fn grown_len(&self) -> Option<usize> {
         match grown_sizes::<H>(self.layout(), &Header::of(self.raw_bytes())) {
             Some((_, len)) => Some(len),
@@ -18,8 +18,8 @@ impl<H: HashFn, D: ByteStore> DynTable<H, D> {
         }
     }
 
-    /// Writes the table that this one grows into to `out`, whatever its bytes were, as
-    /// [`HashTable::grow_into`](crate::generated::tables::hash_table::HashTable::grow_into) does. `out` has
+    /// Writes the table that this one grows into to `out`, over any bytes that are there, like
+    /// [`HashTable::grow_into`](crate::generated::tables::hash_table::HashTable::grow_into). `out` must have
     /// [`DynTable::grown_len`] bytes.
     pub fn grow_into(&self, out: &mut [u8]) {
         let header = Header::of(self.raw_bytes());

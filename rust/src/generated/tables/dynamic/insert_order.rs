@@ -6,35 +6,37 @@ use crate::generated::tables::bytes::ByteStore;
 use crate::generated::tables::hash::HashFn;
 
 impl<H: HashFn, D: ByteStore> DynTable<H, D> {
-    /// Whether some list of inserts, growths included, makes this table from an empty one of its
-    /// load factor. Where one does, `out`, whose length is the item count, lists the occupied
-    /// slots in an insert order: their pairs, inserted in this order into an empty table of as
-    /// many slots and the same load factor, leave these very bytes. Where none does, the numbers
-    /// in `out` mean nothing. docs/PROOFS.md, "Orders of inserts", has the definitions.
+    /// Returns whether some list of inserts, growths included, makes this table from an empty one
+    /// with the same load factor. Then `out` lists the occupied slots in an insert order: if you
+    /// insert their pairs in this order into an empty table with the same slot count and load
+    /// factor, it gets exactly these bytes. Otherwise the numbers in `out` have no meaning.
+    /// docs/PROOFS.md, "Orders of inserts", has the definitions.
     ///
-    /// The bytes are those of a table, as [`DynTable::verify`] tells: of others the result and
-    /// `out` mean nothing. It takes no memory, and the steps that
+    /// The bytes must be valid ([`DynTable::verify`]): for others the result and `out` have no
+    /// meaning. The length of `out` is the item count. The call allocates nothing, and costs what
     /// [`HashTableOwned::insert_order`](crate::generated::tables::hash_table_owned::HashTableOwned::insert_order)
-    /// takes.
+    /// costs.
     pub fn insert_order(&self, out: &mut [usize]) -> bool {
         self.as_dynamic().insert_order(out)
     }
 
-    /// `insert_order` for untrusted tables, where it has `scratch` to write to: it returns the
-    /// same. `scratch` has as many numbers as `insert_order_scratch` says or more, of any values;
-    /// with fewer this is `insert_order`, in the time that that takes. The clauses say that `out`
-    /// has an order; that it is the same one is tested.
+    /// Like `insert_order`, for untrusted tables: it uses `scratch` as working memory, and returns
+    /// the same result. `scratch` has at least the length that `insert_order_scratch` returns, and
+    /// may contain any numbers. With a shorter one the call does what `insert_order` does, in the
+    /// same time. The clauses state that `out` lists an insert order. That it is the same one is
+    /// tested.
     ///
-    /// The bytes are those of a table, as [`DynTable::verify`] tells: of others the result and
-    /// `out` mean nothing. It takes no memory, and time in proportion to the slots, and to the
-    /// groups that the longest search of each home reads:
+    /// The bytes must be valid ([`DynTable::verify`]): for others the result and `out` have no
+    /// meaning. The call allocates nothing. Its time is proportional to the number of slots, and to
+    /// the groups that the longest search of each home reads:
     /// [`HashTableOwned::insert_order_with`](crate::generated::tables::hash_table_owned::HashTableOwned::insert_order_with)
-    /// says more.
+    /// has the details.
     pub fn insert_order_with(&self, out: &mut [usize], scratch: &mut [usize]) -> bool {
         self.as_dynamic().insert_order_with(out, scratch)
     }
 
-    /// How many numbers of scratch `insert_order_with` takes for this table: three for each slot.
+    /// Returns the length of the scratch that `insert_order_with` needs: three numbers for each
+    /// slot.
     pub fn insert_order_scratch(&self) -> usize {
         self.as_dynamic().insert_order_scratch()
     }

@@ -10,16 +10,18 @@ use crate::generated::tables::memory_layout::insert_dynamic;
 use crate::generated::tables::raw_table::ShortBytes;
 
 impl<H: HashFn, D: ByteStoreMut> DynTable<H, D> {
-    /// Gives the key this value, and returns its former one: on valid bytes the table's value for
-    /// the key. No memory is allocated.
+    /// Inserts a pair, and returns the former value of the key: on valid bytes the table's value
+    /// for the key. It allocates nothing.
     ///
-    /// The first error: `WrongKeyLength` where the key has another length than the table's keys;
-    /// `WrongValueLength` where the value has another one than its values; then `Rejected` with
-    /// `Full`, as [`HashTable::insert`](crate::generated::tables::hash_table::HashTable::insert) returns it: on valid
-    /// bytes exactly where the table has its maximum of items and the key is not among them. On an
-    /// error nothing changes. On bytes that are not valid no more changes than that call changes.
+    /// It returns the first error, and then nothing changes:
     ///
-    /// The key is hashed once. [`DynTable::get_counted`] counts the groups of such a search.
+    /// - `WrongKeyLength` if the key has another length than the table's keys.
+    /// - `WrongValueLength` if the value has another length than the table's values.
+    /// - `Rejected` with `Full`, as [`HashTable::insert`](crate::generated::tables::hash_table::HashTable::insert)
+    ///   returns it: on valid bytes exactly if the table is at its maximum and the key is absent.
+    ///
+    /// On bytes that are not valid no more changes than that call changes. The key is hashed once.
+    /// [`DynTable::get_counted`] counts the groups that such a search reads.
     pub fn insert(&mut self, key: &[u8], value: &[u8]) -> Result<Option<ShortBytes>, DynError> {
         let layout = self.layout;
         if key.len() != layout.key_len as usize {

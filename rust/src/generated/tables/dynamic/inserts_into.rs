@@ -10,10 +10,10 @@ use crate::generated::tables::layout::Layout;
 use crate::generated::tables::memory_layout::insert_dynamic_into;
 
 impl<H: HashFn, D: ByteStoreMut> DynTable<H, D> {
-    /// [`DynTable::insert`], which writes the former value to `former`, and returns whether there is one: no
-    /// value passes through memory of its own. `WrongValueLength` too where `former` has another
-    /// length than the table's values. Where the key has no value, and on an error, `former` is
-    /// unchanged.
+    /// Like [`DynTable::insert`], but writes the former value to `former`, and returns whether there
+    /// is one. So no value passes through memory of its own. If `former` has another length than
+    /// the table's values, the error is `WrongValueLength`, too. If the key has no value, and on an
+    /// error, `former` is unchanged.
     #[inline(always)]
     pub fn insert_into(
         &mut self,

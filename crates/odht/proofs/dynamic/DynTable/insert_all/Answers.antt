@@ -6,7 +6,8 @@ use Rattle.std.proofs.lemmas.Option.{slice_get-map, slice_get-get_or}
 use Rattle.odht.specs.Dynamic.{DynStore, dyn_coding}
 use Rattle.odht.specs.DynInserts.{IsDynInsert}
 use Rattle.odht.specs.DynLists.{IsDynStop}
-use Rattle.odht.proofs.lemmas.DynLists.{AreInserted, none_inserted, one_more, take_next, fits_accepted, stopped_here}
+use Rattle.odht.proofs.lemmas.DynLengths.{accepted_fits, fitting_lengths}
+use Rattle.odht.proofs.lemmas.DynLists.{AreInserted, none_inserted, one_more, take_next, stopped_here}
 use Rattle.odht.proofs.dynamic.DynTable.insert_all.Given.{Over}
 use Rattle.odht.proofs.dynamic.DynTable.insert_all.Goals.{After-insert}
 use Rattle.odht.proofs.dynamic.DynTable.insert_all.Goals as goal
@@ -39,11 +40,11 @@ loop-index-preserved g c =
     let k = (item g at).0.now in
     let v = (item g at).1.now in
     let t = c.loop-index.self in
-    let key = fits_accepted (length k) t.key_len _ c.insert.result c.in_default.field-0 c.in_default.is c.insert.ensures.key in
-    let value = fits_accepted (length v) t.value_len _ c.insert.result c.in_default.field-0 c.in_default.is (c.insert.ensures.value key) in
+    let none = accepted_fits t k v c.insert.result c.insert.ensures.lengths c.in_default.field-0 c.in_default.is in
+    let fits = fitting_lengths t k v none in
     subst (AreInserted g.H.HashFn.hash g.D.ByteStore.bytes g.D.ByteStoreMut.holding c.args.self.now c.insert.new.self) (sym (take_next (items g at) (i g at) (k, v) (here g at)))
     (one_more g.H.HashFn.hash g.D.ByteStore.bytes g.D.ByteStoreMut.holding g.met.D.ByteStoreMut.held_last c.args.self.now t c.insert.new.self (take (i g at) (items g at)) k v c.in_default.field-0
-    c.loop-index.invariant key value (c.in_default.ensures.inserted key value) c.insert.ensures.same_store c.insert.ensures.accepted)
+    c.loop-index.invariant fits.0 fits.1 (c.in_default.ensures.inserted none) c.insert.ensures.same_store c.insert.ensures.accepted)
 
 pub returns-in-Err : goal.returns-in-Err
 returns-in-Err g c =
@@ -65,8 +66,8 @@ returns-in-Err g c =
       accepted = so_far.accepted;
       stopped = subst (λ (s : DynStore g.row.D.Denot). IsDynStop hash bytes s (items g at) (i g at) c.in-Err.refused) (sym kept)
           (stopped_here t (item g at).0.now (item g at).1.now hash bytes (items g at) (i g at) c.in-Err.refused (here g at)
-          (λ key value. subst (λ (s : DynStore g.row.D.Denot). IsDynInsert (dyn_coding t hash) (bytes t.store) (item g at).0.now (item g at).1.now (Err c.in-Err.refused) (bytes s.store)) kept (c.in-Err.ensures.inserted key value))
-          c.in-Err.ensures.key c.in-Err.ensures.value);
+          c.in-Err.ensures.lengths
+          (λ none. subst (λ (s : DynStore g.row.D.Denot). IsDynInsert (dyn_coding t hash) (bytes t.store) (item g at).0.now (item g at).1.now (Err c.in-Err.refused) (bytes s.store)) kept (c.in-Err.ensures.inserted none)));
     }
 
 pub returns : goal.returns

@@ -12,7 +12,7 @@ use Rattle.odht.proofs.dynamic.DynTable.insert_into.Goals.{in-Ok, in-Err}
 use Rattle.odht.proofs.dynamic.DynTable.insert_into.Goals as goal
 
 pub returns-clause-inserted : goal.returns-clause-inserted
-returns-clause-inserted g c key value former =
+returns-clause-inserted g c none =
     let into = c.insert_store_into.ensures.inserted in
     let k = c.args.key.now in
     let v = c.args.value.now in

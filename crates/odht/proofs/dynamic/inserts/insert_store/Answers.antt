@@ -38,6 +38,10 @@ module _ (g : Over) (c : After-insert_dynamic g) where
   same_store =
       borrowed-same g.D.ByteStore.bytes g.D.ByteStoreMut.holding g.D.ByteStoreMut.after_borrow g.met.D.ByteStoreMut.held g.met.D.ByteStoreMut.after_borrow_fits c.args.store.now c.insert_dynamic.new.bytes long
 
+  -- whose header and length fit
+  accepted : IsAccepted F (g.D.ByteStore.bytes left)
+  accepted = subst (IsAccepted F) (sym same) c.insert_dynamic.ensures.accepted
+
   -- what the insert leaves of a valid table
   placed : (P : Table) → IsImage F P (g.D.ByteStore.bytes c.args.store.now) → IfOk c.insert_dynamic.result (λ old. IsOnePlaced (bytes_coding F) P c.args.key.now c.args.value.now old (g.D.ByteStore.bytes left))
   placed P is =
@@ -63,8 +67,11 @@ returns-clause-inserted g c =
         inserted = if_inserted K P _ k v r _ is (placed g at P is);
         full = (λ e. framed-full K _ k v (fits g at) P is r _ e (framed g at), λ full. full-framed K _ k v (fits g at) P is r _ (placed g at P is) (framed g at) full);
       };
-      frame = framed g at;
-      only_full = framed-only_full K _ k v r _ (framed g at);
+      on_any = record {
+        frame = framed g at;
+        only_full = framed-only_full K _ k v r _ (framed g at);
+        accepted = accepted g at;
+      };
     }
 
 pub returns-clause-refused : goal.returns-clause-refused
@@ -78,9 +85,7 @@ pub returns-clause-same_store : goal.returns-clause-same_store
 returns-clause-same_store g c = same_store g (goal.at.returns-clause-same_store g c).After-insert_dynamic
 
 pub returns-clause-accepted : goal.returns-clause-accepted
-returns-clause-accepted g c =
-    let at = (goal.at.returns-clause-accepted g c).After-insert_dynamic in
-    subst (IsAccepted (F g at)) (sym (same g at)) c.insert_dynamic.ensures.accepted
+returns-clause-accepted g c = accepted g (goal.at.returns-clause-accepted g c).After-insert_dynamic
 
 pub returns-clause-len : goal.returns-clause-len
 returns-clause-len g c =

@@ -49,13 +49,15 @@ returns-clause-on_valid g c P is =
       full = (λ e. framed-full K _ k v (fits g) P is r _ e one, λ full. full-framed K _ k v (fits g) P is r _ (placed g at P is) one full);
     }
 
-pub returns-clause-frame : goal.returns-clause-frame
-returns-clause-frame g c = framed g (goal.at.returns-clause-frame g c).After-insert_by
-
-pub returns-clause-only_full : goal.returns-clause-only_full
-returns-clause-only_full g c =
-    let one = framed g (goal.at.returns-clause-only_full g c).After-insert_by in
-    framed-only_full (coding g) _ c.args.key.now c.args.value.now c.insert_by.result _ one
+pub returns-clause-on_any : goal.returns-clause-on_any
+returns-clause-on_any g c =
+    let at = (goal.at.returns-clause-on_any g c).After-insert_by in
+    let one = framed g at in
+    record {
+      frame = one;
+      only_full = framed-only_full (coding g) _ c.args.key.now c.args.value.now c.insert_by.result _ one;
+      accepted = c.insert_by.ensures.accepted;
+    }
 
 -- it is the same store
 same : (g : Over) (c : After-insert_by g) → c.insert_by.new.self ≡ g.D.ByteStoreMut.holding c.args.self.now (g.D.ByteStore.bytes c.insert_by.new.self)

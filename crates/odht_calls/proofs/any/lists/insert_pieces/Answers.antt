@@ -79,7 +79,7 @@ loop-index-preserved g c =
     let kl = c.args.layout.key_len in
     let vl = c.args.layout.value_len in
     let o : Option (List ℕ) = c.in_default-insert_dynamic.field-0 in
-    let one = dynamic_insert (F g at) (fits g at) c.loop-index.bytes (k g at) (v g at) (Ok o) c.insert_dynamic.new.bytes c.in_default-insert_dynamic.ensures.placed c.in_default-insert_dynamic.ensures.framed in
+    let one = dynamic_insert (F g at) (fits g at) c.loop-index.bytes (k g at) (v g at) (Ok o) c.insert_dynamic.new.bytes c.in_default-insert_dynamic.ensures.placed c.in_default-insert_dynamic.ensures.framed c.insert_dynamic.ensures.accepted in
     subst (AreInserted g.H.HashFn.hash (λ B. B) (λ _ B. B) (dyn_store kl vl c.args.bytes.now) (dyn_store kl vl c.insert_dynamic.new.bytes)) (sym (take_next (zip (keys g at) (values g at)) c.loop-index.index (k g at, v g at) (here g at)))
     (one_more g.H.HashFn.hash (λ B. B) (λ _ B. B) (λ s a b. refl) (dyn_store kl vl c.args.bytes.now) (dyn_store kl vl c.loop-index.bytes) (dyn_store kl vl c.insert_dynamic.new.bytes)
     (take c.loop-index.index (zip (keys g at) (values g at))) (k g at) (v g at) o c.loop-index.invariant c.piece-key.ensures.len c.piece-value.ensures.len

@@ -8,9 +8,8 @@ use Rattle.odht_base.specs.Format.{Format}
 use Rattle.odht_base.specs.Probe.{probe_slot}
 use Rattle.odht_raw.specs.Checks.{cells_of, IsGroupSearch}
 use Rattle.odht_raw.specs.DynParts.{parts_format}
-use Rattle.odht_raw.specs.Homes.{HasHomes}
 use Rattle.odht_raw.specs.Parts.{TableParts}
-use Rattle.odht_raw.proofs.lemmas.Homes.{parts_homes}
+use Rattle.odht_raw.proofs.lemmas.Homes.{HasHomes, parts_homes}
 use Rattle.odht_raw.proofs.lemmas.KeyPasses.{slots_decoded, stops_key}
 use Rattle.odht_raw.proofs.lemmas.KeyPositions.{home_position, ends_here, distance}
 use Rattle.odht_raw.proofs.lemmas.PartLooks.{are_clear}

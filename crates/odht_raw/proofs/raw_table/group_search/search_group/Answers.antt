@@ -1,4 +1,4 @@
-use Rattle.std.proofs.Common.{rules, arith, ◌≡◌, ◌∙◌, ℕ, ◌+◌, ◌*◌, ◌/◌, ◌%◌, sym, ap, subst, List}
+use Rattle.std.proofs.Common.{rules, arith, true≢false, ◌≡◌, ◌∙◌, ℕ, ◌+◌, ◌*◌, ◌/◌, ◌%◌, sym, ap, subst, List}
 use Rattle.odht_base.specs.Format.{Format}
 use Rattle.odht_raw.specs.Parts.{hashed_by}
 use Rattle.odht_base.proofs.lemmas.SlotCounts.{few_slots}
@@ -19,23 +19,22 @@ overflow_add-start g c =
     let l = c.requires.start in
     rw c.SIZE-in-loop-piece.ensures (search rules)
 
-pub returns-then-is_some-clause-on_placed : goal.returns-then-is_some-clause-on_placed
-returns-then-is_some-clause-on_placed g c P p at =
+pub returns-then-is_some : goal.returns-then-is_some
+returns-then-is_some g c =
     let F : Format = hashed_by g.H.HashFn.hash (stored_format c.args.stored.now) in
     let k : List ℕ = c.args.key.now in
     let n : ℕ = c.loop-piece.piece * g.Q.Group.SIZE in
     let fits = piece-fits g.Q.Group.SIZE c.loop-piece.piece (omega (arith, c.loop-piece-test.true, ap (λ n. 16 / n) c.SIZE-piece-end.ensures)) in
-    let there = IsGroupAt-piece F P c.args.stored.now.entries k p c.args.start c.args.bytes.now n g.Q.Group.SIZE (omega (arith, c.requires.len, fits)) at (c.loop-piece.invariant.passed P p at) in
-    let known : IsLook F P k (p + n) g.Q.Group.SIZE c.search_piece-end.result = c.search_piece-end.ensures.on_placed P (p + n) (rw (c.SIZE-in-loop-piece.ensures, c.SIZE-in-loop-piece-2.ensures) there) in
-    look-piece F P k p n g.Q.Group.SIZE c.search_piece-end.result fits (sym c.is_some.ensures ∙ c.if-is_some.true) known
-
-pub returns-then-is_some-clause-slot : goal.returns-then-is_some-clause-slot
-returns-then-is_some-clause-slot g c =
-    let F : Format = hashed_by g.H.HashFn.hash (stored_format c.args.stored.now) in
-    let n : ℕ = c.loop-piece.piece * g.Q.Group.SIZE in
-    let fits = piece-fits g.Q.Group.SIZE c.loop-piece.piece (omega (arith, c.loop-piece-test.true, ap (λ n. 16 / n) c.SIZE-piece-end.ensures)) in
-    end-piece F c.args.stored.now.entries c.args.bytes.now c.args.start n g.Q.Group.SIZE c.args.key.now c.search_piece-end.result fits c.loop-piece.invariant.on
-    (rw (c.SIZE-in-loop-piece.ensures, c.SIZE-in-loop-piece-2.ensures) at c.search_piece-end.ensures.slot)
+    let some = sym c.is_some.ensures ∙ c.if-is_some.true in
+    record {
+      slot = end-piece F c.args.stored.now.entries c.args.bytes.now c.args.start n g.Q.Group.SIZE k c.search_piece-end.result fits c.loop-piece.invariant.on
+          (rw (c.SIZE-in-loop-piece.ensures, c.SIZE-in-loop-piece-2.ensures) at c.search_piece-end.ensures.slot);
+      none = λ none. absurd (true≢false (sym some ∙ none));
+      on_placed = λ P p at. (
+          let there = IsGroupAt-piece F P c.args.stored.now.entries k p c.args.start c.args.bytes.now n g.Q.Group.SIZE (omega (arith, c.requires.len, fits)) at (c.loop-piece.invariant.passed P p at) in
+          let known : IsLook F P k (p + n) g.Q.Group.SIZE c.search_piece-end.result = c.search_piece-end.ensures.on_placed P (p + n) (rw (c.SIZE-in-loop-piece.ensures, c.SIZE-in-loop-piece-2.ensures) there) in
+          look-piece F P k p n g.Q.Group.SIZE c.search_piece-end.result fits some known);
+    }
 
 pub loop-piece-init : goal.loop-piece-init
 loop-piece-init g c =
@@ -66,15 +65,13 @@ loop-piece-preserved g c =
           subst (Passed F P k) sum passed);
     }
 
-pub returns-clause-none : goal.returns-clause-none
-returns-clause-none g c none =
-    let F : Format = hashed_by g.H.HashFn.hash (stored_format c.args.stored.now) in
-    let all = pieces-all g.Q.Group.SIZE c.loop-piece.piece g.met.Q.Group.divides (omega (arith, c.loop-piece-test.false, c.loop-piece.auto.piece-end, ap (λ n. 16 / n) c.SIZE-piece-end.ensures)) in
-    subst (GoesOnAmong F c.args.stored.now.entries c.args.bytes.now c.args.start c.args.key.now) all c.loop-piece.invariant.on
-
-pub returns-clause-on_placed : goal.returns-clause-on_placed
-returns-clause-on_placed g c P p at =
+pub returns : goal.returns
+returns g c =
     let F : Format = hashed_by g.H.HashFn.hash (stored_format c.args.stored.now) in
     let k : List ℕ = c.args.key.now in
     let all = pieces-all g.Q.Group.SIZE c.loop-piece.piece g.met.Q.Group.divides (omega (arith, c.loop-piece-test.false, c.loop-piece.auto.piece-end, ap (λ n. 16 / n) c.SIZE-piece-end.ensures)) in
-    subst (λ n. Passed F P k (p + n)) all (c.loop-piece.invariant.passed P p at)
+    record {
+      slot = tt;
+      none = λ none. subst (GoesOnAmong F c.args.stored.now.entries c.args.bytes.now c.args.start k) all c.loop-piece.invariant.on;
+      on_placed = λ P p at. subst (λ n. Passed F P k (p + n)) all (c.loop-piece.invariant.passed P p at);
+    }

@@ -24,31 +24,28 @@ overflow_add-slot g c =
     let l = c.requires.start in
     search rules
 
-pub returns-then-has_key-clause-on_placed : goal.returns-then-has_key-clause-on_placed
-returns-then-has_key-clause-on_placed g c P p at =
+pub returns-then-has_key : goal.returns-then-has_key
+returns-then-has_key g c =
     let F : Format = hashed_by g.H.HashFn.hash (stored_format c.args.stored.now) in
     let k : List ℕ = c.args.key.now in
-    let f = c.requires.sought.format in
     let report = subst (λ h. IsReport c.args.bytes.now h (g.Q.Group.matches c.of-group.result)) c.requires.tag.is c.of-group.ensures.matches in
     let match = taken-first _ _ _ c.in-Some.index c.matches.invariant.taken c.in-Some.ensures in
     let masked = ap (λ n. bit_and (c.args.start + c.in-Some.index) (n - 1)) c.slots-mask.ensures ∙ bit_and-slots (c.args.start + c.in-Some.index) c.args.stored.now.entries.slots c.requires.slots in
-    let same = ap (slot_key F c.args.stored.now.entries.bytes) (sym masked) ∙ c.has_key.ensures.0 c.if-has_key.true in
-    let found = look_found F P c.args.stored.now.entries k p c.args.start c.args.bytes.now f at _ report c.in-Some.index match same in
-    (ap Found masked ∙ found.0, subst (EndsWithin F P k p) c.requires.len found.1)
-
-pub returns-then-has_key-clause-slot : goal.returns-then-has_key-clause-slot
-returns-then-has_key-clause-slot g c =
-    let F : Format = hashed_by g.H.HashFn.hash (stored_format c.args.stored.now) in
-    let k : List ℕ = c.args.key.now in
-    let report = subst (λ h. IsReport c.args.bytes.now h (g.Q.Group.matches c.of-group.result)) c.requires.tag.is c.of-group.ensures.matches in
-    let match = taken-first _ _ _ c.in-Some.index c.matches.invariant.taken c.in-Some.ensures in
-    let masked = ap (λ n. bit_and (c.args.start + c.in-Some.index) (n - 1)) c.slots-mask.ensures ∙ bit_and-slots (c.args.start + c.in-Some.index) c.args.stored.now.entries.slots c.requires.slots in (
-      c.in-Some.index,
-      omega (arith, (report.occupied c.in-Some.index match).0, c.requires.len),
-      masked,
-      c.has_key.ensures.0 c.if-has_key.true,
-      other-before F c.args.stored.now.entries c.args.bytes.now c.args.start k _ _ c.in-Some.index report c.matches.invariant.taken c.matches.invariant.rising c.in-Some.ensures,
-    )
+    let key = c.has_key.ensures.0 c.if-has_key.true in
+    record {
+      slot = (
+        c.in-Some.index,
+        omega (arith, (report.occupied c.in-Some.index match).0, c.requires.len),
+        masked,
+        key,
+        other-before F c.args.stored.now.entries c.args.bytes.now c.args.start k _ _ c.in-Some.index report c.matches.invariant.taken c.matches.invariant.rising c.in-Some.ensures,
+      );
+      none = search rules;
+      on_placed = λ P p at. (
+          let same = ap (slot_key F c.args.stored.now.entries.bytes) (sym masked) ∙ key in
+          let found = look_found F P c.args.stored.now.entries k p c.args.start c.args.bytes.now c.requires.sought.format at _ report c.in-Some.index match same in
+          (ap Found masked ∙ found.0, subst (EndsWithin F P k p) c.requires.len found.1));
+    }
 
 pub matches-init : goal.matches-init
 matches-init g c = record {
@@ -84,36 +81,34 @@ unmatched g c j l is same =
     let report = subst (λ h. IsReport c.args.bytes.now h (g.Q.Group.matches c.of-group.result)) c.requires.tag.is c.of-group.ensures.matches in
     taken-all _ _ _ c.matches.invariant.taken c.in_default.ensures j (report.complete j l is) same
 
-pub returns-in-Some-first_empty-clause-slot : goal.returns-in-Some-first_empty-clause-slot
-returns-in-Some-first_empty-clause-slot g c =
+pub returns-in-Some-first_empty : goal.returns-in-Some-first_empty
+returns-in-Some-first_empty g c =
+    let F : Format = hashed_by g.H.HashFn.hash (stored_format c.args.stored.now) in
+    let k : List ℕ = c.args.key.now in
+    let report = subst (λ h. IsReport c.args.bytes.now h (g.Q.Group.matches c.of-group.result)) c.requires.tag.is c.of-group.ensures.matches in
     let first = sym (c.in-Some-first_empty.ensures ∙ c.matches.invariant.same ∙ c.of-group.ensures.free) in
     let q = position-Some counts_as_free c.args.bytes.now c.in-Some-first_empty.index 0 first in
     let masked = ap (λ n. bit_and (c.args.start + c.in-Some-first_empty.index) (n - 1)) c.slots-mask.ensures ∙ bit_and-slots (c.args.start + c.in-Some-first_empty.index) c.args.stored.now.entries.slots c.requires.slots in
-    (c.in-Some-first_empty.index, omega (arith, q.0, c.requires.len), masked, q.1, λ j l. (q.2 j l, unmatched g (goal.at.returns-in-Some-first_empty-clause-slot g c).After-first_empty j (omega (arith, l, q.0))))
+    record {
+      slot = (c.in-Some-first_empty.index, omega (arith, q.0, c.requires.len), masked, q.1, λ j l. (q.2 j l, unmatched g (goal.at.returns-in-Some-first_empty g c).After-first_empty j (omega (arith, l, q.0))));
+      none = search rules;
+      on_placed = λ P p at. (
+          let free = look_free F P c.args.stored.now.entries k p c.args.start c.args.bytes.now c.requires.sought.format at _ report (taken-all _ _ _ c.matches.invariant.taken c.in_default.ensures) c.in-Some-first_empty.index first in
+          (ap Free masked ∙ free.0, subst (EndsWithin F P k p) c.requires.len free.1));
+    }
 
-pub returns-in-Some-first_empty-clause-on_placed :
-    goal.returns-in-Some-first_empty-clause-on_placed
-returns-in-Some-first_empty-clause-on_placed g c P p at =
+pub returns : goal.returns
+returns g c =
     let F : Format = hashed_by g.H.HashFn.hash (stored_format c.args.stored.now) in
     let k : List ℕ = c.args.key.now in
-    let f = c.requires.sought.format in
     let report = subst (λ h. IsReport c.args.bytes.now h (g.Q.Group.matches c.of-group.result)) c.requires.tag.is c.of-group.ensures.matches in
-    let first = sym (c.in-Some-first_empty.ensures ∙ c.matches.invariant.same ∙ c.of-group.ensures.free) in
-    let masked = ap (λ n. bit_and (c.args.start + c.in-Some-first_empty.index) (n - 1)) c.slots-mask.ensures ∙ bit_and-slots (c.args.start + c.in-Some-first_empty.index) c.args.stored.now.entries.slots c.requires.slots in
-    let free = look_free F P c.args.stored.now.entries k p c.args.start c.args.bytes.now f at _ report (taken-all _ _ _ c.matches.invariant.taken c.in_default.ensures) c.in-Some-first_empty.index first in
-    (ap Free masked ∙ free.0, subst (EndsWithin F P k p) c.requires.len free.1)
-
-pub returns-clause-none : goal.returns-clause-none
-returns-clause-none g c none i l =
     let first = sym (c.in-None.ensures ∙ c.matches.invariant.same ∙ c.of-group.ensures.free) in
-    let within : i < length c.args.bytes.now = omega (arith, l, c.requires.len) in
-    (position-None counts_as_free c.args.bytes.now 0 first i within, unmatched g (goal.at.returns-clause-none g c).After-first_empty i within)
-
-pub returns-clause-on_placed : goal.returns-clause-on_placed
-returns-clause-on_placed g c P p at =
-    let F : Format = hashed_by g.H.HashFn.hash (stored_format c.args.stored.now) in
-    let k : List ℕ = c.args.key.now in
-    let f = c.requires.sought.format in
-    let report = subst (λ h. IsReport c.args.bytes.now h (g.Q.Group.matches c.of-group.result)) c.requires.tag.is c.of-group.ensures.matches in
-    let none = sym (c.in-None.ensures ∙ c.matches.invariant.same ∙ c.of-group.ensures.free) in
-    subst (λ n. Passed F P k (p + n)) c.requires.len (look_on F P c.args.stored.now.entries k p c.args.start c.args.bytes.now f at _ report (taken-all _ _ _ c.matches.invariant.taken c.in_default.ensures) none)
+    record {
+      slot = tt;
+      none = λ none i l. (
+          let within : i < length c.args.bytes.now = omega (arith, l, c.requires.len) in
+          (position-None counts_as_free c.args.bytes.now 0 first i within, unmatched g (goal.at.returns g c).After-first_empty i within));
+      on_placed = λ P p at. (
+          subst (λ n. Passed F P k (p + n)) c.requires.len
+          (look_on F P c.args.stored.now.entries k p c.args.start c.args.bytes.now c.requires.sought.format at _ report (taken-all _ _ _ c.matches.invariant.taken c.in_default.ensures) first));
+    }

@@ -8,6 +8,7 @@ use Rattle.odht_base.proofs.lemmas.SlotCounts.{few_slots}
 use Rattle.odht_raw.specs.DynParts.{parts_format}
 use Rattle.odht_raw.specs.Parts.{TableParts}
 use Rattle.odht_raw.specs.Waiting.{waiting, IsWaiting, IsPending, AreWholeParts, IsOrderAnswer}
+use Rattle.odht_raw.proofs.lemmas.Homes.{HasHomes, parts_homes}
 use Rattle.odht_raw.proofs.lemmas.PartCells.{slots_are, byte_is}
 use Rattle.odht_raw.proofs.lemmas.PendingSlots.{all_wait, all_pending, order_found}
 use Rattle.odht_raw.proofs.raw_table.insert_order.find_order.Given.{Over}
@@ -22,9 +23,13 @@ module _ (g : Over) (c : After-list_occupied g) where
   abbrev T : TableParts
   T = c.args.table.now.parts
 
+  -- keys have homes in it
+  homes : HasHomes F T
+  homes = parts_homes _ _ _ _ _ c.len.ensures.whole g.met.H.HashFn.fits
+
   module _ (P : Table) (whole : AreWholeParts F P T (length c.args.out.now)) where
     as_many : T.entries.slots ≡ slot_count P
-    as_many = slots_are F c.requires.homes.format P _ _ whole.parts _ c.requires.homes.mirrored
+    as_many = slots_are F homes.format P _ _ whole.parts _ homes.mirrored
 
     small : slot_count P ≤ 2 ^ 63
     small = few_slots (slot_count P) whole.valid.placed.slots
@@ -32,7 +37,7 @@ module _ (g : Over) (c : After-list_occupied g) where
     list : c.list_occupied.new.out ≡ map waiting (occupied P)
     list = c.list_occupied.ensures P (sym as_many ∙ sym c.len.ensures.value)
         (subst (λ (bs : List ℕ). (i : ℕ) → i < c.len.result → counts_as_free (slice_index bs i) ≡ is_free P.cells i) (sym c.controls.ensures.value)
-        (λ i l. byte_is F c.requires.homes.format P _ _ whole.parts i (omega (arith, l, c.len.ensures.value, as_many))))
+        (λ i l. byte_is F homes.format P _ _ whole.parts i (omega (arith, l, c.len.ensures.value, as_many))))
         whole.counted
 
 -- none of them is placed yet

@@ -5,6 +5,7 @@ use Rattle.odht_base.specs.Table.{Table}
 use Rattle.odht_raw.specs.DynParts.{parts_format}
 use Rattle.odht_raw.specs.Parts.{TableParts}
 use Rattle.odht_raw.specs.Waiting.{AreRising, AreWholeParts, IsBegun}
+use Rattle.odht_raw.proofs.lemmas.Homes.{parts_homes}
 use Rattle.odht_raw.proofs.lemmas.LeftSlots.{IsLeftBefore, left_none, left_placed, left_below, next_listed}
 use Rattle.odht_raw.proofs.lemmas.NearSlots.{near_ready, front_taken}
 use Rattle.odht_raw.proofs.lemmas.PlacedFirst.{IsGone, IsPassed, gone_none, gone_placed, next_waits, next_holds, passed_none, passed_placed, rest_waits, rest_high}
@@ -53,11 +54,11 @@ pub loop-at-preserved : goal.loop-at-preserved
 loop-at-preserved g c =
     let at = (goal.at.loop-at-preserved g c).In-loop-at in
     let T = c.args.table.now.parts in
-    let v = c.requires.homes in
+    let v = parts_homes _ _ _ _ _ c.home_of.ensures.whole g.met.H.HashFn.fits in
     let l = inside g at in
     let gone = c.loop-at.invariant.gone in
     let slot : ℕ = get_or c.loop-at.slots c.loop-at.at 0 - 2 ^ 63 in
-    let is = c.home_of.ensures in
+    let is = c.home_of.ensures.home in
     let near = c.is_near.ensures.0 c.if-not-is_near.false in
     let after = subst (λ b. b ≤ slot) is near.0 in
     let below = subst (λ b. slot < b + 16) is near.1 in
@@ -96,7 +97,7 @@ returns-then-not-is_near-clause-far g c l =
         | inr past ↦ inr past
       ]
     ] in
-    subst (λ h. (slot < h) ⊎ (h + 16 ≤ slot)) c.home_of.ensures far
+    subst (λ h. (slot < h) ⊎ (h + 16 ≤ slot)) c.home_of.ensures.home far
 
 pub returns-clause-far : goal.returns-clause-far
 returns-clause-far g c l = absurd (omega (arith, l))

@@ -15,7 +15,7 @@ pub loop-placed-init : goal.loop-placed-init
 loop-placed-init g c = record {
   begun = c.requires.begun;
   frontiers = first_frontiers (drop c.args.placed c.args.out.now) c.args.table.now.parts.entries.slots 64 c.at-frontiers.result
-      c.requires.homes.slots c.at-frontiers.ensures;
+      c.requires.slots c.at-frontiers.ensures;
 }
 
 -- what is left of a list behind its first slots

@@ -3,7 +3,8 @@ use Rattle.odht_base.specs.Format.{Format, format_of, home, IsFormat}
 use Rattle.odht_base.specs.Probe.{probe_slot}
 use Rattle.odht_base.proofs.lemmas.SlotCounts.{sixteens}
 use Rattle.odht_raw.proofs.lemmas.ProbedSlots.{group_begins}
-use Rattle.odht_raw.specs.Reads.{read_entries, read_controls, IsGroupLook}
+use Rattle.odht_raw.specs.SearchSteps.{IsGroupLook}
+use Rattle.odht_raw.specs.Reads.{read_entries, read_controls}
 use Rattle.odht_raw.specs.Searches.{IsPassed}
 use Rattle.odht_raw.proofs.lemmas.Reads.{read_more, read_end, read_all}
 use Rattle.odht_raw.proofs.raw_table.read_search.search_read.Given.{Over}
@@ -34,7 +35,7 @@ returns-in-Some-clause-given g c B h w =
     let group = c.loop-group.group in
     let counted : group + 1 ≡ 16 * group / 16 + 1 = omega arith in
     read_end (F g at) p B c.args.key.now f c.requires.slots w (16 * group) c.probed_slot-start.result c.read_exact_at.new.out (omega arith) (within g at) (begins g at) c.probed_slot-start.ensures.below (c.in_ok-read_exact_at.ensures.given B h)
-    (c.loop-group.invariant.passed B h w) (group + 1) c.in-Some.end counted (subst (IsGroupLook (F g at) (read_entries p B) c.read_exact_at.new.out c.probed_slot-start.result c.args.key.now) c.in-Some.is (c.in_ok-end.ensures.given B h))
+    (c.loop-group.invariant.passed B h w) (group + 1) c.in-Some.end counted (subst (IsGroupLook (F g at) (read_entries p B) c.read_exact_at.new.out c.probed_slot-start.result 16 c.args.key.now) c.in-Some.is (c.in_ok-end.ensures.given B h))
 
 pub returns-clause-given : goal.returns-clause-given
 returns-clause-given g c B h w =
@@ -53,5 +54,5 @@ loop-group-preserved g c =
     let group = c.loop-group.group in
     let next : 16 * group + 16 ≡ 16 * (group + 1) = omega arith in
     record {
-      passed = λ B h w. subst (IsPassed (F g at) (read_entries p B) (read_controls p B) c.args.key.now) next (read_more (F g at) p B c.args.key.now f c.requires.slots w (16 * group) c.probed_slot-start.result c.read_exact_at.new.out (omega arith) (within g at) (begins g at) c.probed_slot-start.ensures.below (c.in_ok-read_exact_at.ensures.given B h) (c.loop-group.invariant.passed B h w) (subst (IsGroupLook (F g at) (read_entries p B) c.read_exact_at.new.out c.probed_slot-start.result c.args.key.now) c.in_default.is (c.in_ok-end.ensures.given B h)));
+      passed = λ B h w. subst (IsPassed (F g at) (read_entries p B) (read_controls p B) c.args.key.now) next (read_more (F g at) p B c.args.key.now f c.requires.slots w (16 * group) c.probed_slot-start.result c.read_exact_at.new.out (omega arith) (within g at) (begins g at) c.probed_slot-start.ensures.below (c.in_ok-read_exact_at.ensures.given B h) (c.loop-group.invariant.passed B h w) (subst (IsGroupLook (F g at) (read_entries p B) c.read_exact_at.new.out c.probed_slot-start.result 16 c.args.key.now) c.in_default.is (c.in_ok-end.ensures.given B h)));
     }

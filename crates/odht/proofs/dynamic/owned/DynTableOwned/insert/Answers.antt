@@ -10,7 +10,8 @@ use Rattle.odht.specs.Inserts.{IsInsertOwned}
 use Rattle.odht.specs.Plain.{HasMapWith}
 use Rattle.odht.specs.declared.dynamic.DynError.TheVariants.{Rejected}
 use Rattle.odht.proofs.lemmas.DynOwned.{took, found_full}
-use Rattle.odht.proofs.lemmas.DynPlain.{IsDone, done, fitting, held_after, rejected_key, rejected_value}
+use Rattle.odht.proofs.lemmas.DynLengths.{accepted_fits, rejected_fits}
+use Rattle.odht.proofs.lemmas.DynPlain.{IsDone, done, held_after}
 use Rattle.odht.proofs.lemmas.OwnedInserts.{owned_of_view}
 use Rattle.odht.proofs.dynamic.owned.DynTableOwned.insert.Given.{Over}
 use Rattle.odht.proofs.dynamic.owned.DynTableOwned.insert.Goals.{After-insert}
@@ -20,9 +21,8 @@ module _ (g : Over) (c : After-insert g) (former : Option (List ℕ)) (was : c.i
   -- what the insert into the view did, of bytes
   into : (let t : DynStore (List ℕ) = c.self.inside.table in let h = g.H.HashFn.hash in IsInsertOwned (dyn_coding t h) (decoded_table (dyn_format t h) t.store) c.args.key.now c.args.value.now (Ok former) c.insert.new.self.store)
   into =
-      let key = fitting c.insert.result former _ _ _ was c.insert.ensures.key in
-      let value = fitting c.insert.result former _ _ _ was (c.insert.ensures.value key) in
-      owned_of_view _ _ _ _ former _ (took _ _ _ _ _ c.insert.result (c.insert.ensures.inserted key value) _ c.self.invariant.image former was)
+      let none = accepted_fits c.self.inside.table c.args.key.now c.args.value.now c.insert.result c.insert.ensures.lengths former was in
+      owned_of_view _ _ _ _ former _ (took _ _ _ _ _ c.insert.result (c.insert.ensures.inserted none) _ c.self.invariant.image former was)
 
   -- and of tables
   whole : IsDone g.H.HashFn.hash c.args.self.now c.args.key.now c.args.value.now former (dyn_plain c.insert.new.self g.H.HashFn.hash)
@@ -52,9 +52,8 @@ pub insert_grown-requires-clause-full : goal.insert_grown-requires-clause-full
 insert_grown-requires-clause-full g c =
     let h = g.H.HashFn.hash in
     let was : c.insert.result ≡ Err (Rejected c.in-Err-Rejected.field-0-0) = search rules in
-    let key = rejected_key c.insert.result _ _ _ _ _ was c.insert.ensures.key in
-    let value = rejected_value c.insert.result _ _ _ _ _ was (c.insert.ensures.value key) in
-    let full = found_full _ _ _ _ _ c.insert.result (c.insert.ensures.inserted key value) _ c.self.invariant.image _ was in
+    let none = rejected_fits c.self.inside.table c.args.key.now c.args.value.now c.insert.result c.insert.ensures.lengths c.in-Err-Rejected.field-0-0 was in
+    let full = found_full _ _ _ _ _ c.insert.result (c.insert.ensures.inserted none) _ c.self.invariant.image _ was in
     subst (λ (s : DynStore (List ℕ)). IsFullFor (decoded_table (dyn_format s h) s.store) c.args.key.now) (sym c.in-Err-Rejected.ensures.refused) full
 
 pub returns-in-Err-Rejected-clause-former : goal.returns-in-Err-Rejected-clause-former

@@ -8,6 +8,7 @@ use Rattle.odht.specs.Dynamic.{DynStore, dyn_coding, dyn_format}
 use Rattle.odht.specs.DynInserts.{IsDynInsert}
 use Rattle.odht.specs.Inserts.{IsInsertInto}
 use Rattle.odht.specs.declared.dynamic.DynError.{DynError}
+use Rattle.odht.proofs.lemmas.DynLengths.{of_fitting}
 use Rattle.odht.proofs.lemmas.DynOwned.{took, found_full}
 use Rattle.odht.proofs.lemmas.DynPlain.{same_value}
 use Rattle.odht.proofs.lemmas.Growths.{insert_owned-grown, grown_below, grown_maps}
@@ -34,7 +35,7 @@ module _ (g : Over) (c : After-insert g) where
   into : IsDynInsert (dyn_coding c.args.self.now g.H.HashFn.hash) c.in-Some.grown.store c.args.key.now c.args.value.now c.insert.result c.insert.new.self.store
   into =
       rw (c.in-Some.ensures.key_len, c.in-Some.ensures.value_len) at
-      (c.insert.ensures.inserted (c.requires.key ∙ sym c.in-Some.ensures.key_len) (c.requires.value ∙ sym c.in-Some.ensures.value_len))
+      (c.insert.ensures.inserted (of_fitting c.in-Some.grown c.args.key.now c.args.value.now (c.requires.key ∙ sym c.in-Some.ensures.key_len) (c.requires.value ∙ sym c.in-Some.ensures.value_len)))
 
   -- so does the table afterwards
   formats : dyn_format c.insert.new.self g.H.HashFn.hash ≡ F
