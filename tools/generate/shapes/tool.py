@@ -7,8 +7,8 @@ FOLDERS = []
 CORE = "crates/odht_tool_core"
 # the crates that go from a shape to its configuration, or to its owned tables, with what that is in a macro
 OVER_SHAPES = {
-    "odht_tool_reads": ("{}", "configuration"),
-    "odht_tool_writes": ("HashTableOwned<{}>", "owned table"),
+    "odht_tool_reads": ("odht::configs::{}", "configuration"),
+    "odht_tool_writes": ("HashTableOwned<configs::{}>", "owned table"),
 }
 MADE = "Generated from lists/shapes.txt by make generate"
 
@@ -143,7 +143,7 @@ pub(super) const VERSION: &str = "{text}";
 
 def macro(shapes, kind, what):
     arms = "".join(f"""            Shape::{it.configuration} => {{
-                $function::<{kind.format(f'odht::configs::{it.configuration}')}, $($more),*>($($argument),*)
+                $function::<{kind.format(it.configuration)}, $($more),*>($($argument),*)
             }}
 """ for it in shapes)
     return f"""//! The {what} of each shape. {MADE}.

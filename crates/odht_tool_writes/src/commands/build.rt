@@ -8,7 +8,7 @@ use crate::inserts::lines::{
 use crate::inserts::{Inserts, LineJob};
 use crate::shapes::for_shape;
 use odht::dynamic::{DynTableOwned, Layout};
-use odht::{FxHashFn, HashTableOwned, UnHashFn, Xxh64HashFn};
+use odht::{FxHashFn, HashTableOwned, UnHashFn, Xxh64HashFn, configs};
 use odht_tool_core::any::{AnyShape, OtherShape, read_any};
 use odht_tool_core::arguments::{BuildOptions, PutOptions};
 use odht_tool_core::evidence::ask_kinds;
@@ -27,7 +27,10 @@ use std::rt::{Clock, Files};
 // Calls a function for the lines of a table of a shape: its first two type parameters are the kind
 // of the table and that of the forms, and its first two arguments the forms and the lengths.
 macro_rules! for_lines {
-    ($shape:expr, $forms:expr, $delimiter:expr, $function:ident[$($more:ty),*]($($argument:expr),*)) => {{
+    (
+        $shape:expr, $forms:expr, $delimiter:expr,
+        $function:ident[$($more:ty),*]($($argument:expr),*)
+    ) => {{
         let (forms, delimiter): (GivenForms, u8) = ($forms, $delimiter);
         let layout = lengths_of($shape.key(), $shape.value());
         match $shape {

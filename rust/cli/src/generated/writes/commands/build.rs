@@ -12,7 +12,7 @@ use crate::generated::core::shapes::{Hash, Shape};
 use crate::generated::core::status::Status;
 use crate::generated::core::targets::Target;
 use crate::generated::tables::dynamic::{DynTableOwned, Layout};
-use crate::generated::tables::{FxHashFn, HashTableOwned, UnHashFn, Xxh64HashFn};
+use crate::generated::tables::{configs, FxHashFn, HashTableOwned, UnHashFn, Xxh64HashFn};
 use crate::generated::tool_tables::dynamic::lengths_of;
 use crate::generated::writes::inserts::lines::{
     check_lines, insert_lines, left, makes_no_table, place_of, Place, Streams,
@@ -27,7 +27,10 @@ use std::os::fd::AsFd;
 // Calls a function for the lines of a table of a shape: its first two type parameters are the kind
 // of the table and that of the forms, and its first two arguments the forms and the lengths.
 macro_rules! for_lines {
-    ($shape:expr, $forms:expr, $delimiter:expr, $function:ident[$($more:ty),*]($($argument:expr),*)) => {{
+    (
+        $shape:expr, $forms:expr, $delimiter:expr,
+        $function:ident[$($more:ty),*]($($argument:expr),*)
+    ) => {{
         let (forms, delimiter): (GivenForms, u8) = ($forms, $delimiter);
         let layout = lengths_of($shape.key(), $shape.value());
         match $shape {
