@@ -4,9 +4,7 @@ use odht_tool_core::failure::Failure;
 use odht_tool_core::front::table_at;
 use odht_tool_core::help::{write_help, write_version};
 use odht_tool_core::inside::{first_inside, is_followed, write_inside};
-use odht_tool_core::new_file::{ended, make_new};
 use odht_tool_core::status::{Status, of_output};
-use odht_tool_core::targets::Target;
 use odht_tool_reads::commands::diff;
 use odht_tool_reads::positions;
 use odht_tool_tables::files::{finish, finish_as, read_bytes, read_table_bytes};
@@ -103,11 +101,8 @@ where
         Command::Diff(options) => diff::diff(rt, file, options, input, output, errors),
         Command::Merge(options) => merge::merge(rt, file, options, input, output, errors),
         Command::Put(mut options) => {
-            let target = Target::find_table(rt, file, options.breaks_links)?;
-            let mut new = make_new(rt, target)?;
             options.watch = options.watch.with_bar(rt, errors);
-            let done = build::put(rt, &mut new, options, input, errors);
-            ended(rt, new, done)
+            build::put(rt, file, options, input, output, errors)
         }
     }
 }

@@ -8,29 +8,32 @@ use Rattle.odht_base.specs.Insert.{insert_owned}
 use Rattle.odht_base.specs.Load.{max_items}
 use Rattle.odht_base.specs.Map.{KeysApart, map_of, value_in}
 use Rattle.odht_base.specs.Table.{Pair, Table, fresh, slot_count, walk}
-use Rattle.odht_base.specs.Valid.{IsValid}
+use Rattle.odht_base.specs.Valid.{IsImage, IsValid}
 use Rattle.odht_base.proofs.lemmas.DistinctKeys.{last-apart, walk-KeysApart}
 use Rattle.odht_base.proofs.lemmas.FreeSlots.{count-empty, map_of-empty, map_of-fresh, slot_count-empty}
 use Rattle.odht_base.proofs.lemmas.Keys.{same_bytes}
 use Rattle.odht_base.proofs.lemmas.Pairs.{value_in-cons}
-use Rattle.odht_header.specs.Refusals.{check_refusal_by}
-use Rattle.odht_header.specs.declared.error.Error.{Error}
 use Rattle.odht.specs.Lists.{IsAfterInserts}
 use Rattle.odht.specs.Plain.{HasMapWith}
 use Rattle.odht.proofs.lemmas.NewRefusals.{default_fits}
-use Rattle.odht_tool_writes.specs.Deletes.{AreNamed, IsDeleted, IsDeleteFailure, are_keys, cleared, fails_by_words, is_among, is_fault, without}
+use Rattle.odht_tool_writes.specs.DeleteLines.{IsDeletedBy, IsFailureBy, are_named, is_named_fault}
+use Rattle.odht_tool_writes.specs.Deletes.{AreNamed, IsDeleted, IsLeft, are_keys, cleared, is_among, is_fault, without}
 use Rattle.odht_tool_writes.specs.Rebuilds.{IsNewFailure}
-use Rattle.odht_tool_core.specs.AnyShapes.{any_format, any_hash, any_key, any_value, read_any}
+use Rattle.odht_tool_tables.specs.Wholes.{whole_any}
+use Rattle.odht_tool_core.specs.AnyShapes.{any_format, any_hash, any_key, any_value}
 use Rattle.odht_tool_core.specs.Forms.{bytes_form}
 use Rattle.odht_tool_core.specs.DynTexts.{IsDynamicOf}
 use Rattle.odht_tool_core.specs.ReadyShapes.{hash_of, typed_len}
 use Rattle.odht_tool_core.specs.declared.any.AnyShape.{AnyShape}
+use Rattle.odht_tool_core.specs.declared.arguments.Keys.{Keys}
+use Rattle.odht_tool_core.specs.declared.arguments.Keys.TheVariants.{Words, Lines}
 use Rattle.odht_tool_core.specs.declared.failure.Failure.{Failure}
 use Rattle.odht_tool_core.specs.declared.failure.Failure.TheVariants.{Read, Write, Obstacle, NoTable, Folder, Beside, Refused, ShortKeys, NoHash, OtherKey, OtherValue, UnknownKey, UnknownValue, PastEnd, Forged, Input, Line, Output, Memory, Misread}
 use Rattle.odht_tool_core.specs.declared.forms.Form.{Form}
 use Rattle.odht_tool_core.specs.declared.forms.GivenForms.{GivenForms}
 use Rattle.odht_tool_core.specs.declared.forms.Kinds.{Kinds}
 use Rattle.odht_tool_core.specs.declared.shapes.Hash.{Hash}
+use Rattle.odht_tool_core.specs.declared.status.Status.{Status}
 use Rattle.odht_tool_writes.proofs.AbsentKeys.{is_there}
 use Rattle.odht_tool_tables.proofs.Lines.{AllZip-length}
 use Rattle.odht_tool_tables.proofs.Formats.{format_is}
@@ -187,24 +190,37 @@ format_as s k v t key value hash =
     let lengths : format_of k v (hash_of t) ≡ format_of (typed_len (any_key s)) (typed_len (any_value s)) (hash_of (any_hash s)) = λ i. format_of (key i) (value i) (hash_of (hash' i)) in
     lengths ∙ format_is s
 
+-- what is left of a table in which no rule is broken, for the keys that are named
+pub deleted_of : (B : List ℕ) (h : Option Hash) (ks : Kinds) (o : Option ℕ) (input : Option (List ℕ)) (named : Keys) (s : AnyShape) (forms : GivenForms)
+    → whole_any B h ks o ≡ Ok (s, forms) → (P : Table) → IsImage (any_format s) P B → (ws keys : List (List ℕ)) → are_named forms.key input s ws keys named
+    → (B' : List ℕ) (status : Status) → IsLeft (any_format s) keys P B' status → IsDeletedBy B h ks o input B' status named
+deleted_of B h ks o input named s forms whole P image ws keys texts B' status left = record {
+  shape = s;
+  forms = forms;
+  whole = whole;
+  table = P;
+  image = image;
+  words = ws;
+  keys = keys;
+  texts = texts;
+  left = left;
+}
+
 -- a failure of keys, or of memory, where nothing failed before
-pub failed_later : (B : List ℕ) (h : Option Hash) (ks : Kinds) (o : Option ℕ) (ws : List (List ℕ)) (s : AnyShape) (forms : GivenForms) → read_any B h ks ≡ Ok (s, forms)
-    → check_refusal_by (any_format s) o B ≡ None → (f : Failure) → is_fault forms.key ws s f → IsDeleteFailure B h ks o ws f
-failed_later B h ks o ws s forms found checked f fault =
-    subst (λ r. MatchResult r (λ x. fails_by_words x.1.key x.0 ws f (check_refusal_by (any_format x.0) o B)) (λ e. f ≡ e)) (sym found)
-    (subst (fails_by_words forms.key s ws f) (sym checked) fault)
+pub failed_later : (B : List ℕ) (h : Option Hash) (ks : Kinds) (o : Option ℕ) (input : Option (List ℕ)) (named : Keys) (s : AnyShape) (forms : GivenForms)
+    → whole_any B h ks o ≡ Ok (s, forms) → (f : Failure) → is_named_fault forms.key input s f named → IsFailureBy B h ks o input f named
+failed_later B h ks o input named s forms found f fault =
+    subst (λ r. MatchResult r (λ x. is_named_fault x.1.key input x.0 f named) (λ e. f ≡ e)) (sym found) fault
 
--- or the first rule that the bytes break
-pub failed_check : (B : List ℕ) (h : Option Hash) (ks : Kinds) (o : Option ℕ) (ws : List (List ℕ)) (s : AnyShape) (forms : GivenForms) (e : Error) → read_any B h ks ≡ Ok (s, forms)
-    → check_refusal_by (any_format s) o B ≡ Some e → IsDeleteFailure B h ks o ws (Refused e)
-failed_check B h ks o ws s forms e found broken =
-    subst (λ r. MatchResult r (λ x. fails_by_words x.1.key x.0 ws (Refused e) (check_refusal_by (any_format x.0) o B)) (λ f. Refused e ≡ f)) (sym found)
-    (subst (fails_by_words forms.key s ws (Refused e)) (sym broken) refl)
+-- or that of the shape, or the first rule that the bytes break
+pub failed_whole : (B : List ℕ) (h : Option Hash) (ks : Kinds) (o : Option ℕ) (input : Option (List ℕ)) (named : Keys) (f : Failure) → whole_any B h ks o ≡ Err f → IsFailureBy B h ks o input f named
+failed_whole B h ks o input named f found =
+    subst (λ r. MatchResult r (λ x. is_named_fault x.1.key input x.0 f named) (λ e. f ≡ e)) (sym found) refl
 
--- or that of the shape
-pub failed_shape : (B : List ℕ) (h : Option Hash) (ks : Kinds) (o : Option ℕ) (ws : List (List ℕ)) (f : Failure) → read_any B h ks ≡ Err f → IsDeleteFailure B h ks o ws f
-failed_shape B h ks o ws f found =
-    subst (λ r. MatchResult r (λ x. fails_by_words x.1.key x.0 ws f (check_refusal_by (any_format x.0) o B)) (λ e. f ≡ e)) (sym found) refl
+-- no memory is a failure of keys that are named so
+pub no_memory_named : (f : Form) (input : Option (List ℕ)) (s : AnyShape) (named : Keys) → is_named_fault f input s Memory named
+no_memory_named f input s (Words words) = tt
+no_memory_named f input s Lines = tt
 
 -- no memory is a failure of keys
 pub no_memory : (f : Form) (ws : List (List ℕ)) (s : AnyShape) → is_fault f ws s Memory

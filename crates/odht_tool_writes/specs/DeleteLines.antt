@@ -1,4 +1,5 @@
--- What `delete -` makes of the bytes B of a file, and of the lines of an input. R says which line is a text of which key.
+-- What `delete` makes of the bytes B of a file, and of the words or the lines of an input that name keys. R says which line
+-- is a text of which key.
 --     AreLinesKeys R o ws ks   ws are the lines of an input with the bytes o, where they are known, but that an empty last one
 --                          that is a text of no key may be left out; and they are texts of the keys ks
 --     are_lines_keys f o ws s ks   the same of keys of the shape s, in the form f
@@ -7,12 +8,15 @@
 --     TellsLine R p o f    the failure f tells so of the lines of the bytes o, where they are known; or the reader failed, or
 --                          there was no memory
 --     is_line_fault f o s g    the same of keys of the shape s, in the form f
---     IsDeletedByLines B h ks o input B' status    B' are made, as for the words of a command line, of the table of the bytes B
---                          for the keys of the lines of an input with these bytes
---     IsLinesFailure B h ks o input f  f is the failure of the shape, or else the first rule that B breaks, or else tells of the
---                          first line that is no key, or that the reader failed, or that there was no memory
---     IsDeletedBy B h ks o input B' status keys    B' are made so for these keys: the words of a command line, or the lines
---     IsFailureBy B h ks o input f keys    f is the failure of that
+--     are_named f o s ws ks N  the words or lines ws are texts of the keys ks of the shape s, in the form f, where N names
+--                          words of the command line, or the lines of an input with the bytes o
+--     is_named_fault f o s g N the failure g tells of the first of them that is a text of no key; or the reader failed, or
+--                          there was no memory
+--     IsDeletedBy B h ks o input B' status N   B' are made of the table of the bytes B, in which no rule is broken, without
+--                          the keys that N names; h names a hash function, or none, ks is said of keys and values, and o
+--                          is the bound of searches
+--     IsFailureBy B h ks o input f N   f is the failure of the shape, or else the first rule that B breaks, or else tells of
+--                          the first word or line that is no key, or that the reader failed, or that there was no memory
 -- The parts of this, of the line of the number n:
 --     IsOneLineMore R o o' ws ws' ks ks'   ws' and ks' are one line more, the next one of the bytes o, and its key; o' are the
 --                          bytes after it
@@ -21,15 +25,16 @@
 --     TellsNumbered p n line f     the failure f tells that this line is no key, or there was no memory
 --     IsNextFailure R p n o f  f tells so of the next line of the bytes o; or the reader failed; or that line was read, and
 --                          there was no memory
-use Rattle.std.specs.Prelude.{◌≡◌, ◌≢◌, ◌⊎◌, ⊤, ℕ, ◌+◌, List, [], ◌∷◌, ◌++◌, length, map, Option, None, Some, IfSome, MatchResult, string_bytes}
+use Rattle.std.specs.Prelude.{◌≡◌, ◌≢◌, ◌⊎◌, ⊤, ℕ, ◌+◌, List, [], ◌∷◌, ◌++◌, length, map, Option, Some, IfSome, Ok, MatchResult, string_bytes}
 use Rattle.std.specs.Io.KnownBytes.{IsAtEnd}
 use Rattle.std.specs.List.{AllZip}
 use Rattle.std.specs.Str.Lines.{lines}
-use Rattle.odht_header.specs.Refusals.{check_refusal_by}
-use Rattle.odht_header.specs.declared.error.Error.{Error}
-use Rattle.odht_tool_writes.specs.Deletes.{IsDeleteFailure, IsDeletedOf}
+use Rattle.odht_base.specs.Table.{Table}
+use Rattle.odht_base.specs.Valid.{IsImage}
+use Rattle.odht_tool_writes.specs.Deletes.{IsLeft, are_keys, is_fault}
 use Rattle.odht_tool_tables.specs.KeyTexts.{AreLinesOf}
-use Rattle.odht_tool_core.specs.AnyShapes.{any_format, any_key, read_any}
+use Rattle.odht_tool_tables.specs.Wholes.{whole_any}
+use Rattle.odht_tool_core.specs.AnyShapes.{any_format, any_key}
 use Rattle.odht_tool_core.specs.InputLines.{AreLeft, IsNextLine}
 use Rattle.odht_tool_core.specs.Keys.{IsLeftOut, IsTextOfNone}
 use Rattle.odht_tool_core.specs.Forms.{bytes_form}
@@ -39,9 +44,10 @@ use Rattle.odht_tool_core.specs.declared.any.AnyShape.{AnyShape}
 use Rattle.odht_tool_core.specs.declared.arguments.Keys.{Keys}
 use Rattle.odht_tool_core.specs.declared.arguments.Keys.TheVariants.{Words, Lines}
 use Rattle.odht_tool_core.specs.declared.failure.Failure.{Failure}
-use Rattle.odht_tool_core.specs.declared.failure.Failure.TheVariants.{Input, Memory, Misread, Refused}
+use Rattle.odht_tool_core.specs.declared.failure.Failure.TheVariants.{Input, Memory, Misread}
 use Rattle.odht_tool_core.specs.declared.failure.LineFault.TheVariants.{Key}
 use Rattle.odht_tool_core.specs.declared.forms.Form.{Form}
+use Rattle.odht_tool_core.specs.declared.forms.GivenForms.{GivenForms}
 use Rattle.odht_tool_core.specs.declared.forms.Kinds.{Kinds}
 use Rattle.odht_tool_core.specs.declared.misread.Wanted.{Wanted}
 use Rattle.odht_tool_core.specs.declared.shapes.Hash.{Hash}
@@ -77,29 +83,30 @@ is_line_fault f input s failure =
     TellsLine (IsDynamicOf k) (dynamic_wanted k) input failure
 
 -- ---- of a file
-pub record IsDeletedByLines (B : List ℕ) (h : Option Hash) (ks : Kinds) (o : Option ℕ) (input : Option (List ℕ)) (B' : List ℕ) (status : Status) : Type 0 where
+abbrev pub are_named : Form → Option (List ℕ) → AnyShape → List (List ℕ) → List (List ℕ) → Keys → Type 0
+are_named f input s ws ks (Words words) = (ws ≡ map string_bytes words.items) × are_keys f ws s ks
+are_named f input s ws ks Lines = are_lines_keys f input ws s ks
+
+abbrev pub is_named_fault : Form → Option (List ℕ) → AnyShape → Failure → Keys → Type 0
+is_named_fault f input s failure (Words words) = is_fault f (map string_bytes words.items) s failure
+is_named_fault f input s failure Lines = is_line_fault f input s failure
+
+pub record IsDeletedBy (B : List ℕ) (h : Option Hash) (ks : Kinds) (o : Option ℕ) (input : Option (List ℕ)) (B' : List ℕ) (status : Status) (named : Keys) : Type 0 where
+  pub shape : AnyShape
+  pub forms : GivenForms
+  pub whole : whole_any B h ks o ≡ Ok (shape, forms)
+  pub table : Table
+  pub image : IsImage (any_format shape) table B
   pub words : List (List ℕ)
-  pub deleted : IsDeletedOf B h ks o words B' status
-  pub read : are_lines_keys deleted.forms.key input words deleted.shape deleted.keys
-
-abbrev pub fails_by_lines : Form → AnyShape → Option (List ℕ) → Failure → Option Error → Type 0
-fails_by_lines f s input failure None = is_line_fault f input s failure
-fails_by_lines f s input failure (Some error) = failure ≡ Refused error
-
-abbrev pub IsLinesFailure : List ℕ → Option Hash → Kinds → Option ℕ → Option (List ℕ) → Failure → Type 0
-IsLinesFailure B h ks o input failure =
-    MatchResult (read_any B h ks)
-    (λ x. fails_by_lines x.1.key x.0 input failure (check_refusal_by (any_format x.0) o B))
-    (λ f. failure ≡ f)
-
--- ---- of words or lines
-abbrev pub IsDeletedBy : List ℕ → Option Hash → Kinds → Option ℕ → Option (List ℕ) → List ℕ → Status → Keys → Type 0
-IsDeletedBy B h ks o input B' status (Words ws) = IsDeletedOf B h ks o (map string_bytes ws.items) B' status
-IsDeletedBy B h ks o input B' status Lines = IsDeletedByLines B h ks o input B' status
+  pub keys : List (List ℕ)
+  pub texts : are_named forms.key input shape words keys named
+  pub left : IsLeft (any_format shape) keys table B' status
 
 abbrev pub IsFailureBy : List ℕ → Option Hash → Kinds → Option ℕ → Option (List ℕ) → Failure → Keys → Type 0
-IsFailureBy B h ks o input failure (Words ws) = IsDeleteFailure B h ks o (map string_bytes ws.items) failure
-IsFailureBy B h ks o input failure Lines = IsLinesFailure B h ks o input failure
+IsFailureBy B h ks o input failure named =
+    MatchResult (whole_any B h ks o)
+    (λ x. is_named_fault x.1.key input x.0 failure named)
+    (λ f. failure ≡ f)
 
 -- ---- one line
 pub record IsOneLineMore {K : Type 0} (R : List ℕ → K → Type 0) (old new : Option (List ℕ)) (ws ws' : List (List ℕ)) (ks ks' : List K) : Type 0 where

@@ -1,4 +1,4 @@
--- What `delete` makes of the bytes B of a file, and of the words ws of the command line, which are keys.
+-- What `delete` makes of a table P, and of keys, which the words ws of the command line are texts of.
 --     are_keys f ws s ks   ks are the bytes of the keys of the shape s that the words ws are texts of, in the form f
 --     is_fault f ws s g    the failure g tells of the first of the words ws that is a text of no key, or there was no memory
 --     is_among ks k        k is one of the keys ks
@@ -11,34 +11,22 @@
 --     have_values P ks     each of the keys ks has a value in P
 --     absent_lines file P ws ks   the line of each of the words ws, of the keys ks, whose key has no value in P
 --     IsLeft F ks P B' status   the same, and the status says whether each of ks had a value
---     IsDeletedOf B h ks o ws B' status   B' are so made of the table of the bytes B, in which no rule is broken, for the
---                          keys of the words ws; h names a hash function, or none, ks is said of keys and values, and o is
---                          the bound of searches
---     IsDeleteFailure B h ks o ws f   f is the failure of the shape, or else the first rule that B breaks, or else tells of
---                          the first word that is no key, or that there was no memory
-use Rattle.std.specs.Prelude.{◌≡◌, ℕ, Bool, not, List, [], ◌∷◌, ◌++◌, filter, is_some, bytes_eq, Option, None, Some, Ok, MatchResult, if◌then◌else◌}
+use Rattle.std.specs.Prelude.{◌≡◌, ℕ, Bool, not, List, [], ◌∷◌, ◌++◌, filter, is_some, bytes_eq, None, if◌then◌else◌}
 use Rattle.std.specs.List.{AllZip, list_all, list_any}
 use Rattle.odht_base.specs.Format.{Format}
 use Rattle.odht_base.specs.Insert.{insert_owned}
 use Rattle.odht_base.specs.Map.{map_of}
 use Rattle.odht_base.specs.Table.{Pair, Table, empty, slot_count, walk}
-use Rattle.odht_base.specs.Valid.{IsImage}
-use Rattle.odht_header.specs.Refusals.{check_refusal_by}
-use Rattle.odht_header.specs.declared.error.Error.{Error}
 use Rattle.odht.specs.Lists.{HasSizeOf, IsAfterInserts}
 use Rattle.odht_tool_tables.specs.KeyTexts.{found_status}
-use Rattle.odht_tool_core.specs.AnyShapes.{any_format, any_key, read_any}
+use Rattle.odht_tool_core.specs.AnyShapes.{any_key}
 use Rattle.odht_tool_core.specs.Forms.{bytes_form}
 use Rattle.odht_tool_core.specs.Keys.{TellsFault}
 use Rattle.odht_tool_core.specs.Misreads.{absent_line}
 use Rattle.odht_tool_core.specs.DynTexts.{IsDynamicOf, dynamic_wanted}
 use Rattle.odht_tool_core.specs.declared.any.AnyShape.{AnyShape}
 use Rattle.odht_tool_core.specs.declared.failure.Failure.{Failure}
-use Rattle.odht_tool_core.specs.declared.failure.Failure.TheVariants.{Refused}
 use Rattle.odht_tool_core.specs.declared.forms.Form.{Form}
-use Rattle.odht_tool_core.specs.declared.forms.GivenForms.{GivenForms}
-use Rattle.odht_tool_core.specs.declared.forms.Kinds.{Kinds}
-use Rattle.odht_tool_core.specs.declared.shapes.Hash.{Hash}
 use Rattle.odht_tool_core.specs.declared.status.Status.{Status}
 
 -- ---- the keys of the words
@@ -82,26 +70,3 @@ absent_lines file P (w ∷ ws) (k ∷ ks) = (if has_value P k then [] else absen
 
 abbrev pub IsLeft : Format → List (List ℕ) → Table → List ℕ → Status → Type 0
 IsLeft F ks P B status = IsDeleted F ks P B × (status ≡ found_status (have_values P ks))
-
--- ---- of a file
-pub record IsDeletedOf (B : List ℕ) (h : Option Hash) (ks : Kinds) (o : Option ℕ) (ws : List (List ℕ)) (B' : List ℕ) (status : Status) : Type 0 where
-  pub shape : AnyShape
-  pub forms : GivenForms
-  pub found : read_any B h ks ≡ Ok (shape, forms)
-  pub checked : check_refusal_by (any_format shape) o B ≡ None
-  pub table : Table
-  pub image : IsImage (any_format shape) table B
-  pub keys : List (List ℕ)
-  pub texts : are_keys forms.key ws shape keys
-  pub left : IsLeft (any_format shape) keys table B' status
-
--- the failure of keys
-abbrev pub fails_by_words : Form → AnyShape → List (List ℕ) → Failure → Option Error → Type 0
-fails_by_words f s ws failure None = is_fault f ws s failure
-fails_by_words f s ws failure (Some error) = failure ≡ Refused error
-
-abbrev pub IsDeleteFailure : List ℕ → Option Hash → Kinds → Option ℕ → List (List ℕ) → Failure → Type 0
-IsDeleteFailure B h ks o ws failure =
-    MatchResult (read_any B h ks)
-    (λ x. fails_by_words x.1.key x.0 ws failure (check_refusal_by (any_format x.0) o B))
-    (λ f. failure ≡ f)

@@ -1,5 +1,4 @@
 //! Tables of lengths that are numbers, by command.
 
-pub mod builds;
 pub mod deletes;
 pub mod merges;

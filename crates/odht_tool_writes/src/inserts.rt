@@ -1,14 +1,18 @@
-//! Pairs of lines that are inserted into a table, a batch at a time, and the file that it becomes.
+//! Pairs of lines that are inserted into a table, a batch at a time.
 ghost use Rattle.std.specs.Prelude.{◌≡◌, Err, IfOk, OnErr, OnOk, length};
 ghost use Rattle.odht_tool_core.specs.declared.failure.Failure.TheVariants.{Memory};
 ghost use Rattle.odht_tool_writes.specs.Faults.{IsTold};
 ghost use Rattle.odht_tool_writes.specs.Inserted.{AreInserted, IsNewInsert};
 
+use crate::reports::{BATCH, LineReports, with_line};
+use odht::dynamic::Layout;
+use odht::load::Percent;
+use odht_tool_core::arguments::Duplicates;
 use odht_tool_core::failure::Failure;
 use odht_tool_core::forms::Forms;
 use odht_tool_core::line_messages::line_message;
 use odht_tool_core::lines::read_pair_as;
-use odht_tool_core::progress::{Progress, Taken};
+use odht_tool_core::progress::Watch;
 use odht_tool_core::text::Text;
 use std::alloc::Global;
 use std::io::{BufRead, Write};
@@ -17,14 +21,28 @@ use std::rt::Clock;
 pub mod lines;
 mod tables;
 
-/// How many pairs are inserted at once.
-const BATCH: usize = 1024;
+/// What a run over lines is given beside its table and its streams.
+#[derive(Drop)]
+pub struct LineJob<'a, R, F> {
+    /// The system, which allocates and has the clock.
+    pub rt: &'a R,
+    /// The forms of keys and values, and the byte between them.
+    pub forms: F,
+    /// Which pair of a key counts.
+    pub duplicates: Duplicates,
+    /// Whether lines of progress are requested.
+    pub watch: Watch,
+}
 
 /// A table that grows, into which pairs are inserted that have texts.
-pub trait Inserts: Drop {
-    ghost use Rattle.odht_base.specs.Table.{Table, count};
+pub trait Inserts: Sized + Drop {
+    ghost use Rattle.std.specs.Prelude.{ℕ, IfErr, None, Some};
+    ghost use Rattle.odht_base.specs.Format.{Format};
+    ghost use Rattle.odht_base.specs.Table.{Table, count, fresh};
     ghost use Rattle.odht_base.specs.Valid.{IsImage};
     ghost use Rattle.odht_header.specs.Coding.{Coding};
+    ghost use Rattle.odht_header.specs.Refusals.{check_refusal_by};
+    ghost use Rattle.odht_tool_writes.specs.Inserted.{copy_failure};
 
     /// A key.
     type Key: Text;
@@ -35,6 +53,38 @@ pub trait Inserts: Drop {
     ghost coding: { Self → Coding Self.Key Self.Value };
 
     ghost stands_for: { Self → Table → Type 0 };
+
+    ghost format: { ℕ → ℕ → Format };
+
+    ghost is_long_enough: { ℕ → Type 0 };
+
+    ghost is_with: { ℕ → ℕ → (Table → Type 0) → Self → Type 0 };
+
+    /// An empty table of these lengths, for that many items.
+    fn empty(
+        alloc: Global,
+        layout: Layout,
+        capacity: usize,
+        percent: Percent,
+    ) -> Result<Self, Failure>
+        ensures { IfOk result (is_with layout.key_len layout.value_len
+            (λ P. fresh capacity percent ≡ Some P)) };
+
+    /// The table of these bytes, which has these lengths. They are checked whole before, with the
+    /// bound of searches where there is one, and freed once the table has a copy.
+    fn copy(
+        alloc: Global,
+        layout: Layout,
+        bytes: Vec<u8>,
+        bound: Option<usize>,
+    ) -> Result<Self, Failure>
+        requires { is_long_enough layout.key_len }
+        ensures ok { let F = format layout.key_len layout.value_len in IfOk result
+            (is_with layout.key_len layout.value_len (λ P. IsImage F P bytes.items)) }
+        ensures valid { IfOk result (λ _. let F = format layout.key_len layout.value_len
+            in check_refusal_by F bound bytes.items ≡ None) }
+        ensures err { IfErr result (λ failure. let F = format layout.key_len layout.value_len
+            in failure ≡ copy_failure F bound bytes.items) };
 
     /// Inserts the pairs in turn. `Memory` where there is none for a larger table.
     fn insert_pairs(&mut self, pairs: &[(Self::Key, Self::Value)]) -> Result<(), Failure>
@@ -60,16 +110,16 @@ pub trait Inserts: Drop {
             → IsImage (coding self.now).format P result.now };
 }
 
-// Inserts the pairs of the lines, a batch at a time.
+// Inserts the pairs of the lines, a batch at a time. Inlined it would take more instructions.
+#[inline(never)]
 fn fill<T: Inserts, F: Forms, R: AllocGlobal + Clock, I: BufRead, E: Write>(
-    rt: &R,
+    job: &LineJob<'_, R, F>,
     table: &mut T,
-    mut progress: Progress,
-    forms: F,
     input: &mut I,
     errors: &mut E,
 ) -> Result<(), Failure> {
-    let alloc: Global = rt.alloc();
+    let mut reports = LineReports::new(job.rt, job.watch);
+    let (alloc, forms): (Global, F) = (job.rt.alloc(), job.forms);
     let mut pairs = Vec::new(alloc);
     let mut line = Vec::new(alloc);
     let mut bytes: u64 = 0;
@@ -78,7 +128,7 @@ fn fill<T: Inserts, F: Forms, R: AllocGlobal + Clock, I: BufRead, E: Write>(
             Ok(Some(pair)) => pair,
             Ok(None) => {
                 insert_and_clear(table, &mut pairs)?;
-                report_all(rt, progress, number, table.pair_count(), bytes, errors);
+                reports.end(number, table.pair_count(), bytes, errors);
                 break;
             }
             Err(failure) => {
@@ -86,61 +136,14 @@ fn fill<T: Inserts, F: Forms, R: AllocGlobal + Clock, I: BufRead, E: Write>(
                 return Err(told::<T::Key, T::Value, F>(alloc, failure, line, forms));
             }
         };
-        pairs.push(pair).or(Err(Failure::Memory))?;
+        pairs.push(pair).map_err(|_| Failure::Memory)?;
         bytes = with_line(bytes, line.as_slice());
         if pairs.len() >= BATCH {
             insert_and_clear(table, &mut pairs)?;
-            report(rt, &mut progress, number, table.pair_count(), bytes, errors);
+            reports.report(number, table.pair_count(), bytes, errors);
         }
     }
     insert_and_clear(table, &mut pairs)
-}
-
-// Reports how far the run is: how many lines were read, of that many bytes, and how many pairs
-// there are by now.
-fn report<R: Clock, E: Write>(
-    rt: &R,
-    progress: &mut Progress,
-    lines: u64,
-    pairs: usize,
-    bytes: u64,
-    errors: &mut E,
-) {
-    let pairs = pairs as u64;
-    let taken = Taken {
-        lines,
-        pairs,
-        bytes,
-    };
-    // A progress line that cannot be written is no failure.
-    let _ = progress.report(rt, taken, errors);
-}
-
-// Reports the end of a run, whose lines have the numbers below this one.
-#[cold]
-#[inline(never)]
-fn report_all<R: Clock, E: Write>(
-    rt: &R,
-    progress: Progress,
-    end: u64,
-    pairs: usize,
-    bytes: u64,
-    errors: &mut E,
-) {
-    let (lines, pairs) = (end.saturating_sub(1), pairs as u64);
-    let taken = Taken {
-        lines,
-        pairs,
-        bytes,
-    };
-    // A progress line that cannot be written is no failure.
-    let _ = progress.end(rt, taken, errors);
-}
-
-// So many bytes, and those of this line with its end.
-#[inline(always)]
-fn with_line(bytes: u64, line: &[u8]) -> u64 {
-    bytes.saturating_add(line.len() as u64).saturating_add(1)
 }
 
 // The failure with what is said of this line, where the line cannot be parsed.

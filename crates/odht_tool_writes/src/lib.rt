@@ -4,5 +4,7 @@
 pub mod commands;
 mod dynamic;
 mod inserts;
+mod reports;
 mod shapes;
+mod starts;
 mod warnings;

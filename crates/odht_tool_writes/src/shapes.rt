@@ -1,60 +1,60 @@
-//! The configuration of each shape. Generated from lists/shapes.txt by make generate.
+//! The owned table of each shape. Generated from lists/shapes.txt by make generate.
 
-/// Calls a function for the configuration of a shape, which is its first type parameter:
+/// Calls a function for the owned table of a shape, which is its first type parameter:
 /// `for_shape!(shape, function[more, parameters](arguments))`.
 macro_rules! for_shape {
     ($shape:expr, $function:ident[$($more:ty),*]($($argument:expr),*)) => {
         match $shape {
             Shape::U32ToU32 => {
-                $function::<odht::configs::U32ToU32, $($more),*>($($argument),*)
+                $function::<HashTableOwned<configs::U32ToU32>, $($more),*>($($argument),*)
             }
             Shape::DirectU32ToU32 => {
-                $function::<odht::configs::DirectU32ToU32, $($more),*>($($argument),*)
+                $function::<HashTableOwned<configs::DirectU32ToU32>, $($more),*>($($argument),*)
             }
             Shape::U64ToU32 => {
-                $function::<odht::configs::U64ToU32, $($more),*>($($argument),*)
+                $function::<HashTableOwned<configs::U64ToU32>, $($more),*>($($argument),*)
             }
             Shape::U64ToU64 => {
-                $function::<odht::configs::U64ToU64, $($more),*>($($argument),*)
+                $function::<HashTableOwned<configs::U64ToU64>, $($more),*>($($argument),*)
             }
             Shape::U64Set => {
-                $function::<odht::configs::U64Set, $($more),*>($($argument),*)
+                $function::<HashTableOwned<configs::U64Set>, $($more),*>($($argument),*)
             }
             Shape::Bytes8ToU32 => {
-                $function::<odht::configs::Bytes8ToU32, $($more),*>($($argument),*)
+                $function::<HashTableOwned<configs::Bytes8ToU32>, $($more),*>($($argument),*)
             }
             Shape::Bytes8ToU64 => {
-                $function::<odht::configs::Bytes8ToU64, $($more),*>($($argument),*)
+                $function::<HashTableOwned<configs::Bytes8ToU64>, $($more),*>($($argument),*)
             }
             Shape::Bytes16ToU32 => {
-                $function::<odht::configs::Bytes16ToU32, $($more),*>($($argument),*)
+                $function::<HashTableOwned<configs::Bytes16ToU32>, $($more),*>($($argument),*)
             }
             Shape::Bytes16ToU64 => {
-                $function::<odht::configs::Bytes16ToU64, $($more),*>($($argument),*)
+                $function::<HashTableOwned<configs::Bytes16ToU64>, $($more),*>($($argument),*)
             }
             Shape::Bytes20ToU64 => {
-                $function::<odht::configs::Bytes20ToU64, $($more),*>($($argument),*)
+                $function::<HashTableOwned<configs::Bytes20ToU64>, $($more),*>($($argument),*)
             }
             Shape::Bytes32ToU64 => {
-                $function::<odht::configs::Bytes32ToU64, $($more),*>($($argument),*)
+                $function::<HashTableOwned<configs::Bytes32ToU64>, $($more),*>($($argument),*)
             }
             Shape::Bytes16ToBytes16 => {
-                $function::<odht::configs::Bytes16ToBytes16, $($more),*>($($argument),*)
+                $function::<HashTableOwned<configs::Bytes16ToBytes16>, $($more),*>($($argument),*)
             }
             Shape::Bytes32ToBytes32 => {
-                $function::<odht::configs::Bytes32ToBytes32, $($more),*>($($argument),*)
+                $function::<HashTableOwned<configs::Bytes32ToBytes32>, $($more),*>($($argument),*)
             }
             Shape::Bytes8Set => {
-                $function::<odht::configs::Bytes8Set, $($more),*>($($argument),*)
+                $function::<HashTableOwned<configs::Bytes8Set>, $($more),*>($($argument),*)
             }
             Shape::Bytes16Set => {
-                $function::<odht::configs::Bytes16Set, $($more),*>($($argument),*)
+                $function::<HashTableOwned<configs::Bytes16Set>, $($more),*>($($argument),*)
             }
             Shape::Bytes20Set => {
-                $function::<odht::configs::Bytes20Set, $($more),*>($($argument),*)
+                $function::<HashTableOwned<configs::Bytes20Set>, $($more),*>($($argument),*)
             }
             Shape::Bytes32Set => {
-                $function::<odht::configs::Bytes32Set, $($more),*>($($argument),*)
+                $function::<HashTableOwned<configs::Bytes32Set>, $($more),*>($($argument),*)
             }
         }
     };

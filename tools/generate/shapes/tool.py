@@ -5,8 +5,11 @@ from shape_list import byte_count
 FOLDERS = []
 
 CORE = "crates/odht_tool_core"
-# the crates that go from a shape to its configuration
-OVER_SHAPES = ["odht_tool_reads", "odht_tool_writes"]
+# the crates that go from a shape to its configuration, or to its owned tables, with what that is in a macro
+OVER_SHAPES = {
+    "odht_tool_reads": ("odht::configs::{}", "configuration"),
+    "odht_tool_writes": ("HashTableOwned<configs::{}>", "owned table"),
+}
 MADE = "Generated from lists/shapes.txt by make generate"
 
 # the function that goes from a shape to its configuration and has a contract, by its crate and place, and what it calls
@@ -138,14 +141,14 @@ pub(super) const VERSION: &str = "{text}";
 """
 
 
-def macro(shapes):
+def macro(shapes, kind, what):
     arms = "".join(f"""            Shape::{it.configuration} => {{
-                $function::<odht::configs::{it.configuration}, $($more),*>($($argument),*)
+                $function::<{kind.format(it.configuration)}, $($more),*>($($argument),*)
             }}
 """ for it in shapes)
-    return f"""//! The configuration of each shape. {MADE}.
+    return f"""//! The {what} of each shape. {MADE}.
 
-/// Calls a function for the configuration of a shape, which is its first type parameter:
+/// Calls a function for the {what} of a shape, which is its first type parameter:
 /// `for_shape!(shape, function[more, parameters](arguments))`.
 macro_rules! for_shape {{
     ($shape:expr, $function:ident[$($more:ty),*]($($argument:expr),*)) => {{
@@ -177,8 +180,8 @@ def files(shapes):
         f"{CORE}/src/help/version.rt": version(),
         f"{CORE}/specs/ShapeList.antt": definitions(shapes),
     }
-    for crate in OVER_SHAPES:
-        texts[f"crates/{crate}/src/shapes.rt"] = macro(shapes)
+    for crate, (kind, what) in OVER_SHAPES.items():
+        texts[f"crates/{crate}/src/shapes.rt"] = macro(shapes, kind, what)
     crate, dispatcher, called = DISPATCHER
     texts[f"crates/{crate}/proofs/{dispatcher}/Answers.antt"] = answers(shapes, crate, dispatcher, called)
     return texts

@@ -10,9 +10,11 @@ use Rattle.odht_base.proofs.lemmas.FreeSlots.{fresh-IsValid}
 use Rattle.odht_header.specs.declared.error.Error.TheVariants.{TooShort, SearchTooLong}
 use Rattle.odht_header.proofs.examples.Opened.{opened}
 use Rattle.odht.proofs.lemmas.ListInserts.{inserted_none}
-use Rattle.odht_tool_writes.specs.Deletes.{IsDeleted, IsDeleteFailure, absent_lines, cleared, have_values, is_among, without}
+use Rattle.odht_tool_writes.specs.DeleteLines.{IsFailureBy}
+use Rattle.odht_tool_writes.specs.Deletes.{IsDeleted, absent_lines, cleared, have_values, is_among, without}
 use Rattle.odht_tool_writes.proofs.Deletions.{deleted_from}
 use Rattle.odht_tool_tables.proofs.examples.Openings.{start, made}
+use Rattle.odht_tool_core.specs.declared.arguments.Keys.{Keys}
 use Rattle.odht_tool_core.specs.declared.failure.Failure.TheVariants.{Refused, OtherKey, Memory}
 use Rattle.odht_tool_core.specs.declared.forms.Form.TheVariants.{Own}
 use Rattle.odht_tool_core.specs.declared.forms.Kinds.{Kinds}
@@ -62,19 +64,19 @@ gone F P B deleted = deleted.maps (1 ∷ [])
 abbrev pub own : Kinds
 own = record { key = None; value = None; hash = None }
 
--- no table, a bound, and a text of another type; but not a rule that no bytes break
-pub failed : IsDeleteFailure (79 ∷ 68 ∷ []) None own None [] (Refused (TooShort 2))
+-- no table, a bound, and a text of another type, whatever names the keys; but not a rule that no bytes break
+pub failed : (named : Keys) → IsFailureBy (79 ∷ 68 ∷ []) None own None None (Refused (TooShort 2)) named
 unfolding opened
-failed = refl
+failed named = refl
 
-pub other_rule : IsDeleteFailure (79 ∷ 68 ∷ []) None own None [] Memory → ⊥
+pub other_rule : (named : Keys) → IsFailureBy (79 ∷ 68 ∷ []) None own None None Memory named → ⊥
 unfolding opened
-other_rule h = let both : Memory ≡ Refused (TooShort 2) = h in cc
+other_rule named h = let both : Memory ≡ Refused (TooShort 2) = h in cc
 
-pub bound : IsDeleteFailure one_bytes None own (Some 0) [] (Refused (SearchTooLong 0 0))
+pub bound : (named : Keys) → IsFailureBy one_bytes None own (Some 0) None (Refused (SearchTooLong 0 0)) named
 unfolding opened first_longer
-bound = refl
+bound named = refl
 
-pub other_text : IsDeleteFailure one_bytes None (record { key = Some (record { part = U64; form = Own }); value = None; hash = None }) None [] (OtherKey U32)
+pub other_text : (named : Keys) → IsFailureBy one_bytes None (record { key = Some (record { part = U64; form = Own }); value = None; hash = None }) None None (OtherKey U32) named
 unfolding opened
-other_text = refl
+other_text named = refl

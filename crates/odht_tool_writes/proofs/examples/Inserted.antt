@@ -1,5 +1,5 @@
 -- Worked examples: pairs that are inserted.
-use Rattle.std.proofs.Common.{rules, ◌≡◌, ◌∙◌, ◌==◌, ℕ, [], Some, None, true, false, refl, sym, subst}
+use Rattle.std.proofs.Common.{rules, ◌≡◌, ◌∙◌, ◌==◌, [], Some, None, true, false, refl, sym, subst}
 use Rattle.std.specs.Prelude.{IsSome}
 use Rattle.odht_base.specs.Map.{map_of}
 use Rattle.odht_base.specs.Table.{Table, count, empty}

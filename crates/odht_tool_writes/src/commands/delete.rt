@@ -6,26 +6,25 @@ ghost use Rattle.odht.specs.Tables.{OfTable};
 ghost use Rattle.odht_tool_core.specs.AnyShapes.{HasLongKeys, any_format};
 ghost use Rattle.odht_tool_core.specs.declared.failure.Failure.TheVariants.{Memory};
 ghost use Rattle.odht_tool_writes.specs.DeleteLines.{IsDeletedBy, IsFailureBy};
-ghost use Rattle.odht_tool_writes.specs.Deletes.{IsDeleteFailure, IsDeletedOf, IsLeft};
-ghost use Rattle.odht_tool_writes.specs.Deletes.{are_keys, is_fault};
+ghost use Rattle.odht_tool_writes.specs.Deletes.{IsLeft, are_keys, is_fault};
 
-use crate::commands::delete_lines::deleted_by_lines;
+use crate::commands::delete_lines::keys_of_lines;
 use crate::dynamic::deletes::delete_lengths;
+use crate::reports::PairRun;
 use odht::dynamic::ShortBytes;
 use odht::{FxHashFn, UnHashFn, Xxh64HashFn};
-use odht_tool_core::any::{AnyShape, read_any};
+use odht_tool_core::any::AnyShape;
 use odht_tool_core::arguments::{DeleteOptions, Keys};
 use odht_tool_core::failure::Failure;
 use odht_tool_core::files::read_file;
 use odht_tool_core::forms::Form;
 use odht_tool_core::keys::{Word, parse_keys};
 use odht_tool_core::new_file::{NewFile, ended, make_new, replace_file};
-use odht_tool_core::progress::{Progress, Watch};
 use odht_tool_core::shapes::Hash;
 use odht_tool_core::status::Status;
 use odht_tool_core::targets::Target;
-use odht_tool_tables::checks::check_any;
 use odht_tool_tables::dynamic::lengths_of;
+use odht_tool_tables::whole::read_whole;
 use std::alloc::Global;
 use std::io::{BufRead, Write};
 use std::os::fd::AsFd;
@@ -63,13 +62,15 @@ where
     R::File: AsFd,
 {
     let bytes = read_file(rt, new.path())?;
-    let (bytes, status) = deleted_by(rt, file, bytes, options, input, errors)?;
+    let (bytes, status) = deleted(rt, file, bytes, options, input, errors)?;
     replace_file(rt, new, bytes.as_slice())?;
     Ok(status)
 }
 
-// The bytes of the new table, without the keys that the options name.
-fn deleted_by<R: AllocGlobal + Clock, I: BufRead, E: Write>(
+// The bytes of the new table, without the keys that the options name, by words or by the lines of
+// `input`. Those of the old one are checked whole before, with the bound of searches where there is
+// one. A line on `errors` tells of each key that is absent.
+fn deleted<R: AllocGlobal + Clock, I: BufRead, E: Write>(
     rt: &R,
     file: &str,
     bytes: Vec<u8>,
@@ -82,58 +83,33 @@ fn deleted_by<R: AllocGlobal + Clock, I: BufRead, E: Write>(
     ensures err { let o = options.now in IfErr result (λ failure. IsFailureBy bytes.items o.hash
         o.kinds o.bound (I.remaining input.old) failure o.keys) }
 {
-    match &options.keys {
-        Keys::Words(words) => deleted(rt, file, bytes, words.as_slice(), options, errors),
-        Keys::Lines => deleted_by_lines(rt, file, bytes, options, input, errors),
-    }
-}
-
-// The same of words. The bytes of the old table are checked whole before, with the bound of
-// searches where there is one. A line on `errors` tells of each key that is absent.
-fn deleted<R: AllocGlobal + Clock, E: Write>(
-    rt: &R,
-    file: &str,
-    bytes: Vec<u8>,
-    words: &[String],
-    options: &DeleteOptions,
-    errors: &mut E,
-) -> Result<(Vec<u8>, Status), Failure>
-    ensures ok { let o = options.now in IfOk result (λ x. IsDeletedOf bytes.items o.hash o.kinds
-        o.bound (map string_bytes words.now) x.0.items x.1) }
-    ensures err { let o = options.now in IfErr result (IsDeleteFailure bytes.items o.hash o.kinds
-        o.bound (map string_bytes words.now)) }
-{
     let bytes = bytes.as_slice();
-    let found = read_any(bytes, options.hash, options.kinds)?;
+    let found = read_whole(bytes, options.hash, options.kinds, options.bound)?;
     let (shape, forms) = found;
-    match check_any(shape, bytes, options.bound) {
-        Ok(()) => {
+    match &options.keys {
+        Keys::Words(words) => {
+            let words = words.as_slice();
             let keys = keys_of_words(rt.alloc(), shape, forms.key, words)?;
-            let progress = Progress::new(rt, Watch::of(options.has_progress));
-            deleted_for(
-                rt,
-                file,
-                shape,
-                bytes,
-                words,
-                keys.as_slice(),
-                progress,
-                errors,
-            )
+            let run = PairRun::new(rt, options.has_progress);
+            deleted_for(run, file, shape, bytes, words, keys.as_slice(), errors)
         }
-        Err(error) => Err(Failure::Refused(error)),
+        Keys::Lines => {
+            let read = keys_of_lines(rt.alloc(), shape, forms.key, input)?;
+            let (lines, keys) = (read.lines.as_slice(), read.keys.as_slice());
+            let run = PairRun::new(rt, options.has_progress);
+            deleted_for(run, file, shape, bytes, lines, keys, errors)
+        }
     }
 }
 
-/// The same of valid bytes of a shape, and of the keys of these words or lines.
-pub fn deleted_for<W: Word, R: AllocGlobal + Clock, E: Write>(
-    rt: &R,
+// The same of valid bytes of a shape, and of the keys of these words or lines.
+fn deleted_for<W: Word, R: AllocGlobal + Clock, E: Write>(
+    run: PairRun<'_, R>,
     file: &str,
     shape: AnyShape,
     bytes: &[u8],
     words: &[W],
     keys: &[ShortBytes],
-    progress: Progress,
     errors: &mut E,
 ) -> Result<(Vec<u8>, Status), Failure>
     requires long { HasLongKeys shape }
@@ -146,13 +122,13 @@ pub fn deleted_for<W: Word, R: AllocGlobal + Clock, E: Write>(
     let layout = lengths_of(shape.key(), shape.value());
     match shape.hash() {
         Hash::Fx => delete_lengths::<FxHashFn, W, R, E>(
-            rt, file, layout, bytes, words, keys, progress, errors,
+            run, file, layout, bytes, words, keys, errors,
         ),
         Hash::Unhash => delete_lengths::<UnHashFn, W, R, E>(
-            rt, file, layout, bytes, words, keys, progress, errors,
+            run, file, layout, bytes, words, keys, errors,
         ),
         Hash::Xxh64 => delete_lengths::<Xxh64HashFn, W, R, E>(
-            rt, file, layout, bytes, words, keys, progress, errors,
+            run, file, layout, bytes, words, keys, errors,
         ),
     }
 }

@@ -2,26 +2,20 @@
 ghost use Rattle.std.specs.Prelude.{IfErr, IfOk, IsFalse, IsTrue};
 ghost use Rattle.std.specs.Prelude.{MatchResult, Some, map};
 ghost use Rattle.odht_tool_core.specs.Keys.{IsReadAs};
-ghost use Rattle.odht_tool_writes.specs.DeleteLines.{AreLinesKeys, IsDeletedByLines, IsLinesFailure};
-ghost use Rattle.odht_tool_writes.specs.DeleteLines.{IsNextFailure, IsOneLineMore, IsLinesEnd};
+ghost use Rattle.odht_tool_writes.specs.DeleteLines.{AreLinesKeys, IsNextFailure};
+ghost use Rattle.odht_tool_writes.specs.DeleteLines.{IsOneLineMore, IsLinesEnd};
 ghost use Rattle.odht_tool_writes.specs.DeleteLines.{TellsLine, TellsNumbered, are_lines_keys};
 ghost use Rattle.odht_tool_writes.specs.DeleteLines.{is_line_fault};
 
-use crate::commands::delete::deleted_for;
 use odht::dynamic::ShortBytes;
-use odht_tool_core::any::{AnyShape, read_any};
-use odht_tool_core::arguments::DeleteOptions;
+use odht_tool_core::any::AnyShape;
 use odht_tool_core::failure::{Failure, LineFault};
 use odht_tool_core::forms::Form;
 use odht_tool_core::keys::{NextKey, next_key_as, push_key};
 use odht_tool_core::misread::Misread;
-use odht_tool_core::progress::{Progress, Watch};
-use odht_tool_core::status::Status;
 use odht_tool_core::text::Text;
-use odht_tool_tables::checks::check_any;
 use std::alloc::Global;
-use std::io::{BufRead, Write};
-use std::rt::Clock;
+use std::io::BufRead;
 
 /// Lines, and the keys that they are the texts of.
 #[derive(Drop)]
@@ -30,39 +24,8 @@ pub struct KeyLines<K> {
     pub keys: Vec<K>,
 }
 
-/// The bytes of the new table, without the keys of the lines of an input. Those of the old one are
-/// checked whole before, with the bound of searches where there is one. A line on `errors` tells
-/// of each key that is absent.
-pub fn deleted_by_lines<R: AllocGlobal + Clock, I: BufRead, E: Write>(
-    rt: &R,
-    file: &str,
-    bytes: Vec<u8>,
-    options: &DeleteOptions,
-    input: &mut I,
-    errors: &mut E,
-) -> Result<(Vec<u8>, Status), Failure>
-    ensures ok { let o = options.now in IfOk result (λ x. IsDeletedByLines bytes.items o.hash
-        o.kinds o.bound (I.remaining input.old) x.0.items x.1) }
-    ensures err { let o = options.now in IfErr result (IsLinesFailure bytes.items o.hash
-        o.kinds o.bound (I.remaining input.old)) }
-{
-    let bytes = bytes.as_slice();
-    let found = read_any(bytes, options.hash, options.kinds)?;
-    let (shape, forms) = found;
-    match check_any(shape, bytes, options.bound) {
-        Ok(()) => {
-            let read = keys_of_lines(rt.alloc(), shape, forms.key, input)?;
-            let lines = read.lines.as_slice();
-            let keys = read.keys.as_slice();
-            let progress = Progress::new(rt, Watch::of(options.has_progress));
-            deleted_for(rt, file, shape, bytes, lines, keys, progress, errors)
-        }
-        Err(error) => Err(Failure::Refused(error)),
-    }
-}
-
-// The lines, and the bytes of their keys in this form, or the first line that is no key.
-fn keys_of_lines<I: BufRead>(
+/// The lines, and the bytes of their keys in this form, or the first line that is no key.
+pub fn keys_of_lines<I: BufRead>(
     alloc: Global,
     shape: AnyShape,
     form: Form,

@@ -12,6 +12,7 @@ ghost use Rattle.odht_tool_writes.specs.Merges.{IsMergedFrom, IsMergedOf, IsRead
 ghost use Rattle.odht_tool_writes.specs.Merges.{IsTableOf, all_pairs, input_pairs, shape_of_other};
 
 use crate::dynamic::merges::{Input, MergeFailure, merge_lengths};
+use crate::reports::PairRun;
 use odht::load::Percent;
 use odht::{FxHashFn, UnHashFn, Xxh64HashFn};
 use odht_tool_core::any::AnyShape;
@@ -21,7 +22,6 @@ use odht_tool_core::forms::{GivenForms, Kinds};
 use odht_tool_core::keys::write_repeated;
 use odht_tool_core::new_file::{NewFile, ended, make_new, replace_file};
 use odht_tool_core::percents::new_percent;
-use odht_tool_core::progress::{Progress, Watch};
 use odht_tool_core::shapes::Hash;
 use odht_tool_core::status::{Status, of_output};
 use odht_tool_core::targets::Target;
@@ -245,17 +245,17 @@ fn merged_inputs<R: AllocGlobal + Clock, E: Write>(
         o.duplicates percent u (map input_pairs inputs.now)) }
 {
     let texts = Texts::of(shape, forms);
-    let progress = Progress::new(rt, Watch::of(options.has_progress));
+    let run = PairRun::new(rt, options.has_progress);
     let duplicates = options.duplicates;
     match shape.hash() {
         Hash::Fx => merge_lengths::<FxHashFn, R, E>(
-            rt, texts, inputs, duplicates, percent, progress, errors,
+            run, texts, inputs, duplicates, percent, errors,
         ),
         Hash::Unhash => merge_lengths::<UnHashFn, R, E>(
-            rt, texts, inputs, duplicates, percent, progress, errors,
+            run, texts, inputs, duplicates, percent, errors,
         ),
         Hash::Xxh64 => merge_lengths::<Xxh64HashFn, R, E>(
-            rt, texts, inputs, duplicates, percent, progress, errors,
+            run, texts, inputs, duplicates, percent, errors,
         ),
     }
 }

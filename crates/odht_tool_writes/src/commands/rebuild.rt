@@ -15,7 +15,8 @@ ghost use Rattle.odht_tool_core.specs.declared.failure.Failure.TheVariants.{Memo
 ghost use Rattle.odht_tool_writes.specs.Rebuilds.{IsRebuilt, IsRebuiltOf, IsNewFailure};
 ghost use Rattle.odht_tool_writes.specs.Rebuilds.{IsRebuildFailure, new_hash, rehashed};
 
-use crate::dynamic::builds::make_lengths;
+use crate::reports::PairRun;
+use crate::starts::make_lengths;
 use odht::bytes::Borrowed;
 use odht::dynamic::{DynTable, DynTableOwned, Layout};
 use odht::hash::HashFn;
@@ -29,7 +30,6 @@ use odht_tool_core::files::read_file;
 use odht_tool_core::found::found_any;
 use odht_tool_core::new_file::{NewFile, ended, make_new, replace_file};
 use odht_tool_core::percents::new_percent;
-use odht_tool_core::progress::{Progress, Watch};
 use odht_tool_core::shapes::Hash;
 use odht_tool_core::status::Status;
 use odht_tool_core::targets::Target;
@@ -37,9 +37,6 @@ use odht_tool_tables::checks::check_any;
 use std::io::Write;
 use std::os::fd::AsFd;
 use std::rt::{Clock, Files};
-
-/// After how many pairs a line of progress may be due.
-const BATCH: u64 = 1024;
 
 /// Makes a new table of the pairs of the table in the file, and stores it in the place of the
 /// older one, which stays where something fails.
@@ -93,8 +90,8 @@ fn rebuilt<R: AllocGlobal + Clock, E: Write>(
     match check_any(shape, bytes, options.bound) {
         Ok(()) => {
             let percent = new_percent(bytes, options.percent);
-            let progress = Progress::new(rt, Watch::of(options.has_progress));
-            rebuilt_for(rt, shape, hash, bytes, percent, progress, errors)
+            let run = PairRun::new(rt, options.has_progress);
+            rebuilt_for(run, shape, hash, bytes, percent, errors)
         }
         Err(error) => Err(Failure::Refused(error)),
     }
@@ -102,12 +99,11 @@ fn rebuilt<R: AllocGlobal + Clock, E: Write>(
 
 // The same of valid bytes of a shape, and of the hash function of the new table.
 fn rebuilt_for<R: AllocGlobal + Clock, E: Write>(
-    rt: &R,
+    run: PairRun<'_, R>,
     shape: AnyShape,
     hash: Hash,
     bytes: &[u8],
     percent: Percent,
-    progress: Progress,
     errors: &mut E,
 ) -> Result<Vec<u8>, Failure>
     requires long { HasLongKeys shape }
@@ -123,26 +119,23 @@ fn rebuilt_for<R: AllocGlobal + Clock, E: Write>(
         value_len: shape.value().size(),
     };
     match shape.hash() {
-        Hash::Fx => {
-            rebuilt_from::<FxHashFn, R, E>(rt, layout, hash, bytes, percent, progress, errors)
-        }
+        Hash::Fx => { rebuilt_from::<FxHashFn, R, E>(run, layout, hash, bytes, percent, errors) }
         Hash::Unhash => {
-            rebuilt_from::<UnHashFn, R, E>(rt, layout, hash, bytes, percent, progress, errors)
+            rebuilt_from::<UnHashFn, R, E>(run, layout, hash, bytes, percent, errors)
         }
         Hash::Xxh64 => {
-            rebuilt_from::<Xxh64HashFn, R, E>(rt, layout, hash, bytes, percent, progress, errors)
+            rebuilt_from::<Xxh64HashFn, R, E>(run, layout, hash, bytes, percent, errors)
         }
     }
 }
 
 // The same of lengths and of the hash function of the old table.
 fn rebuilt_from<S: HashFn, R: AllocGlobal + Clock, E: Write>(
-    rt: &R,
+    run: PairRun<'_, R>,
     layout: Layout,
     hash: Hash,
     bytes: &[u8],
     percent: Percent,
-    progress: Progress,
     errors: &mut E,
 ) -> Result<Vec<u8>, Failure>
     requires valid { IsValidBytes (format_of layout.key_len layout.value_len S.hash) bytes.now }
@@ -154,15 +147,9 @@ fn rebuilt_from<S: HashFn, R: AllocGlobal + Clock, E: Write>(
         in IfErr result (IsNewFailure (least_key_len hash) F (header_count bytes.now) percent) }
 {
     match hash {
-        Hash::Fx => {
-            rebuilt_as::<S, FxHashFn, R, E>(rt, layout, bytes, percent, progress, errors)
-        }
-        Hash::Unhash => {
-            rebuilt_as::<S, UnHashFn, R, E>(rt, layout, bytes, percent, progress, errors)
-        }
-        Hash::Xxh64 => {
-            rebuilt_as::<S, Xxh64HashFn, R, E>(rt, layout, bytes, percent, progress, errors)
-        }
+        Hash::Fx => rebuilt_as::<S, FxHashFn, R, E>(run, layout, bytes, percent, errors),
+        Hash::Unhash => rebuilt_as::<S, UnHashFn, R, E>(run, layout, bytes, percent, errors),
+        Hash::Xxh64 => rebuilt_as::<S, Xxh64HashFn, R, E>(run, layout, bytes, percent, errors),
     }
 }
 
@@ -178,11 +165,10 @@ fn new_hash(bytes: &[u8], shape: AnyShape, hash: Option<Hash>) -> Result<Hash, F
 
 // The same of lengths and of the hash functions of the old table and of the new one.
 fn rebuilt_as<S: HashFn, H: HashFn, R: AllocGlobal + Clock, E: Write>(
-    rt: &R,
+    run: PairRun<'_, R>,
     layout: Layout,
     bytes: &[u8],
     percent: Percent,
-    progress: Progress,
     errors: &mut E,
 ) -> Result<Vec<u8>, Failure>
     requires valid { IsValidBytes (format_of layout.key_len layout.value_len S.hash) bytes.now }
@@ -194,17 +180,16 @@ fn rebuilt_as<S: HashFn, H: HashFn, R: AllocGlobal + Clock, E: Write>(
         in IfErr result (IsNewFailure H.MIN_LEN F (header_count bytes.now) percent) }
 {
     let old: DynTable<S, Borrowed<'_>> = DynTable::open_unchecked(layout, Borrowed::new(bytes));
-    let mut table = make_lengths::<H>(rt.alloc(), layout, old.len(), percent)?;
-    insert_pairs(rt, &mut table, old.iter(), progress, errors)?;
+    let mut table = make_lengths::<H>(run.alloc(), layout, old.len(), percent)?;
+    insert_pairs(run, &mut table, old.iter(), errors)?;
     Ok(table.into_raw_bytes())
 }
 
 // Inserts the pairs in turn.
-fn insert_pairs<S: HashFn, H: HashFn, R: Clock, E: Write>(
-    rt: &R,
+fn insert_pairs<S: HashFn, H: HashFn, R: AllocGlobal + Clock, E: Write>(
+    mut run: PairRun<'_, R>,
     table: &mut DynTableOwned<H>,
     pairs: DynIter<'_, S>,
-    mut progress: Progress,
     errors: &mut E,
 ) -> Result<(), Failure>
     requires { All (HasLengthsOf table.old.key_len table.old.value_len) pairs }
@@ -214,34 +199,12 @@ fn insert_pairs<S: HashFn, H: HashFn, R: Clock, E: Write>(
         ≡ dyn_store table.old.key_len table.old.value_len table.new.store }
     ensures memory { OnErr result (result ≡ Err Memory) }
 {
-    let mut count: u64 = 0;
     for (key, value) in pairs {
         if table.insert(key, value).is_err() {
             return Err(Failure::Memory);
         }
-        count = counted_pair(rt, count, &mut progress, errors);
+        run.count(errors);
     }
-    end_pairs(rt, count, progress, errors);
+    run.end(errors);
     Ok(())
-}
-
-/// Counts a pair. A line of progress may then be due.
-pub fn counted_pair<R: Clock, E: Write>(
-    rt: &R,
-    count: u64,
-    progress: &mut Progress,
-    errors: &mut E,
-) -> u64 {
-    let count = count.saturating_add(1);
-    if count % BATCH == 0 {
-        // A progress line that cannot be written is no failure.
-        let _ = progress.report_pairs(rt, count, errors);
-    }
-    count
-}
-
-/// Reports that all pairs are copied, which are that many.
-pub fn end_pairs<R: Clock, E: Write>(rt: &R, count: u64, progress: Progress, errors: &mut E) {
-    // A progress line that cannot be written is no failure.
-    let _ = progress.end_pairs(rt, count, errors);
 }

@@ -14,8 +14,8 @@ ghost use Rattle.odht_tool_core.specs.declared.failure.Failure.TheVariants.{Memo
 ghost use Rattle.odht_tool_writes.specs.Deletes.{AreNamed, IsDeleted, IsLeft, absent_lines, cleared};
 ghost use Rattle.odht_tool_writes.specs.Deletes.{have_values, without};
 
-use crate::commands::rebuild::{counted_pair, end_pairs};
-use crate::dynamic::builds::make_lengths;
+use crate::reports::PairRun;
+use crate::starts::make_lengths;
 use odht::bytes::Borrowed;
 use odht::dynamic::{DynTable, DynTableOwned, Layout, ShortBytes};
 use odht::hash::HashFn;
@@ -24,7 +24,6 @@ use odht::memory_layout::{Header, init_parts};
 use odht::raw_table::DynIter;
 use odht_tool_core::failure::Failure;
 use odht_tool_core::keys::{Word, write_absent};
-use odht_tool_core::progress::Progress;
 use odht_tool_core::status::Status;
 use std::alloc::Global;
 use std::io::{self, Write};
@@ -33,13 +32,12 @@ use std::rt::Clock;
 /// The bytes of the table without the keys of the words or lines, and whether each had a value; a
 /// line on `errors` tells of each that had none.
 pub fn delete_lengths<H: HashFn, W: Word, R: AllocGlobal + Clock, E: Write>(
-    rt: &R,
+    run: PairRun<'_, R>,
     file: &str,
     layout: Layout,
     bytes: &[u8],
     words: &[W],
     keys: &[ShortBytes],
-    progress: Progress,
     errors: &mut E,
 ) -> Result<(Vec<u8>, Status), Failure>
     requires valid { IsValidBytes (format_of layout.key_len layout.value_len H.hash) bytes.now }
@@ -51,7 +49,7 @@ pub fn delete_lengths<H: HashFn, W: Word, R: AllocGlobal + Clock, E: Write>(
     ensures memory { OnErr result (result ≡ Err Memory) }
 {
     let old: DynTable<H, Borrowed<'_>> = DynTable::open_unchecked(layout, Borrowed::new(bytes));
-    let left = left_pairs(rt, &old, keys, progress, errors)?;
+    let left = left_pairs(run, &old, keys, errors)?;
     let are_there = are_there(&old, keys);
     if !are_there {
         // A line that cannot be written is no failure.
@@ -62,10 +60,9 @@ pub fn delete_lengths<H: HashFn, W: Word, R: AllocGlobal + Clock, E: Write>(
 
 // The bytes of the table without these keys.
 fn left_pairs<H: HashFn, R: AllocGlobal + Clock, E: Write>(
-    rt: &R,
+    run: PairRun<'_, R>,
     old: &DynTable<H, Borrowed<'_>>,
     keys: &[ShortBytes],
-    progress: Progress,
     errors: &mut E,
 ) -> Result<Vec<u8>, Failure>
     requires { IsValidBytes (dyn_format old.now H.hash) old.now.store.0.now }
@@ -73,9 +70,9 @@ fn left_pairs<H: HashFn, R: AllocGlobal + Clock, E: Write>(
         (λ P. IfOk result (λ new. IsDeleted F keys.now P new.items)) }
     ensures memory { OnErr result (result ≡ Err Memory) }
 {
-    let named = named_keys::<H>(rt.alloc(), old.layout().key_len, keys)?;
-    let mut table = cleared(rt.alloc(), old)?;
-    insert_others(rt, &mut table, &named, old.iter(), progress, errors)?;
+    let named = named_keys::<H>(run.alloc(), old.layout().key_len, keys)?;
+    let mut table = cleared(run.alloc(), old)?;
+    insert_others(run, &mut table, &named, old.iter(), errors)?;
     Ok(table.into_raw_bytes())
 }
 
@@ -137,12 +134,11 @@ fn cleared<H: HashFn>(
 }
 
 // Inserts the pairs in turn whose keys are not named.
-fn insert_others<H: HashFn, R: Clock, E: Write>(
-    rt: &R,
+fn insert_others<H: HashFn, R: AllocGlobal + Clock, E: Write>(
+    mut run: PairRun<'_, R>,
     table: &mut DynTableOwned<H>,
     named: &DynTableOwned<H>,
     pairs: DynIter<'_, H>,
-    mut progress: Progress,
     errors: &mut E,
 ) -> Result<(), Failure>
     requires { All (HasLengthsOf table.old.key_len table.old.value_len) pairs }
@@ -153,12 +149,11 @@ fn insert_others<H: HashFn, R: Clock, E: Write>(
         ≡ dyn_store table.old.key_len table.old.value_len table.new.store }
     ensures memory { OnErr result (result ≡ Err Memory) }
 {
-    let mut count: u64 = 0;
     for (key, value) in pairs {
         insert_other(table, named, key, value)?;
-        count = counted_pair(rt, count, &mut progress, errors);
+        run.count(errors);
     }
-    end_pairs(rt, count, progress, errors);
+    run.end(errors);
     Ok(())
 }
 

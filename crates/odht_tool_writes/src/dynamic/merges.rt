@@ -15,8 +15,8 @@ ghost use Rattle.odht_tool_writes.specs.Merges.{HasKeysOf, IsFilled, IsInputOf, 
 ghost use Rattle.odht_tool_writes.specs.Merges.{all_of, first_in, input_pairs, leaves_out, repeat_in};
 ghost use Rattle.odht_tool_writes.specs.Rebuilds.{IsNewFailure};
 
-use crate::commands::rebuild::{counted_pair, end_pairs};
-use crate::dynamic::builds::make_lengths;
+use crate::reports::PairRun;
+use crate::starts::make_lengths;
 use odht::dynamic::{DynTableOwned, Layout};
 use odht::hash::HashFn;
 use odht::load::Percent;
@@ -25,7 +25,6 @@ use odht::{FxHashFn, UnHashFn, Xxh64HashFn};
 use odht_tool_core::any::AnyShape;
 use odht_tool_core::arguments::Duplicates;
 use odht_tool_core::failure::Failure;
-use odht_tool_core::progress::Progress;
 use odht_tool_core::shapes::Hash;
 use odht_tool_core::typed::Texts;
 use odht_tool_tables::dynamic::open_valid;
@@ -71,12 +70,11 @@ pub enum MergeFailure {
 /// The bytes of a new table of the pairs of the files, whose keys and values have the lengths of
 /// these texts.
 pub fn merge_lengths<H: HashFn, R: AllocGlobal + Clock, E: Write>(
-    rt: &R,
+    run: PairRun<'_, R>,
     texts: Texts,
     inputs: &[Input],
     duplicates: Duplicates,
     percent: Percent,
-    progress: Progress,
     errors: &mut E,
 ) -> Result<Vec<u8>, MergeFailure>
     requires { All (IsInputOf (typed_len texts.key) (typed_len texts.value)) inputs.now }
@@ -87,23 +85,20 @@ pub fn merge_lengths<H: HashFn, R: AllocGlobal + Clock, E: Write>(
         in IfErr result
         (IsStopped texts H.MIN_LEN F duplicates percent (map input_pairs inputs.now)) }
 {
-    match make_table::<H>(rt.alloc(), texts, inputs, percent) {
-        Ok(table) => merge_into(
-            rt, table, texts, inputs, duplicates, percent, progress, errors,
-        ),
+    match make_table::<H>(run.alloc(), texts, inputs, percent) {
+        Ok(table) => merge_into(run, table, texts, inputs, duplicates, percent, errors),
         Err(failure) => Err(MergeFailure::New(failure)),
     }
 }
 
 // The same where the table is empty at first.
 fn merge_into<H: HashFn, R: AllocGlobal + Clock, E: Write>(
-    rt: &R,
+    mut run: PairRun<'_, R>,
     mut table: DynTableOwned<H>,
     texts: Texts,
     inputs: &[Input],
     duplicates: Duplicates,
     percent: Percent,
-    mut progress: Progress,
     errors: &mut E,
 ) -> Result<Vec<u8>, MergeFailure>
     requires inputs { All (IsInputOf (typed_len texts.key) (typed_len texts.value)) inputs.now }
@@ -116,29 +111,19 @@ fn merge_into<H: HashFn, R: AllocGlobal + Clock, E: Write>(
         in IfErr result
         (IsStopped texts H.MIN_LEN F duplicates percent (map input_pairs inputs.now)) }
 {
-    let mut count = 0;
     for at in 0..inputs.len() {
         let input = &inputs[at];
-        match repeated_in(rt.alloc(), texts, &table, input, duplicates) {
+        match repeated_in(run.alloc(), texts, &table, input, duplicates) {
             Ok(None) => {}
             Ok(Some(text)) => return Err(MergeFailure::Twice { at, text }),
             Err(failure) => return Err(MergeFailure::New(failure)),
         }
-        match insert_input(
-            rt,
-            &mut table,
-            texts,
-            input,
-            duplicates,
-            count,
-            &mut progress,
-            errors,
-        ) {
-            Ok(more) => count = more,
+        match insert_input(&mut run, &mut table, texts, input, duplicates, errors) {
+            Ok(()) => {}
             Err(failure) => return Err(MergeFailure::New(failure)),
         }
     }
-    end_pairs(rt, count, progress, errors);
+    run.end(errors);
     Ok(table.into_raw_bytes())
 }
 
@@ -275,17 +260,15 @@ fn text_of_key(alloc: Global, texts: Texts, key: &[u8]) -> Result<Vec<u8>, Failu
     }
 }
 
-// Inserts the pairs of a file that count, and returns how many pairs were seen until then.
-fn insert_input<H: HashFn, R: Clock, E: Write>(
-    rt: &R,
+// Inserts the pairs of a file that count.
+fn insert_input<H: HashFn, R: AllocGlobal + Clock, E: Write>(
+    run: &mut PairRun<'_, R>,
     table: &mut DynTableOwned<H>,
     texts: Texts,
     input: &Input,
     duplicates: Duplicates,
-    count: u64,
-    progress: &mut Progress,
     errors: &mut E,
-) -> Result<u64, Failure>
+) -> Result<(), Failure>
     requires input { IsInputOf (typed_len texts.key) (typed_len texts.value) input.now }
     requires key { table.old.key_len ≡ typed_len texts.key }
     requires value { table.old.value_len ≡ typed_len texts.value }
@@ -299,29 +282,27 @@ fn insert_input<H: HashFn, R: Clock, E: Write>(
     match input.shape.hash() {
         Hash::Fx => {
             let old = open_valid::<FxHashFn>(texts, input.bytes.as_slice());
-            insert_kept(rt, table, old.iter(), duplicates, count, progress, errors)
+            insert_kept(run, table, old.iter(), duplicates, errors)
         }
         Hash::Unhash => {
             let old = open_valid::<UnHashFn>(texts, input.bytes.as_slice());
-            insert_kept(rt, table, old.iter(), duplicates, count, progress, errors)
+            insert_kept(run, table, old.iter(), duplicates, errors)
         }
         Hash::Xxh64 => {
             let old = open_valid::<Xxh64HashFn>(texts, input.bytes.as_slice());
-            insert_kept(rt, table, old.iter(), duplicates, count, progress, errors)
+            insert_kept(run, table, old.iter(), duplicates, errors)
         }
     }
 }
 
 // Inserts the pairs in turn that count.
-fn insert_kept<S: HashFn, H: HashFn, R: Clock, E: Write>(
-    rt: &R,
+fn insert_kept<S: HashFn, H: HashFn, R: AllocGlobal + Clock, E: Write>(
+    run: &mut PairRun<'_, R>,
     table: &mut DynTableOwned<H>,
     pairs: DynIter<'_, S>,
     duplicates: Duplicates,
-    mut count: u64,
-    progress: &mut Progress,
     errors: &mut E,
-) -> Result<u64, Failure>
+) -> Result<(), Failure>
     requires { All (HasLengthsOf table.old.key_len table.old.value_len) pairs }
     ensures inserted { (start : Table) (ps : List Pair) → let F = dyn_format table.old H.hash
         in IsFilled F duplicates start ps table.old.store
@@ -332,9 +313,9 @@ fn insert_kept<S: HashFn, H: HashFn, R: Clock, E: Write>(
 {
     for (key, value) in pairs {
         insert_one(table, key, value, duplicates)?;
-        count = counted_pair(rt, count, progress, errors);
+        run.count(errors);
     }
-    Ok(count)
+    Ok(())
 }
 
 // Inserts a pair, if it counts.

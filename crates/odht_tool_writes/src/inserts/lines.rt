@@ -6,15 +6,15 @@ ghost use Rattle.odht_tool_core.specs.PairLines.{IsNextPair};
 ghost use Rattle.odht_tool_writes.specs.Faults.{TellsRepeated};
 ghost use Rattle.odht_tool_writes.specs.Inserted.{IsLineRefused, IsLineTaken};
 
-use crate::inserts::{BATCH, Inserts, fill, report, report_all, told, with_line};
+use crate::inserts::{Inserts, LineJob, fill, told};
+use crate::reports::{BATCH, LineReports, with_line};
 use crate::warnings::warn_of_long;
-use odht_tool_core::arguments::{BuildOptions, Duplicates, PutOptions, is_stream};
+use odht_tool_core::arguments::{Duplicates, is_stream};
 use odht_tool_core::failure::Failure;
 use odht_tool_core::forms::Forms;
 use odht_tool_core::line_messages::repeated_message;
 use odht_tool_core::lines::read_pair_as;
 use odht_tool_core::new_file::{NewFile, ended, make_new, replace_file};
-use odht_tool_core::progress::{Progress, Watch};
 use odht_tool_core::status::{Status, of_output};
 use odht_tool_core::targets::{Allowed, Target};
 use odht_tool_core::text::Text;
@@ -22,6 +22,14 @@ use std::alloc::Global;
 use std::io::{BufRead, Write};
 use std::os::fd::AsFd;
 use std::rt::{Clock, Files};
+
+/// What a command reads lines from, and what it writes to.
+#[derive(Drop)]
+pub struct Streams<'i, 'o, 'e, I, O, E> {
+    pub input: &'i mut I,
+    pub output: &'o mut O,
+    pub errors: &'e mut E,
+}
 
 /// Where a table goes.
 #[derive(Drop)]
@@ -72,7 +80,7 @@ pub fn makes_no_table(duplicates: Duplicates, is_check: bool) -> bool {
     }
 }
 
-/// Adds the lines to the table as the options say, and puts it in its place.
+/// Adds the lines to the table, and puts it in its place.
 pub fn insert_lines<
     T: Inserts,
     F: Forms,
@@ -81,110 +89,54 @@ pub fn insert_lines<
     O: Write,
     E: Write,
 >(
-    rt: &R,
+    job: &LineJob<'_, R, F>,
     place: &mut Place<R::File>,
     mut table: T,
-    forms: F,
-    options: BuildOptions,
-    input: &mut I,
-    output: &mut O,
-    errors: &mut E,
+    streams: &mut Streams<'_, '_, '_, I, O, E>,
 ) -> Result<Status, Failure>
 where
     R::File: AsFd,
 {
-    let progress = Progress::new(rt, options.watch);
-    fill_by(
-        rt,
-        &mut table,
-        options.duplicates,
-        progress,
-        forms,
-        input,
-        errors,
-    )?;
+    let errors = &mut *streams.errors;
+    match job.duplicates {
+        Duplicates::Last => fill(job, &mut table, streams.input, errors)?,
+        Duplicates::First => fill_new(job, &mut table, false, streams.input, errors)?,
+        Duplicates::Error => fill_new(job, &mut table, true, streams.input, errors)?,
+    }
     match place {
         Place::Nowhere => Ok(Status::Done),
         Place::Output => {
-            let status = of_output(output.write_all(table.all_bytes()))?;
-            warn_of_long(rt.alloc(), "FILE", table.all_bytes(), errors);
+            let status = of_output(streams.output.write_all(table.all_bytes()))?;
+            warn_of_long(job.rt.alloc(), "FILE", table.all_bytes(), errors);
             Ok(status)
         }
         Place::File(new) => {
-            replace_file(rt, new, table.all_bytes())?;
-            warn_of_long(rt.alloc(), new.path(), table.all_bytes(), errors);
+            replace_file(job.rt, new, table.all_bytes())?;
+            warn_of_long(job.rt.alloc(), new.path(), table.all_bytes(), errors);
             Ok(Status::Done)
         }
     }
 }
 
-/// Adds the lines to the table as the options say, and stores it by the new file.
-pub fn insert_into_file<T: Inserts, F: Forms, R: Files + AllocGlobal + Clock, I: BufRead, E: Write>(
-    rt: &R,
-    new: &mut NewFile<R::File>,
-    mut table: T,
-    forms: F,
-    options: PutOptions,
-    input: &mut I,
-    errors: &mut E,
-) -> Result<Status, Failure>
-where
-    R::File: AsFd,
-{
-    let progress = Progress::new(rt, options.watch);
-    fill_by(
-        rt,
-        &mut table,
-        options.duplicates,
-        progress,
-        forms,
-        input,
-        errors,
-    )?;
-    replace_file(rt, new, table.all_bytes())?;
-    warn_of_long(rt.alloc(), new.path(), table.all_bytes(), errors);
-    Ok(Status::Done)
-}
-
-// Inserts the pairs of the lines. Which pair of a key counts is said.
-#[inline(always)]
-fn fill_by<T: Inserts, F: Forms, R: AllocGlobal + Clock, I: BufRead, E: Write>(
-    rt: &R,
-    table: &mut T,
-    duplicates: Duplicates,
-    progress: Progress,
-    forms: F,
-    input: &mut I,
-    errors: &mut E,
-) -> Result<(), Failure> {
-    match duplicates {
-        Duplicates::Last => fill(rt, table, progress, forms, input, errors),
-        Duplicates::First => fill_new(rt, table, progress, forms, false, input, errors),
-        Duplicates::Error => fill_new(rt, table, progress, forms, true, input, errors),
-    }
-}
-
 /// Reads the pair of each line, and makes no table of them.
 pub fn check_lines<K: Text, V: Text, F: Forms, R: AllocGlobal + Clock, I: BufRead, E: Write>(
-    rt: &R,
-    forms: F,
-    watch: Watch,
+    job: &LineJob<'_, R, F>,
     input: &mut I,
     errors: &mut E,
 ) -> Result<Status, Failure> {
-    let mut progress = Progress::new(rt, watch);
-    let alloc: Global = rt.alloc();
+    let mut reports = LineReports::new(job.rt, job.watch);
+    let alloc: Global = job.rt.alloc();
     let mut line = Vec::new(alloc);
     let mut bytes: u64 = 0;
     for number in 1..u64::MAX {
-        let read = next_pair::<K, V, F, I>(alloc, input, &mut line, number, forms)?;
+        let read = next_pair::<K, V, F, I>(alloc, input, &mut line, number, job.forms)?;
         if read.is_none() {
-            report_all(rt, progress, number, 0, bytes, errors);
+            reports.end(number, 0, bytes, errors);
             break;
         }
         bytes = with_line(bytes, line.as_slice());
         if number % BATCH as u64 == 0 {
-            report(rt, &mut progress, number, 0, bytes, errors);
+            reports.report(number, 0, bytes, errors);
         }
     }
     Ok(Status::Done)
@@ -193,28 +145,32 @@ pub fn check_lines<K: Text, V: Text, F: Forms, R: AllocGlobal + Clock, I: BufRea
 // Inserts the pair of each line whose key has no value. One that has is left out, or, where each
 // key is to be there once, a failure.
 fn fill_new<T: Inserts, F: Forms, R: AllocGlobal + Clock, I: BufRead, E: Write>(
-    rt: &R,
+    job: &LineJob<'_, R, F>,
     table: &mut T,
-    mut progress: Progress,
-    forms: F,
     is_once: bool,
     input: &mut I,
     errors: &mut E,
 ) -> Result<(), Failure> {
-    let alloc: Global = rt.alloc();
-    let mut line = Vec::new(alloc);
+    let mut reports = LineReports::new(job.rt, job.watch);
+    let (alloc, forms): (Global, F) = (job.rt.alloc(), job.forms);
+    let mut text = Vec::new(alloc);
     let mut bytes: u64 = 0;
     for number in 1..u64::MAX {
-        let read = next_pair::<T::Key, T::Value, F, I>(alloc, input, &mut line, number, forms)?;
+        let read = next_pair::<T::Key, T::Value, F, I>(alloc, input, &mut text, number, forms)?;
         let Some((key, value)) = read else {
-            report_all(rt, progress, number, table.pair_count(), bytes, errors);
+            reports.end(number, table.pair_count(), bytes, errors);
             break;
         };
-        let line = line.as_slice();
-        insert_line(alloc, table, &key, &value, is_once, number, line, forms)?;
-        bytes = with_line(bytes, line);
+        let text = text.as_slice();
+        let line = Line {
+            number,
+            text,
+            delimiter: forms.delimiter(),
+        };
+        insert_line(alloc, table, &key, &value, is_once, line)?;
+        bytes = with_line(bytes, text);
         if number % BATCH as u64 == 0 {
-            report(rt, &mut progress, number, table.pair_count(), bytes, errors);
+            reports.report(number, table.pair_count(), bytes, errors);
         }
     }
     Ok(())
@@ -240,27 +196,34 @@ fn next_pair<K: Text, V: Text, F: Forms, I: BufRead>(
     }
 }
 
-// Inserts the pair of the line of this number, which is this, where its key has no value. Where it
-// has one, and each key is to be there once, the failure tells of the line.
-fn insert_line<T: Inserts, F: Forms>(
+// A line, with the byte that stands between key and value.
+#[derive(Clone, Copy)]
+struct Line<'a> {
+    number: u64,
+    text: &'a [u8],
+    delimiter: u8,
+}
+
+// Inserts the pair of this line where its key has no value. Where it has one, and each key is to be
+// there once, the failure tells of the line.
+fn insert_line<T: Inserts>(
     alloc: Global,
     table: &mut T,
     key: &T::Key,
     value: &T::Value,
     is_once: bool,
-    number: u64,
-    line: &[u8],
-    forms: F,
+    line: Line<'_>,
 ) -> Result<(), Failure>
     ensures taken { OnOk result (IsLineTaken (T.coding table.old) (T.stands_for table.old)
         key.now value.now is_once (T.stands_for table.new)) }
     ensures refused { IfErr result (IsLineRefused (T.coding table.old) (T.stands_for table.old)
-        key.now value.now is_once (F.delimiter forms) line.now number (T.stands_for table.new)) }
+        key.now value.now is_once line.entry.delimiter line.entry.text.now line.entry.number
+        (T.stands_for table.new)) }
 {
     if table.insert_new(key, value)? || !is_once {
         Ok(())
     } else {
-        Err(repeated(alloc, number, line, forms.delimiter()))
+        Err(repeated(alloc, line.number, line.text, line.delimiter))
     }
 }
 

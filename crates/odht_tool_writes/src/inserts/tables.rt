@@ -5,12 +5,15 @@ ghost use Rattle.odht_tool_core.specs.declared.failure.Failure.TheVariants.{Memo
 ghost use Rattle.odht_tool_writes.specs.Inserted.{AreInserted, IsNewInsert};
 
 use super::Inserts;
+use crate::starts::{copy_lengths, copy_table, make_lengths, make_table};
 use odht::HashTableOwned;
 use odht::config::{Coded, Config};
-use odht::dynamic::{DynTableOwned, ShortBytes};
+use odht::dynamic::{DynTableOwned, Layout, ShortBytes};
 use odht::hash::HashFn;
+use odht::load::Percent;
 use odht_tool_core::failure::Failure;
 use odht_tool_core::text::Text;
+use std::alloc::Global;
 
 impl<C: Config> Inserts for HashTableOwned<C>
 where
@@ -21,11 +24,35 @@ where
 
     type Value = C::Value;
 
-    ghost use Rattle.std.specs.Prelude.{◌≡◌};
+    ghost use Rattle.std.specs.Prelude.{◌≡◌, ⊤};
 
     ghost coding = { λ table. ⟦<C as Coded>⟧.coding };
 
     ghost stands_for = { λ table P. table ≡ P };
+
+    ghost format = { λ key_len value_len. ⟦<C as Coded>⟧.coding.format };
+
+    ghost is_long_enough = { λ key_len. ⊤ };
+
+    ghost is_with = { λ key_len value_len S table. S table };
+
+    fn empty(
+        alloc: Global,
+        _layout: Layout,
+        capacity: usize,
+        percent: Percent,
+    ) -> Result<HashTableOwned<C>, Failure> {
+        make_table(alloc, capacity, percent)
+    }
+
+    fn copy(
+        alloc: Global,
+        _layout: Layout,
+        bytes: Vec<u8>,
+        bound: Option<usize>,
+    ) -> Result<HashTableOwned<C>, Failure> {
+        copy_table(alloc, bytes, bound)
+    }
 
     fn insert_pairs(&mut self, pairs: &[(C::Key, C::Value)]) -> Result<(), Failure> {
         insert_all(self, pairs)
@@ -83,12 +110,38 @@ impl<H: HashFn> Inserts for DynTableOwned<H> {
 
     type Value = ShortBytes;
 
-    ghost use Rattle.std.specs.Prelude.{◌≡◌};
+    ghost use Rattle.std.specs.Prelude.{◌≡◌, ◌≤◌};
+    ghost use Rattle.odht_base.specs.Format.{format_of};
     ghost use Rattle.odht.specs.Dynamic.{dyn_coding};
+    ghost use Rattle.odht.specs.DynOwned.{IsDynWith};
 
     ghost coding = { λ table. dyn_coding table H.hash };
 
     ghost stands_for = { λ table P. table.store ≡ P };
+
+    ghost format = { λ key_len value_len. format_of key_len value_len H.hash };
+
+    ghost is_long_enough = { λ key_len. H.MIN_LEN ≤ key_len };
+
+    ghost is_with = { IsDynWith };
+
+    fn empty(
+        alloc: Global,
+        layout: Layout,
+        capacity: usize,
+        percent: Percent,
+    ) -> Result<DynTableOwned<H>, Failure> {
+        make_lengths(alloc, layout, capacity, percent)
+    }
+
+    fn copy(
+        alloc: Global,
+        layout: Layout,
+        bytes: Vec<u8>,
+        bound: Option<usize>,
+    ) -> Result<DynTableOwned<H>, Failure> {
+        copy_lengths(alloc, layout, bytes, bound)
+    }
 
     fn insert_pairs(&mut self, pairs: &[(ShortBytes, ShortBytes)]) -> Result<(), Failure> {
         insert_each(self, pairs)

@@ -6,5 +6,7 @@ use crate::host::prelude::*;
 pub mod commands;
 mod dynamic;
 mod inserts;
+mod reports;
 mod shapes;
+mod starts;
 mod warnings;

@@ -3,6 +3,5 @@
 
 use crate::host::prelude::*;
 
-pub mod builds;
 pub mod deletes;
 pub mod merges;

@@ -1,12 +1,16 @@
 // Generated from crates/odht_tool_writes/src/inserts.rt by make generate.
-//! Pairs of lines that are inserted into a table, a batch at a time, and the file that it becomes.
+//! Pairs of lines that are inserted into a table, a batch at a time.
 
+use crate::generated::core::arguments::Duplicates;
 use crate::generated::core::failure::Failure;
 use crate::generated::core::forms::Forms;
 use crate::generated::core::line_messages::line_message;
 use crate::generated::core::lines::read_pair_as;
-use crate::generated::core::progress::{Progress, Taken};
+use crate::generated::core::progress::Watch;
 use crate::generated::core::text::Text;
+use crate::generated::tables::dynamic::Layout;
+use crate::generated::tables::load::Percent;
+use crate::generated::writes::reports::{with_line, LineReports, BATCH};
 use crate::host::prelude::*;
 use crate::host::rt::Clock;
 use crate::shim::Global;
@@ -15,16 +19,42 @@ use std::io::{BufRead, Write};
 pub mod lines;
 mod tables;
 
-/// How many pairs are inserted at once.
-const BATCH: usize = 1024;
+/// What a run over lines is given beside its table and its streams.
+pub struct LineJob<'a, R, F> {
+    /// The system, which allocates and has the clock.
+    pub rt: &'a R,
+    /// The forms of keys and values, and the byte between them.
+    pub forms: F,
+    /// Which pair of a key counts.
+    pub duplicates: Duplicates,
+    /// Whether lines of progress are requested.
+    pub watch: Watch,
+}
 
 /// A table that grows, into which pairs are inserted that have texts.
-pub trait Inserts {
+pub trait Inserts: Sized {
     /// A key.
     type Key: Text;
 
     /// A value.
     type Value: Text;
+
+    /// An empty table of these lengths, for that many items.
+    fn empty(
+        alloc: Global,
+        layout: Layout,
+        capacity: usize,
+        percent: Percent,
+    ) -> Result<Self, Failure>;
+
+    /// The table of these bytes, which has these lengths. They are checked whole before, with the
+    /// bound of searches where there is one, and freed once the table has a copy.
+    fn copy(
+        alloc: Global,
+        layout: Layout,
+        bytes: Vec<u8>,
+        bound: Option<usize>,
+    ) -> Result<Self, Failure>;
 
     /// Inserts the pairs in turn. `Memory` where there is none for a larger table.
     fn insert_pairs(&mut self, pairs: &[(Self::Key, Self::Value)]) -> Result<(), Failure>;
@@ -40,16 +70,16 @@ pub trait Inserts {
     fn all_bytes(&self) -> &[u8];
 }
 
-// Inserts the pairs of the lines, a batch at a time.
+// Inserts the pairs of the lines, a batch at a time. Inlined it would take more instructions.
+#[inline(never)]
 fn fill<T: Inserts, F: Forms, R: AllocGlobal + Clock, I: BufRead, E: Write>(
-    rt: &R,
+    job: &LineJob<'_, R, F>,
     table: &mut T,
-    mut progress: Progress,
-    forms: F,
     input: &mut I,
     errors: &mut E,
 ) -> Result<(), Failure> {
-    let alloc: Global = rt.alloc();
+    let mut reports = LineReports::new(job.rt, job.watch);
+    let (alloc, forms): (Global, F) = (job.rt.alloc(), job.forms);
     let mut pairs = crate::host::lists::empty(alloc);
     let mut line = crate::host::lists::empty(alloc);
     let mut bytes: u64 = 0;
@@ -58,7 +88,7 @@ fn fill<T: Inserts, F: Forms, R: AllocGlobal + Clock, I: BufRead, E: Write>(
             Ok(Some(pair)) => pair,
             Ok(None) => {
                 insert_and_clear(table, &mut pairs)?;
-                report_all(rt, progress, number, table.pair_count(), bytes, errors);
+                reports.end(number, table.pair_count(), bytes, errors);
                 break;
             }
             Err(failure) => {
@@ -66,53 +96,14 @@ fn fill<T: Inserts, F: Forms, R: AllocGlobal + Clock, I: BufRead, E: Write>(
                 return Err(told::<T::Key, T::Value, F>(alloc, failure, line, forms));
             }
         };
-        pairs.try_push(pair).or(Err(Failure::Memory))?;
+        pairs.try_push(pair).map_err(|_| Failure::Memory)?;
         bytes = with_line(bytes, line.as_slice());
         if pairs.len() >= BATCH {
             insert_and_clear(table, &mut pairs)?;
-            report(rt, &mut progress, number, table.pair_count(), bytes, errors);
+            reports.report(number, table.pair_count(), bytes, errors);
         }
     }
     insert_and_clear(table, &mut pairs)
-}
-
-// Reports how far the run is: how many lines were read, of that many bytes, and how many pairs
-// there are by now.
-fn report<R: Clock, E: Write>(
-    rt: &R,
-    progress: &mut Progress,
-    lines: u64,
-    pairs: usize,
-    bytes: u64,
-    errors: &mut E,
-) {
-    let pairs = pairs as u64;
-    let taken = Taken { lines, pairs, bytes };
-    // A progress line that cannot be written is no failure.
-    let _ = progress.report(rt, taken, errors);
-}
-
-// Reports the end of a run, whose lines have the numbers below this one.
-#[cold]
-#[inline(never)]
-fn report_all<R: Clock, E: Write>(
-    rt: &R,
-    progress: Progress,
-    end: u64,
-    pairs: usize,
-    bytes: u64,
-    errors: &mut E,
-) {
-    let (lines, pairs) = (end.saturating_sub(1), pairs as u64);
-    let taken = Taken { lines, pairs, bytes };
-    // A progress line that cannot be written is no failure.
-    let _ = progress.end(rt, taken, errors);
-}
-
-// So many bytes, and those of this line with its end.
-#[inline(always)]
-fn with_line(bytes: u64, line: &[u8]) -> u64 {
-    bytes.saturating_add(line.len() as u64).saturating_add(1)
 }
 
 // The failure with what is said of this line, where the line cannot be parsed.

@@ -4,7 +4,6 @@ use Rattle.std.proofs.lemmas.List.{map-append}
 use Rattle.odht_base.specs.Table.{Pair, Table}
 use Rattle.odht.specs.Dynamic.{DynStore, dyn_format, dyn_store}
 use Rattle.odht.specs.Plain.{IsRunOf}
-use Rattle.odht.proofs.lemmas.PlainRuns.{run_none}
 use Rattle.odht_tool_writes.proofs.NewTables.{ok_of, one_inserted}
 use Rattle.odht_tool_writes.proofs.commands.rebuild.insert_pairs.Goals as goal
 

@@ -1,4 +1,4 @@
-use Rattle.std.proofs.Common.{rules, ◌≡◌, ◌∙◌, ◌≤◌, ◌+◌, ◌++◌, ◌∷◌, [], List, ℕ, None, suc, refl, Some, sym, ap, subst, length, map, take, drop, arith}
+use Rattle.std.proofs.Common.{rules, ◌≡◌, ◌∙◌, ◌≤◌, ◌+◌, ◌++◌, ◌∷◌, [], List, None, suc, refl, Some, sym, ap, subst, length, map, take, drop, arith}
 use Rattle.std.specs.Prelude.{OnOk, IfOk, option_map}
 use Rattle.std.proofs.lemmas.List.{length-map, length-take-le, map-append, take_all, take_more}
 use Rattle.odht_base.specs.Format.{Format, format_of}

@@ -1,23 +1,23 @@
 // Generated from crates/odht_tool_writes/src/commands/delete.rt by make generate.
 //! `odht delete`: a table file without some of its keys.
 
-use crate::generated::core::any::{read_any, AnyShape};
+use crate::generated::core::any::AnyShape;
 use crate::generated::core::arguments::{DeleteOptions, Keys};
 use crate::generated::core::failure::Failure;
 use crate::generated::core::files::read_file;
 use crate::generated::core::forms::Form;
 use crate::generated::core::keys::{parse_keys, Word};
 use crate::generated::core::new_file::{ended, make_new, replace_file, NewFile};
-use crate::generated::core::progress::{Progress, Watch};
 use crate::generated::core::shapes::Hash;
 use crate::generated::core::status::Status;
 use crate::generated::core::targets::Target;
 use crate::generated::tables::dynamic::ShortBytes;
 use crate::generated::tables::{FxHashFn, UnHashFn, Xxh64HashFn};
-use crate::generated::tool_tables::checks::check_any;
 use crate::generated::tool_tables::dynamic::lengths_of;
-use crate::generated::writes::commands::delete_lines::deleted_by_lines;
+use crate::generated::tool_tables::whole::read_whole;
+use crate::generated::writes::commands::delete_lines::keys_of_lines;
 use crate::generated::writes::dynamic::deletes::delete_lengths;
+use crate::generated::writes::reports::PairRun;
 use crate::host::prelude::*;
 use crate::host::rt::{Clock, Files};
 use crate::shim::Global;
@@ -56,13 +56,15 @@ where
     R::File: AsFd,
 {
     let bytes = read_file(rt, new.path())?;
-    let (bytes, status) = deleted_by(rt, file, bytes, options, input, errors)?;
+    let (bytes, status) = deleted(rt, file, bytes, options, input, errors)?;
     replace_file(rt, new, bytes.as_slice())?;
     Ok(status)
 }
 
-// The bytes of the new table, without the keys that the options name.
-fn deleted_by<R: AllocGlobal + Clock, I: BufRead, E: Write>(
+// The bytes of the new table, without the keys that the options name, by words or by the lines of
+// `input`. Those of the old one are checked whole before, with the bound of searches where there is
+// one. A line on `errors` tells of each key that is absent.
+fn deleted<R: AllocGlobal + Clock, I: BufRead, E: Write>(
     rt: &R,
     file: &str,
     bytes: Vec<u8>,
@@ -70,57 +72,46 @@ fn deleted_by<R: AllocGlobal + Clock, I: BufRead, E: Write>(
     input: &mut I,
     errors: &mut E,
 ) -> Result<(Vec<u8>, Status), Failure> {
-    match &options.keys {
-        Keys::Words(words) => deleted(rt, file, bytes, words.as_slice(), options, errors),
-        Keys::Lines => deleted_by_lines(rt, file, bytes, options, input, errors),
-    }
-}
-
-// The same of words. The bytes of the old table are checked whole before, with the bound of
-// searches where there is one. A line on `errors` tells of each key that is absent.
-fn deleted<R: AllocGlobal + Clock, E: Write>(
-    rt: &R,
-    file: &str,
-    bytes: Vec<u8>,
-    words: &[String],
-    options: &DeleteOptions,
-    errors: &mut E,
-) -> Result<(Vec<u8>, Status), Failure> {
     let bytes = bytes.as_slice();
-    let found = read_any(bytes, options.hash, options.kinds)?;
+    let found = read_whole(bytes, options.hash, options.kinds, options.bound)?;
     let (shape, forms) = found;
-    match check_any(shape, bytes, options.bound) {
-        Ok(()) => {
+    match &options.keys {
+        Keys::Words(words) => {
+            let words = words.as_slice();
             let keys = keys_of_words(rt.alloc(), shape, forms.key, words)?;
-            let progress = Progress::new(rt, Watch::of(options.has_progress));
-            deleted_for(rt, file, shape, bytes, words, keys.as_slice(), progress, errors)
+            let run = PairRun::new(rt, options.has_progress);
+            deleted_for(run, file, shape, bytes, words, keys.as_slice(), errors)
         }
-        Err(error) => Err(Failure::Refused(error)),
+        Keys::Lines => {
+            let read = keys_of_lines(rt.alloc(), shape, forms.key, input)?;
+            let (lines, keys) = (read.lines.as_slice(), read.keys.as_slice());
+            let run = PairRun::new(rt, options.has_progress);
+            deleted_for(run, file, shape, bytes, lines, keys, errors)
+        }
     }
 }
 
-/// The same of valid bytes of a shape, and of the keys of these words or lines.
-pub fn deleted_for<W: Word, R: AllocGlobal + Clock, E: Write>(
-    rt: &R,
+// The same of valid bytes of a shape, and of the keys of these words or lines.
+fn deleted_for<W: Word, R: AllocGlobal + Clock, E: Write>(
+    run: PairRun<'_, R>,
     file: &str,
     shape: AnyShape,
     bytes: &[u8],
     words: &[W],
     keys: &[ShortBytes],
-    progress: Progress,
     errors: &mut E,
 ) -> Result<(Vec<u8>, Status), Failure> {
     let layout = lengths_of(shape.key(), shape.value());
     match shape.hash() {
-        Hash::Fx => delete_lengths::<FxHashFn, W, R, E>(
-            rt, file, layout, bytes, words, keys, progress, errors,
-        ),
-        Hash::Unhash => delete_lengths::<UnHashFn, W, R, E>(
-            rt, file, layout, bytes, words, keys, progress, errors,
-        ),
-        Hash::Xxh64 => delete_lengths::<Xxh64HashFn, W, R, E>(
-            rt, file, layout, bytes, words, keys, progress, errors,
-        ),
+        Hash::Fx => {
+            delete_lengths::<FxHashFn, W, R, E>(run, file, layout, bytes, words, keys, errors)
+        }
+        Hash::Unhash => {
+            delete_lengths::<UnHashFn, W, R, E>(run, file, layout, bytes, words, keys, errors)
+        }
+        Hash::Xxh64 => {
+            delete_lengths::<Xxh64HashFn, W, R, E>(run, file, layout, bytes, words, keys, errors)
+        }
     }
 }
 

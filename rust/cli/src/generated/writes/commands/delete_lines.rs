@@ -1,22 +1,16 @@
 // Generated from crates/odht_tool_writes/src/commands/delete_lines.rt by make generate.
 //! `odht delete FILE -`: the keys are the lines of standard input.
 
-use crate::generated::core::any::{read_any, AnyShape};
-use crate::generated::core::arguments::DeleteOptions;
+use crate::generated::core::any::AnyShape;
 use crate::generated::core::failure::{Failure, LineFault};
 use crate::generated::core::forms::Form;
 use crate::generated::core::keys::{next_key_as, push_key, NextKey};
 use crate::generated::core::misread::Misread;
-use crate::generated::core::progress::{Progress, Watch};
-use crate::generated::core::status::Status;
 use crate::generated::core::text::Text;
 use crate::generated::tables::dynamic::ShortBytes;
-use crate::generated::tool_tables::checks::check_any;
-use crate::generated::writes::commands::delete::deleted_for;
 use crate::host::prelude::*;
-use crate::host::rt::Clock;
 use crate::shim::Global;
-use std::io::{BufRead, Write};
+use std::io::BufRead;
 
 /// Lines, and the keys that they are the texts of.
 pub struct KeyLines<K> {
@@ -24,34 +18,8 @@ pub struct KeyLines<K> {
     pub keys: Vec<K>,
 }
 
-/// The bytes of the new table, without the keys of the lines of an input. Those of the old one are
-/// checked whole before, with the bound of searches where there is one. A line on `errors` tells
-/// of each key that is absent.
-pub fn deleted_by_lines<R: AllocGlobal + Clock, I: BufRead, E: Write>(
-    rt: &R,
-    file: &str,
-    bytes: Vec<u8>,
-    options: &DeleteOptions,
-    input: &mut I,
-    errors: &mut E,
-) -> Result<(Vec<u8>, Status), Failure> {
-    let bytes = bytes.as_slice();
-    let found = read_any(bytes, options.hash, options.kinds)?;
-    let (shape, forms) = found;
-    match check_any(shape, bytes, options.bound) {
-        Ok(()) => {
-            let read = keys_of_lines(rt.alloc(), shape, forms.key, input)?;
-            let lines = read.lines.as_slice();
-            let keys = read.keys.as_slice();
-            let progress = Progress::new(rt, Watch::of(options.has_progress));
-            deleted_for(rt, file, shape, bytes, lines, keys, progress, errors)
-        }
-        Err(error) => Err(Failure::Refused(error)),
-    }
-}
-
-// The lines, and the bytes of their keys in this form, or the first line that is no key.
-fn keys_of_lines<I: BufRead>(
+/// The lines, and the bytes of their keys in this form, or the first line that is no key.
+pub fn keys_of_lines<I: BufRead>(
     alloc: Global,
     shape: AnyShape,
     form: Form,

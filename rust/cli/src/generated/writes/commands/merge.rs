@@ -8,7 +8,6 @@ use crate::generated::core::forms::{GivenForms, Kinds};
 use crate::generated::core::keys::write_repeated;
 use crate::generated::core::new_file::{ended, make_new, replace_file, NewFile};
 use crate::generated::core::percents::new_percent;
-use crate::generated::core::progress::{Progress, Watch};
 use crate::generated::core::shapes::Hash;
 use crate::generated::core::status::{of_output, Status};
 use crate::generated::core::targets::Target;
@@ -18,6 +17,7 @@ use crate::generated::tables::{FxHashFn, UnHashFn, Xxh64HashFn};
 use crate::generated::tool_tables::files::{finish, read_bytes};
 use crate::generated::tool_tables::whole::{have_same_sizes, read_whole, sizes_of, write_sizes};
 use crate::generated::writes::dynamic::merges::{merge_lengths, Input, MergeFailure};
+use crate::generated::writes::reports::PairRun;
 use crate::host::prelude::*;
 use crate::host::rt::{Clock, Files};
 use crate::shim::Global;
@@ -189,18 +189,18 @@ fn merged_inputs<R: AllocGlobal + Clock, E: Write>(
     errors: &mut E,
 ) -> Result<Vec<u8>, MergeFailure> {
     let texts = Texts::of(shape, forms);
-    let progress = Progress::new(rt, Watch::of(options.has_progress));
+    let run = PairRun::new(rt, options.has_progress);
     let duplicates = options.duplicates;
     match shape.hash() {
-        Hash::Fx => merge_lengths::<FxHashFn, R, E>(
-            rt, texts, inputs, duplicates, percent, progress, errors,
-        ),
-        Hash::Unhash => merge_lengths::<UnHashFn, R, E>(
-            rt, texts, inputs, duplicates, percent, progress, errors,
-        ),
-        Hash::Xxh64 => merge_lengths::<Xxh64HashFn, R, E>(
-            rt, texts, inputs, duplicates, percent, progress, errors,
-        ),
+        Hash::Fx => {
+            merge_lengths::<FxHashFn, R, E>(run, texts, inputs, duplicates, percent, errors)
+        }
+        Hash::Unhash => {
+            merge_lengths::<UnHashFn, R, E>(run, texts, inputs, duplicates, percent, errors)
+        }
+        Hash::Xxh64 => {
+            merge_lengths::<Xxh64HashFn, R, E>(run, texts, inputs, duplicates, percent, errors)
+        }
     }
 }
 

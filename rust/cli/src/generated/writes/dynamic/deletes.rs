@@ -3,7 +3,6 @@
 
 use crate::generated::core::failure::Failure;
 use crate::generated::core::keys::{write_absent, Word};
-use crate::generated::core::progress::Progress;
 use crate::generated::core::status::Status;
 use crate::generated::tables::bytes::Borrowed;
 use crate::generated::tables::dynamic::{DynTable, DynTableOwned, Layout, ShortBytes};
@@ -11,8 +10,8 @@ use crate::generated::tables::hash::HashFn;
 use crate::generated::tables::load::Percent;
 use crate::generated::tables::memory_layout::{init_parts, Header};
 use crate::generated::tables::raw_table::DynIter;
-use crate::generated::writes::commands::rebuild::{counted_pair, end_pairs};
-use crate::generated::writes::dynamic::builds::make_lengths;
+use crate::generated::writes::reports::PairRun;
+use crate::generated::writes::starts::make_lengths;
 use crate::host::prelude::*;
 use crate::host::rt::Clock;
 use crate::shim::Global;
@@ -21,17 +20,16 @@ use std::io::{self, Write};
 /// The bytes of the table without the keys of the words or lines, and whether each had a value; a
 /// line on `errors` tells of each that had none.
 pub fn delete_lengths<H: HashFn, W: Word, R: AllocGlobal + Clock, E: Write>(
-    rt: &R,
+    run: PairRun<'_, R>,
     file: &str,
     layout: Layout,
     bytes: &[u8],
     words: &[W],
     keys: &[ShortBytes],
-    progress: Progress,
     errors: &mut E,
 ) -> Result<(Vec<u8>, Status), Failure> {
     let old: DynTable<H, Borrowed<'_>> = DynTable::open_unchecked(layout, Borrowed::new(bytes));
-    let left = left_pairs(rt, &old, keys, progress, errors)?;
+    let left = left_pairs(run, &old, keys, errors)?;
     let are_there = are_there(&old, keys);
     if !are_there {
         // A line that cannot be written is no failure.
@@ -42,15 +40,14 @@ pub fn delete_lengths<H: HashFn, W: Word, R: AllocGlobal + Clock, E: Write>(
 
 // The bytes of the table without these keys.
 fn left_pairs<H: HashFn, R: AllocGlobal + Clock, E: Write>(
-    rt: &R,
+    run: PairRun<'_, R>,
     old: &DynTable<H, Borrowed<'_>>,
     keys: &[ShortBytes],
-    progress: Progress,
     errors: &mut E,
 ) -> Result<Vec<u8>, Failure> {
-    let named = named_keys::<H>(rt.alloc(), old.layout().key_len, keys)?;
-    let mut table = cleared(rt.alloc(), old)?;
-    insert_others(rt, &mut table, &named, old.iter(), progress, errors)?;
+    let named = named_keys::<H>(run.alloc(), old.layout().key_len, keys)?;
+    let mut table = cleared(run.alloc(), old)?;
+    insert_others(run, &mut table, &named, old.iter(), errors)?;
     Ok(table.into_raw_bytes())
 }
 
@@ -90,20 +87,18 @@ fn cleared<H: HashFn>(
 }
 
 // Inserts the pairs in turn whose keys are not named.
-fn insert_others<H: HashFn, R: Clock, E: Write>(
-    rt: &R,
+fn insert_others<H: HashFn, R: AllocGlobal + Clock, E: Write>(
+    mut run: PairRun<'_, R>,
     table: &mut DynTableOwned<H>,
     named: &DynTableOwned<H>,
     pairs: DynIter<'_, H>,
-    mut progress: Progress,
     errors: &mut E,
 ) -> Result<(), Failure> {
-    let mut count: u64 = 0;
     for (key, value) in pairs {
         insert_other(table, named, key, value)?;
-        count = counted_pair(rt, count, &mut progress, errors);
+        run.count(errors);
     }
-    end_pairs(rt, count, progress, errors);
+    run.end(errors);
     Ok(())
 }
 

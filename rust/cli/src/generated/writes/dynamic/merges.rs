@@ -4,7 +4,6 @@
 use crate::generated::core::any::AnyShape;
 use crate::generated::core::arguments::Duplicates;
 use crate::generated::core::failure::Failure;
-use crate::generated::core::progress::Progress;
 use crate::generated::core::shapes::Hash;
 use crate::generated::core::typed::Texts;
 use crate::generated::tables::dynamic::{DynTableOwned, Layout};
@@ -13,8 +12,8 @@ use crate::generated::tables::load::Percent;
 use crate::generated::tables::raw_table::DynIter;
 use crate::generated::tables::{FxHashFn, UnHashFn, Xxh64HashFn};
 use crate::generated::tool_tables::dynamic::open_valid;
-use crate::generated::writes::commands::rebuild::{counted_pair, end_pairs};
-use crate::generated::writes::dynamic::builds::make_lengths;
+use crate::generated::writes::reports::PairRun;
+use crate::generated::writes::starts::make_lengths;
 use crate::host::prelude::*;
 use crate::host::rt::Clock;
 use crate::shim::Global;
@@ -46,45 +45,42 @@ pub enum MergeFailure {
 /// The bytes of a new table of the pairs of the files, whose keys and values have the lengths of
 /// these texts.
 pub fn merge_lengths<H: HashFn, R: AllocGlobal + Clock, E: Write>(
-    rt: &R,
+    run: PairRun<'_, R>,
     texts: Texts,
     inputs: &[Input],
     duplicates: Duplicates,
     percent: Percent,
-    progress: Progress,
     errors: &mut E,
 ) -> Result<Vec<u8>, MergeFailure> {
-    match make_table::<H>(rt.alloc(), texts, inputs, percent) {
-        Ok(table) => merge_into(rt, table, texts, inputs, duplicates, percent, progress, errors),
+    match make_table::<H>(run.alloc(), texts, inputs, percent) {
+        Ok(table) => merge_into(run, table, texts, inputs, duplicates, percent, errors),
         Err(failure) => Err(MergeFailure::New(failure)),
     }
 }
 
 // The same where the table is empty at first.
 fn merge_into<H: HashFn, R: AllocGlobal + Clock, E: Write>(
-    rt: &R,
+    mut run: PairRun<'_, R>,
     mut table: DynTableOwned<H>,
     texts: Texts,
     inputs: &[Input],
     duplicates: Duplicates,
     percent: Percent,
-    mut progress: Progress,
     errors: &mut E,
 ) -> Result<Vec<u8>, MergeFailure> {
-    let mut count = 0;
     for at in 0..inputs.len() {
         let input = &inputs[at];
-        match repeated_in(rt.alloc(), texts, &table, input, duplicates) {
+        match repeated_in(run.alloc(), texts, &table, input, duplicates) {
             Ok(None) => {}
             Ok(Some(text)) => return Err(MergeFailure::Twice { at, text }),
             Err(failure) => return Err(MergeFailure::New(failure)),
         }
-        match insert_input(rt, &mut table, texts, input, duplicates, count, &mut progress, errors) {
-            Ok(more) => count = more,
+        match insert_input(&mut run, &mut table, texts, input, duplicates, errors) {
+            Ok(()) => {}
             Err(failure) => return Err(MergeFailure::New(failure)),
         }
     }
-    end_pairs(rt, count, progress, errors);
+    run.end(errors);
     Ok(table.into_raw_bytes())
 }
 
@@ -182,48 +178,44 @@ fn text_of_key(alloc: Global, texts: Texts, key: &[u8]) -> Result<Vec<u8>, Failu
     }
 }
 
-// Inserts the pairs of a file that count, and returns how many pairs were seen until then.
-fn insert_input<H: HashFn, R: Clock, E: Write>(
-    rt: &R,
+// Inserts the pairs of a file that count.
+fn insert_input<H: HashFn, R: AllocGlobal + Clock, E: Write>(
+    run: &mut PairRun<'_, R>,
     table: &mut DynTableOwned<H>,
     texts: Texts,
     input: &Input,
     duplicates: Duplicates,
-    count: u64,
-    progress: &mut Progress,
     errors: &mut E,
-) -> Result<u64, Failure> {
+) -> Result<(), Failure> {
     match input.shape.hash() {
         Hash::Fx => {
             let old = open_valid::<FxHashFn>(texts, input.bytes.as_slice());
-            insert_kept(rt, table, old.iter(), duplicates, count, progress, errors)
+            insert_kept(run, table, old.iter(), duplicates, errors)
         }
         Hash::Unhash => {
             let old = open_valid::<UnHashFn>(texts, input.bytes.as_slice());
-            insert_kept(rt, table, old.iter(), duplicates, count, progress, errors)
+            insert_kept(run, table, old.iter(), duplicates, errors)
         }
         Hash::Xxh64 => {
             let old = open_valid::<Xxh64HashFn>(texts, input.bytes.as_slice());
-            insert_kept(rt, table, old.iter(), duplicates, count, progress, errors)
+            insert_kept(run, table, old.iter(), duplicates, errors)
         }
     }
 }
 
 // Inserts the pairs in turn that count.
-fn insert_kept<S: HashFn, H: HashFn, R: Clock, E: Write>(
-    rt: &R,
+fn insert_kept<S: HashFn, H: HashFn, R: AllocGlobal + Clock, E: Write>(
+    run: &mut PairRun<'_, R>,
     table: &mut DynTableOwned<H>,
     pairs: DynIter<'_, S>,
     duplicates: Duplicates,
-    mut count: u64,
-    progress: &mut Progress,
     errors: &mut E,
-) -> Result<u64, Failure> {
+) -> Result<(), Failure> {
     for (key, value) in pairs {
         insert_one(table, key, value, duplicates)?;
-        count = counted_pair(rt, count, progress, errors);
+        run.count(errors);
     }
-    Ok(count)
+    Ok(())
 }
 
 // Inserts a pair, if it counts.

@@ -5,10 +5,13 @@ use super::Inserts;
 use crate::generated::core::failure::Failure;
 use crate::generated::core::text::Text;
 use crate::generated::tables::config::Config;
-use crate::generated::tables::dynamic::{DynTableOwned, ShortBytes};
+use crate::generated::tables::dynamic::{DynTableOwned, Layout, ShortBytes};
 use crate::generated::tables::hash::HashFn;
+use crate::generated::tables::load::Percent;
 use crate::generated::tables::HashTableOwned;
+use crate::generated::writes::starts::{copy_lengths, copy_table, make_lengths, make_table};
 use crate::host::prelude::*;
+use crate::shim::Global;
 
 impl<C: Config> Inserts for HashTableOwned<C>
 where
@@ -18,6 +21,24 @@ where
     type Key = C::Key;
 
     type Value = C::Value;
+
+    fn empty(
+        alloc: Global,
+        _layout: Layout,
+        capacity: usize,
+        percent: Percent,
+    ) -> Result<HashTableOwned<C>, Failure> {
+        make_table(alloc, capacity, percent)
+    }
+
+    fn copy(
+        alloc: Global,
+        _layout: Layout,
+        bytes: Vec<u8>,
+        bound: Option<usize>,
+    ) -> Result<HashTableOwned<C>, Failure> {
+        copy_table(alloc, bytes, bound)
+    }
 
     fn insert_pairs(&mut self, pairs: &[(C::Key, C::Value)]) -> Result<(), Failure> {
         insert_all(self, pairs)
@@ -66,6 +87,24 @@ impl<H: HashFn> Inserts for DynTableOwned<H> {
     type Key = ShortBytes;
 
     type Value = ShortBytes;
+
+    fn empty(
+        alloc: Global,
+        layout: Layout,
+        capacity: usize,
+        percent: Percent,
+    ) -> Result<DynTableOwned<H>, Failure> {
+        make_lengths(alloc, layout, capacity, percent)
+    }
+
+    fn copy(
+        alloc: Global,
+        layout: Layout,
+        bytes: Vec<u8>,
+        bound: Option<usize>,
+    ) -> Result<DynTableOwned<H>, Failure> {
+        copy_lengths(alloc, layout, bytes, bound)
+    }
 
     fn insert_pairs(&mut self, pairs: &[(ShortBytes, ShortBytes)]) -> Result<(), Failure> {
         insert_each(self, pairs)
