@@ -43,6 +43,8 @@ pub mod Near
 pub mod Shown
 -- the errors of tables as they are written
 pub mod Refusals
+-- names and values that are written as a text or as an object of JSON
+pub mod Reports
 -- the first table inside of other bytes
 pub mod Insides
 -- numbers with a sign

@@ -1,7 +1,6 @@
 //! The commands, a module each.
 
 pub mod check;
-pub mod check_json;
 pub mod count;
 pub mod diff;
 pub mod dump;

@@ -4,7 +4,6 @@
 use crate::host::prelude::*;
 
 pub mod check;
-pub mod check_json;
 pub mod count;
 pub mod diff;
 pub mod dump;

@@ -5,6 +5,7 @@ use crate::generated::core::failure::Failure;
 use crate::generated::core::front::table_at;
 use crate::generated::core::help::{write_help, write_version};
 use crate::generated::core::inside::{first_inside, is_followed, write_inside};
+use crate::generated::core::job::Job;
 use crate::generated::core::new_file::{ended, make_new};
 use crate::generated::core::status::{of_output, Status};
 use crate::generated::core::targets::Target;
@@ -186,7 +187,9 @@ where
         Some(offset) => table_at(bytes.as_slice(), offset)?,
         None => bytes.as_slice(),
     };
-    let done = run_reading(rt.alloc(), file, is_one, at, table, reading, input, output, errors);
+    let job =
+        Job { alloc: rt.alloc(), file, is_one, at, bytes: table, bound: None, is_json: false };
+    let done = run_reading(job, reading, input, output, errors);
     if reading.is_search() {
         done
     } else {
