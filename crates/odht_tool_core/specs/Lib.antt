@@ -71,8 +71,6 @@ pub mod JsonSlots
 pub mod DumpTexts
 -- what `info --json` writes
 pub mod InfoJson
--- what `find --json` writes of a table
-pub mod FindJson
 -- the lines of progress
 pub mod Progress
 -- the words that say which line of a key counts

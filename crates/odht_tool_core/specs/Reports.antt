@@ -10,6 +10,7 @@
 --     with_words w s       this with the words w
 --     report_object ts     the object of the fields ts
 --     report_text ts       their texts one after the other
+--     report_among j ts    what is written of them as one report of several: the object; without j the text
 --     report_as j ts       a line of the object; without j the text
 --     field, between, said_number    a field of these parts; a value with these words round it; the number, where there is
 --                          one
@@ -97,6 +98,9 @@ told_text t = worded t.words t.said
 
 abbrev pub report_text : List Told → List ℕ
 report_text ts = flat_map told_text ts
+
+abbrev pub report_among : Bool → List Told → List ℕ
+report_among is_json ts = if is_json then report_object ts else report_text ts
 
 abbrev pub report_as : Bool → List Told → List ℕ
 report_as is_json ts = if is_json then report_object ts ++ (10 ∷ []) else report_text ts

@@ -3,9 +3,9 @@ ghost use Rattle.std.specs.Prelude.{◌≡◌, ◌∷◌, OnOk, map};
 ghost use Rattle.std.specs.Io.KnownBytes.{Appends};
 ghost use Rattle.std.specs.Option.{option_map};
 ghost use Rattle.odht_tool_core.specs.Json.{json_field};
-ghost use Rattle.odht_tool_core.specs.Reports.{between, is_said, member, report_as, report_object};
-ghost use Rattle.odht_tool_core.specs.Reports.{report_text, said, said_number, told, told_text, value_json};
-ghost use Rattle.odht_tool_core.specs.Reports.{value_text, with_words, wording};
+ghost use Rattle.odht_tool_core.specs.Reports.{between, is_said, member, report_among, report_as};
+ghost use Rattle.odht_tool_core.specs.Reports.{report_object, report_text, said, said_number, told, told_text};
+ghost use Rattle.odht_tool_core.specs.Reports.{value_json, value_text, with_words, wording};
 
 use crate::json::displayed::write_displayed;
 use crate::json::write_string;
@@ -88,8 +88,20 @@ pub fn write_report<O: Write>(report: &[Field<'_>], is_json: bool, output: &mut 
     }
 }
 
-/// Writes the text of a report.
-pub fn write_text<O: Write>(report: &[Field<'_>], output: &mut O) -> io::Result<()>
+/// Writes a report as one of several: the text, or the object without a line end.
+pub fn write_among<O: Write>(report: &[Field<'_>], is_json: bool, output: &mut O) -> io::Result<()>
+    ensures { OnOk result (Appends (O.contents output.old) (O.contents output.new)
+        (report_among is_json (map told report.now))) }
+{
+    if is_json {
+        write_object(report, output)
+    } else {
+        write_text(report, output)
+    }
+}
+
+// Writes the text of a report.
+fn write_text<O: Write>(report: &[Field<'_>], output: &mut O) -> io::Result<()>
     ensures { OnOk result (Appends (O.contents output.old) (O.contents output.new)
         (report_text (map told report.now))) }
 {
@@ -99,8 +111,8 @@ pub fn write_text<O: Write>(report: &[Field<'_>], output: &mut O) -> io::Result<
     Ok(())
 }
 
-/// Writes the object of a report.
-pub fn write_object<O: Write>(report: &[Field<'_>], output: &mut O) -> io::Result<()>
+// Writes the object of a report.
+fn write_object<O: Write>(report: &[Field<'_>], output: &mut O) -> io::Result<()>
     ensures { OnOk result (Appends (O.contents output.old) (O.contents output.new)
         (report_object (map told report.now))) }
 {

@@ -74,7 +74,12 @@ pub fn run_reading<I: BufRead, O: Write, E: Write>(
             is_json,
         } => get::get_file_lines(alloc, bytes, *hash, *kinds, *is_json, input, output),
         Reading::Find { bound, is_json } => {
-            find_in(alloc, file, is_one, bytes, *bound, *is_json, output, errors)
+            let job = Job {
+                bound: *bound,
+                is_json: *is_json,
+                ..job
+            };
+            find_in(&job, output, errors)
         }
         Reading::Dump {
             hash,
@@ -128,19 +133,15 @@ fn count_one<O: Write>(
 // Finds the tables in a file, whose name comes first where there are more files. Where there is no
 // table, a line on `errors` says so.
 fn find_in<O: Write, E: Write>(
-    alloc: Global,
-    file: &str,
-    is_one: bool,
-    bytes: &[u8],
-    bound: Option<usize>,
-    is_json: bool,
+    job: &Job<'_>,
     output: &mut O,
     errors: &mut E,
 ) -> Result<Status, Failure> {
-    if !is_one && !is_json {
+    let file = job.file;
+    if !job.is_one && !job.is_json {
         writeln!(output, "{file}").map_err(Failure::Output)?;
     }
-    let status = find::find_file(alloc, file, bytes, bound, is_json, output)?;
+    let status = find::find_file(job, output)?;
     if !status.is_done() {
         output.flush().map_err(Failure::Output)?;
         // A line that cannot be written is no failure.

@@ -9,11 +9,10 @@ use Rattle.odht_base.specs.Bytes.{overwritten_at}
 use Rattle.odht_header.specs.declared.error.Error.TheVariants.{TooShort}
 use Rattle.odht_header.proofs.examples.Opened.{opened}
 use Rattle.odht_tool_core.specs.Endings.Outcome.{writes, fails}
-use Rattle.odht_tool_core.specs.FindJson.{table_object}
 use Rattle.odht_tool_core.specs.GroupNumbers.{groups_to}
 use Rattle.odht_tool_core.specs.Json.{pair_object}
 use Rattle.odht_tool_core.specs.JsonSlots.{slot_object}
-use Rattle.odht_tool_reads.specs.JsonTexts.{tables_object}
+use Rattle.odht_tool_reads.specs.FindLines.{found_text}
 use Rattle.odht_tool_reads.specs.Outcomes.{check_outcome, dump_outcome}
 use Rattle.odht_tool_core.specs.declared.failure.Failure.TheVariants.{Refused, NoHash, ShortKeys}
 use Rattle.odht_tool_core.specs.declared.shapes.Hash.TheVariants.{Unhash}
@@ -51,8 +50,9 @@ unfolding opened
 refused = (refl, refl)
 
 -- ---- find
--- no table, and one at the byte 0
-pub found : (tables_object (codes "a") (7 ∷ []) None [] ≡ codes "{\"file\":\"a\",\"tables\":[]}\n")
-    × (tables_object (codes "a") one_bytes (Some 128) (0 ∷ []) ≡ codes "{\"file\":\"a\",\"tables\":[{\"offset\":0,\"bytes\":192,\"key_bytes\":4,\"value_bytes\":4,\"items\":1,\"slots\":16,\"load_percent\":6,\"hash\":\"unhash\",\"check\":\"valid\"}]}\n")
-unfolding opened first_longer digits table_object
-found = (refl, refl)
+-- no table, and one at the byte 0; and its line
+pub found : (found_text true (codes "a") (7 ∷ []) None [] ≡ codes "{\"file\":\"a\",\"tables\":[]}\n")
+    × (found_text true (codes "a") one_bytes (Some 128) (0 ∷ []) ≡ codes "{\"file\":\"a\",\"tables\":[{\"offset\":0,\"bytes\":192,\"key_bytes\":4,\"value_bytes\":4,\"items\":1,\"slots\":16,\"load_percent\":6,\"hash\":\"unhash\",\"check\":\"valid\"}]}\n")
+    × (found_text false (codes "a") one_bytes (Some 128) (0 ∷ []) ≡ codes "0\t192\t4\t4\t1\t16\t6\tunhash\tvalid\n")
+unfolding opened first_longer digits
+found = (refl, refl, refl)

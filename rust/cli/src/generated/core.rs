@@ -16,7 +16,6 @@ pub mod evidence;
 pub mod failure;
 pub mod files;
 pub mod find;
-pub mod find_json;
 pub mod forms;
 pub mod found;
 pub mod front;

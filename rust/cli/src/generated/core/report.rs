@@ -76,16 +76,29 @@ pub fn write_report<O: Write>(
     }
 }
 
-/// Writes the text of a report.
-pub fn write_text<O: Write>(report: &[Field<'_>], output: &mut O) -> io::Result<()> {
+/// Writes a report as one of several: the text, or the object without a line end.
+pub fn write_among<O: Write>(
+    report: &[Field<'_>],
+    is_json: bool,
+    output: &mut O,
+) -> io::Result<()> {
+    if is_json {
+        write_object(report, output)
+    } else {
+        write_text(report, output)
+    }
+}
+
+// Writes the text of a report.
+fn write_text<O: Write>(report: &[Field<'_>], output: &mut O) -> io::Result<()> {
     for field in report {
         write_field(field, output)?;
     }
     Ok(())
 }
 
-/// Writes the object of a report.
-pub fn write_object<O: Write>(report: &[Field<'_>], output: &mut O) -> io::Result<()> {
+// Writes the object of a report.
+fn write_object<O: Write>(report: &[Field<'_>], output: &mut O) -> io::Result<()> {
     let mut mark = b'{';
     for field in report {
         write_member(mark, field, output)?;

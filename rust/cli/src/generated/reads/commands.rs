@@ -8,7 +8,6 @@ pub mod count;
 pub mod diff;
 pub mod dump;
 pub mod find;
-pub mod find_json;
 pub mod get;
 pub mod keys;
 pub mod order;

@@ -2,7 +2,7 @@ use Rattle.std.proofs.Common.{◌∷◌}
 use Rattle.std.specs.Prelude.{codes}
 use Rattle.odht_tool_core.specs.Json.{json_field, string_field}
 use Rattle.odht_tool_core.proofs.InfoLines.{then_appends}
-use Rattle.odht_tool_reads.proofs.commands.find_json.write_begin.Goals as goal
+use Rattle.odht_tool_reads.proofs.commands.find.write_begin.Goals as goal
 
 -- the name and what stands behind it
 pub returns : goal.returns
