@@ -4,6 +4,7 @@ use odht_tool_core::failure::Failure;
 use odht_tool_core::front::table_at;
 use odht_tool_core::help::{write_help, write_version};
 use odht_tool_core::inside::{first_inside, is_followed, write_inside};
+use odht_tool_core::job::Job;
 use odht_tool_core::status::{Status, of_output};
 use odht_tool_reads::commands::diff;
 use odht_tool_reads::positions;
@@ -183,17 +184,16 @@ where
         Some(offset) => table_at(bytes.as_slice(), offset)?,
         None => bytes.as_slice(),
     };
-    let done = run_reading(
-        rt.alloc(),
+    let job = Job {
+        alloc: rt.alloc(),
         file,
         is_one,
         at,
-        table,
-        reading,
-        input,
-        output,
-        errors,
-    );
+        bytes: table,
+        bound: None,
+        is_json: false,
+    };
+    let done = run_reading(job, reading, input, output, errors);
     if reading.is_search() {
         done
     } else {

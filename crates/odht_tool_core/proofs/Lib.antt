@@ -44,7 +44,11 @@ pub mod Fronts
 pub mod Finds
 -- texts of JSON, and bytes that stand for themselves in them
 pub mod JsonTexts
+-- strings of JSON of what is displayed
+pub mod Displayed
 -- fields of objects of JSON that are written one after the other
 pub mod JsonFields
+-- reports that are written field by field
+pub mod Reports
 -- worked examples of the definitions
 pub mod examples

@@ -3,7 +3,6 @@
 --     IsOutputFailure f        the failure f is that of the writer
 --     IsDone o old new r       a call that took a writer from the bytes old to new and returned r did o; only the writer
 --                              may have kept it from writing a text
---     IsDoneInMemory o old new r   the same, where out of memory may have kept it from it too, before it wrote anything
 --     IsWritten w r            a call whose writes returned w, and which did nothing else, returned r
 --     failure_of e             the failure for the error e of a table
 --     opened_outcome o t       the text t is written, where opening had no error o
@@ -27,10 +26,6 @@ IsOutputFailure _ = ⊥
 abbrev pub IsDone : Outcome → Option (List ℕ) → Option (List ℕ) → Result Status Failure → Type 0
 IsDone (writes text status) old new r = MatchResult r (λ s. (s ≡ status) × Appends old new text) IsOutputFailure
 IsDone (fails failure) old new r = (r ≡ Err failure) × Keeps old new
-
-abbrev pub IsDoneInMemory : Outcome → Option (List ℕ) → Option (List ℕ) → Result Status Failure → Type 0
-IsDoneInMemory o old new (Err Memory) = Keeps old new
-IsDoneInMemory o old new r = IsDone o old new r
 
 abbrev pub IsWritten : {E : Type 0} → Result (Unit {0}) E → Result Status Failure → Type 0
 IsWritten w r = MatchResult w (λ u. r ≡ Ok Done) (λ e. IsErrAnd r IsOutputFailure)

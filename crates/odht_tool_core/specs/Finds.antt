@@ -10,18 +10,20 @@
 --     false_slots B p ts   how many slots the headers state in all that begin from p on, outside of the tables ts, and are
 --                          not those of tables
 --     fits_word T          which hash functions all control bytes of T agree with, with commas between their names
---     row_text at B w      the line of the table B that begins at the offset `at`, where w is what the check says of it
+--     table_report at B w  the report of the table B that begins at the offset `at`, where w is what the check says of it
 --     IsSeen B l           the look l at the bytes B tells what they begin with
 --     IsFindFailure B f    the failure f is that of memory; or that of forged headers, which state more slots than B has
 --                          bytes
 --     IsRowFailure B f     the failure f is that of the writer; or that of opening the table B
-use Rattle.std.specs.Prelude.{◌≡◌, ⊤, ℕ, ◌+◌, ◌*◌, ◌/◌, max, ◌++◌, codes, decimal, slice_index, ◌<◌, ◌≤◌, Bool, true, false, not, ◌&&◌, ◌==◌, bytes_eq, List, [], ◌∷◌, length, take, drop, map, sum, is_none, is_some, Some, ◌-◌, if◌then◌else◌}
+use Rattle.std.specs.Prelude.{◌≡◌, ⊤, ℕ, ◌+◌, ◌*◌, ◌/◌, max, codes, slice_index, ◌<◌, ◌≤◌, Bool, true, false, not, ◌&&◌, ◌==◌, bytes_eq, List, [], ◌∷◌, length, take, drop, map, sum, is_none, is_some, Some, ◌-◌, if◌then◌else◌}
 use Rattle.std.specs.List.{range_with_len}
 use Rattle.odht_base.specs.Bytes.{bytes_at}
 use Rattle.odht_base.specs.Decoded.{header_count, header_slots}
 use Rattle.odht_header.specs.Refusals.{factor_refusal, padding_refusal, room_refusal}
 use Rattle.odht_tool_core.specs.Fronts.{stated_len, front_refusal}
 use Rattle.odht_tool_core.specs.InfoNumbers.{DynParts, file_parts, info_refusal, occupied, agrees, found_hash}
+use Rattle.odht_tool_core.specs.Reports.{Said, Told, between, field}
+use Rattle.odht_tool_core.specs.Reports.Said.{number, text}
 use Rattle.odht_tool_core.specs.declared.failure.Failure.{Failure}
 use Rattle.odht_tool_core.specs.declared.failure.Failure.TheVariants.{Memory, Forged, Output, Refused}
 use Rattle.odht_tool_core.specs.declared.shapes.Hash.TheVariants.{Fx, Unhash, Xxh64}
@@ -48,16 +50,6 @@ is_table B = has_front B && has_controls (take (stated_len B) B)
 unfoldable pub is_false : List ℕ → Bool
 is_false B = has_front B && not (has_controls (take (stated_len B) B))
 
--- ---- the lines
-abbrev pub sizes_row : ℕ → ℕ → ℕ → ℕ → List ℕ
-sizes_row at len key value = decimal at ++ (9 ∷ (decimal len ++ (9 ∷ (decimal key ++ (9 ∷ (decimal value ++ (9 ∷ [])))))))
-
-abbrev pub counts_row : ℕ → ℕ → ℕ → List ℕ
-counts_row items slots load = decimal items ++ (9 ∷ (decimal slots ++ (9 ∷ (decimal load ++ (9 ∷ [])))))
-
-abbrev pub words_row : List ℕ → List ℕ → List ℕ
-words_row fits checked = fits ++ (9 ∷ (checked ++ (10 ∷ [])))
-
 -- ---- the search
 -- no table begins from p on and before q
 abbrev pub AreNone : List ℕ → ℕ → ℕ → Type 0
@@ -83,12 +75,7 @@ IsFindFailure B Memory = ⊤
 IsFindFailure B Forged = (ts : List ℕ) → AreTables B 0 ts → length B < false_slots B 0 ts
 IsFindFailure B _ = ⊥
 
-abbrev pub IsRowFailure : List ℕ → Failure → Type 0
-IsRowFailure B (Output error) = ⊤
-IsRowFailure B (Refused error) = info_refusal B ≡ Some error
-IsRowFailure B _ = ⊥
-
--- the line of the table B at the offset `at`, of which the check says `checked`
+-- ---- what is told of a table
 abbrev pub fits_word : DynParts → List ℕ
 fits_word T =
     if agrees T Fx then
@@ -97,11 +84,27 @@ fits_word T =
     else (if agrees T Unhash then (if agrees T Xxh64 then codes "unhash,xxh64" else codes "unhash")
     else (if agrees T Xxh64 then codes "xxh64" else codes "none"))
 
-abbrev pub row_text : ℕ → List ℕ → List ℕ → List ℕ
-row_text at B checked =
-    (sizes_row at (length B) (slice_index B 5) (slice_index B 6)
-    ++ counts_row (header_count B) (header_slots B) (header_count B * 100 / max (header_slots B) 1))
-    ++ words_row (fits_word (file_parts B)) checked
+-- a tab stands behind it in the line
+abbrev pub column : List ℕ → Said → Told
+column name s = field name s (between [] (9 ∷ []))
+
+abbrev pub table_report : ℕ → List ℕ → List ℕ → List Told
+table_report at B checked =
+    column (codes "offset") (number at)
+    ∷ column (codes "bytes") (number (length B))
+    ∷ column (codes "key_bytes") (number (slice_index B 5))
+    ∷ column (codes "value_bytes") (number (slice_index B 6))
+    ∷ column (codes "items") (number (header_count B))
+    ∷ column (codes "slots") (number (header_slots B))
+    ∷ column (codes "load_percent") (number (header_count B * 100 / max (header_slots B) 1))
+    ∷ column (codes "hash") (text (fits_word (file_parts B)))
+    ∷ field (codes "check") (text checked) (between [] (10 ∷ []))
+    ∷ []
+
+abbrev pub IsRowFailure : List ℕ → Failure → Type 0
+IsRowFailure B (Output error) = ⊤
+IsRowFailure B (Refused error) = info_refusal B ≡ Some error
+IsRowFailure B _ = ⊥
 
 abbrev pub IsSeen : List ℕ → Look → Type 0
 IsSeen B (Table n) = (is_table B ≡ true) × (n ≡ stated_len B) × (n ≤ length B)

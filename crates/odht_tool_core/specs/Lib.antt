@@ -43,6 +43,8 @@ pub mod Near
 pub mod Shown
 -- the errors of tables as they are written
 pub mod Refusals
+-- names and values that are written as a text or as an object of JSON
+pub mod Reports
 -- the first table inside of other bytes
 pub mod Insides
 -- numbers with a sign
@@ -69,8 +71,6 @@ pub mod JsonSlots
 pub mod DumpTexts
 -- what `info --json` writes
 pub mod InfoJson
--- what `find --json` writes of a table
-pub mod FindJson
 -- the lines of progress
 pub mod Progress
 -- the words that say which line of a key counts

@@ -3,9 +3,7 @@
 --     foreign_text bs      the bytes bs, with which a file begins, are not those with which a table does
 --     advice_text e        what can be done about the error e, where that is known
 --     refusal_text e       the text of the error e, with that advice behind it
---     valid_text o         `valid`; where there is a bound of searches o, that it is kept too
---     checked_text name o r    a line of the name of a file, and of that or an error
-use Rattle.std.specs.Prelude.{ℕ, List, [], ◌∷◌, ◌++◌, codes, decimal, flat_map, Option, Some, None, Result, Ok, Err}
+use Rattle.std.specs.Prelude.{ℕ, List, [], ◌∷◌, ◌++◌, codes, flat_map}
 use Rattle.odht_header.specs.ErrorTexts.{error_text}
 use Rattle.odht_header.specs.declared.error.Error.{Error}
 use Rattle.odht_header.specs.declared.error.Error.TheVariants.{SearchTooLong, WrongTag}
@@ -25,11 +23,3 @@ advice_text _ = []
 abbrev pub refusal_text : Error → List ℕ
 refusal_text (WrongTag found) = foreign_text found
 refusal_text error = error_text error ++ advice_text error
-
-abbrev pub valid_text : Option ℕ → List ℕ
-valid_text None = codes ": valid\n"
-valid_text (Some bound) = codes ": valid, and no search reads more than " ++ (decimal bound ++ codes " groups\n")
-
-abbrev pub checked_text : {X : Type 0} → List ℕ → Option ℕ → Result X Error → List ℕ
-checked_text name o (Ok x) = name ++ valid_text o
-checked_text name o (Err error) = name ++ (codes ": " ++ (refusal_text error ++ (10 ∷ [])))

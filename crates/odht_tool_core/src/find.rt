@@ -1,25 +1,27 @@
 //! `odht find`: the tables inside a file.
 ghost use Rattle.std.specs.Prelude.{◌≡◌, ◌==◌, ◌<◌, ◌≤◌, IfOk, IfErr, IfSome, OnOk, OnSome, [], ◌∷◌, ◌++◌, drop, is_none};
-ghost use Rattle.std.specs.Prelude.{◌*◌, ◌/◌, is_some, length, max, slice_index, take};
-ghost use Rattle.odht_base.specs.Decoded.{header_count, header_slots};
+ghost use Rattle.std.specs.Prelude.{is_some, length, map, take};
+ghost use Rattle.std.specs.Io.KnownBytes.{Appends};
+ghost use Rattle.odht_base.specs.Decoded.{header_count};
 ghost use Rattle.odht_header.specs.Refusals.{room_refusal};
 ghost use Rattle.odht_tool_core.specs.Finds.{has_fields, has_front, has_controls, IsSeen};
 ghost use Rattle.odht_tool_core.specs.Finds.{AreTables, IsFindFailure, IsRowFailure, false_slots};
-ghost use Rattle.odht_tool_core.specs.Finds.{row_text, fits_word};
-ghost use Rattle.odht_tool_core.specs.Finds.{sizes_row, counts_row, words_row};
-ghost use Rattle.std.specs.Io.KnownBytes.{Appends};
-ghost use Rattle.odht_tool_core.specs.InfoNumbers.{occupied, file_parts};
+ghost use Rattle.odht_tool_core.specs.Finds.{column, fits_word, table_report};
+ghost use Rattle.odht_tool_core.specs.InfoNumbers.{file_parts, occupied};
+ghost use Rattle.odht_tool_core.specs.Reports.{between, field, report_among, told};
+ghost use Rattle.odht_tool_core.specs.Reports.Said.{number as number_said, text};
 ghost use Rattle.odht_tool_core.specs.declared.failure.Failure.TheVariants.{Memory};
 ghost use Rattle.odht_tool_core.specs.Fronts.{stated_len};
 
 use crate::failure::Failure;
 use crate::front::front_of;
+use crate::report::{Field, Value, Words, write_among};
 use crate::shapes::Hash;
 use crate::stored::StoredTable;
 use odht_base::load::max_item_count_for;
 use odht_header::header::Header;
 use std::alloc::Global;
-use std::io::{self, Write};
+use std::io::Write;
 
 /// The first byte of each table.
 const FIRST: u8 = b'O';
@@ -83,72 +85,77 @@ fn add(tables: &mut Vec<usize>, at: usize) -> Result<(), Failure>
     }
 }
 
-/// Writes the line of the table that begins at this offset: the offset, its length, the sizes of
-/// keys and values, the item count, the slot count, the load in percent, the hash functions that
-/// its control bytes fit, and what the check says of it, with tabs between them.
+/// Writes the line of the table that begins at this offset, or its object of JSON: the offset, its
+/// length, the sizes of keys and values, the item count, the slot count, the load in percent, the
+/// hash functions that its control bytes fit, and what the check says of it. There are tabs between
+/// them in the line.
 pub fn write_row<O: Write>(
     at: usize,
     table: &[u8],
     checked: &str,
+    is_json: bool,
     output: &mut O,
 ) -> Result<(), Failure>
     ensures ok { OnOk result (Appends (O.contents output.old) (O.contents output.new)
-        (row_text at table.now checked.now)) }
+        (report_among is_json (table_report at table.now checked.now))) }
     ensures err { IfErr result (IsRowFailure table.now) }
 {
     let parts = StoredTable::open(table).map_err(Failure::Refused)?;
-    write_columns(at, table, &parts, checked, output).map_err(Failure::Output)
+    let report = report_of(at, table, &parts, checked);
+    write_among(&report, is_json, output).map_err(Failure::Output)
 }
 
-fn write_columns<O: Write>(
+// What is told of a table.
+fn report_of<'a>(
     at: usize,
     table: &[u8],
     parts: &StoredTable<'_>,
-    checked: &str,
-    output: &mut O,
-) -> io::Result<()>
+    checked: &'a str,
+) -> [Field<'a>; 9]
     requires long { 32 ≤ length table.now }
     requires parts { parts.now ≡ file_parts table.now }
-    ensures { OnOk result (Appends (O.contents output.old) (O.contents output.new)
-        (row_text at table.now checked.now)) }
-{
-    write_sizes(at, table, output)?;
-    write_counts(table, output)?;
-    write_words(fits_word(parts), checked, output)
-}
-
-fn write_sizes<O: Write>(at: usize, table: &[u8], output: &mut O) -> io::Result<()>
-    requires { 32 ≤ length table.now }
-    ensures { OnOk result (Appends (O.contents output.old) (O.contents output.new)
-        (sizes_row at (length table.now) (slice_index table.now 5) (slice_index table.now 6))) }
-{
-    let header = Header::of(table);
-    let (len, key, value) = (table.len(), header.key_size(), header.value_size());
-    write!(output, "{at}\t{len}\t{key}\t{value}\t")
-}
-
-fn write_counts<O: Write>(table: &[u8], output: &mut O) -> io::Result<()>
-    requires { 32 ≤ length table.now }
-    ensures { let items = header_count table.now
-        in let slots = header_slots table.now
-        in OnOk result (Appends (O.contents output.old) (O.contents output.new)
-        (counts_row items slots (items * 100 / max slots 1))) }
+    ensures { map told result ≡ table_report at table.now checked.now }
 {
     let header = Header::of(table);
     let (items, slots) = (header.item_count(), header.slot_count());
     let load = items as u128 * 100 / (slots as u128).max(1);
-    write!(output, "{items}\t{slots}\t{load}\t")
+    [
+        column("offset", at as u128),
+        column("bytes", table.len() as u128),
+        column("key_bytes", header.key_size() as u128),
+        column("value_bytes", header.value_size() as u128),
+        column("items", items as u128),
+        column("slots", slots as u128),
+        column("load_percent", load),
+        word("hash", fits_word(parts), "\t"),
+        word("check", checked, "\n"),
+    ]
 }
 
-fn write_words<O: Write>(fits: &str, checked: &str, output: &mut O) -> io::Result<()>
-    ensures { OnOk result (Appends (O.contents output.old) (O.contents output.new)
-        (words_row fits.now checked.now)) }
+// A field of a number, behind which a tab stands in the line.
+fn column(name: &'static str, number: u128) -> Field<'static>
+    ensures { told result ≡ column name.now (number_said number) }
 {
-    writeln!(output, "{fits}\t{checked}")
+    Field {
+        name,
+        value: Value::Number(number),
+        words: Words::between("", "\t"),
+    }
+}
+
+// A field of a word, and what stands behind it in the line.
+fn word<'a>(name: &'static str, word: &'a str, end: &'static str) -> Field<'a>
+    ensures { told result ≡ field name.now (text word.now) (between [] end.now) }
+{
+    Field {
+        name,
+        value: Value::Text(word),
+        words: Words::between("", end),
+    }
 }
 
 /// The names of the hash functions that all control bytes agree with, with commas between them.
-pub(crate) fn fits_word(table: &StoredTable<'_>) -> &'static str
+fn fits_word(table: &StoredTable<'_>) -> &'static str
     ensures { result.now ≡ fits_word table.now }
 {
     let has_xxh64 = table.agrees(Hash::Xxh64);

@@ -5,6 +5,7 @@ ghost use Rattle.odht_tool_core.specs.Json.{json_byte, json_field, json_string, 
 ghost use Rattle.odht_tool_core.specs.Json.{number_or_null, string_field};
 
 pub mod answers;
+pub(crate) mod displayed;
 pub mod pairs;
 pub mod slots;
 

@@ -16,8 +16,6 @@ pub mod Counts
 pub mod FindEnds
 -- the pairs of an insert order
 pub mod Ordered
--- what ends as a text allows, also where memory may be short
-pub mod InMemory
 -- two tables that are compared
 pub mod Diffed
 -- tables that are read by position

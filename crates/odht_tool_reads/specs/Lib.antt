@@ -17,7 +17,5 @@ pub mod FindLines
 pub mod Listings
 -- what `order` does
 pub mod Orders
--- what `check` and `find` write with --json
-pub mod JsonTexts
 -- what `diff` does
 pub mod Diffs

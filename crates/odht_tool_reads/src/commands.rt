@@ -1,12 +1,10 @@
 //! The commands, a module each.
 
 pub mod check;
-pub mod check_json;
 pub mod count;
 pub mod diff;
 pub mod dump;
 pub mod find;
-pub mod find_json;
 pub mod get;
 pub mod keys;
 pub mod order;

@@ -3,26 +3,30 @@ use odht_tool_core::arguments::{Keys, Reading};
 use odht_tool_core::failure::Failure;
 use odht_tool_core::forms::Kinds;
 use odht_tool_core::info::info_file;
+use odht_tool_core::job::Job;
 use odht_tool_core::shapes::Hash;
 use odht_tool_core::status::Status;
-use odht_tool_reads::commands::{check, check_json, count, dump, find, get, keys, order};
+use odht_tool_reads::commands::{check, count, dump, find, get, keys, order};
 use odht_tool_tables::trials::advice_of;
 use std::alloc::Global;
 use std::io::{BufRead, Write};
 
-/// Runs a command that only reads its file, which has these bytes, from `at` on where that is
-/// told, and may be the only one.
+/// Runs a command that only reads its file.
 pub fn run_reading<I: BufRead, O: Write, E: Write>(
-    alloc: Global,
-    file: &str,
-    is_one: bool,
-    at: Option<usize>,
-    bytes: &[u8],
+    job: Job<'_>,
     reading: &Reading,
     input: &mut I,
     output: &mut O,
     errors: &mut E,
 ) -> Result<Status, Failure> {
+    let Job {
+        alloc,
+        file,
+        is_one,
+        at,
+        bytes,
+        ..
+    } = job;
     match reading {
         Reading::Info { bound, is_json } => {
             let advice = advice_of(alloc, bytes)?;
@@ -34,7 +38,14 @@ pub fn run_reading<I: BufRead, O: Write, E: Write>(
             hash,
             bound,
             is_json,
-        } => check_one(alloc, file, bytes, *hash, *bound, *is_json, output, errors),
+        } => {
+            let job = Job {
+                bound: *bound,
+                is_json: *is_json,
+                ..job
+            };
+            check_one(&job, *hash, output, errors)
+        }
         Reading::Count {
             hash,
             bound,
@@ -63,7 +74,12 @@ pub fn run_reading<I: BufRead, O: Write, E: Write>(
             is_json,
         } => get::get_file_lines(alloc, bytes, *hash, *kinds, *is_json, input, output),
         Reading::Find { bound, is_json } => {
-            find_in(alloc, file, is_one, bytes, *bound, *is_json, output, errors)
+            let job = Job {
+                bound: *bound,
+                is_json: *is_json,
+                ..job
+            };
+            find_in(&job, output, errors)
         }
         Reading::Dump {
             hash,
@@ -81,26 +97,18 @@ pub fn run_reading<I: BufRead, O: Write, E: Write>(
 // Checks a file. Where another hash function fits, a line on `errors` names it, behind that of the
 // check.
 fn check_one<O: Write, E: Write>(
-    alloc: Global,
-    file: &str,
-    bytes: &[u8],
+    job: &Job<'_>,
     hash: Option<Hash>,
-    bound: Option<usize>,
-    is_json: bool,
     output: &mut O,
     errors: &mut E,
 ) -> Result<Status, Failure> {
-    let status = if is_json {
-        check_json::check_file(alloc, file, bytes, hash, bound, output)?
-    } else {
-        check::check_file(file, bytes, hash, bound, output)?
-    };
+    let status = check::check_file(job, hash, output)?;
     if !status.is_done()
-        && let Some(other) = check::hint_of(bytes, hash)
+        && let Some(other) = check::hint_of(job.bytes, hash)
     {
         output.flush().map_err(Failure::Output)?;
         // A hint that cannot be written is no failure.
-        let _ = check::write_hint(file, other, errors);
+        let _ = check::write_hint(job.file, other, errors);
     }
     Ok(status)
 }
@@ -125,19 +133,15 @@ fn count_one<O: Write>(
 // Finds the tables in a file, whose name comes first where there are more files. Where there is no
 // table, a line on `errors` says so.
 fn find_in<O: Write, E: Write>(
-    alloc: Global,
-    file: &str,
-    is_one: bool,
-    bytes: &[u8],
-    bound: Option<usize>,
-    is_json: bool,
+    job: &Job<'_>,
     output: &mut O,
     errors: &mut E,
 ) -> Result<Status, Failure> {
-    if !is_one && !is_json {
+    let file = job.file;
+    if !job.is_one && !job.is_json {
         writeln!(output, "{file}").map_err(Failure::Output)?;
     }
-    let status = find::find_file(alloc, file, bytes, bound, is_json, output)?;
+    let status = find::find_file(job, output)?;
     if !status.is_done() {
         output.flush().map_err(Failure::Output)?;
         // A line that cannot be written is no failure.

@@ -5,12 +5,13 @@ use Rattle.std.specs.Fmt.{digits}
 use Rattle.std.specs.Char.{encode_utf8}
 use Rattle.std.specs.Str.{chars, is_utf8}
 use Rattle.odht_header.proofs.examples.Opened.{opened}
-use Rattle.odht_tool_core.specs.FindJson.{table_object}
+use Rattle.odht_tool_core.specs.Finds.{table_report}
 use Rattle.odht_tool_core.specs.InfoJson.{at_fields, count_fields, counts_array, hash_or_null, info_as, length_fields, longest_hit}
 use Rattle.odht_tool_core.specs.InfoNumbers.{tallies, largest, IsHistogram}
 use Rattle.odht_tool_core.specs.Json.{is_simple, json_object, json_string, number_field, number_or_null, pair_object, string_field, text_field, truth}
 use Rattle.odht_tool_core.specs.JsonAnswers.{absent_object, answer_in}
 use Rattle.odht_tool_core.specs.JsonSlots.{slot_object}
+use Rattle.odht_tool_core.specs.Reports.{report_among}
 use Rattle.odht_tool_core.specs.Texts.{hex_text}
 use Rattle.odht_tool_core.specs.declared.numbers.Numbers.{Numbers}
 use Rattle.odht_tool_core.specs.declared.shapes.Hash.TheVariants.{Fx, Unhash}
@@ -78,7 +79,8 @@ whole n is along =
     let all = λ (slots : List ℕ). λ (cs : List ℕ). λ (l : ℕ). json_object (front ++ ((codes "along_slots", counts_array slots (length slots)) ∷ (codes "hash", hash_or_null (Some Unhash)) ∷ (codes "bound", number_or_null (Some 128)) ∷ (codes "histogram", counts_array cs l) ∷ (codes "longest_hit", number_or_null (longest_hit (Some Unhash) l)) ∷ number_field (codes "longest_miss") 1 ∷ (codes "may_help", codes "null") ∷ [])) ++ (10 ∷ []) in
     ap₂ (all n.stretches.items) is.counts is.longest ∙ ap (λ slots. all slots (tallies (1 ∷ [])) (largest (1 ∷ []))) along
 
--- a table inside a file
-pub found : table_object 2 one_bytes (codes "valid") ≡ codes "{\"offset\":2,\"bytes\":192,\"key_bytes\":4,\"value_bytes\":4,\"items\":1,\"slots\":16,\"load_percent\":6,\"hash\":\"unhash\",\"check\":\"valid\"}"
-unfolding opened digits table_object
-found = refl
+-- a table inside a file, and its line
+pub found : (report_among true (table_report 2 one_bytes (codes "valid")) ≡ codes "{\"offset\":2,\"bytes\":192,\"key_bytes\":4,\"value_bytes\":4,\"items\":1,\"slots\":16,\"load_percent\":6,\"hash\":\"unhash\",\"check\":\"valid\"}")
+    × (report_among false (table_report 2 one_bytes (codes "valid")) ≡ codes "2\t192\t4\t4\t1\t16\t6\tunhash\tvalid\n")
+unfolding opened digits
+found = (refl, refl)

@@ -25,35 +25,35 @@ use Rattle.odht_tool_core.proofs.examples.Shapes.{one_bytes}
 
 -- ---- check
 -- a valid table, also with a bound of searches that it keeps
-pub valid : (check_outcome (codes "a") one_bytes (Some Unhash) None ≡ writes (codes "a: valid\n") Done)
-    × (check_outcome (codes "a") one_bytes (Some Unhash) (Some 128) ≡ writes (codes "a: valid, and no search reads more than 128 groups\n") Done)
+pub valid : (check_outcome false (codes "a") one_bytes (Some Unhash) None ≡ writes (codes "a: valid\n") Done)
+    × (check_outcome false (codes "a") one_bytes (Some Unhash) (Some 128) ≡ writes (codes "a: valid, and no search reads more than 128 groups\n") Done)
 unfolding opened first_longer digits
 valid = (refl, refl)
 
 -- and with one that no table keeps
-pub too_long : check_outcome (codes "a") one_bytes (Some Unhash) (Some 0) ≡ writes (codes "a: Searches from slot 0 may read more than 0 groups; --whole checks without a bound\n") NotDone
+pub too_long : check_outcome false (codes "a") one_bytes (Some Unhash) (Some 0) ≡ writes (codes "a: Searches from slot 0 may read more than 0 groups; --whole checks without a bound\n") NotDone
 unfolding opened first_longer digits
 too_long = refl
 
 -- two bytes
-pub too_short : check_outcome (codes "a") (79 ∷ 68 ∷ []) None None ≡ writes (codes "a: Provided data has 2 bytes but the header needs 32\n") NotDone
+pub too_short : check_outcome false (codes "a") (79 ∷ 68 ∷ []) None None ≡ writes (codes "a: Provided data has 2 bytes but the header needs 32\n") NotDone
 unfolding opened digits
 too_short = refl
 
 -- another first byte, a tab, and one that is not printed
-pub foreign : check_outcome (codes "a") (overwritten_at one_bytes 0 (9 ∷ 0x7F ∷ [])) None None ≡ writes (codes "a: not an odht table: it begins with 09 7f 48 54, \"\\t\\x7fHT\"\n") NotDone
+pub foreign : check_outcome false (codes "a") (overwritten_at one_bytes 0 (9 ∷ 0x7F ∷ [])) None None ≡ writes (codes "a: not an odht table: it begins with 09 7f 48 54, \"\\t\\x7fHT\"\n") NotDone
 unfolding opened digits
 foreign = refl
 
 -- a count of one item more, which is an earlier error than that of a bound
-pub miscounted : check_outcome (codes "a") (overwritten_at one_bytes 8 (2 ∷ [])) (Some Unhash) (Some 0) ≡ writes (codes "a: Header states 2 items but 1 were found\n") NotDone
+pub miscounted : check_outcome false (codes "a") (overwritten_at one_bytes 8 (2 ∷ [])) (Some Unhash) (Some 0) ≡ writes (codes "a: Header states 2 items but 1 were found\n") NotDone
 unfolding opened digits
 miscounted = refl
 
 -- a dynamic table, whose key has another home by its hash than the slot that it is in; and keys of three bytes,
 -- which are too short for a hash function
-pub any_sizes : (check_outcome (codes "a") other_bytes (Some Unhash) None ≡ writes (codes "a: Key in slot 5 is not reachable by its search\n") NotDone)
-    × (check_outcome (codes "a") (overwritten_at one_bytes 5 (3 ∷ [])) (Some Unhash) None ≡ fails (ShortKeys 3))
+pub any_sizes : (check_outcome false (codes "a") other_bytes (Some Unhash) None ≡ writes (codes "a: Key in slot 5 is not reachable by its search\n") NotDone)
+    × (check_outcome false (codes "a") (overwritten_at one_bytes 5 (3 ∷ [])) (Some Unhash) None ≡ fails (ShortKeys 3))
 unfolding opened first_longer digits
 any_sizes = (refl, refl)
 

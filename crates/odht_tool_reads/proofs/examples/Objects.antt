@@ -9,12 +9,11 @@ use Rattle.odht_base.specs.Bytes.{overwritten_at}
 use Rattle.odht_header.specs.declared.error.Error.TheVariants.{TooShort}
 use Rattle.odht_header.proofs.examples.Opened.{opened}
 use Rattle.odht_tool_core.specs.Endings.Outcome.{writes, fails}
-use Rattle.odht_tool_core.specs.FindJson.{table_object}
 use Rattle.odht_tool_core.specs.GroupNumbers.{groups_to}
 use Rattle.odht_tool_core.specs.Json.{pair_object}
 use Rattle.odht_tool_core.specs.JsonSlots.{slot_object}
-use Rattle.odht_tool_reads.specs.JsonTexts.{check_json_outcome, tables_object}
-use Rattle.odht_tool_reads.specs.Outcomes.{dump_outcome}
+use Rattle.odht_tool_reads.specs.FindLines.{found_text}
+use Rattle.odht_tool_reads.specs.Outcomes.{check_outcome, dump_outcome}
 use Rattle.odht_tool_core.specs.declared.failure.Failure.TheVariants.{Refused, NoHash, ShortKeys}
 use Rattle.odht_tool_core.specs.declared.shapes.Hash.TheVariants.{Unhash}
 use Rattle.odht_tool_core.specs.declared.status.Status.TheVariants.{Done, NotDone}
@@ -24,14 +23,14 @@ use Rattle.odht_tool_core.proofs.examples.Shapes.{one_bytes}
 
 -- ---- check
 -- a valid table, by a bound, and two bytes; keys that are too short for a hash function are a failure, and no rule
-pub checked : (check_json_outcome (codes "a") one_bytes (Some Unhash) (Some 128) ≡ writes (codes "{\"file\":\"a\",\"valid\":true,\"bound\":128,\"rule\":null}\n") Done)
-    × (check_json_outcome (codes "a") (79 ∷ 68 ∷ []) None None ≡ writes (codes "{\"file\":\"a\",\"valid\":false,\"bound\":null,\"rule\":\"Provided data has 2 bytes but the header needs 32\"}\n") NotDone)
-    × (check_json_outcome (codes "a") (overwritten_at one_bytes 5 (3 ∷ [])) (Some Unhash) None ≡ fails (ShortKeys 3))
+pub checked : (check_outcome true (codes "a") one_bytes (Some Unhash) (Some 128) ≡ writes (codes "{\"file\":\"a\",\"valid\":true,\"bound\":128,\"rule\":null}\n") Done)
+    × (check_outcome true (codes "a") (79 ∷ 68 ∷ []) None None ≡ writes (codes "{\"file\":\"a\",\"valid\":false,\"bound\":null,\"rule\":\"Provided data has 2 bytes but the header needs 32\"}\n") NotDone)
+    × (check_outcome true (codes "a") (overwritten_at one_bytes 5 (3 ∷ [])) (Some Unhash) None ≡ fails (ShortKeys 3))
 unfolding opened first_longer digits
 checked = (refl, refl, refl)
 
 -- a rule whose text has a quote and a backslash
-pub quoted : check_json_outcome (codes "\"") (overwritten_at one_bytes 0 (9 ∷ 0x7F ∷ [])) None None ≡ writes (codes "{\"file\":\"\\\"\",\"valid\":false,\"bound\":null,\"rule\":\"not an odht table: it begins with 09 7f 48 54, \\\"\\\\t\\\\x7fHT\\\"\"}\n") NotDone
+pub quoted : check_outcome true (codes "\"") (overwritten_at one_bytes 0 (9 ∷ 0x7F ∷ [])) None None ≡ writes (codes "{\"file\":\"\\\"\",\"valid\":false,\"bound\":null,\"rule\":\"not an odht table: it begins with 09 7f 48 54, \\\"\\\\t\\\\x7fHT\\\"\"}\n") NotDone
 unfolding opened digits
 quoted = refl
 
@@ -51,8 +50,9 @@ unfolding opened
 refused = (refl, refl)
 
 -- ---- find
--- no table, and one at the byte 0
-pub found : (tables_object (codes "a") (7 ∷ []) None [] ≡ codes "{\"file\":\"a\",\"tables\":[]}\n")
-    × (tables_object (codes "a") one_bytes (Some 128) (0 ∷ []) ≡ codes "{\"file\":\"a\",\"tables\":[{\"offset\":0,\"bytes\":192,\"key_bytes\":4,\"value_bytes\":4,\"items\":1,\"slots\":16,\"load_percent\":6,\"hash\":\"unhash\",\"check\":\"valid\"}]}\n")
-unfolding opened first_longer digits table_object
-found = (refl, refl)
+-- no table, and one at the byte 0; and its line
+pub found : (found_text true (codes "a") (7 ∷ []) None [] ≡ codes "{\"file\":\"a\",\"tables\":[]}\n")
+    × (found_text true (codes "a") one_bytes (Some 128) (0 ∷ []) ≡ codes "{\"file\":\"a\",\"tables\":[{\"offset\":0,\"bytes\":192,\"key_bytes\":4,\"value_bytes\":4,\"items\":1,\"slots\":16,\"load_percent\":6,\"hash\":\"unhash\",\"check\":\"valid\"}]}\n")
+    × (found_text false (codes "a") one_bytes (Some 128) (0 ∷ []) ≡ codes "0\t192\t4\t4\t1\t16\t6\tunhash\tvalid\n")
+unfolding opened first_longer digits
+found = (refl, refl, refl)

@@ -1,61 +1,93 @@
 //! `odht check`: whether a file is a valid table.
-ghost use Rattle.std.specs.Prelude.{◌≡◌, OnOk};
+ghost use Rattle.std.specs.Prelude.{◌≡◌, OnOk, map};
 ghost use Rattle.std.specs.Io.KnownBytes.{Appends};
+ghost use Rattle.std.specs.Option.{option_map};
 ghost use Rattle.odht_tool_core.specs.Endings.{IsDone};
-ghost use Rattle.odht_tool_core.specs.Refusals.{checked_text};
-ghost use Rattle.odht_tool_reads.specs.Outcomes.{check_outcome, hint_of, hint_text};
+ghost use Rattle.odht_tool_core.specs.Reports.{said, told, wording};
+ghost use Rattle.odht_tool_reads.specs.Outcomes.{bound_words, check_outcome, check_report};
+ghost use Rattle.odht_tool_reads.specs.Outcomes.{hint_of, hint_text, rule_said};
 
 use odht::error::Error;
 use odht_tool_core::failure::Failure;
 use odht_tool_core::found::{checked_any, hinted_hash};
 use odht_tool_core::info::name_of;
-use odht_tool_core::refusal::Refusal;
+use odht_tool_core::job::Job;
+use odht_tool_core::report::{Field, Value, Words, write_report};
 use odht_tool_core::shapes::Hash;
 use odht_tool_core::status::Status;
 use odht_tool_tables::checks::check_any;
 use std::io::{self, Write};
 
-/// `odht check` of the bytes of the file of this name: writes the name, and that they are valid,
-/// and with a bound that no search reads more groups; or the first rule that they break. With a
-/// bound it takes time in proportion to the bytes and the bound.
+/// `odht check` of the bytes of a file: writes its name, and that they are valid, and with a bound
+/// that no search reads more groups; or the first rule that they break. With a bound it takes time
+/// in proportion to the bytes and the bound.
 pub fn check_file<O: Write>(
-    file: &str,
-    bytes: &[u8],
+    job: &Job<'_>,
     hash: Option<Hash>,
-    bound: Option<usize>,
     output: &mut O,
 ) -> Result<Status, Failure>
-    ensures { IsDone (check_outcome file.now bytes.now hash bound)
+    ensures { let j = job.now
+        in IsDone (check_outcome j.is_json j.file.now j.bytes.now hash j.bound)
         (O.contents output.old) (O.contents output.new) result }
 {
-    let shape = checked_any(bytes, hash)?;
-    let checked = check_any(shape, bytes, bound);
-    write_checked(file, &checked, bound, output).map_err(Failure::Output)?;
+    let shape = checked_any(job.bytes, hash)?;
+    let checked = check_any(shape, job.bytes, job.bound);
+    let report = report_of(job.file, job.bound, &checked);
+    write_report(&report, job.is_json, output).map_err(Failure::Output)?;
     Ok(Status::of(checked.is_ok()))
 }
 
-// Writes a line with the file's name and what the check found.
-fn write_checked<O: Write>(
-    file: &str,
-    checked: &Result<(), Error>,
-    bound: Option<usize>,
-    output: &mut O,
-) -> io::Result<()>
-    ensures { OnOk result (Appends (O.contents output.old) (O.contents output.new)
-        (checked_text file.now bound checked.now)) }
+// What the check of a file found.
+fn report_of<'a>(file: &'a str, bound: Option<usize>, checked: &Result<(), Error>) -> [Field<'a>; 4]
+    ensures { map told result ≡ check_report file.now bound checked.now }
 {
-    match (checked, bound) {
-        (Ok(()), None) => writeln!(output, "{file}: valid"),
-        (Ok(()), Some(bound)) => {
-            writeln!(
-                output,
-                "{file}: valid, and no search reads more than {bound} groups"
-            )
-        }
-        (Err(error), _) => {
-            let refusal = Refusal(*error);
-            writeln!(output, "{file}: {refusal}")
-        }
+    let is_valid = checked.is_ok();
+    [
+        Field {
+            name: "file",
+            value: Value::Text(file),
+            words: Words::between("", ": "),
+        },
+        Field {
+            name: "valid",
+            value: Value::Truth(is_valid),
+            words: Words::between("valid", ""),
+        },
+        Field {
+            name: "bound",
+            value: Value::of_number(bound),
+            words: bound_words(is_valid),
+        },
+        Field {
+            name: "rule",
+            value: rule_of(checked),
+            words: Some(Words {
+                before: "",
+                after: "\n",
+                otherwise: "\n",
+            }),
+        },
+    ]
+}
+
+// The words round the bound, where it is kept.
+fn bound_words(is_valid: bool) -> Option<Words<'static>>
+    ensures { option_map wording result ≡ bound_words is_valid }
+{
+    if is_valid {
+        Words::between(", and no search reads more than ", " groups")
+    } else {
+        None
+    }
+}
+
+// The rule that is broken, if one is.
+fn rule_of(checked: &Result<(), Error>) -> Value<'static>
+    ensures { said result ≡ rule_said checked.now }
+{
+    match checked {
+        Ok(()) => Value::Absent,
+        Err(error) => Value::Refused(*error),
     }
 }
 

@@ -4,12 +4,13 @@
 use crate::generated::base::load::max_item_count_for;
 use crate::generated::core::failure::Failure;
 use crate::generated::core::front::front_of;
+use crate::generated::core::report::{write_among, Field, Value, Words};
 use crate::generated::core::shapes::Hash;
 use crate::generated::core::stored::StoredTable;
 use crate::generated::header::header::Header;
 use crate::host::prelude::*;
 use crate::shim::Global;
-use std::io::{self, Write};
+use std::io::Write;
 
 /// The first byte of each table.
 const FIRST: u8 = b'O';
@@ -65,50 +66,57 @@ fn add(tables: &mut Vec<usize>, at: usize) -> Result<(), Failure> {
     }
 }
 
-/// Writes the line of the table that begins at this offset: the offset, its length, the sizes of
-/// keys and values, the item count, the slot count, the load in percent, the hash functions that
-/// its control bytes fit, and what the check says of it, with tabs between them.
+/// Writes the line of the table that begins at this offset, or its object of JSON: the offset, its
+/// length, the sizes of keys and values, the item count, the slot count, the load in percent, the
+/// hash functions that its control bytes fit, and what the check says of it. There are tabs between
+/// them in the line.
 pub fn write_row<O: Write>(
     at: usize,
     table: &[u8],
     checked: &str,
+    is_json: bool,
     output: &mut O,
 ) -> Result<(), Failure> {
     let parts = StoredTable::open(table).map_err(Failure::Refused)?;
-    write_columns(at, table, &parts, checked, output).map_err(Failure::Output)
+    let report = report_of(at, table, &parts, checked);
+    write_among(&report, is_json, output).map_err(Failure::Output)
 }
 
-fn write_columns<O: Write>(
+// What is told of a table.
+fn report_of<'a>(
     at: usize,
     table: &[u8],
     parts: &StoredTable<'_>,
-    checked: &str,
-    output: &mut O,
-) -> io::Result<()> {
-    write_sizes(at, table, output)?;
-    write_counts(table, output)?;
-    write_words(fits_word(parts), checked, output)
-}
-
-fn write_sizes<O: Write>(at: usize, table: &[u8], output: &mut O) -> io::Result<()> {
-    let header = Header::of(table);
-    let (len, key, value) = (table.len(), header.key_size(), header.value_size());
-    write!(output, "{at}\t{len}\t{key}\t{value}\t")
-}
-
-fn write_counts<O: Write>(table: &[u8], output: &mut O) -> io::Result<()> {
+    checked: &'a str,
+) -> [Field<'a>; 9] {
     let header = Header::of(table);
     let (items, slots) = (header.item_count(), header.slot_count());
     let load = items as u128 * 100 / (slots as u128).max(1);
-    write!(output, "{items}\t{slots}\t{load}\t")
+    [
+        column("offset", at as u128),
+        column("bytes", table.len() as u128),
+        column("key_bytes", header.key_size() as u128),
+        column("value_bytes", header.value_size() as u128),
+        column("items", items as u128),
+        column("slots", slots as u128),
+        column("load_percent", load),
+        word("hash", fits_word(parts), "\t"),
+        word("check", checked, "\n"),
+    ]
 }
 
-fn write_words<O: Write>(fits: &str, checked: &str, output: &mut O) -> io::Result<()> {
-    writeln!(output, "{fits}\t{checked}")
+// A field of a number, behind which a tab stands in the line.
+fn column(name: &'static str, number: u128) -> Field<'static> {
+    Field { name, value: Value::Number(number), words: Words::between("", "\t") }
+}
+
+// A field of a word, and what stands behind it in the line.
+fn word<'a>(name: &'static str, word: &'a str, end: &'static str) -> Field<'a> {
+    Field { name, value: Value::Text(word), words: Words::between("", end) }
 }
 
 /// The names of the hash functions that all control bytes agree with, with commas between them.
-pub(crate) fn fits_word(table: &StoredTable<'_>) -> &'static str {
+fn fits_word(table: &StoredTable<'_>) -> &'static str {
     let has_xxh64 = table.agrees(Hash::Xxh64);
     match (table.agrees(Hash::Fx), table.agrees(Hash::Unhash), has_xxh64) {
         (true, true, true) => "fx,unhash,xxh64",

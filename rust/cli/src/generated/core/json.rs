@@ -4,6 +4,7 @@
 use crate::host::prelude::*;
 
 pub mod answers;
+pub(crate) mod displayed;
 pub mod pairs;
 pub mod slots;
 

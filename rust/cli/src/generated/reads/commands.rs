@@ -4,12 +4,10 @@
 use crate::host::prelude::*;
 
 pub mod check;
-pub mod check_json;
 pub mod count;
 pub mod diff;
 pub mod dump;
 pub mod find;
-pub mod find_json;
 pub mod get;
 pub mod keys;
 pub mod order;

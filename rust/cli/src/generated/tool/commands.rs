@@ -5,7 +5,10 @@ use crate::generated::core::failure::Failure;
 use crate::generated::core::front::table_at;
 use crate::generated::core::help::{write_help, write_version};
 use crate::generated::core::inside::{first_inside, is_followed, write_inside};
+use crate::generated::core::job::Job;
+use crate::generated::core::new_file::{ended, make_new};
 use crate::generated::core::status::{of_output, Status};
+use crate::generated::core::targets::Target;
 use crate::generated::reads::commands::diff;
 use crate::generated::reads::positions;
 use crate::generated::tool_tables::files::{finish, finish_as, read_bytes, read_table_bytes};
@@ -99,8 +102,11 @@ where
         Command::Diff(options) => diff::diff(rt, file, options, input, output, errors),
         Command::Merge(options) => merge::merge(rt, file, options, input, output, errors),
         Command::Put(mut options) => {
+            let target = Target::find_table(rt, file, options.breaks_links)?;
+            let mut new = make_new(rt, target)?;
             options.watch = options.watch.with_bar(rt, errors);
-            build::put(rt, file, options, input, output, errors)
+            let done = build::put(rt, &mut new, options, input, errors);
+            ended(rt, new, done)
         }
     }
 }
@@ -181,7 +187,9 @@ where
         Some(offset) => table_at(bytes.as_slice(), offset)?,
         None => bytes.as_slice(),
     };
-    let done = run_reading(rt.alloc(), file, is_one, at, table, reading, input, output, errors);
+    let job =
+        Job { alloc: rt.alloc(), file, is_one, at, bytes: table, bound: None, is_json: false };
+    let done = run_reading(job, reading, input, output, errors);
     if reading.is_search() {
         done
     } else {

@@ -4,7 +4,8 @@
 use crate::generated::core::failure::Failure;
 use crate::generated::core::found::{checked_any, hinted_hash};
 use crate::generated::core::info::name_of;
-use crate::generated::core::refusal::Refusal;
+use crate::generated::core::job::Job;
+use crate::generated::core::report::{write_report, Field, Value, Words};
 use crate::generated::core::shapes::Hash;
 use crate::generated::core::status::Status;
 use crate::generated::tables::error::Error;
@@ -12,38 +13,54 @@ use crate::generated::tool_tables::checks::check_any;
 use crate::host::prelude::*;
 use std::io::{self, Write};
 
-/// `odht check` of the bytes of the file of this name: writes the name, and that they are valid,
-/// and with a bound that no search reads more groups; or the first rule that they break. With a
-/// bound it takes time in proportion to the bytes and the bound.
+/// `odht check` of the bytes of a file: writes its name, and that they are valid, and with a bound
+/// that no search reads more groups; or the first rule that they break. With a bound it takes time
+/// in proportion to the bytes and the bound.
 pub fn check_file<O: Write>(
-    file: &str,
-    bytes: &[u8],
+    job: &Job<'_>,
     hash: Option<Hash>,
-    bound: Option<usize>,
     output: &mut O,
 ) -> Result<Status, Failure> {
-    let shape = checked_any(bytes, hash)?;
-    let checked = check_any(shape, bytes, bound);
-    write_checked(file, &checked, bound, output).map_err(Failure::Output)?;
+    let shape = checked_any(job.bytes, hash)?;
+    let checked = check_any(shape, job.bytes, job.bound);
+    let report = report_of(job.file, job.bound, &checked);
+    write_report(&report, job.is_json, output).map_err(Failure::Output)?;
     Ok(Status::of(checked.is_ok()))
 }
 
-// Writes a line with the file's name and what the check found.
-fn write_checked<O: Write>(
-    file: &str,
-    checked: &Result<(), Error>,
+// What the check of a file found.
+fn report_of<'a>(
+    file: &'a str,
     bound: Option<usize>,
-    output: &mut O,
-) -> io::Result<()> {
-    match (checked, bound) {
-        (Ok(()), None) => writeln!(output, "{file}: valid"),
-        (Ok(()), Some(bound)) => {
-            writeln!(output, "{file}: valid, and no search reads more than {bound} groups")
-        }
-        (Err(error), _) => {
-            let refusal = Refusal(*error);
-            writeln!(output, "{file}: {refusal}")
-        }
+    checked: &Result<(), Error>,
+) -> [Field<'a>; 4] {
+    let is_valid = checked.is_ok();
+    [
+        Field { name: "file", value: Value::Text(file), words: Words::between("", ": ") },
+        Field { name: "valid", value: Value::Truth(is_valid), words: Words::between("valid", "") },
+        Field { name: "bound", value: Value::of_number(bound), words: bound_words(is_valid) },
+        Field {
+            name: "rule",
+            value: rule_of(checked),
+            words: Some(Words { before: "", after: "\n", otherwise: "\n" }),
+        },
+    ]
+}
+
+// The words round the bound, where it is kept.
+fn bound_words(is_valid: bool) -> Option<Words<'static>> {
+    if is_valid {
+        Words::between(", and no search reads more than ", " groups")
+    } else {
+        None
+    }
+}
+
+// The rule that is broken, if one is.
+fn rule_of(checked: &Result<(), Error>) -> Value<'static> {
+    match checked {
+        Ok(()) => Value::Absent,
+        Err(error) => Value::Refused(*error),
     }
 }
 

@@ -4,34 +4,32 @@ use crate::generated::core::arguments::{Keys, Reading};
 use crate::generated::core::failure::Failure;
 use crate::generated::core::forms::Kinds;
 use crate::generated::core::info::info_file;
+use crate::generated::core::job::Job;
 use crate::generated::core::shapes::Hash;
 use crate::generated::core::status::Status;
-use crate::generated::reads::commands::{check, check_json, count, dump, find, get, keys, order};
+use crate::generated::reads::commands::{check, count, dump, find, get, keys, order};
 use crate::generated::tool_tables::trials::advice_of;
 use crate::host::prelude::*;
 use crate::shim::Global;
 use std::io::{BufRead, Write};
 
-/// Runs a command that only reads its file, which has these bytes, from `at` on where that is
-/// told, and may be the only one.
+/// Runs a command that only reads its file.
 pub fn run_reading<I: BufRead, O: Write, E: Write>(
-    alloc: Global,
-    file: &str,
-    is_one: bool,
-    at: Option<usize>,
-    bytes: &[u8],
+    job: Job<'_>,
     reading: &Reading,
     input: &mut I,
     output: &mut O,
     errors: &mut E,
 ) -> Result<Status, Failure> {
+    let Job { alloc, file, is_one, at, bytes, .. } = job;
     match reading {
         Reading::Info { bound, is_json } => {
             let advice = advice_of(alloc, bytes)?;
             info_file(alloc, file, is_one, at, bytes, *bound, *is_json, advice, output)
         }
         Reading::Check { hash, bound, is_json } => {
-            check_one(alloc, file, bytes, *hash, *bound, *is_json, output, errors)
+            let job = Job { bound: *bound, is_json: *is_json, ..job };
+            check_one(&job, *hash, output, errors)
         }
         Reading::Count { hash, bound, is_checked } => {
             let checked = if *is_checked { Some((*hash, *bound)) } else { None };
@@ -45,7 +43,8 @@ pub fn run_reading<I: BufRead, O: Write, E: Write>(
             get::get_file_lines(alloc, bytes, *hash, *kinds, *is_json, input, output)
         }
         Reading::Find { bound, is_json } => {
-            find_in(alloc, file, is_one, bytes, *bound, *is_json, output, errors)
+            let job = Job { bound: *bound, is_json: *is_json, ..job };
+            find_in(&job, output, errors)
         }
         Reading::Dump { hash, kinds, is_slots, is_json } => {
             dump::dump_file(bytes, *hash, *kinds, *is_slots, *is_json, output)
@@ -60,25 +59,17 @@ pub fn run_reading<I: BufRead, O: Write, E: Write>(
 // Checks a file. Where another hash function fits, a line on `errors` names it, behind that of the
 // check.
 fn check_one<O: Write, E: Write>(
-    alloc: Global,
-    file: &str,
-    bytes: &[u8],
+    job: &Job<'_>,
     hash: Option<Hash>,
-    bound: Option<usize>,
-    is_json: bool,
     output: &mut O,
     errors: &mut E,
 ) -> Result<Status, Failure> {
-    let status = if is_json {
-        check_json::check_file(alloc, file, bytes, hash, bound, output)?
-    } else {
-        check::check_file(file, bytes, hash, bound, output)?
-    };
+    let status = check::check_file(job, hash, output)?;
     if !status.is_done() {
-        if let Some(other) = check::hint_of(bytes, hash) {
+        if let Some(other) = check::hint_of(job.bytes, hash) {
             output.flush().map_err(Failure::Output)?;
             // A hint that cannot be written is no failure.
-            let _ = check::write_hint(file, other, errors);
+            let _ = check::write_hint(job.file, other, errors);
         }
     }
     Ok(status)
@@ -104,19 +95,15 @@ fn count_one<O: Write>(
 // Finds the tables in a file, whose name comes first where there are more files. Where there is no
 // table, a line on `errors` says so.
 fn find_in<O: Write, E: Write>(
-    alloc: Global,
-    file: &str,
-    is_one: bool,
-    bytes: &[u8],
-    bound: Option<usize>,
-    is_json: bool,
+    job: &Job<'_>,
     output: &mut O,
     errors: &mut E,
 ) -> Result<Status, Failure> {
-    if !is_one && !is_json {
+    let file = job.file;
+    if !job.is_one && !job.is_json {
         writeln!(output, "{file}").map_err(Failure::Output)?;
     }
-    let status = find::find_file(alloc, file, bytes, bound, is_json, output)?;
+    let status = find::find_file(job, output)?;
     if !status.is_done() {
         output.flush().map_err(Failure::Output)?;
         // A line that cannot be written is no failure.

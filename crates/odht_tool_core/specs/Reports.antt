@@ -1,0 +1,119 @@
+-- Reports: names and values, and what is written of them.
+--     Said                 what a field says: nothing, whether something is so, a number, or a text
+--     Wording              the words of a text round a value, and those in place of all that where it says nothing, or that
+--                          something is not so
+--     Told                 a field: its name, what it says, and the words round that, which a field of objects alone has not
+--     told f               the field f as that
+--     value_json s         what is said, as a value of JSON: null where nothing is
+--     is_said s            something is said, and not that something is not so
+--     value_text s         what is said, as a text; whether something is so is told by the words round it alone
+--     with_words w s       this with the words w
+--     report_object ts     the object of the fields ts
+--     report_text ts       their texts one after the other
+--     report_among j ts    what is written of them as one report of several: the object; without j the text
+--     report_as j ts       a line of the object; without j the text
+--     field, between, said_number    a field of these parts; a value with these words round it; the number, where there is
+--                          one
+use Rattle.std.specs.Prelude.{ℕ, Bool, true, false, List, [], ◌∷◌, ◌++◌, codes, decimal, flat_map, map, Option, Some, None, if◌then◌else◌}
+use Rattle.std.specs.Option.{option_map}
+use Rattle.odht_tool_core.specs.Json.{json_object, json_string, truth}
+use Rattle.odht_tool_core.specs.Refusals.{refusal_text}
+use Rattle.odht_tool_core.specs.declared.report.Field.{Field}
+use Rattle.odht_tool_core.specs.declared.report.Value.{Value}
+use Rattle.odht_tool_core.specs.declared.report.Value.TheVariants.{Absent, Truth, Number, Text, Refused}
+use Rattle.odht_tool_core.specs.declared.report.Words.{Words}
+
+pub data Said : Type 0 where
+  nothing : Said
+  whether : Bool → Said
+  number : ℕ → Said
+  text : List ℕ → Said
+
+pub record Wording : Type 0 where
+  pub before : List ℕ
+  pub after : List ℕ
+  pub otherwise : List ℕ
+
+pub record Told : Type 0 where
+  pub name : List ℕ
+  pub said : Said
+  pub words : Option Wording
+
+-- ---- the fields of the program
+abbrev pub said : Value → Said
+said Absent = nothing
+said (Truth b) = whether b
+said (Number n) = number n
+said (Text t) = text t.now
+said (Refused error) = text (refusal_text error)
+
+abbrev pub wording : Words → Wording
+wording w = record {
+  before = w.before.now;
+  after = w.after.now;
+  otherwise = w.otherwise.now;
+}
+
+abbrev pub told : Field → Told
+told f = record {
+  name = f.name.now;
+  said = said f.value;
+  words = option_map wording f.words;
+}
+
+-- ---- as JSON
+abbrev pub value_json : Said → List ℕ
+value_json nothing = codes "null"
+value_json (whether b) = truth b
+value_json (number n) = decimal n
+value_json (text t) = json_string t
+
+abbrev pub member : Told → List ℕ × List ℕ
+member t = (t.name, value_json t.said)
+
+abbrev pub report_object : List Told → List ℕ
+report_object ts = json_object (map member ts)
+
+-- ---- as a text
+abbrev pub is_said : Said → Bool
+is_said nothing = false
+is_said (whether b) = b
+is_said _ = true
+
+abbrev pub value_text : Said → List ℕ
+value_text nothing = []
+value_text (whether b) = []
+value_text (number n) = decimal n
+value_text (text t) = t
+
+abbrev pub with_words : Wording → Said → List ℕ
+with_words w s = if is_said s then w.before ++ (value_text s ++ w.after) else w.otherwise
+
+abbrev pub worded : Option Wording → Said → List ℕ
+worded None s = []
+worded (Some w) s = with_words w s
+
+abbrev pub told_text : Told → List ℕ
+told_text t = worded t.words t.said
+
+abbrev pub report_text : List Told → List ℕ
+report_text ts = flat_map told_text ts
+
+abbrev pub report_among : Bool → List Told → List ℕ
+report_among is_json ts = if is_json then report_object ts else report_text ts
+
+abbrev pub report_as : Bool → List Told → List ℕ
+report_as is_json ts = if is_json then report_object ts ++ (10 ∷ []) else report_text ts
+
+-- ---- parts of reports
+abbrev pub field : List ℕ → Said → Option Wording → Told
+field name s words = record { name = name; said = s; words = words }
+
+-- a value with these words round it
+abbrev pub between : List ℕ → List ℕ → Option Wording
+between before after = Some (record { before = before; after = after; otherwise = [] })
+
+-- the number, where there is one
+abbrev pub said_number : Option ℕ → Said
+said_number None = nothing
+said_number (Some n) = number n

@@ -1,0 +1,21 @@
+//! What a command that reads a file needs.
+use std::alloc::Global;
+
+/// The bytes that a command reads, and how it tells of them.
+#[derive(Clone, Copy)]
+pub struct Job<'a> {
+    /// Where it takes memory.
+    pub alloc: Global,
+    /// The name of the file.
+    pub file: &'a str,
+    /// Whether there may be no other file.
+    pub is_one: bool,
+    /// The byte of the file at which the bytes begin, where that is told.
+    pub at: Option<usize>,
+    /// The bytes.
+    pub bytes: &'a [u8],
+    /// The bound of searches, in groups, where there is one.
+    pub bound: Option<usize>,
+    /// Whether it writes objects of JSON.
+    pub is_json: bool,
+}

@@ -1,0 +1,171 @@
+// Generated from crates/odht_tool_core/src/report.rt by make generate.
+//! Reports: names and values, which are written as a text or as an object of JSON.
+
+use crate::generated::core::json::displayed::write_displayed;
+use crate::generated::core::json::write_string;
+use crate::generated::core::refusal::Refusal;
+use crate::generated::header::error::Error;
+use crate::host::prelude::*;
+use std::io::{self, Write};
+
+/// A field of a report.
+#[derive(Clone, Copy)]
+pub struct Field<'a> {
+    /// Its name in an object.
+    pub name: &'a str,
+    /// What it says.
+    pub value: Value<'a>,
+    /// The words round its value in a text; none of a field that objects alone have.
+    pub words: Option<Words<'a>>,
+}
+
+/// What a field says.
+#[derive(Clone, Copy)]
+pub enum Value<'a> {
+    /// Nothing: null in an object.
+    Absent,
+    /// Whether something is so.
+    Truth(bool),
+    /// A number.
+    Number(u128),
+    /// A text.
+    Text(&'a str),
+    /// The text of an error of a table.
+    Refused(Error),
+}
+
+/// The words of a text round a value.
+#[derive(Clone, Copy)]
+pub struct Words<'a> {
+    /// What stands before it.
+    pub before: &'a str,
+    /// What stands behind it.
+    pub after: &'a str,
+    /// What stands there in place of both where nothing is said, or that something is not so.
+    pub otherwise: &'a str,
+}
+
+impl<'a> Words<'a> {
+    /// These words round a value, and none where there is none.
+    pub fn between(before: &'a str, after: &'a str) -> Option<Words<'a>> {
+        Some(Words { before, after, otherwise: "" })
+    }
+}
+
+impl Value<'_> {
+    /// The number, where there is one.
+    pub fn of_number(number: Option<usize>) -> Value<'static> {
+        match number {
+            Some(number) => Value::Number(number as u128),
+            None => Value::Absent,
+        }
+    }
+}
+
+/// Writes a report: the text, or the object on a line.
+pub fn write_report<O: Write>(
+    report: &[Field<'_>],
+    is_json: bool,
+    output: &mut O,
+) -> io::Result<()> {
+    if is_json {
+        write_object(report, output)?;
+        output.write_all(b"\n")
+    } else {
+        write_text(report, output)
+    }
+}
+
+/// Writes a report as one of several: the text, or the object without a line end.
+pub fn write_among<O: Write>(
+    report: &[Field<'_>],
+    is_json: bool,
+    output: &mut O,
+) -> io::Result<()> {
+    if is_json {
+        write_object(report, output)
+    } else {
+        write_text(report, output)
+    }
+}
+
+// Writes the text of a report.
+fn write_text<O: Write>(report: &[Field<'_>], output: &mut O) -> io::Result<()> {
+    for field in report {
+        write_field(field, output)?;
+    }
+    Ok(())
+}
+
+// Writes the object of a report.
+fn write_object<O: Write>(report: &[Field<'_>], output: &mut O) -> io::Result<()> {
+    let mut mark = b'{';
+    for field in report {
+        write_member(mark, field, output)?;
+        mark = b',';
+    }
+    if mark == b'{' {
+        return output.write_all(b"{}");
+    }
+    output.write_all(b"}")
+}
+
+// Writes the text of a field.
+fn write_field<O: Write>(field: &Field<'_>, output: &mut O) -> io::Result<()> {
+    match &field.words {
+        Some(words) => write_words(words, &field.value, output),
+        None => Ok(()),
+    }
+}
+
+// Writes what is said with the words round it.
+fn write_words<O: Write>(words: &Words<'_>, value: &Value<'_>, output: &mut O) -> io::Result<()> {
+    if !is_said(value) {
+        return output.write_all(words.otherwise.as_bytes());
+    }
+    output.write_all(words.before.as_bytes())?;
+    write_plain(value, output)?;
+    output.write_all(words.after.as_bytes())
+}
+
+// Whether something is said, and not that something is not so.
+fn is_said(value: &Value<'_>) -> bool {
+    match value {
+        Value::Absent => false,
+        Value::Truth(is_so) => *is_so,
+        _ => true,
+    }
+}
+
+// Writes a value of a text.
+fn write_plain<O: Write>(value: &Value<'_>, output: &mut O) -> io::Result<()> {
+    match *value {
+        Value::Absent | Value::Truth(_) => Ok(()),
+        Value::Number(number) => write!(output, "{number}"),
+        Value::Text(text) => output.write_all(text.as_bytes()),
+        Value::Refused(error) => {
+            let refusal = Refusal(error);
+            write!(output, "{refusal}")
+        }
+    }
+}
+
+// Writes a field of an object, behind a brace or a comma.
+fn write_member<O: Write>(mark: u8, field: &Field<'_>, output: &mut O) -> io::Result<()> {
+    output.write_all(&[mark])?;
+    let name = field.name;
+    write!(output, "\"{name}\":")?;
+    write_value(&field.value, output)
+}
+
+// Writes a value of an object.
+fn write_value<O: Write>(value: &Value<'_>, output: &mut O) -> io::Result<()> {
+    match *value {
+        Value::Absent => output.write_all(b"null"),
+        Value::Truth(true) => output.write_all(b"true"),
+        Value::Truth(false) => output.write_all(b"false"),
+        Value::Number(number) => write!(output, "{number}"),
+        Value::Text(text) => write_string(text.as_bytes(), output),
+        Value::Refused(error) => write_displayed(Refusal(error), output),
+    }
+}
