@@ -19,6 +19,8 @@ pub mod SameMaps
 pub mod ListInserts
 -- inserts in turn into a dynamic table
 pub mod DynLists
+-- a list of them: the accepted items, and the one that failed
+pub mod DynRuns
 -- keys and values that their bytes decode to
 pub mod LosslessPairs
 -- inserts in an insert order make a table again

@@ -1,28 +1,20 @@
--- Lists of inserts into a dynamic table: one more, and the one that failed.
-use Rattle.std.proofs.Common.{◌≡◌, ◌≢◌, ◌∙◌, ◌==◌, ◌++◌, ◌+◌, inl, inr, not, ℕ, true, false, sym, ap, subst, take, length, List, [], ◌∷◌, Option, Some, None, Result, Ok, Err, All, slice_get}
-use Rattle.std.specs.Prelude.{OnErr}
-use Rattle.std.specs.Bool.{then_some}
-use Rattle.std.specs.Option.{option_or}
-use Rattle.std.specs.Result.{result_err, result_map_both}
-use Rattle.std.proofs.lemmas.Bool.Decides.{eqb_tells}
+-- Inserts into a dynamic table, one after the other: one more.
+use Rattle.std.proofs.Common.{◌≡◌, ◌∙◌, ◌++◌, ◌+◌, ℕ, sym, ap, subst, take, length, List, [], ◌∷◌, Option, Some, Result, Ok, Err, All, slice_get}
+use Rattle.std.specs.Result.{result_map_both}
 use Rattle.std.proofs.lemmas.List.{take_more, map-append}
 use Rattle.std.proofs.lemmas.List.Elements.{All-nil, All-cons, All-append}
 use Rattle.std.proofs.lemmas.Option.{get_or_from_slice_get, slice_get_within}
-use Rattle.odht_base.specs.Insert.{insert_view, IsFullFor}
+use Rattle.odht_base.specs.Insert.{insert_view}
 use Rattle.odht_base.specs.Table.{Pair}
 use Rattle.odht_base.proofs.lemmas.FreshRuns.{insert_view-PlacesBelow}
-use Rattle.odht_base.proofs.lemmas.Options.{some_same}
 use Rattle.odht_base.proofs.lemmas.TableInserts.{insert_view-IsInsert}
 use Rattle.odht_header.specs.Coding.{Coding, encoded}
 use Rattle.odht_header.specs.declared.error.Error.{Error}
-use Rattle.odht_header.specs.declared.error.Error.TheVariants.{Full}
 use Rattle.odht_raw.specs.Frame.{IsAccepted, IsFramed}
 use Rattle.odht_raw.specs.DynParts.{HasLengthsOf}
 use Rattle.odht.specs.Dynamic.{DynStore, dyn_coding, dyn_format, dyn_store}
 use Rattle.odht.specs.DynInserts.{IsDynInsert}
-use Rattle.odht.specs.DynLists.{length_error, IsDynStop}
-use Rattle.odht.specs.declared.dynamic.DynError.{DynError}
-use Rattle.odht.specs.declared.dynamic.DynError.TheVariants.{WrongKeyLength, WrongValueLength, Rejected}
+use Rattle.odht.specs.declared.dynamic.DynError.TheVariants.{Rejected}
 use Rattle.odht.specs.Inserts.{IsInsertInto}
 use Rattle.odht.specs.Lists.{encoded_all, IsAfterInserts, IsFramedRun}
 use Rattle.odht.specs.Tables.{OfTable}
@@ -38,19 +30,6 @@ module _ {K V : Type 0} (c : Coding K V) (B B' : List ℕ) (k : K) (v : V) where
           → (a : Option V) × OfTable c.format B (λ P. IsInsertInto c P k v (Ok a) B') × IsFramed c B k v (Ok a) B'
       go (Ok a) e valid frame = (a, valid, frame)
       go (Err x) e valid frame = absurd (let both : Ok o ≡ Err (Rejected x) = e in cc)
-
-  -- and where it was not
-  pub dyn_refused : (x : DynError) → IsDynInsert c B k v (Err x) B' → (x ≡ Rejected Full) × OfTable c.format B (λ P. IsFullFor P (c.key_bytes k)) × IsFramed c B k v (Err Full) B'
-  dyn_refused x h = go h.answer h.is h.insert.on_valid h.insert.frame h.insert.only_full
-    where
-      go : (r : Result (Option V) Error) → Err x ≡ result_map_both (λ o. o) Rejected r → OfTable c.format B (λ P. IsInsertInto c P k v r B') → IsFramed c B k v r B' → OnErr r (r ≡ Err Full)
-          → (x ≡ Rejected Full) × OfTable c.format B (λ P. IsFullFor P (c.key_bytes k)) × IsFramed c B k v (Err Full) B'
-      go (Ok a) e valid frame full = absurd (let both : Err x ≡ Ok a = e in cc)
-      go (Err y) e valid frame full = (
-        some_same x (Rejected Full) (ap result_err (e ∙ ap (result_map_both (λ o. o) Rejected) full)),
-        λ P is. (valid P is).full.0 full,
-        subst (λ r. IsFramed c B k v r B') full frame,
-      )
 
 -- the first i + 1 items are the first i, and item i
 pub take_next : {X : Type 0} (xs : List X) (i : ℕ) (x : X) → slice_get xs i ≡ Some x → take (i + 1) xs ≡ take i xs ++ x ∷ []
@@ -102,57 +81,3 @@ module _ {D : Type 0} (h : List ℕ → ℕ) (bytes : D → List ℕ) (holding :
             ∙ ap (dyn_store before.key_len before.value_len) (held_last before.store (bytes t.store) (bytes t'.store));
         accepted = accepted;
       }
-
--- ---- the item that failed
--- an insert that returns an error
-abbrev refusal : DynError → Result (Option (List ℕ)) DynError
-refusal x = Err x
-
--- an insert that fails where m is not n, and was accepted
-pub fits_accepted : (m n : ℕ) (y : DynError) (r : Result (Option (List ℕ)) DynError) (o : Option (List ℕ)) → r ≡ Ok o → (m ≢ n → r ≡ refusal y) → m ≡ n
-fits_accepted m n y r o ok fails = elim (eqb_tells m n) [
-  | inl same ↦ same.1
-  | inr other ↦ absurd (let both : Ok o ≡ refusal y = sym ok ∙ fails other.1 in cc)
-]
-
-module _ {D : Type 0} (t : DynStore D) (k v : List ℕ) where
-  -- the error of its lengths
-  key_error : (length k == t.key_len) ≡ false → length_error t (k, v) ≡ Some (WrongKeyLength t.key_len (length k))
-  key_error e = ap (λ b. option_or (then_some (not b) (WrongKeyLength t.key_len (length k))) (then_some (not (length v == t.value_len)) (WrongValueLength t.value_len (length v)))) e
-
-  value_error : (length k == t.key_len) ≡ true → (length v == t.value_len) ≡ false → length_error t (k, v) ≡ Some (WrongValueLength t.value_len (length v))
-  value_error e f = λ i. option_or (then_some (not (e i)) (WrongKeyLength t.key_len (length k))) (then_some (not (f i)) (WrongValueLength t.value_len (length v)))
-
-  no_length_error : (length k == t.key_len) ≡ true → (length v == t.value_len) ≡ true → length_error t (k, v) ≡ None
-  no_length_error e f = λ i. option_or (then_some (not (e i)) (WrongKeyLength t.key_len (length k))) (then_some (not (f i)) (WrongValueLength t.value_len (length v)))
-
-  -- ends the list
-  module _ (h : List ℕ → ℕ) (bytes : D → List ℕ) (items : List (List ℕ × List ℕ)) (i : ℕ) (x : DynError) (at : slice_get items i ≡ Some (k, v)) where
-    wrong : (y : DynError) → length_error t (k, v) ≡ Some y → refusal x ≡ refusal y → IsDynStop h bytes t items i x
-    wrong y is e = record {
-      item = (k, v);
-      at = at;
-      error = ap result_err e ∙ sym (ap (λ o. option_or o (Some (Rejected Full))) is);
-      framed = λ none. absurd (let both : Some y ≡ None = sym is ∙ none in cc);
-      full = λ none. absurd (let both : Some y ≡ None = sym is ∙ none in cc);
-    }
-
-    pub stopped_here : (length k ≡ t.key_len → length v ≡ t.value_len → IsDynInsert (dyn_coding t h) (bytes t.store) k v (Err x) (bytes t.store))
-        → (length k ≢ t.key_len → refusal x ≡ refusal (WrongKeyLength t.key_len (length k)))
-        → (length k ≡ t.key_len → length v ≢ t.value_len → refusal x ≡ refusal (WrongValueLength t.value_len (length v)))
-        → IsDynStop h bytes t items i x
-    stopped_here one key value = elim (eqb_tells (length k) t.key_len) [
-      | inr other ↦ wrong _ (key_error other.0) (key other.1)
-      | inl same ↦ elim (eqb_tells (length v) t.value_len) [
-        | inr other ↦ wrong _ (value_error same.0 other.0) (value same.1 other.1)
-        | inl both ↦ (
-            let refused = dyn_refused (dyn_coding t h) (bytes t.store) (bytes t.store) k v x (one same.1 both.1) in
-            record {
-              item = (k, v);
-              at = at;
-              error = ap Some refused.0 ∙ sym (ap (λ o. option_or o (Some (Rejected Full))) (no_length_error same.0 both.0));
-              framed = λ none. refused.2;
-              full = λ none. refused.1;
-            })
-      ]
-    ]
