@@ -1,17 +1,16 @@
 -- Inserts that tell whether they add an entry: one more item, and one that is refused.
-use Rattle.std.proofs.Common.{◌≡◌, ◌<◌, ◌+◌, ◌-◌, ◌∙◌, ℕ, Bool, cond, sym, ap, subst, refl, List, length, Option, Some, None, Result, Ok, Err, slice_get}
+use Rattle.std.proofs.Common.{◌≡◌, ◌<◌, ◌+◌, ◌-◌, ◌∙◌, ℕ, Bool, true, cond, sym, ap, subst, refl, List, length, Option, Some, None, Result, Ok, Err, slice_get}
 use Rattle.std.specs.Prelude.{is_none}
 use Rattle.odht_base.specs.Format.{Format}
 use Rattle.odht_base.specs.Table.{Pair, Table}
 use Rattle.odht_base.specs.Valid.{IsPairOf, IsPartsOf}
 use Rattle.odht_header.specs.declared.error.Error.{Error}
-use Rattle.odht_header.specs.declared.error.Error.TheVariants.{Full}
 use Rattle.odht_raw.specs.DynParts.{bytes_coding}
 use Rattle.odht_raw.specs.Frame.{IsOnlyFull}
 use Rattle.odht_raw.specs.Runs.{IsRunTo, IsRefusedIn}
-use Rattle.odht_raw.specs.Steps.{StepFrame, adds, IsCountedStep}
+use Rattle.odht_raw.specs.Steps.{adds, IsCountedStep}
 use Rattle.odht_raw.proofs.lemmas.PartRuns.{run_to_more}
-use Rattle.odht_raw.proofs.lemmas.Steps.{step_refusal}
+use Rattle.odht_raw.proofs.lemmas.Steps.{step_added, step_refusal}
 
 -- an answer that tells whether it adds an entry is an Ok
 counted_ok : (a : Result (Option (List ℕ)) Error) (b : Bool) → Some b ≡ adds a → (o : Option (List ℕ)) × (a ≡ Ok o) × (b ≡ is_none o)
@@ -22,6 +21,16 @@ counted_ok (Err x) b e = absurd (let both : Some b ≡ None = e in cc)
 counted_err : (a : Result (Option (List ℕ)) Error) (r : Option Bool) → r ≡ None → r ≡ adds a → (x : Error) × (a ≡ Err x)
 counted_err (Ok o) r none e = absurd (let both : Some (is_none o) ≡ None = sym e ∙ none in cc)
 counted_err (Err x) r none e = (x, refl)
+
+-- a new entry had room
+pub counted_room : (F : Format) (A : Table → Type 0) (m : ℕ) (t : List ℕ × List ℕ) (p : Pair) (r : Option Bool) (t' : List ℕ × List ℕ) → IsCountedStep A F m t p r t' → r ≡ Some true → 0 < m
+counted_room F A m t p r t' step is =
+    let answer = counted_ok step.answer true (sym is ∙ step.told) in
+    step_added F (λ x. x) m p step.answer t.0 t.1 t'.0 t'.1 (answer.1 ∙ ap Ok (none_is answer.0 (sym answer.2))) step.step.any.frame
+  where
+    none_is : (o : Option (List ℕ)) → is_none o ≡ true → o ≡ None
+    none_is None e = refl
+    none_is (Some v) e = cc
 
 module _ (F : Format) (A : Table → Type 0) (m : ℕ) (es0 ctrl0 : List ℕ) (items : List (List ℕ × List ℕ)) (from i n : ℕ) (es ctrl : List ℕ)
     (h : IsRunTo (bytes_coding F) m es0 ctrl0 items from i n es ctrl) (k v : List ℕ) (at : slice_get items i ≡ Some (k, v))

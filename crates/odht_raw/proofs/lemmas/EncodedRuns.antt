@@ -1,8 +1,7 @@
 -- Inserts of items that are bytes, as inserts of the items of a configuration.
-use Rattle.std.proofs.Common.{◌≡◌, ◌∙◌, ◌-◌, ℕ, inl, inr, sym, ap, subst, refl, arith, length, List, [], ◌∷◌, ◌++◌, map, drop, take, Option, Some, None, Result, Ok, Err, slice_get}
+use Rattle.std.proofs.Common.{◌≡◌, ◌∙◌, ◌-◌, ℕ, inl, inr, sym, ap, subst, refl, arith, length, List, [], ◌∷◌, ◌++◌, map, drop, take, Option, Some, None, Ok, Err, slice_get}
 use Rattle.std.specs.Prelude.{option_map, ⊤}
 use Rattle.std.specs.List.{slice_range}
-use Rattle.std.specs.Result.{result_map_both}
 use Rattle.std.proofs.lemmas.List.{take-map, drop-map, length-map}
 use Rattle.std.proofs.lemmas.Option.{slice_get-map}
 use Rattle.odht_base.specs.Table.{Pair}
@@ -10,7 +9,7 @@ use Rattle.odht_header.specs.Coding.{Coding, encoded}
 use Rattle.odht_header.specs.declared.error.Error.{Error}
 use Rattle.odht_header.specs.declared.error.Error.TheVariants.{Full}
 use Rattle.odht_raw.specs.DynParts.{bytes_coding}
-use Rattle.odht_raw.specs.Frame.{InsertFrame, IsFramed}
+use Rattle.odht_raw.specs.Frame.{IsFramed}
 use Rattle.odht_raw.specs.Runs.{encoded_all, IsFramedRun, IsAllPlaced, IsStoppedAt, IsListRun, IsEncodedRun}
 use Rattle.odht_raw.proofs.lemmas.Formers.{decoded_ok, decoded_err}
 

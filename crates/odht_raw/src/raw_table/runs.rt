@@ -62,7 +62,7 @@ pub(crate) fn insert_run<L: Lengths, H: HashFn, I: EncodedItems>(
     insert_in_turn::<L, H, I>(control, entries, slots, lengths, &items, from, room)
 }
 
-// `insert_run`, an item at a time.
+// `insert_run`, an item at a time. It keeps the room that is left, and no second number.
 #[inline(always)]
 fn insert_in_turn<L: Lengths, H: HashFn, I: EncodedItems>(
     control: &mut [EntryMetadata],
@@ -84,25 +84,24 @@ fn insert_in_turn<L: Lengths, H: HashFn, I: EncodedItems>(
         (I.items items.now) from result (entries.new, control.new) }
 {
     let to = items.count();
-    let mut added = 0;
+    let mut left = room;
     for index in from..to {
         if !items.fits(index) {
-            return (index, added);
+            return (index, room - left);
         }
         let (key, value) = items.pair(index);
         let (key, value) = (I::key_bytes(&key), I::value_bytes(&value));
         let parts = read_parts::<L, H>(&*control, &*entries, slots, lengths);
         let end = parts.insert_end(key);
-        let left = room - added;
         let answer = write_by_kind::<L, H>(control, entries, slots, lengths, key, value, end, left);
         let Some(is_new) = answer else {
-            return (index, added);
+            return (index, room - left);
         };
         if is_new {
-            added += 1;
+            left -= 1;
         }
     }
-    (to, added)
+    (to, room - left)
 }
 
 // `insert_run`, in batches of eight items, and then the rest.

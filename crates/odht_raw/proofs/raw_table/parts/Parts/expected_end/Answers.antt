@@ -1,4 +1,4 @@
-use Rattle.std.proofs.Common.{◌≡◌, ◌<◌, ◌-◌, ◌/◌, ◌^◌, ◌∙◌, ℕ, List, sym, ap, arith, subst, length, slice_index}
+use Rattle.std.proofs.Common.{◌≡◌, ◌<◌, ◌-◌, ◌/◌, ◌^◌, ◌∙◌, ℕ, sym, ap, arith, subst, length, slice_index}
 use Rattle.odht_base.specs.Decoded.{counts_as_free}
 use Rattle.odht_base.specs.Format.{Format}
 use Rattle.odht_base.specs.Load.{IsSlotCount}

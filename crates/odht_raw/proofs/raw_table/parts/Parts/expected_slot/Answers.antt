@@ -1,6 +1,6 @@
-use Rattle.std.proofs.Common.{rules, ◌≡◌, ◌∙◌, ◌-◌, ◌+◌, ◌<◌, ◌≤◌, ◌%◌, ◌/◌, ◌^◌, ℕ, List, Some, sym, ap, subst, arith, length, bit_and}
+use Rattle.std.proofs.Common.{rules, ◌≡◌, ◌∙◌, ◌-◌, ◌+◌, ◌<◌, ◌%◌, ◌/◌, ◌^◌, ℕ, List, Some, sym, ap, subst, arith, length, bit_and}
 use Rattle.odht_base.specs.Bytes.{bytes_at}
-use Rattle.odht_base.specs.Format.{Format, IsFormat, home, tag}
+use Rattle.odht_base.specs.Format.{Format, home, tag}
 use Rattle.odht_base.specs.Groups.{IsReport, first_free}
 use Rattle.odht_base.specs.Load.{IsSlotCount}
 use Rattle.odht_base.proofs.lemmas.SlotCounts.{bit_and-slots}
