@@ -7,8 +7,8 @@
 
 use crate::config::{Config, Proved};
 use crate::generated::header::layout::Layout;
-use crate::generated::raw::memory_layout::HEADER_SIZE;
-use crate::iter::occupied;
+use crate::generated::raw::memory_layout::{Header, HEADER_SIZE};
+use crate::iter::occupied_in;
 use crate::shim::slots;
 
 /// The length and the slot count of a table's bytes, which fit.
@@ -75,7 +75,9 @@ fn slots_in(header: &[u8; HEADER_SIZE]) -> u64 {
 }
 
 /// Writes the number of the occupied slots to the header. The header and the length of the bytes fit.
-pub fn count_again<C: Config>(bytes: &mut [u8]) {
-    let count = occupied::<C>(bytes) as u64;
+pub fn count_again(bytes: &mut [u8], layout: Layout) {
+    let slots = Header::of(bytes).slot_count();
+    let control = HEADER_SIZE + slots * layout.entry_len();
+    let count = occupied_in(&bytes[control..control + slots]) as u64;
     bytes[8..16].copy_from_slice(&count.to_le_bytes());
 }

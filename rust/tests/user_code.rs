@@ -4,7 +4,7 @@
 
 use crate::common::outcomes::outcome;
 use crate::common::random::Random;
-use odht::dynamic::DynTable;
+use odht::dynamic::{DynTable, Layout};
 use odht::{Config, HashFn, HashTable, HashTableOwned, UnHashFn};
 use std::cell::RefCell;
 
@@ -206,6 +206,30 @@ fn a_panic_in_a_list_leaves_a_table() {
         }
         with_wrong(0, 3, || writes_in_place(&mut random));
     }
+}
+
+// The same of lists in a dynamic table, where only the hash function is the user's code.
+#[test]
+fn a_panic_in_a_dynamic_list_leaves_a_table() {
+    let mut random = Random(9);
+    let layout = Layout { key_len: 4, value_len: 2 };
+    let mut panics = 0;
+    for round in 0..200 {
+        let bytes = vec![0; layout.bytes_needed(200, 87).unwrap()];
+        let mut table = DynTable::<FickleHash, _>::init_in_place(layout, bytes, 200, 87).unwrap();
+        for _ in 0..8 {
+            let items: Vec<([u8; 4], [u8; 2])> = items(&mut random)
+                .into_iter()
+                .map(|(key, value)| (key.to_le_bytes(), value.to_le_bytes()))
+                .collect();
+            let items: Vec<(&[u8], &[u8])> =
+                items.iter().map(|(key, value)| (&key[..], &value[..])).collect();
+            let done = with_wrong(0, [1, 5, 20][round % 3], || run(|| table.insert_all(&items)));
+            panics += usize::from(done.is_none());
+            assert!(table.verify(), "each pair is in one slot, and is counted");
+        }
+    }
+    assert!(panics > 100, "the hash function panics within lists");
 }
 
 // Tables of 2^20 slots, where a list looks at eight keys ahead: each key is encoded twice, to two encodings.

@@ -97,6 +97,12 @@ pub mod PendingSlots
 pub mod Steps
 -- items inserted in turn into parts
 pub mod PartRuns
+-- inserts that tell whether they add an entry
+pub mod CountedSteps
+-- inserts of bytes as inserts of the items of a configuration
+pub mod EncodedRuns
+-- items that are slices of bytes
+pub mod ItemBytes
 -- and what that leaves of whole bytes
 pub mod JoinedRuns
 -- the bytes of a table cut into its parts, and joined again

@@ -3,14 +3,13 @@
 --     EndsIfFree F P k i       if i is a free slot of P, the search for k ends at it
 --     IsAhead F ctrl k a       a is the hash of k, and the slot where the search for k is expected to end in each
 --                              placed table with the control bytes ctrl
---     AreAhead c ctrl items from as  each item of as is ahead for the item of items at the same index counted from
---                                    `from`
+--     AreAhead fits F ctrl items from as  each item of as is ahead for the item of items at the same index counted from
+--                                    `from`, if that fits
 use Rattle.std.specs.Prelude.{◌≡◌, ℕ, ◌+◌, ◌<◌, List, slice_get, Some, IsTrue}
 use Rattle.odht_base.specs.Format.{Format}
 use Rattle.odht_base.specs.Table.{Table, slot_count, is_free}
 use Rattle.odht_base.specs.Valid.{IsPartsOf}
 use Rattle.odht_raw.specs.SearchResults.{answer}
-use Rattle.odht_header.specs.Coding.{Coding, encoded}
 use Rattle.odht_raw.specs.declared.raw_table.search_result.Search.TheVariants.{Free}
 
 abbrev pub IsExpected : Format → Table → List ℕ → ℕ → Type 0
@@ -23,7 +22,6 @@ pub record IsAhead (F : Format) (ctrl k : List ℕ) (a : ℕ × ℕ) : Type 0 wh
   pub hash : a.0 ≡ F.hash k
   pub expected : (P : Table) (es : List ℕ) → IsPartsOf F P es ctrl → IsExpected F P k a.1
 
-abbrev pub AreAhead : {K V : Type 0} → Coding K V → List ℕ → List (K × V) → ℕ → List (ℕ × ℕ) → Type 0
-AreAhead {K = K} {V = V} c ctrl items from ahead =
-    (i : ℕ) (k : K) (v : V) (a : ℕ × ℕ) → slice_get items (from + i) ≡ Some (k, v) → slice_get ahead i ≡ Some a
-    → IsAhead c.format ctrl (encoded c k v).key a
+abbrev pub AreAhead : (ℕ → Type 0) → Format → List ℕ → List (List ℕ × List ℕ) → ℕ → List (ℕ × ℕ) → Type 0
+AreAhead fits F ctrl items from ahead =
+    (i : ℕ) (k v : List ℕ) (a : ℕ × ℕ) → slice_get items (from + i) ≡ Some (k, v) → fits (from + i) → slice_get ahead i ≡ Some a → IsAhead F ctrl k a

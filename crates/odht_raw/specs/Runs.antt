@@ -11,10 +11,11 @@
 --     IsRefusedIn c m items i es ctrl  an insert of item i with room for m may answer Full on these parts
 --     CanRun c t items i   t are the entries and the control bytes of some slot count, and i is an index of the items,
 --                          or behind the last
---     IsRun c m t items from r t'  the items from index `from` on are inserted in turn into the entries and the control
---                          bytes t, with room for m new entries, and leave t': up to item r.0, which is behind the last
---                          or may be answered with Full; r.1 entries are added
---     IsRunUpTo to c m t items from r t'  the same up to item `to`
+--     HasLengthsAt kl vl items i  key and value of item i have these lengths, in bytes
+--     IsRun fits c m t items from r t'  the items from index `from` on are inserted in turn into the entries and the control
+--                          bytes t, with room for m new entries, and leave t': up to item r.0, which is behind the last,
+--                          does not fit, or may be answered with Full; r.1 entries are added
+--     IsRunUpTo to fits c m t items from r t'  the same up to item `to`
 --     IsAllPlaced F P ps B  B is the bytes of the table P after the pairs ps, which are of F, are placed in turn
 --     IsOnePlaced c P k v o B  B is the bytes of the table P after the pair of k and v is placed, and o is the value
 --                          that k had in P
@@ -22,6 +23,9 @@
 --     IsListRun c B items from i B'  inserts of the items from index `from` on in turn turn the accepted bytes B into
 --                          B', up to item i, which is behind the last or may be answered with Full; the image of a
 --                          table is turned into that of the table with the pairs placed
+--     IsEncodedRun fits c B items from i B'  the same of items that may have other lengths than those of the table: the
+--                          inserted ones have these lengths (`fit`), and item i may also be one that does not fit. B' is
+--                          accepted, and as long as B
 use Rattle.std.specs.Prelude.{◌≡◌, ℕ, ◌+◌, ◌-◌, ◌*◌, ◌≤◌, ◌⊎◌, List, [], ◌∷◌, ◌++◌, length, map, All, Option, Some, None, Result, Ok, Err, slice_get}
 use Rattle.std.specs.List.{slice_range}
 use Rattle.odht_base.specs.Format.{Format, entry_len}
@@ -30,7 +34,8 @@ use Rattle.odht_base.specs.Insert.{place_all}
 use Rattle.odht_base.specs.Table.{Pair, Table, count}
 use Rattle.odht_base.specs.Valid.{IsPairOf, IsPartsOf, IsImage}
 use Rattle.odht_header.specs.Coding.{Coding, encoded, value_for}
-use Rattle.odht_raw.specs.Frame.{IsFramed, PartsFrame}
+use Rattle.odht_raw.specs.DynParts.{HasLengthsOf}
+use Rattle.odht_raw.specs.Frame.{IsAccepted, IsFramed, PartsFrame}
 use Rattle.odht_raw.specs.Steps.{StepFrame}
 use Rattle.odht_header.specs.declared.error.Error.{Error}
 use Rattle.odht_header.specs.declared.error.Error.TheVariants.{Full}
@@ -76,13 +81,16 @@ pub record CanRun {K V : Type 0} (c : Coding K V) (t : List ℕ × List ℕ) (it
   pub entries : length t.0 ≡ (length t.1 - 16) * entry_len c.format
   pub within : i ≤ length items
 
-pub record IsRunUpTo {K V : Type 0} (to : ℕ) (c : Coding K V) (m : ℕ) (t : List ℕ × List ℕ) (items : List (K × V)) (from : ℕ) (r : ℕ × ℕ) (t' : List ℕ × List ℕ) : Type 0 where
+abbrev pub HasLengthsAt : ℕ → ℕ → List (List ℕ × List ℕ) → ℕ → Type 0
+HasLengthsAt kl vl items i = (item : List ℕ × List ℕ) → slice_get items i ≡ Some item → HasLengthsOf kl vl (record { key = item.0; value = item.1 })
+
+pub record IsRunUpTo {K V : Type 0} (to : ℕ) (fits : ℕ → Type 0) (c : Coding K V) (m : ℕ) (t : List ℕ × List ℕ) (items : List (K × V)) (from : ℕ) (r : ℕ × ℕ) (t' : List ℕ × List ℕ) : Type 0 where
   pub within : r.0 ≤ to
   pub inserted : IsRunTo c m t.0 t.1 items from r.0 r.1 t'.0 t'.1
-  pub stop : (r.0 ≡ to) ⊎ IsRefusedIn c (m - r.1) items r.0 t'.0 t'.1
+  pub stop : (r.0 ≡ to) ⊎ ((fits r.0 → ⊥) ⊎ IsRefusedIn c (m - r.1) items r.0 t'.0 t'.1)
 
-abbrev pub IsRun : {K V : Type 0} → Coding K V → ℕ → List ℕ × List ℕ → List (K × V) → ℕ → ℕ × ℕ → List ℕ × List ℕ → Type 0
-IsRun c m t items from r t' = IsRunUpTo (length items) c m t items from r t'
+abbrev pub IsRun : {K V : Type 0} → (ℕ → Type 0) → Coding K V → ℕ → List ℕ × List ℕ → List (K × V) → ℕ → ℕ × ℕ → List ℕ × List ℕ → Type 0
+IsRun fits c m t items from r t' = IsRunUpTo (length items) fits c m t items from r t'
 
 pub record IsAllPlaced (F : Format) (P : Table) (ps : List Pair) (B : List ℕ) : Type 0 where
   pub fits : All (IsPairOf F) ps
@@ -104,3 +112,13 @@ pub record IsListRun {K V : Type 0} (c : Coding K V) (B : List ℕ) (items : Lis
   pub placed : (P : Table) → IsImage c.format P B → IsAllPlaced c.format P (encoded_all c (slice_range items from i)) B'
   pub framed : IsFramedRun c B (slice_range items from i) B'
   pub stopped : (i ≡ length items) ⊎ IsStoppedAt c items i B'
+
+pub record IsEncodedRun {K V : Type 0} (fits : ℕ → Type 0) (c : Coding K V) (B : List ℕ) (items : List (K × V)) (from i : ℕ) (B' : List ℕ) : Type 0 where
+  pub after : from ≤ i
+  pub within : i ≤ length items
+  pub fit : All (IsPairOf c.format) (encoded_all c (slice_range items from i))
+  pub placed : (P : Table) → IsImage c.format P B → IsAllPlaced c.format P (encoded_all c (slice_range items from i)) B'
+  pub framed : IsFramedRun c B (slice_range items from i) B'
+  pub accepted : IsAccepted c.format B'
+  pub len : length B' ≡ length B
+  pub stopped : (i ≡ length items) ⊎ ((fits i → ⊥) ⊎ IsStoppedAt c items i B')

@@ -9,7 +9,9 @@
 --     IsStep F f m t p r t'  what an insert does to the entries and the control bytes t, and leaves, t': in those of a
 --                          placed table an Ok places p, and in any it does what IsStepChange says
 --     IsStepWhere A F f m t p r t'  the same, with the first only for placed tables P for which A P
-use Rattle.std.specs.Prelude.{◌≡◌, ℕ, ◌<◌, List, Option, option_map, None, Result, Ok, Err}
+--     adds a               whether the answer a of an insert adds an entry; None where it is an error
+--     IsCountedStep A F m t p r t'  such an insert with some answer, of which r tells whether it adds an entry
+use Rattle.std.specs.Prelude.{◌≡◌, ℕ, ◌<◌, Bool, List, Option, option_map, is_none, Some, None, Result, Ok, Err}
 use Rattle.std.specs.Result.{result_map_both}
 use Rattle.odht_base.specs.Format.{Format, tag as key_tag}
 use Rattle.odht_base.specs.Table.{Pair, Table}
@@ -51,3 +53,12 @@ pub record IsStepWhere {V : Type 0} (A : Table → Type 0) (F : Format) (f : Lis
 pub record IsStep {V : Type 0} (F : Format) (f : List ℕ → V) (m : ℕ) (t : List ℕ × List ℕ) (p : Pair) (r : Result (Option V) Error) (t' : List ℕ × List ℕ) : Type 0 where
   pub placed : (P : Table) → IsPartsOf F P t.0 t.1 → AnswersFormer F f P p r t'.0 t'.1
   pub any : IsStepChange F f m t.0 t.1 p r t'.0 t'.1
+
+abbrev pub adds : Result (Option (List ℕ)) Error → Option Bool
+adds (Ok o) = Some (is_none o)
+adds (Err e) = None
+
+pub record IsCountedStep (A : Table → Type 0) (F : Format) (m : ℕ) (t : List ℕ × List ℕ) (p : Pair) (r : Option Bool) (t' : List ℕ × List ℕ) : Type 0 where
+  pub answer : Result (Option (List ℕ)) Error
+  pub told : r ≡ adds answer
+  pub step : IsStepWhere A F (λ b. b) m t p answer t'

@@ -1,7 +1,11 @@
 //! Lookups and inserts of lists.
 
 use super::{DynError, DynTable};
-use crate::config::HashFn;
+use crate::config::{Hash, HashFn};
+use crate::generated::base::bytes::BorrowedMut;
+use crate::generated::header::layout::Layout;
+use crate::generated::tables::dynamic;
+use crate::opened::count_again;
 use std::borrow::{Borrow, BorrowMut};
 
 impl<H: HashFn, D: Borrow<[u8]>> DynTable<H, D> {
@@ -52,6 +56,26 @@ impl<H: HashFn, D: Borrow<[u8]> + BorrowMut<[u8]>> DynTable<H, D> {
     ///
     /// Those of [`insert`](DynTable::insert). The items before the one that failed stay inserted.
     pub fn insert_all(&mut self, items: &[(&[u8], &[u8])]) -> (usize, Result<(), DynError>) {
-        self.view_mut().insert_all(items)
+        let layout = self.layout.proved();
+        let list = List { bytes: self.bytes_mut(), layout };
+        let store = BorrowedMut::new(&mut *list.bytes);
+        let mut view = dynamic::DynTable::<Hash<H>, _>::open_unchecked(layout, store);
+        let done = view.insert_all(items);
+        std::mem::forget(list);
+        done
+    }
+}
+
+// The bytes of a table while a list is inserted. The item count is written only after the list. If
+// the hash function panics within the list, `drop` counts the items that were inserted.
+struct List<'b> {
+    bytes: &'b mut [u8],
+    layout: Layout,
+}
+
+impl Drop for List<'_> {
+    #[cold]
+    fn drop(&mut self) {
+        count_again(self.bytes, self.layout);
     }
 }

@@ -91,13 +91,19 @@ impl<H: HashFn, D: Borrow<[u8]> + BorrowMut<[u8]>> DynTable<H, D> {
         Ok(DynTable { data, layout, opened, hash: PhantomData })
     }
 
+    // The bytes, to be written. Panics if their length or slot count has changed.
+    #[inline(always)]
+    pub(super) fn bytes_mut(&mut self) -> &mut [u8] {
+        let bytes = self.data.borrow_mut();
+        self.opened.check(bytes, self.layout.proved());
+        bytes
+    }
+
     // The proved table of the bytes, to be written.
     #[inline(always)]
     pub(super) fn view_mut(&mut self) -> dynamic::DynTable<Hash<H>, BorrowedMut<'_>> {
         let layout = self.layout.proved();
-        let bytes = self.data.borrow_mut();
-        self.opened.check(bytes, layout);
-        dynamic::DynTable::open_unchecked(layout, BorrowedMut::new(bytes))
+        dynamic::DynTable::open_unchecked(layout, BorrowedMut::new(self.bytes_mut()))
     }
 
     /// Inserts a pair, and returns the former value of the key. The table cannot grow, so a new key

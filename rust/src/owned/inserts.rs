@@ -2,6 +2,7 @@
 
 use super::{refused, tables, Config, Error, Global, HashTableOwned, Proved};
 use crate::generated::base::bytes::Borrowed;
+use crate::generated::header::layout::Layout;
 use crate::opened::count_again;
 use crate::shim::to_vec;
 
@@ -140,7 +141,7 @@ impl<C: Config> Drop for List<'_, C> {
     #[cold]
     fn drop(&mut self) {
         let Ok(mut bytes) = to_vec(self.0.raw_bytes(), Global) else { return };
-        count_again::<C>(&mut bytes);
+        count_again(&mut bytes, Layout::of::<Proved<C>>());
         if let Ok(table) = tables::HashTableOwned::from_raw_bytes_unchecked(Global, &bytes) {
             self.0 .0 = table;
         }

@@ -218,6 +218,6 @@ struct List<'b, C: Config> {
 impl<C: Config> Drop for List<'_, C> {
     #[cold]
     fn drop(&mut self) {
-        count_again::<C>(self.bytes);
+        count_again(self.bytes, Layout::of::<Proved<C>>());
     }
 }

@@ -19,7 +19,6 @@ const WALK: &str = "odht_raw/raw_table/walk";
 // the invariant of a walk names it
 const OCCUPIED: &str = "AreOccupied";
 const SCAN: &str = "odht_raw/raw_table/scan";
-const ACCEPTED: &str = "IsAccepted (format_of C.EncodedKey.LEN C.EncodedValue.LEN C.H.hash)";
 const BY_LENGTHS: &str = "crate::generated::header::layout::Layout { \
     key_len: lengths.key_len() as u8, value_len: lengths.value_len() as u8 }";
 const TYPED: &str = "crate::generated::header::layout::Layout::of::<C>()";
@@ -55,7 +54,7 @@ const PLAN: Plan<'static> = Plan {
         unchecked("group", SCAN, "start < length self.old.control - 16", SCAN),
         unchecked("cut", CUTS, "length bytes.now ≡ image_len F slots", CUTS),
         unchecked("insert_in", BYTE_INSERTS, "slots ≡ header_slots bytes.old", BYTE_INSERTS),
-        unchecked("insert_items", INSERTS, ACCEPTED, ALLOCATION),
+        unchecked("insert_items_in", BYTE_INSERTS, "slots ≡ header_slots bytes.old", BYTE_INSERTS),
         unchecked("write_slot", WRITES, "slot < slots", WRITES),
         unchecked("write_slice", STORES, "at + length piece.now ≤ length all.old", STORES),
         unchecked("put", LOOKUPS, "index < places self.old", LOOKUPS),
@@ -77,6 +76,12 @@ const PLAN: Plan<'static> = Plan {
         SlotCount {
             file: BYTE_INSERTS,
             function: "insert_dynamic_into",
+            store: "&[u8]",
+            layout: "layout",
+        },
+        SlotCount {
+            file: BYTE_INSERTS,
+            function: "insert_items_dynamic",
             store: "&[u8]",
             layout: "layout",
         },

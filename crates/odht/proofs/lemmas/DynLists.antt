@@ -1,25 +1,19 @@
--- Lists of inserts into a dynamic table: one more, and the one that failed.
-use Rattle.std.proofs.Common.{◌≡◌, ◌∙◌, ◌++◌, ◌+◌, refl, ℕ, sym, ap, subst, take, length, List, [], ◌∷◌, Option, Some, None, Result, Ok, Err, All, slice_get}
-use Rattle.std.specs.Prelude.{IfSome, OnErr}
-use Rattle.std.specs.Option.{option_or}
-use Rattle.std.specs.Result.{result_err, result_map_both}
+-- Inserts into a dynamic table, one after the other: one more.
+use Rattle.std.proofs.Common.{◌≡◌, ◌∙◌, ◌++◌, ◌+◌, ℕ, sym, ap, subst, take, length, List, [], ◌∷◌, Option, Some, Result, Ok, Err, All, slice_get}
+use Rattle.std.specs.Result.{result_map_both}
 use Rattle.std.proofs.lemmas.List.{take_more, map-append}
 use Rattle.std.proofs.lemmas.List.Elements.{All-nil, All-cons, All-append}
 use Rattle.std.proofs.lemmas.Option.{get_or_from_slice_get, slice_get_within}
-use Rattle.odht_base.specs.Insert.{insert_view, IsFullFor}
+use Rattle.odht_base.specs.Insert.{insert_view}
 use Rattle.odht_base.specs.Table.{Pair}
 use Rattle.odht_base.proofs.lemmas.FreshRuns.{insert_view-PlacesBelow}
-use Rattle.odht_base.proofs.lemmas.Options.{some_same}
 use Rattle.odht_base.proofs.lemmas.TableInserts.{insert_view-IsInsert}
 use Rattle.odht_header.specs.Coding.{Coding, encoded}
 use Rattle.odht_header.specs.declared.error.Error.{Error}
-use Rattle.odht_header.specs.declared.error.Error.TheVariants.{Full}
 use Rattle.odht_raw.specs.Frame.{IsAccepted, IsFramed}
 use Rattle.odht_raw.specs.DynParts.{HasLengthsOf}
 use Rattle.odht.specs.Dynamic.{DynStore, dyn_coding, dyn_format, dyn_store}
 use Rattle.odht.specs.DynInserts.{IsDynInsert}
-use Rattle.odht.specs.DynLists.{length_error, IsDynStop}
-use Rattle.odht.specs.declared.dynamic.DynError.{DynError}
 use Rattle.odht.specs.declared.dynamic.DynError.TheVariants.{Rejected}
 use Rattle.odht.specs.Inserts.{IsInsertInto}
 use Rattle.odht.specs.Lists.{encoded_all, IsAfterInserts, IsFramedRun}
@@ -30,25 +24,12 @@ use Rattle.odht.proofs.lemmas.ListInserts.{inserted_none, inserted_more}
 module _ {K V : Type 0} (c : Coding K V) (B B' : List ℕ) (k : K) (v : V) where
   -- where it was accepted
   pub dyn_accepted : (o : Option V) → IsDynInsert c B k v (Ok o) B' → (a : Option V) × OfTable c.format B (λ P. IsInsertInto c P k v (Ok a) B') × IsFramed c B k v (Ok a) B'
-  dyn_accepted o h = go h.answer h.is h.insert.on_valid h.insert.on_any.frame
+  dyn_accepted o h = go h.answer h.is h.insert.on_valid h.insert.frame
     where
       go : (r : Result (Option V) Error) → Ok o ≡ result_map_both (λ o. o) Rejected r → OfTable c.format B (λ P. IsInsertInto c P k v r B') → IsFramed c B k v r B'
           → (a : Option V) × OfTable c.format B (λ P. IsInsertInto c P k v (Ok a) B') × IsFramed c B k v (Ok a) B'
       go (Ok a) e valid frame = (a, valid, frame)
       go (Err x) e valid frame = absurd (let both : Ok o ≡ Err (Rejected x) = e in cc)
-
-  -- and where it was not
-  pub dyn_refused : (x : DynError) → IsDynInsert c B k v (Err x) B' → (x ≡ Rejected Full) × OfTable c.format B (λ P. IsFullFor P (c.key_bytes k)) × IsFramed c B k v (Err Full) B'
-  dyn_refused x h = go h.answer h.is h.insert.on_valid h.insert.on_any.frame h.insert.on_any.only_full
-    where
-      go : (r : Result (Option V) Error) → Err x ≡ result_map_both (λ o. o) Rejected r → OfTable c.format B (λ P. IsInsertInto c P k v r B') → IsFramed c B k v r B' → OnErr r (r ≡ Err Full)
-          → (x ≡ Rejected Full) × OfTable c.format B (λ P. IsFullFor P (c.key_bytes k)) × IsFramed c B k v (Err Full) B'
-      go (Ok a) e valid frame full = absurd (let both : Err x ≡ Ok a = e in cc)
-      go (Err y) e valid frame full = (
-        some_same x (Rejected Full) (ap result_err (e ∙ ap (result_map_both (λ o. o) Rejected) full)),
-        λ P is. (valid P is).full.0 full,
-        subst (λ r. IsFramed c B k v r B') full frame,
-      )
 
 -- the first i + 1 items are the first i, and item i
 pub take_next : {X : Type 0} (xs : List X) (i : ℕ) (x : X) → slice_get xs i ≡ Some x → take (i + 1) xs ≡ take i xs ++ x ∷ []
@@ -100,37 +81,3 @@ module _ {D : Type 0} (h : List ℕ → ℕ) (bytes : D → List ℕ) (holding :
             ∙ ap (dyn_store before.key_len before.value_len) (held_last before.store (bytes t.store) (bytes t'.store));
         accepted = accepted;
       }
-
--- ---- the item that failed
--- an insert that returns an error
-abbrev refusal : DynError → Result (Option (List ℕ)) DynError
-refusal x = Err x
-
-module _ {D : Type 0} (t : DynStore D) (k v : List ℕ) where
-  -- ends the list
-  module _ (h : List ℕ → ℕ) (bytes : D → List ℕ) (items : List (List ℕ × List ℕ)) (i : ℕ) (x : DynError) (at : slice_get items i ≡ Some (k, v)) where
-    wrong : (y : DynError) → length_error t (k, v) ≡ Some y → refusal x ≡ refusal y → IsDynStop h bytes t items i x
-    wrong y is e = record {
-      item = (k, v);
-      at = at;
-      error = ap result_err e ∙ sym (ap (λ o. option_or o (Some (Rejected Full))) is);
-      framed = λ none. absurd (let both : Some y ≡ None = sym is ∙ none in cc);
-      full = λ none. absurd (let both : Some y ≡ None = sym is ∙ none in cc);
-    }
-
-    pub stopped_here : IfSome (length_error t (k, v)) (λ e. refusal x ≡ refusal e)
-        → (length_error t (k, v) ≡ None → IsDynInsert (dyn_coding t h) (bytes t.store) k v (Err x) (bytes t.store))
-        → IsDynStop h bytes t items i x
-    stopped_here lengths one = go (length_error t (k, v)) refl lengths
-      where
-        go : (o : Option DynError) → length_error t (k, v) ≡ o → IfSome o (λ e. refusal x ≡ refusal e) → IsDynStop h bytes t items i x
-        go (Some y) is said = wrong y is said
-        go None is said =
-            let refused = dyn_refused (dyn_coding t h) (bytes t.store) (bytes t.store) k v x (one is) in
-            record {
-              item = (k, v);
-              at = at;
-              error = ap Some refused.0 ∙ sym (ap (λ o. option_or o (Some (Rejected Full))) is);
-              framed = λ none. refused.2;
-              full = λ none. refused.1;
-            }

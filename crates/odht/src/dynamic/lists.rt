@@ -1,10 +1,19 @@
 //! Lists of inserts into a dynamic table.
-ghost use Rattle.std.specs.Prelude.{map};
+ghost use Rattle.std.specs.Prelude.{◌≡◌, ◌≢◌, length, map};
+ghost use Rattle.odht_base.specs.Format.{format_of};
+ghost use Rattle.odht_header.specs.declared.error.Error.TheVariants.{Full};
+ghost use Rattle.odht_raw.specs.DynParts.{bytes_coding};
+ghost use Rattle.odht_raw.specs.Frame.{IsAccepted};
+ghost use Rattle.odht_raw.specs.Runs.{HasLengthsAt, IsEncodedRun};
+ghost use Rattle.odht.specs.Dynamic.{dyn_store, IsOpened};
 ghost use Rattle.odht.specs.DynLists.{IsDynList};
 
 use super::{DynError, DynTable};
 use crate::bytes::ByteStoreMut;
+use crate::error::Error;
 use crate::hash::HashFn;
+use crate::layout::Layout;
+use crate::memory_layout::insert_items_dynamic;
 
 impl<H: HashFn, D: ByteStoreMut> DynTable<H, D> {
     /// Inserts the items, keys and values, in their order, and stops at the first whose insert
@@ -12,20 +21,61 @@ impl<H: HashFn, D: ByteStoreMut> DynTable<H, D> {
     /// [`DynTable::insert`] returns it: `WrongKeyLength`, `WrongValueLength`, or `Rejected` with
     /// `Full`. The table is then as the accepted ones left it.
     ///
-    /// It takes no memory, and costs an insert for each item.
+    /// It takes no memory. It costs what
+    /// [`HashTable::insert_all`](crate::hash_table::HashTable::insert_all) costs: a search for each
+    /// item, and the header is read and the item count written once.
     pub fn insert_all(&mut self, items: &[(&[u8], &[u8])]) -> (usize, Result<(), DynError>)
         ensures { let pairs = map (λ item. (item.0.now, item.1.now)) items.now
             in IsDynList H.hash D.bytes D.holding self.old self.new pairs result }
     {
-        // To look at the bytes is what tells that their header and length fit, where there is no
-        // item.
-        let _ = self.raw_bytes();
-        for index in 0..items.len() {
-            let (key, value) = items[index];
-            if let Err(refused) = self.insert(key, value) {
-                return (index, Err(refused));
-            }
+        let layout = self.layout;
+        let accepted = insert_store_items::<H, D>(&mut self.store, layout, items);
+        if accepted >= items.len() {
+            return (accepted, Ok(()));
         }
-        (items.len(), Ok(()))
+        let (key, value) = items[accepted];
+        (accepted, Err(refusal(layout, key, value)))
     }
+}
+
+// `insert_all` on the store itself. Returns how many items were accepted.
+#[inline(always)]
+fn insert_store_items<H: HashFn, D: ByteStoreMut>(
+    store: &mut D,
+    layout: Layout,
+    items: &[(&[u8], &[u8])],
+) -> usize
+    requires { IsOpened H.MIN_LEN H.hash D.bytes
+        (dyn_store layout.key_len layout.value_len store.old) }
+    ensures run { let c = bytes_coding (format_of layout.key_len layout.value_len H.hash)
+        in let pairs = map (λ item. (item.0.now, item.1.now)) items.now
+        in IsEncodedRun (HasLengthsAt layout.key_len layout.value_len pairs) c (D.bytes store.old)
+        pairs 0 result (D.bytes store.new) }
+    ensures same_store { store.new ≡ D.holding store.old (D.bytes store.new) }
+{
+    insert_items_dynamic::<H>(store.bytes_mut(), layout, items)
+}
+
+// The error of an item that a list of inserts did not accept.
+fn refusal(layout: Layout, key: &[u8], value: &[u8]) -> DynError
+    ensures key { length key.now ≢ layout.key_len
+        → result ≡ DynError.WrongKeyLength layout.key_len (length key.now) }
+    ensures value { length key.now ≡ layout.key_len → length value.now ≢ layout.value_len
+        → result ≡ DynError.WrongValueLength layout.value_len (length value.now) }
+    ensures full { length key.now ≡ layout.key_len → length value.now ≡ layout.value_len
+        → result ≡ DynError.Rejected Full }
+{
+    if key.len() != layout.key_len as usize {
+        return DynError::WrongKeyLength {
+            expected: layout.key_len,
+            found: key.len(),
+        };
+    }
+    if value.len() != layout.value_len as usize {
+        return DynError::WrongValueLength {
+            expected: layout.value_len,
+            found: value.len(),
+        };
+    }
+    DynError::Rejected(Error::Full)
 }

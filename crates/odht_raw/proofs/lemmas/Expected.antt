@@ -23,7 +23,6 @@ use Rattle.odht_base.proofs.lemmas.Options.{some_same, and_then_some}
 use Rattle.odht_base.proofs.lemmas.Orders.{find-order_some}
 use Rattle.odht_base.proofs.lemmas.Places.{written, written_here, written_other, place-written, place-IsPlaced}
 use Rattle.odht_raw.specs.SearchResults.{answer}
-use Rattle.odht_header.specs.Coding.{Coding, encoded}
 use Rattle.odht_raw.specs.Expected.{IsExpected, EndsIfFree, IsAhead}
 use Rattle.odht_raw.specs.Parts.{EntryBytes}
 use Rattle.odht_raw.specs.SearchSteps.{IsGroupAt}
@@ -174,6 +173,6 @@ expected_run F P Q ps k i ok fit e expected low free =
 
 -- ---- several keys
 -- the numbers before n are those of their items
-abbrev pub AreAheadBefore : {K V : Type 0} → Coding K V → List ℕ → List (K × V) → ℕ → ℕ → List (ℕ × ℕ) → Type 0
-AreAheadBefore {K = K} {V = V} c ctrl items from n ahead =
-    (i : ℕ) (k : K) (v : V) → i < n → slice_get items (from + i) ≡ Some (k, v) → IsAhead c.format ctrl (encoded c k v).key (get_or ahead i (0, 0))
+abbrev pub AreAheadBefore : (ℕ → Type 0) → Format → List ℕ → List (List ℕ × List ℕ) → ℕ → ℕ → List (ℕ × ℕ) → Type 0
+AreAheadBefore fits F ctrl items from n ahead =
+    (i : ℕ) (k v : List ℕ) → i < n → slice_get items (from + i) ≡ Some (k, v) → fits (from + i) → IsAhead F ctrl k (get_or ahead i (0, 0))

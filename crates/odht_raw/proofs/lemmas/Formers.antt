@@ -26,12 +26,12 @@ same_option None = refl
 same_option (Some b) = refl
 
 module _ {V : Type 0} (f : List ℕ → V) where
-  decoded_ok : (o : Option (List ℕ)) (a : Result (Option (List ℕ)) Error) → ◌≡◌ {A = Result (Option (List ℕ)) Error} (Ok o) (result_map_both (option_map (λ b. b)) (λ e. e) a)
+  pub decoded_ok : (o : Option (List ℕ)) (a : Result (Option (List ℕ)) Error) → ◌≡◌ {A = Result (Option (List ℕ)) Error} (Ok o) (result_map_both (option_map (λ b. b)) (λ e. e) a)
       → ◌≡◌ {A = Result (Option V) Error} (Ok (option_map f o)) (result_map_both (option_map f) (λ e. e) a)
   decoded_ok o (Ok x) e = let same : o ≡ option_map (λ b. b) x = cc in ap (λ y. Ok (option_map f y)) (same ∙ same_option x)
   decoded_ok o (Err x) e = absurd cc
 
-  decoded_err : (e : Error) (a : Result (Option (List ℕ)) Error) → ◌≡◌ {A = Result (Option (List ℕ)) Error} (Err e) (result_map_both (option_map (λ b. b)) (λ e. e) a)
+  pub decoded_err : (e : Error) (a : Result (Option (List ℕ)) Error) → ◌≡◌ {A = Result (Option (List ℕ)) Error} (Err e) (result_map_both (option_map (λ b. b)) (λ e. e) a)
       → ◌≡◌ {A = Result (Option V) Error} (Err e) (result_map_both (option_map f) (λ e. e) a)
   decoded_err e (Ok x) h = absurd cc
   decoded_err e (Err x) h = let same : e ≡ x = cc in ap Err same

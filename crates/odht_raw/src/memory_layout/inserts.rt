@@ -1,6 +1,6 @@
 //! Inserts into the bytes of a table: the parts are written, and last the item count. The lengths
 //! of keys and values are types or numbers.
-ghost use Rattle.std.specs.Prelude.{◌≡◌, ◌≤◌, ◌<◌, length, option_map, IfOk, ⊤};
+ghost use Rattle.std.specs.Prelude.{◌≡◌, ◌≤◌, ◌<◌, length, map, option_map, IfOk, ⊤};
 ghost use Rattle.odht_base.specs.Decoded.{header_slots};
 ghost use Rattle.odht_base.specs.Format.{format_of};
 ghost use Rattle.odht_base.specs.Table.{Table};
@@ -10,7 +10,8 @@ ghost use Rattle.odht_raw.specs.FormerWrites.{IsOneInto};
 ghost use Rattle.odht_raw.specs.Formers.{former_of};
 ghost use Rattle.odht_raw.specs.Frame.{IsAccepted, IsFramed};
 ghost use Rattle.odht_raw.specs.PartLengths.{ArePairLengths};
-ghost use Rattle.odht_raw.specs.Runs.{IsOnePlaced};
+ghost use Rattle.odht_raw.specs.Runs.{HasLengthsAt, IsEncodedRun, IsOnePlaced};
+ghost use Rattle.odht_raw.specs.Stored.{AreLengths};
 ghost use Rattle.odht_raw.specs.SearchResults.{MatchSearchResult};
 ghost use Rattle.odht_raw.specs.DynParts.{bytes_coding, parts_format};
 
@@ -19,11 +20,12 @@ use super::cuts::cut;
 use super::{HEADER_SIZE, Header};
 use crate::bytes::ByteArray;
 use crate::config::{Coded, Config};
+use crate::encoded_items::{EncodedItems, ItemBytes};
 use crate::error::Error;
 use crate::hash::HashFn;
 use crate::items::encode_pair;
 use crate::layout::{Fixed, Layout, Lengths};
-use crate::raw_table::{Parts, Search, ShortBytes, is_found, write_at_end};
+use crate::raw_table::{Parts, Search, ShortBytes, insert_run, is_found, write_at_end};
 use crate::swisstable_group_query::Group;
 
 // Writes the pair where the search for its key ended, which comes with the key's tag, and counts
@@ -132,6 +134,63 @@ pub fn insert_dynamic_into<H: HashFn>(
     let had = parts.copy_value_at(end.0, former);
     let written = insert_in::<Layout, H>(bytes, slots, layout, key, value, end);
     if written { Ok(had) } else { Err(Error::Full) }
+}
+
+/// Inserts items that are bytes in their order, up to the first whose key or value has another
+/// length than those of the table, or for which `insert_dynamic` returns `Full`. Returns how many
+/// were inserted. Each new entry raises the item count by one.
+///
+/// It costs what [`Allocation::insert_items`](super::Allocation::insert_items) costs.
+#[inline(always)]
+pub fn insert_items_dynamic<'a, H: HashFn>(
+    bytes: &mut [u8],
+    layout: Layout,
+    items: &'a [(&'a [u8], &'a [u8])],
+) -> usize
+    requires accepted { IsAccepted (format_of layout.key_len layout.value_len H.hash) bytes.old }
+    requires hashes { H.MIN_LEN ≤ layout.key_len }
+    ensures { let c = bytes_coding (format_of layout.key_len layout.value_len H.hash)
+        in let pairs = map (λ item. (item.0.now, item.1.now)) items.now
+        in IsEncodedRun (HasLengthsAt layout.key_len layout.value_len pairs) c bytes.old pairs 0
+        result bytes.new }
+{
+    let slots = Header::of(bytes).slot_count();
+    let items = ItemBytes { layout, items };
+    insert_items_in::<Layout, H, ItemBytes<'_>>(bytes, slots, layout, items, 0)
+}
+
+/// Inserts the items from index `from` on in their order, up to the first that does not fit, or
+/// for which an insert returns `Full`, in bytes of that many slots. Returns the index after the
+/// last item that was inserted. The header is read once, and the item count is written once.
+#[inline(always)]
+pub(crate) fn insert_items_in<L: Lengths, H: HashFn, I: EncodedItems>(
+    bytes: &mut [u8],
+    slots: usize,
+    lengths: L,
+    items: I,
+    from: usize,
+) -> usize
+    requires accepted { IsAccepted (format_of (L.key_len lengths) (L.value_len lengths) H.hash)
+        bytes.old }
+    requires slots { slots ≡ header_slots bytes.old }
+    requires pair { ArePairLengths H.MIN_LEN (L.key_len lengths) (L.value_len lengths) }
+    requires lengths { AreLengths (L.key_len lengths) (L.value_len lengths) (I.key_len items)
+        (I.value_len items) }
+    requires from { from ≤ length (I.items items) }
+    ensures { let F = format_of (L.key_len lengths) (L.value_len lengths) H.hash
+        in IsEncodedRun (I.fits items) (bytes_coding F) bytes.old (I.items items) from result
+        bytes.new }
+{
+    prove_bytes(bytes);
+    let at = HEADER_SIZE + slots * lengths.entry_len();
+    let (table, control) = bytes.split_at_mut(at);
+    let (front, entries) = table.split_at_mut(HEADER_SIZE);
+    let header = Header::of(front);
+    let count = header.item_count();
+    let room = header.max_load_factor().apply(slots).saturating_sub(count);
+    let (end, added) = insert_run::<L, H, I>(control, entries, slots, lengths, items, from, room);
+    write_count(front, count + added);
+    end
 }
 
 /// `insert_dynamic` of a key and a value of a configuration, by a group search of the caller's

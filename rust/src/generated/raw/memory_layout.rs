@@ -22,7 +22,7 @@ pub use check::{
     check_all, check_all_within, check_dynamic, check_dynamic_within, check_parts, DEFAULT_GROUPS,
 };
 pub use cuts::{dynamic_parts, parts_in};
-pub use inserts::{insert_dynamic, insert_dynamic_into};
+pub use inserts::{insert_dynamic, insert_dynamic_into, insert_items_dynamic};
 pub use new_tables::{allocate, clear_entries, init_in_place, init_parts, write_empty};
 pub use opening::{check_by_header, check_opening, check_opening_in, stated_layout};
 pub use prefix::{dynamic_table_len, table_len};

@@ -7,16 +7,18 @@ ghost use Rattle.odht_base.specs.Writes.{with_count};
 ghost use Rattle.odht_raw.specs.Frame.{IsAccepted, IsFramed};
 ghost use Rattle.odht_raw.specs.Runs.{IsListRun, IsOnePlaced};
 
-use super::{Allocation, prove_bytes};
+use super::Allocation;
 use crate::bytes::{ByteStoreMut, write_slice};
 use crate::config::{Coded, Config};
+use crate::encoded_items::Encoded;
 use crate::error::Error;
 use crate::items::Items;
-use crate::memory_layout::inserts::insert_typed;
-use crate::memory_layout::{HEADER_SIZE, Header, entry_at};
-use crate::raw_table::insert_run;
+use crate::layout::Fixed;
+use crate::memory_layout::Header;
+use crate::memory_layout::inserts::{insert_items_in, insert_typed};
 use crate::swisstable_group_query::Group;
 use odht_header::header::ITEM_COUNT_AT;
+use std::marker::PhantomData;
 
 impl<C: Config, M: ByteStoreMut> Allocation<C, M> {
     /// Gives the key this value, by a group search of the caller's choice, and returns its former
@@ -65,16 +67,15 @@ impl<C: Config, M: ByteStoreMut> Allocation<C, M> {
     {
         let store = &mut self.store;
         let bytes = store.bytes_mut();
-        prove_bytes(bytes);
-        let header = Header::of(bytes);
-        let count = header.item_count();
-        let slots = header.slot_count();
-        let room = header.max_load_factor().apply(slots).saturating_sub(count);
-        let (table, control) = bytes.split_at_mut(entry_at::<C>(slots));
-        let (front, entries) = table.split_at_mut(HEADER_SIZE);
-        let (end, added) = insert_run::<C, I>(control, entries, items, from, room);
-        write_count(front, count + added);
-        end
+        let slots = Header::of(bytes).slot_count();
+        let lengths: Fixed<C::EncodedKey, C::EncodedValue> = Fixed::new();
+        let items: Encoded<'_, C, I> = Encoded {
+            items,
+            config: PhantomData,
+        };
+        insert_items_in::<Fixed<C::EncodedKey, C::EncodedValue>, C::H, Encoded<'_, C, I>>(
+            bytes, slots, lengths, items, from,
+        )
     }
 }
 

@@ -6,9 +6,7 @@ use crate::generated::core::front::table_at;
 use crate::generated::core::help::{write_help, write_version};
 use crate::generated::core::inside::{first_inside, is_followed, write_inside};
 use crate::generated::core::job::Job;
-use crate::generated::core::new_file::{ended, make_new};
 use crate::generated::core::status::{of_output, Status};
-use crate::generated::core::targets::Target;
 use crate::generated::reads::commands::diff;
 use crate::generated::reads::positions;
 use crate::generated::tool_tables::files::{finish, finish_as, read_bytes, read_table_bytes};
@@ -102,11 +100,8 @@ where
         Command::Diff(options) => diff::diff(rt, file, options, input, output, errors),
         Command::Merge(options) => merge::merge(rt, file, options, input, output, errors),
         Command::Put(mut options) => {
-            let target = Target::find_table(rt, file, options.breaks_links)?;
-            let mut new = make_new(rt, target)?;
             options.watch = options.watch.with_bar(rt, errors);
-            let done = build::put(rt, &mut new, options, input, errors);
-            ended(rt, new, done)
+            build::put(rt, file, options, input, output, errors)
         }
     }
 }

@@ -7,11 +7,14 @@ use super::cuts::cut;
 use super::{Header, HEADER_SIZE};
 use crate::generated::raw::bytes::ByteArray;
 use crate::generated::raw::config::Config;
+use crate::generated::raw::encoded_items::{EncodedItems, ItemBytes};
 use crate::generated::raw::error::Error;
 use crate::generated::raw::hash::HashFn;
 use crate::generated::raw::items::encode_pair;
 use crate::generated::raw::layout::{Fixed, Layout, Lengths};
-use crate::generated::raw::raw_table::{is_found, write_at_end, Parts, Search, ShortBytes};
+use crate::generated::raw::raw_table::{
+    insert_run, is_found, write_at_end, Parts, Search, ShortBytes,
+};
 use crate::generated::raw::swisstable_group_query::Group;
 
 // Writes the pair where the search for its key ended, which comes with the key's tag, and counts
@@ -92,6 +95,46 @@ pub fn insert_dynamic_into<H: HashFn>(
     } else {
         Err(Error::Full)
     }
+}
+
+/// Inserts items that are bytes in their order, up to the first whose key or value has another
+/// length than those of the table, or for which `insert_dynamic` returns `Full`. Returns how many
+/// were inserted. Each new entry raises the item count by one.
+///
+/// It costs what [`Allocation::insert_items`](super::Allocation::insert_items) costs.
+#[inline(always)]
+pub fn insert_items_dynamic<'a, H: HashFn>(
+    bytes: &mut [u8],
+    layout: Layout,
+    items: &'a [(&'a [u8], &'a [u8])],
+) -> usize {
+    let slots = Header::of(bytes).slot_count();
+    crate::shim::slots::check::<&[u8]>(bytes.len(), slots, layout);
+    let items = ItemBytes { layout, items };
+    insert_items_in::<Layout, H, ItemBytes<'_>>(bytes, slots, layout, items, 0)
+}
+
+/// Inserts the items from index `from` on in their order, up to the first that does not fit, or
+/// for which an insert returns `Full`, in bytes of that many slots. Returns the index after the
+/// last item that was inserted. The header is read once, and the item count is written once.
+#[inline(always)]
+pub(crate) fn insert_items_in<L: Lengths, H: HashFn, I: EncodedItems>(
+    bytes: &mut [u8],
+    slots: usize,
+    lengths: L,
+    items: I,
+    from: usize,
+) -> usize {
+    prove_bytes(bytes);
+    let at = HEADER_SIZE + slots * lengths.entry_len();
+    let (table, control) = split_at_mut!(bytes, at, "slots ≡ header_slots bytes.old");
+    let (front, entries) = split_at_mut!(table, HEADER_SIZE, "slots ≡ header_slots bytes.old");
+    let header = Header::of(front);
+    let count = header.item_count();
+    let room = header.max_load_factor().apply(slots).saturating_sub(count);
+    let (end, added) = insert_run::<L, H, I>(control, entries, slots, lengths, items, from, room);
+    write_count(front, count + added);
+    end
 }
 
 /// `insert_dynamic` of a key and a value of a configuration, by a group search of the caller's

@@ -1,12 +1,14 @@
 // Generated from crates/odht_raw/src/raw_table/runs.rt by make generate.
 //! Inserts of items in turn into the parts of a table, eight at a time where the table is large.
+//! The lengths of keys and values are types or numbers.
 
-use super::ahead::{expected_slot, insert_ahead};
-use super::insert::insert_step;
-use super::EntryMetadata;
-use crate::generated::raw::config::Config;
-use crate::generated::raw::items::{encode_pair, Items};
-use crate::generated::raw::swisstable_group_query::{GroupQuery, REFERENCE_GROUP_SIZE};
+use super::writes::{is_found, write_at_end};
+use super::{EntryMetadata, Parts, Search, Stored};
+use crate::generated::raw::encoded_items::EncodedItems;
+use crate::generated::raw::hash::HashFn;
+use crate::generated::raw::layout::Lengths;
+use crate::generated::raw::memory_layout::prove_bytes;
+use crate::generated::raw::swisstable_group_query::GroupQuery;
 
 // How many keys are looked up ahead.
 const BATCH: usize = 8;
@@ -16,110 +18,124 @@ const BATCH: usize = 8;
 const LARGE: usize = 1 << 20;
 
 /// Inserts the items from index `from` on in turn, with room for `room` new entries, and stops at
-/// the first item that is rejected with `Full`. Returns the index after the last item that was
-/// inserted, and how many entries were added.
+/// the first item that does not fit or is rejected with `Full`. Returns the index after the last
+/// item that was inserted, and how many entries were added.
 ///
 /// Each item costs a search. In tables of 2^20 slots and more the group at the home slot may be
 /// read ahead, for eight keys in turn: these keys are encoded twice, and a new key whose slot was
 /// seen free then needs no further search.
+// It takes the items by value: the address of the list goes to no function that is not inlined,
+// and so the compiler keeps the list in registers.
 #[inline(always)]
-pub(crate) fn insert_run<C: Config, I: Items<C::Key, C::Value>>(
+pub(crate) fn insert_run<L: Lengths, H: HashFn, I: EncodedItems>(
     control: &mut [EntryMetadata],
     entries: &mut [u8],
-    items: &I,
+    slots: usize,
+    lengths: L,
+    items: I,
     from: usize,
     room: usize,
 ) -> (usize, usize) {
-    if control.len() - REFERENCE_GROUP_SIZE >= LARGE {
-        return insert_in_batches::<C, I>(control, entries, items, from, room);
+    if slots >= LARGE {
+        return insert_in_batches::<L, H, I>(control, entries, slots, lengths, items, from, room);
     }
-    insert_in_turn::<C, I>(control, entries, items, from, room)
+    insert_in_turn::<L, H, I>(control, entries, slots, lengths, &items, from, room)
 }
 
-// `insert_run`, an item at a time.
+// `insert_run`, an item at a time. It keeps the room that is left, and no second number.
 #[inline(always)]
-fn insert_in_turn<C: Config, I: Items<C::Key, C::Value>>(
+fn insert_in_turn<L: Lengths, H: HashFn, I: EncodedItems>(
     control: &mut [EntryMetadata],
     entries: &mut [u8],
+    slots: usize,
+    lengths: L,
     items: &I,
     from: usize,
     room: usize,
 ) -> (usize, usize) {
     let to = items.count();
-    let mut added = 0;
+    let mut left = room;
     for index in from..to {
-        let (key, value) = items.at(index);
-        let (key, value) = encode_pair::<C>(key, value);
-        let answer = insert_step::<C::EncodedKey, C::EncodedValue, C::H, GroupQuery>(
-            control,
-            entries,
-            key,
-            value,
-            room - added,
-        );
-        let Ok(former) = answer else {
-            return (index, added);
+        if !items.fits(index) {
+            return (index, room - left);
+        }
+        let (key, value) = items.pair(index);
+        let (key, value) = (I::key_bytes(&key), I::value_bytes(&value));
+        let parts = read_parts::<L, H>(&*control, &*entries, slots, lengths);
+        let end = parts.insert_end(key);
+        let answer = write_by_kind::<L, H>(control, entries, slots, lengths, key, value, end, left);
+        let Some(is_new) = answer else {
+            return (index, room - left);
         };
-        if former.is_none() {
-            added += 1;
+        if is_new {
+            left -= 1;
         }
     }
-    (to, added)
+    (to, room - left)
 }
 
 // `insert_run`, in batches of eight items, and then the rest.
 #[inline(never)]
-fn insert_in_batches<C: Config, I: Items<C::Key, C::Value>>(
+fn insert_in_batches<L: Lengths, H: HashFn, I: EncodedItems>(
     control: &mut [EntryMetadata],
     entries: &mut [u8],
-    items: &I,
+    slots: usize,
+    lengths: L,
+    items: I,
     from: usize,
     room: usize,
 ) -> (usize, usize) {
+    let items = &items;
     let to = items.count();
     let mut index = from;
     let mut added = 0;
     while to - index >= BATCH {
-        let (end, more) = insert_batch::<C, I>(control, entries, items, index, room - added);
+        let left = room - added;
+        let (end, more) =
+            insert_batch::<L, H, I>(control, entries, slots, lengths, items, index, left);
         added += more;
         if end < index + BATCH {
             return (end, added);
         }
         index = end;
     }
-    let (end, more) = insert_in_turn::<C, I>(control, entries, items, index, room - added);
+    let left = room - added;
+    let (end, more) =
+        insert_in_turn::<L, H, I>(control, entries, slots, lengths, items, index, left);
     (end, added + more)
 }
 
 // `insert_run` of the eight items from `from` on. Their slots are looked up first, and no look-up
 // depends on another one.
 #[inline(always)]
-fn insert_batch<C: Config, I: Items<C::Key, C::Value>>(
+fn insert_batch<L: Lengths, H: HashFn, I: EncodedItems>(
     control: &mut [EntryMetadata],
     entries: &mut [u8],
+    slots: usize,
+    lengths: L,
     items: &I,
     from: usize,
     room: usize,
 ) -> (usize, usize) {
-    let ahead = look_ahead::<C, I>(control, items, from);
+    let parts = read_parts::<L, H>(&*control, &*entries, slots, lengths);
+    let ahead = look_ahead::<L, H, I>(&parts, items, from);
     let mut added = 0;
     for offset in 0..BATCH {
-        let (key, value) = items.at(from + offset);
-        let (key, value) = encode_pair::<C>(key, value);
+        let index = from + offset;
+        if !items.fits(index) {
+            return (index, added);
+        }
+        let (key, value) = items.pair(index);
+        let (key, value) = (I::key_bytes(&key), I::value_bytes(&value));
         let (hash, slot) = ahead[offset];
-        let answer = insert_ahead::<C::EncodedKey, C::EncodedValue, C::H>(
-            control,
-            entries,
-            key,
-            value,
-            hash,
-            slot,
-            room - added,
-        );
-        let Ok(former) = answer else {
-            return (from + offset, added);
+        let left = room - added;
+        let parts = read_parts::<L, H>(&*control, &*entries, slots, lengths);
+        let end = parts.expected_end(key, hash, slot, left);
+        let answer = write_counted::<L, H>(control, entries, slots, lengths, key, value, end, left);
+        let Some(is_new) = answer else {
+            return (index, added);
         };
-        if former.is_none() {
+        if is_new {
             added += 1;
         }
     }
@@ -127,19 +143,78 @@ fn insert_batch<C: Config, I: Items<C::Key, C::Value>>(
 }
 
 // The hashes of the keys of the eight items from `from` on, and the slots where their searches are
-// expected to end.
+// expected to end. Nothing is looked up for an item that does not fit.
 #[inline(always)]
-fn look_ahead<C: Config, I: Items<C::Key, C::Value>>(
-    control: &[EntryMetadata],
+fn look_ahead<L: Lengths, H: HashFn, I: EncodedItems>(
+    parts: &Parts<'_, L, H>,
     items: &I,
     from: usize,
 ) -> [(u32, usize); 8] {
     let mut ahead = [(0, 0); 8];
     for offset in 0..BATCH {
-        let (key, _) = items.at(from + offset);
-        let key = C::encode_key(key);
-        ahead[offset] =
-            expected_slot::<C::EncodedKey, C::EncodedValue, C::H, GroupQuery>(control, &key);
+        let index = from + offset;
+        if items.fits(index) {
+            let key = items.key(index);
+            ahead[offset] = parts.expected_slot::<GroupQuery>(I::key_bytes(&key));
+        }
     }
     ahead
+}
+
+// The parts of a table that is written, to be read.
+#[inline(always)]
+fn read_parts<'a, L: Lengths, H: HashFn>(
+    control: &'a [EntryMetadata],
+    entries: &'a [u8],
+    slots: usize,
+    lengths: L,
+) -> Parts<'a, L, H> {
+    Parts::of(control, Stored::new(entries, slots, lengths))
+}
+
+// `write_counted`, with a call of its own for each kind of end, so that the compiler goes from
+// where a search ends to what is written there, with no second test of the kind.
+#[inline(always)]
+fn write_by_kind<L: Lengths, H: HashFn>(
+    control: &mut [EntryMetadata],
+    entries: &mut [u8],
+    slots: usize,
+    lengths: L,
+    key: &[u8],
+    value: &[u8],
+    end: (Search, u8),
+    room: usize,
+) -> Option<bool> {
+    match end.0 {
+        Search::Found(_) => {
+            write_counted::<L, H>(control, entries, slots, lengths, key, value, end, room)
+        }
+        Search::Free(_) => {
+            write_counted::<L, H>(control, entries, slots, lengths, key, value, end, room)
+        }
+        Search::Neither => {
+            write_counted::<L, H>(control, entries, slots, lengths, key, value, end, room)
+        }
+    }
+}
+
+// Writes a pair where the search for its key ended, which comes with the key's tag. Returns whether
+// that adds an entry; None, with nothing changed, where the pair is rejected with `Full`.
+#[inline(always)]
+fn write_counted<L: Lengths, H: HashFn>(
+    control: &mut [EntryMetadata],
+    entries: &mut [u8],
+    slots: usize,
+    lengths: L,
+    key: &[u8],
+    value: &[u8],
+    end: (Search, u8),
+    room: usize,
+) -> Option<bool> {
+    prove_bytes(key);
+    prove_bytes(value);
+    if !write_at_end::<L, H>(control, entries, slots, lengths, key, value, end, room) {
+        return None;
+    }
+    Some(!is_found(end.0))
 }

@@ -3,7 +3,10 @@
 
 use super::{DynError, DynTable};
 use crate::generated::tables::bytes::ByteStoreMut;
+use crate::generated::tables::error::Error;
 use crate::generated::tables::hash::HashFn;
+use crate::generated::tables::layout::Layout;
+use crate::generated::tables::memory_layout::insert_items_dynamic;
 
 impl<H: HashFn, D: ByteStoreMut> DynTable<H, D> {
     /// Inserts the items, keys and values, in their order, and stops at the first whose insert
@@ -11,17 +14,37 @@ impl<H: HashFn, D: ByteStoreMut> DynTable<H, D> {
     /// [`DynTable::insert`] returns it: `WrongKeyLength`, `WrongValueLength`, or `Rejected` with
     /// `Full`. The table is then as the accepted ones left it.
     ///
-    /// It takes no memory, and costs an insert for each item.
+    /// It takes no memory. It costs what
+    /// [`HashTable::insert_all`](crate::generated::tables::hash_table::HashTable::insert_all) costs: a search for each
+    /// item, and the header is read and the item count written once.
     pub fn insert_all(&mut self, items: &[(&[u8], &[u8])]) -> (usize, Result<(), DynError>) {
-        // To look at the bytes is what tells that their header and length fit, where there is no
-        // item.
-        let _ = self.raw_bytes();
-        for index in 0..items.len() {
-            let (key, value) = items[index];
-            if let Err(refused) = self.insert(key, value) {
-                return (index, Err(refused));
-            }
+        let layout = self.layout;
+        let accepted = insert_store_items::<H, D>(&mut self.store, layout, items);
+        if accepted >= items.len() {
+            return (accepted, Ok(()));
         }
-        (items.len(), Ok(()))
+        let (key, value) = items[accepted];
+        (accepted, Err(refusal(layout, key, value)))
     }
+}
+
+// `insert_all` on the store itself. Returns how many items were accepted.
+#[inline(always)]
+fn insert_store_items<H: HashFn, D: ByteStoreMut>(
+    store: &mut D,
+    layout: Layout,
+    items: &[(&[u8], &[u8])],
+) -> usize {
+    insert_items_dynamic::<H>(store.bytes_mut(), layout, items)
+}
+
+// The error of an item that a list of inserts did not accept.
+fn refusal(layout: Layout, key: &[u8], value: &[u8]) -> DynError {
+    if key.len() != layout.key_len as usize {
+        return DynError::WrongKeyLength { expected: layout.key_len, found: key.len() };
+    }
+    if value.len() != layout.value_len as usize {
+        return DynError::WrongValueLength { expected: layout.value_len, found: value.len() };
+    }
+    DynError::Rejected(Error::Full)
 }

@@ -1,94 +1,119 @@
-use Rattle.std.proofs.Common.{◌≡◌, ◌+◌, ◌-◌, ◌<◌, ◌∙◌, ℕ, inl, inr, sym, ap, subst, cond, arith, length}
-use Rattle.std.specs.Prelude.{is_none}
-use Rattle.odht_base.specs.Table.{Pair}
-use Rattle.odht_header.specs.Coding.{Coding, coding_of, encoded}
-use Rattle.odht_raw.specs.PartsInserts.{AnswersFormer}
+use Rattle.std.proofs.Common.{rules, true, ◌≤◌, ◌≡◌, ◌+◌, ◌-◌, ◌<◌, ◌∙◌, ℕ, Some, inl, inr, sym, ap, subst, cond, arith, length, slice_get}
+use Rattle.odht_base.specs.Format.{Format, format_of, tag as key_tag}
+use Rattle.odht_base.specs.Table.{Pair, Table}
+use Rattle.odht_raw.specs.DynParts.{DynParts, bytes_coding, parts_format}
+use Rattle.odht_raw.specs.Parts.{stored_in}
 use Rattle.odht_raw.specs.Runs.{IsRunTo}
-use Rattle.odht_raw.specs.Steps.{IsStepFramed}
-use Rattle.odht_raw.proofs.lemmas.PartRuns.{is_none-not, run_to_none, run_to_more}
-use Rattle.odht_raw.proofs.lemmas.Steps.{step_refusal}
+use Rattle.odht_raw.specs.SearchResults.{answer}
+use Rattle.odht_raw.specs.Steps.{IsCountedStep}
+use Rattle.odht_raw.specs.Searches.{IsSearchEnd}
+use Rattle.odht_raw.proofs.lemmas.CountedSteps.{counted_more, counted_refused, counted_room}
+use Rattle.odht_raw.proofs.lemmas.PartRuns.{run_to_none}
 use Rattle.odht_raw.proofs.raw_table.runs.insert_in_turn.Given.{Over}
 use Rattle.odht_raw.proofs.raw_table.runs.insert_in_turn.Goals as goal
-use Rattle.odht_raw.proofs.raw_table.runs.insert_in_turn.Goals.{After-insert_step-answer, then-is_none, else-is_none}
-
--- the coding of the configuration
-abbrev coding : (g : Over) → Coding g.row.C-Key.Denot g.row.C-Value.Denot
-coding g =
-    let key = g.C.EncodedKey.ByteArray in
-    let value = g.C.EncodedValue.ByteArray in
-    coding_of key.LEN key.bytes key.of_bytes value.LEN value.bytes value.of_bytes g.C.H.HashFn.hash
-    g.C.Config.encode_key g.C.Config.encode_value g.C.Config.decode_key g.C.Config.decode_value
+use Rattle.odht_raw.proofs.raw_table.runs.insert_in_turn.Goals.{After-value_bytes-value, After-insert_end-end, After-write_by_kind-answer, then-is_new, else-is_new}
 
 pub loop-index-init : goal.loop-index-init
-loop-index-init g c = run_to_none (coding g) c.args.room c.args.entries.now c.args.control.now (g.I.Items.items c.args.items.now) c.args.from
+loop-index-init g c =
+    let K = bytes_coding (format_of (g.L.Lengths.key_len c.args.lengths) (g.L.Lengths.value_len c.args.lengths) g.H.HashFn.hash) in
+    let items = g.I.EncodedItems.items c.args.items.now in
+    let es = c.args.entries.now in
+    let ctrl = c.args.control.now in
+    let none : 0 ≡ c.args.room - c.args.room = omega arith in
+    record {
+      within = omega arith;
+      inserted = subst (λ (n : ℕ). IsRunTo K c.args.room es ctrl items c.args.from c.args.from n es ctrl) none (run_to_none K c.args.room es ctrl items c.args.from);
+    }
 
--- the pair that is inserted is that of the item
-same : (g : Over) (c : After-insert_step-answer g)
-    → let p : Pair = record { key = g.C.EncodedKey.ByteArray.bytes c.encode_pair-key.result.0; value = g.C.EncodedValue.ByteArray.bytes c.encode_pair-key.result.1 } in
-    p ≡ encoded (coding g) c.at.result.0.now c.at.result.1.now
-same g c = c.encode_pair-key.ensures.pair
+-- the item that is inserted
+item_is : (g : Over) (c : After-value_bytes-value g) → slice_get (g.I.EncodedItems.items c.args.items.now) c.loop-index.index ≡ Some (c.key_bytes-key.result.now, c.value_bytes-value.result.now)
+item_is g c = c.pair-key.ensures.pair ∙ (λ i. Some (sym c.key_bytes-key.ensures i, sym c.value_bytes-value.ensures i))
 
--- what its insert does
-framed : (g : Over) (c : After-insert_step-answer g) → let K = coding g in
-    IsStepFramed K.format g.C.EncodedValue.ByteArray.of_bytes (c.args.room - c.loop-index.added) c.loop-index.entries c.loop-index.control
-    (encoded K c.at.result.0.now c.at.result.1.now) c.insert_step-answer.result c.insert_step-answer.new.entries c.insert_step-answer.new.control
-framed g c =
-    subst (λ (p : Pair). IsStepFramed (coding g).format g.C.EncodedValue.ByteArray.of_bytes (c.args.room - c.loop-index.added) c.loop-index.entries c.loop-index.control p
-    c.insert_step-answer.result c.insert_step-answer.new.entries c.insert_step-answer.new.control) (same g c) c.insert_step-answer.ensures.any.frame
+-- where the search for its key ends
+ended : (g : Over) (c : After-insert_end-end g)
+    → IsSearchEnd (format_of (g.L.Lengths.key_len c.args.lengths) (g.L.Lengths.value_len c.args.lengths) g.H.HashFn.hash) (stored_in c.loop-index.entries c.loop-index.control) c.loop-index.control c.key_bytes-key.result.now c.insert_end-end.result.0
+ended g c =
+    subst (λ (S : DynParts). IsSearchEnd (parts_format S g.H.HashFn.hash) S.parts.entries S.parts.control c.key_bytes-key.result.now c.insert_end-end.result.0) c.read_parts-parts.ensures c.insert_end-end.ensures.end
+
+pub write_by_kind-answer-requires-clause-end : goal.write_by_kind-answer-requires-clause-end
+write_by_kind-answer-requires-clause-end g c =
+    let end = ended g (goal.at.write_by_kind-answer-requires-clause-end g c).After-insert_end-end in
+    record {
+      end = record { slot = end.slot; earlier = λ none. end.earlier };
+      tag = c.insert_end-end.ensures.tag ∙ ap (λ (S : DynParts). key_tag (parts_format S g.H.HashFn.hash) c.key_bytes-key.result.now) c.read_parts-parts.ensures;
+    }
+
+-- what was written, by the room that is left
+module _ (g : Over) (c : After-write_by_kind-answer g) where
+  abbrev F : Format
+  F = format_of (g.L.Lengths.key_len c.args.lengths) (g.L.Lengths.value_len c.args.lengths) g.H.HashFn.hash
+
+  abbrev Ends : Table → Type 0
+  Ends P = c.insert_end-end.result.0 ≡ answer F P.cells c.key_bytes-key.result.now
+
+  abbrev p : Pair
+  p = record { key = c.key_bytes-key.result.now; value = c.value_bytes-value.result.now }
+
+  stepped : IsCountedStep Ends F (c.args.room - (c.args.room - c.loop-index.left)) (c.loop-index.entries, c.loop-index.control) p c.write_by_kind-answer.result
+      (c.write_by_kind-answer.new.entries, c.write_by_kind-answer.new.control)
+  stepped =
+      let same : c.loop-index.left ≡ c.args.room - (c.args.room - c.loop-index.left) = omega (arith, c.loop-index.invariant.within) in
+      subst (λ (m : ℕ). IsCountedStep Ends F m (c.loop-index.entries, c.loop-index.control) p c.write_by_kind-answer.result (c.write_by_kind-answer.new.entries, c.write_by_kind-answer.new.control)) same
+      c.write_by_kind-answer.ensures.step
+
+  had_room : c.write_by_kind-answer.result ≡ Some true → 0 < c.loop-index.left
+  had_room is = counted_room F Ends c.loop-index.left (c.loop-index.entries, c.loop-index.control) p c.write_by_kind-answer.result (c.write_by_kind-answer.new.entries, c.write_by_kind-answer.new.control) c.write_by_kind-answer.ensures.step is
+
+pub overflow_sub-left : goal.overflow_sub-left
+overflow_sub-left g c =
+    let some = had_room g (goal.at.overflow_sub-left g c).After-write_by_kind-answer (c.in-Some.is ∙ ap Some c.if-is_new.true) in
+    search rules
 
 pub loop-index-preserved : goal.loop-index-preserved
 loop-index-preserved g c =
-    let K = coding g in
-    let items = g.I.Items.items c.args.items.now in
-    let k = c.at.result.0.now in
-    let v = c.at.result.1.now in
-    let low : c.loop-index.index < length items = omega (arith, c.loop-index-test.true, c.count-to.ensures) in
-    let at = (goal.at.loop-index-preserved g c).After-insert_step-answer in
-    let answer = c.insert_step-answer in
-    let value_of = g.C.EncodedValue.ByteArray.of_bytes in
-    let fits = c.encode_pair-key.ensures.fits in
-    let former = c.in-Ok.former in
-    let n = c.loop-index.added in
-    let counted : c.if-is_none.added ≡ cond (is_none former) (n + 1) n =
-    elim c.if-is_none.branch [
-      | then-is_none w ↦ w.added-is ∙ ap (λ b. cond b (n + 1) n) (sym (is_none-not former c.is_none.result c.is_none.ensures ∙ w.if-is_none.true))
-      | else-is_none w ↦ w.added-is ∙ ap (λ b. cond b (n + 1) n) (sym (is_none-not former c.is_none.result c.is_none.ensures ∙ w.if-is_none.false))
+    let at = goal.at.loop-index-preserved g c in
+    let n = c.args.room - c.loop-index.left in
+    let within = c.loop-index.invariant.within in
+    let wrote = c.write_by_kind-answer in
+    let step = at.After-write_by_kind-answer in
+    let end = ended g at.After-insert_end-end in
+    let counted : (c.if-is_new.left ≤ c.args.room) × (c.args.room - c.if-is_new.left ≡ cond c.in-Some.is_new (n + 1) n) =
+    elim c.if-is_new.branch [
+      | then-is_new w ↦ (
+          let some = had_room g step (c.in-Some.is ∙ ap Some w.if-is_new.true) in
+          let more : c.args.room - c.if-is_new.left ≡ n + 1 = omega (arith, w.left-is, some, within) in
+          (omega (arith, w.left-is, within), more ∙ ap (λ b. cond b (n + 1) n) (sym w.if-is_new.true)))
+      | else-is_new w ↦ (omega (arith, w.left-is, within), ap (λ x. c.args.room - x) w.left-is ∙ ap (λ b. cond b (n + 1) n) (sym w.if-is_new.false))
     ] in
-    run_to_more K c.args.room c.args.entries.now c.args.control.now items c.args.from c.loop-index.index n c.loop-index.entries c.loop-index.control c.loop-index.invariant
-    k v low c.at.ensures fits value_of answer.result former answer.new.entries answer.new.control c.in-Ok.is (framed g at)
-    (λ P parts. (
-    let h = c.loop-index.invariant.placed P parts in
-    subst (λ (p : Pair). AnswersFormer K.format value_of h.table p answer.result answer.new.entries answer.new.control) (same g at) (answer.ensures.placed h.table h.parts)))
-    c.if-is_none.added counted
+    record {
+      within = counted.0;
+      inserted = counted_more (F g step) (Ends g step) c.args.room c.args.entries.now c.args.control.now (g.I.EncodedItems.items c.args.items.now) c.args.from c.loop-index.index n c.loop-index.entries c.loop-index.control
+          c.loop-index.invariant.inserted c.key_bytes-key.result.now c.value_bytes-value.result.now (item_is g at.After-value_bytes-value) wrote.result wrote.new.entries wrote.new.control (stepped g step)
+          (omega (arith, c.loop-index-test.true, c.count-to.ensures)) wrote.ensures.pair c.in-Some.is_new c.in-Some.is
+          (λ P parts. (let h = c.loop-index.invariant.inserted.placed P parts in end.on_placed h.table h.parts)) (c.args.room - c.if-is_new.left) counted.1;
+    }
 
 pub returns-in_default : goal.returns-in_default
 returns-in_default g c =
-    let K = coding g in
-    let items = g.I.Items.items c.args.items.now in
-    let k = c.at.result.0.now in
-    let v = c.at.result.1.now in
-    let at = (goal.at.returns-in_default g c).After-insert_step-answer in
-    let answer = c.insert_step-answer in
-    let refused = c.in_default.ensures.any in
-    let low : c.loop-index.index < length items = omega (arith, c.loop-index-test.true, c.count-to.ensures) in
+    let at = goal.at.returns-in_default g c in
+    let wrote = c.write_by_kind-answer in
+    let step = at.After-write_by_kind-answer in
+    let refused = counted_refused (F g step) (Ends g step) c.args.room c.args.entries.now c.args.control.now (g.I.EncodedItems.items c.args.items.now) c.args.from c.loop-index.index (c.args.room - c.loop-index.left) c.loop-index.entries c.loop-index.control
+    c.loop-index.invariant.inserted c.key_bytes-key.result.now c.value_bytes-value.result.now (item_is g at.After-value_bytes-value) wrote.result wrote.new.entries wrote.new.control (stepped g step) c.in_default.is in
     record {
-      within = omega (arith, low);
-      inserted = rw (refused.errors.refused_entries, refused.errors.refused_control) c.loop-index.invariant;
-      stop = inr (record {
-        item = (k, v);
-        at = c.at.ensures;
-        frame = step_refusal K.format g.C.EncodedValue.ByteArray.of_bytes (c.args.room - c.loop-index.added) (encoded K k v) answer.result
-            c.loop-index.entries c.loop-index.control answer.new.entries answer.new.control c.in_default.field-0 c.in_default.is (framed g at);
-      });
+      within = omega (arith, c.loop-index-test.true, c.count-to.ensures);
+      inserted = refused.0;
+      stop = inr (inr refused.1);
     }
 
 pub returns : goal.returns
 returns g c =
-    let items = g.I.Items.items c.args.items.now in
+    let items = g.I.EncodedItems.items c.args.items.now in
+    let K = bytes_coding (format_of (g.L.Lengths.key_len c.args.lengths) (g.L.Lengths.value_len c.args.lengths) g.H.HashFn.hash) in
     let all : c.count-to.result ≡ length items = c.count-to.ensures in
-    let end : c.loop-index.index ≡ c.count-to.result = omega (arith, all, c.requires.within) in
+    let end : c.loop-index.index ≡ c.count-to.result = omega (arith, all, c.requires.can.within) in
     record {
       within = omega (arith, all);
-      inserted = subst (λ (x : ℕ). IsRunTo (coding g) c.args.room c.args.entries.now c.args.control.now items c.args.from x c.loop-index.added c.loop-index.entries c.loop-index.control) end c.loop-index.invariant;
+      inserted = subst (λ (x : ℕ). IsRunTo K c.args.room c.args.entries.now c.args.control.now items c.args.from x (c.args.room - c.loop-index.left) c.loop-index.entries c.loop-index.control) end c.loop-index.invariant.inserted;
       stop = inl all;
     }

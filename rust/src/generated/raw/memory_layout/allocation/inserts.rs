@@ -2,16 +2,18 @@
 //! Inserts into the bytes of a table: the parts are written, and last the item count: by a single
 //! insert where it added an entry, by a list in any case.
 
-use super::{prove_bytes, Allocation};
+use super::Allocation;
 use crate::generated::header::header::ITEM_COUNT_AT;
 use crate::generated::raw::bytes::{write_slice, ByteStoreMut};
 use crate::generated::raw::config::Config;
+use crate::generated::raw::encoded_items::Encoded;
 use crate::generated::raw::error::Error;
 use crate::generated::raw::items::Items;
-use crate::generated::raw::memory_layout::inserts::insert_typed;
-use crate::generated::raw::memory_layout::{entry_at, Header, HEADER_SIZE};
-use crate::generated::raw::raw_table::insert_run;
+use crate::generated::raw::layout::Fixed;
+use crate::generated::raw::memory_layout::inserts::{insert_items_in, insert_typed};
+use crate::generated::raw::memory_layout::Header;
 use crate::generated::raw::swisstable_group_query::Group;
+use std::marker::PhantomData;
 
 impl<C: Config, M: ByteStoreMut> Allocation<C, M> {
     /// Gives the key this value, by a group search of the caller's choice, and returns its former
@@ -50,29 +52,17 @@ impl<C: Config, M: ByteStoreMut> Allocation<C, M> {
     pub fn insert_items<I: Items<C::Key, C::Value>>(&mut self, items: &I, from: usize) -> usize {
         let store = &mut self.store;
         let bytes = store.bytes_mut();
-        prove_bytes(bytes);
-        let header = Header::of(bytes);
-        let count = header.item_count();
-        let slots = header.slot_count();
+        let slots = Header::of(bytes).slot_count();
         crate::shim::slots::check::<M>(
             bytes.len(),
             slots,
             crate::generated::header::layout::Layout::of::<C>(),
         );
-        let room = header.max_load_factor().apply(slots).saturating_sub(count);
-        let (table, control) = split_at_mut!(
-            bytes,
-            entry_at::<C>(slots),
-            "IsAccepted (format_of C.EncodedKey.LEN C.EncodedValue.LEN C.H.hash)"
-        );
-        let (front, entries) = split_at_mut!(
-            table,
-            HEADER_SIZE,
-            "IsAccepted (format_of C.EncodedKey.LEN C.EncodedValue.LEN C.H.hash)"
-        );
-        let (end, added) = insert_run::<C, I>(control, entries, items, from, room);
-        write_count(front, count + added);
-        end
+        let lengths: Fixed<C::EncodedKey, C::EncodedValue> = Fixed::new();
+        let items: Encoded<'_, C, I> = Encoded { items, config: PhantomData };
+        insert_items_in::<Fixed<C::EncodedKey, C::EncodedValue>, C::H, Encoded<'_, C, I>>(
+            bytes, slots, lengths, items, from,
+        )
     }
 }
 
