@@ -24,7 +24,7 @@ use Rattle.odht.proofs.lemmas.ListInserts.{inserted_none, inserted_more}
 module _ {K V : Type 0} (c : Coding K V) (B B' : List ℕ) (k : K) (v : V) where
   -- where it was accepted
   pub dyn_accepted : (o : Option V) → IsDynInsert c B k v (Ok o) B' → (a : Option V) × OfTable c.format B (λ P. IsInsertInto c P k v (Ok a) B') × IsFramed c B k v (Ok a) B'
-  dyn_accepted o h = go h.answer h.is h.insert.on_valid h.insert.frame
+  dyn_accepted o h = go h.answer h.is h.insert.on_valid h.insert.on_any.frame
     where
       go : (r : Result (Option V) Error) → Ok o ≡ result_map_both (λ o. o) Rejected r → OfTable c.format B (λ P. IsInsertInto c P k v r B') → IsFramed c B k v r B'
           → (a : Option V) × OfTable c.format B (λ P. IsInsertInto c P k v (Ok a) B') × IsFramed c B k v (Ok a) B'
