@@ -52,9 +52,9 @@ def is_example(line):
 
 
 def described(line):
-    """Returns the options or the word that a line describes, and what it says of them, which begins at column 15; None of
+    """Returns the options or the words that a line describes, and the description, which begins at column 15; None for
     any other line."""
-    found = re.match(r"((?:--[a-z-]+(?:, )?)+|[A-Z]+) +(\S.*)", line)
+    found = re.match(r"((?:--[a-z-]+(?:, )?)+|[A-Z]+|[a-z]+(?:,? [a-z]+)*(?=  )) +(\S.*)", line)
     return found.groups() if found and found.start(2) == TEXT_COLUMN else None
 
 
@@ -134,7 +134,7 @@ def zsh(made, _, valued):
     lines = ["#compdef odht", f"# {MADE}", "_odht() {", "    local -a commands options"]
     lines += ["    commands=("]
     lines += [f"        '{it.name}:{in_zsh(it.summary)}'" for it in made]
-    lines += ["        'help:is the help of a command'", "    )", "    if (( CURRENT == 2 )); then"]
+    lines += ["        'help:prints the help of a command'", "    )", "    if (( CURRENT == 2 )); then"]
     lines += ["        _describe command commands", "        return", "    fi", "    case $words[2] in"]
     lines += ["        help) _describe command commands;;"]
     for it in made:
@@ -156,7 +156,7 @@ def fish(made, _, valued):
     lines = [f"# {MADE}"]
     for it in made:
         lines += [f"complete -c odht -n __fish_use_subcommand -f -a {it.name} -d '{quoted(it.summary)}'"]
-    lines += ["complete -c odht -n __fish_use_subcommand -f -a help -d 'is the help of a command'"]
+    lines += ["complete -c odht -n __fish_use_subcommand -f -a help -d 'prints the help of a command'"]
     lines += [f"complete -c odht -n '__fish_seen_subcommand_from help' -f -a '{' '.join(it.name for it in made)}'"]
     for it in made:
         for option in it.options:
