@@ -352,7 +352,8 @@ odht put FILE [--duplicates last|first|error] [--delimiter C]
     --key, --value the types of keys and values, as in `odht build`; they must have
                    the lengths in the file. If left out, each length decides: 4
                    bytes are u32, 8 are u64, and others hexadecimal digits (keys
-                   under unhash too, unless the file is of a ready shape of numbers)
+                   under unhash too, unless the file is of a ready shape of
+                   numbers). A type that the file does not show must be given
     --whole        as in `odht check`
     --hash         the hash function of FILE, which the table keeps; if left out,
                    the one that all control bytes fit. If several fit, as in a table
