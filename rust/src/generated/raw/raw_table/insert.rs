@@ -72,7 +72,7 @@ pub(crate) fn insert_at<K: ByteArray, V: ByteArray, H: HashFn>(
     }
 }
 
-/// `insert_at` with the same body for each kind of end. Lists that look ahead call it.
+/// `insert_at` with the same body for each kind of end.
 #[inline(always)]
 pub(super) fn insert_at_end<K: ByteArray, V: ByteArray, H: HashFn>(
     control: &mut [EntryMetadata],
