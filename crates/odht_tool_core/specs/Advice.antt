@@ -4,10 +4,8 @@
 --     needs_whole n        some search is above the bound of 128 groups, with which `odht rebuild` checks without `--whole`
 --     rebuilt_name at name what `odht rebuild` takes: the name of the file; FILE for a file of the table alone, where the
 --                          table stands at a byte of the file, or the file is standard input
---     advice_text at name n   the line of what helps, or nothing
---     advice_or_null n     the string of the options, or null
-use Rattle.std.specs.Prelude.{ℕ, Bool, true, false, ◌||◌, bytes_eq, is_some, nat_lt, List, [], ◌++◌, codes, Option, Some, None, if◌then◌else◌}
-use Rattle.odht_tool_core.specs.Json.{json_string}
+--     help_text a name w   what helps, as `info` tells it of a file of this name
+use Rattle.std.specs.Prelude.{ℕ, Bool, true, false, ◌||◌, bytes_eq, is_some, nat_lt, List, ◌++◌, codes, Option, if◌then◌else◌}
 use Rattle.odht_tool_core.specs.declared.advice.Advice.{Advice}
 use Rattle.odht_tool_core.specs.declared.advice.Advice.TheVariants.{LowerLoad, Mixing}
 use Rattle.odht_tool_core.specs.declared.numbers.Numbers.{Numbers}
@@ -29,17 +27,5 @@ options Mixing true = codes "--hash xxh64 --whole"
 abbrev pub rebuilt_name : Option ℕ → List ℕ → List ℕ
 rebuilt_name at name = if is_some at || bytes_eq name (codes "-") then codes "FILE" else name
 
-abbrev pub line_of : Option Advice → List ℕ → Bool → List ℕ
-line_of None name is_whole = []
-line_of (Some a) name is_whole =
-    codes "may help      " ++ (reason a ++ (codes ": odht rebuild " ++ (name ++ (codes " " ++ (options a is_whole ++ codes "\n")))))
-
-abbrev pub advice_text : Option ℕ → List ℕ → Numbers → List ℕ
-advice_text at name n = line_of n.advice (rebuilt_name at name) (needs_whole n)
-
-abbrev pub string_of : Option Advice → Bool → List ℕ
-string_of None is_whole = codes "null"
-string_of (Some a) is_whole = json_string (options a is_whole)
-
-abbrev pub advice_or_null : Numbers → List ℕ
-advice_or_null n = string_of n.advice (needs_whole n)
+abbrev pub help_text : Advice → List ℕ → Bool → List ℕ
+help_text a name is_whole = reason a ++ (codes ": odht rebuild " ++ (name ++ (codes " " ++ options a is_whole)))

@@ -9,7 +9,6 @@
 --     string_field name t  the field of this name that is the string of the text t
 --     text_field name t    the same of a text of any bytes: where it is no UTF-8, `_hex` stands behind the name, and the
 --                          string has the two digits of each byte in base 16
---     number_or_null o     the number, or null where there is none
 --     truth b              true or false
 --     is_simple b          the byte b is a character of ASCII that stands for itself in a string
 --     pair_fields f g x    the fields of a key and its value, with the texts f and g
@@ -17,7 +16,7 @@
 --     pair_objects f g xs  that of each pair in turn
 -- A quote is the byte 34, a backslash 92, a colon 58, a comma 44; braces are 123 and 125. The strings of texts in UTF-8 are
 -- strings of JSON, whatever their characters are.
-use Rattle.std.specs.Prelude.{ℕ, Bool, List, [], ◌∷◌, ◌++◌, codes, decimal, flat_map, nat_lt, ◌==◌, ◌||◌, ◌&&◌, not, Option, Some, None, if◌then◌else◌}
+use Rattle.std.specs.Prelude.{ℕ, Bool, List, [], ◌∷◌, ◌++◌, codes, decimal, flat_map, nat_lt, ◌==◌, ◌||◌, ◌&&◌, not, if◌then◌else◌}
 use Rattle.std.specs.Str.{is_utf8}
 use Rattle.odht_tool_core.specs.Texts.{hex_digits, hex_text}
 
@@ -49,10 +48,6 @@ string_field name text = (name, json_string text)
 
 abbrev pub text_field : List ℕ → List ℕ → List ℕ × List ℕ
 text_field name text = if is_utf8 text then string_field name text else string_field (name ++ codes "_hex") (hex_text text)
-
-abbrev pub number_or_null : Option ℕ → List ℕ
-number_or_null None = codes "null"
-number_or_null (Some n) = decimal n
 
 abbrev pub truth : Bool → List ℕ
 truth b = if b then codes "true" else codes "false"

@@ -23,7 +23,7 @@ pub mod Slots
 pub mod InfoNumbers
 -- what may help where searches are long
 pub mod Advice
--- its text
+-- parts of its text
 pub mod InfoTexts
 -- the table that begins with some bytes
 pub mod Fronts
@@ -69,8 +69,8 @@ pub mod JsonAnswers
 pub mod JsonSlots
 -- what `dump` writes of stored bytes
 pub mod DumpTexts
--- what `info --json` writes
-pub mod InfoJson
+-- the report of `info`
+pub mod InfoReports
 -- the lines of progress
 pub mod Progress
 -- the words that say which line of a key counts

@@ -1,5 +1,7 @@
 -- Reports: names and values, and what is written of them.
---     Said                 what a field says: nothing, whether something is so, a number, or a text
+--     Said                 what a field says: nothing, whether something is so, a number, a number of groups and the bound
+--                          of these, a text, how many slots of each stretch of that many slots are occupied, the counts of
+--                          a histogram and the longest number of groups, or what helps a file
 --     Wording              the words of a text round a value, and those in place of all that where it says nothing, or that
 --                          something is not so
 --     Told                 a field: its name, what it says, and the words round that, which a field of objects alone has not
@@ -14,20 +16,28 @@
 --     report_as j ts       a line of the object; without j the text
 --     field, between, said_number    a field of these parts; a value with these words round it; the number, where there is
 --                          one
-use Rattle.std.specs.Prelude.{ℕ, Bool, true, false, List, [], ◌∷◌, ◌++◌, codes, decimal, flat_map, map, Option, Some, None, if◌then◌else◌}
+use Rattle.std.specs.Prelude.{ℕ, Bool, true, false, List, [], ◌∷◌, ◌++◌, codes, decimal, flat_map, length, map, Option, Some, None, if◌then◌else◌}
 use Rattle.std.specs.Option.{option_map}
+use Rattle.odht_tool_core.specs.Advice.{help_text, options}
+use Rattle.odht_tool_core.specs.InfoNumbers.{stretch_len}
+use Rattle.odht_tool_core.specs.InfoTexts.{counts_array, groups_words, stretch_sign, tallies_text}
 use Rattle.odht_tool_core.specs.Json.{json_object, json_string, truth}
 use Rattle.odht_tool_core.specs.Refusals.{refusal_text}
+use Rattle.odht_tool_core.specs.declared.advice.Advice.{Advice}
 use Rattle.odht_tool_core.specs.declared.report.Field.{Field}
 use Rattle.odht_tool_core.specs.declared.report.Value.{Value}
-use Rattle.odht_tool_core.specs.declared.report.Value.TheVariants.{Absent, Truth, Number, Text, Refused}
+use Rattle.odht_tool_core.specs.declared.report.Value.TheVariants.{Absent, Truth, Number, Groups, Text, Refused, Stretches, Histogram, Help}
 use Rattle.odht_tool_core.specs.declared.report.Words.{Words}
 
 pub data Said : Type 0 where
   nothing : Said
   whether : Bool → Said
   number : ℕ → Said
+  groups : ℕ → Option ℕ → Said
   text : List ℕ → Said
+  stretches : ℕ → List ℕ → Said
+  histogram : List ℕ → ℕ → Said
+  help : Advice → List ℕ → Bool → Said
 
 pub record Wording : Type 0 where
   pub before : List ℕ
@@ -44,8 +54,12 @@ abbrev pub said : Value → Said
 said Absent = nothing
 said (Truth b) = whether b
 said (Number n) = number n
+said (Groups count bound) = groups count bound
 said (Text t) = text t.now
 said (Refused error) = text (refusal_text error)
+said (Stretches slot_count counts) = stretches slot_count counts.now
+said (Histogram counts longest) = histogram counts.now longest
+said (Help advice file is_whole) = help advice file.now is_whole
 
 abbrev pub wording : Words → Wording
 wording w = record {
@@ -66,7 +80,11 @@ abbrev pub value_json : Said → List ℕ
 value_json nothing = codes "null"
 value_json (whether b) = truth b
 value_json (number n) = decimal n
+value_json (groups n o) = decimal n
 value_json (text t) = json_string t
+value_json (stretches s cs) = counts_array cs (length cs)
+value_json (histogram cs l) = counts_array cs l
+value_json (help a name is_whole) = json_string (options a is_whole)
 
 abbrev pub member : Told → List ℕ × List ℕ
 member t = (t.name, value_json t.said)
@@ -84,7 +102,11 @@ abbrev pub value_text : Said → List ℕ
 value_text nothing = []
 value_text (whether b) = []
 value_text (number n) = decimal n
+value_text (groups n o) = groups_words n o
 value_text (text t) = t
+value_text (stretches s cs) = map (stretch_sign (stretch_len s)) cs
+value_text (histogram cs l) = tallies_text cs l
+value_text (help a name is_whole) = help_text a name is_whole
 
 abbrev pub with_words : Wording → Said → List ℕ
 with_words w s = if is_said s then w.before ++ (value_text s ++ w.after) else w.otherwise

@@ -1,12 +1,9 @@
 //! What helps where the searches of a table are long.
-ghost use Rattle.std.specs.Prelude.{◌≡◌, ◌∷◌, OnOk, Some, codes};
+ghost use Rattle.std.specs.Prelude.{◌≡◌, OnOk};
 ghost use Rattle.std.specs.Io.KnownBytes.{Appends};
-ghost use Rattle.odht_tool_core.specs.Advice.{advice_text, advice_or_null};
-ghost use Rattle.odht_tool_core.specs.Advice.{line_of, needs_whole, options, reason, rebuilt_name};
-ghost use Rattle.odht_tool_core.specs.Json.{json_field};
+ghost use Rattle.odht_tool_core.specs.Advice.{help_text, needs_whole, options, reason, rebuilt_name};
 
 use crate::arguments::is_stream;
-use crate::json::{write_string_field, write_word_field};
 use crate::numbers::Numbers;
 use odht_raw::memory_layout::DEFAULT_GROUPS;
 use std::io::{self, Write};
@@ -44,16 +41,16 @@ impl Advice {
     }
 }
 
-// Whether some search is above the bound with which `odht rebuild` checks a table before.
-fn needs_whole(numbers: &Numbers) -> bool
+/// Whether some search is above the bound with which `odht rebuild` checks a table before.
+pub(crate) fn needs_whole(numbers: &Numbers) -> bool
     ensures { result ≡ needs_whole numbers.now }
 {
     numbers.longest_miss > DEFAULT_GROUPS
 }
 
-// The name for `odht rebuild`, which takes files of a table alone: FILE where this is none, or is
-// standard input.
-fn rebuilt_name<'a>(at: Option<usize>, file: &'a str) -> &'a str
+/// The name for `odht rebuild`, which takes files of a table alone: FILE where this is none, or is
+/// standard input.
+pub(crate) fn rebuilt_name<'a>(at: Option<usize>, file: &'a str) -> &'a str
     ensures { result.now ≡ rebuilt_name at file.now }
 {
     if at.is_some() || is_stream(file) {
@@ -63,50 +60,16 @@ fn rebuilt_name<'a>(at: Option<usize>, file: &'a str) -> &'a str
     }
 }
 
-/// Writes the line of what helps the table at this byte of the file of this name, if anything.
-pub(crate) fn write_advice<O: Write>(
-    file: &str,
-    at: Option<usize>,
-    numbers: &Numbers,
-    output: &mut O,
-) -> io::Result<()>
-    ensures { OnOk result (Appends (O.contents output.old) (O.contents output.new)
-        (advice_text at file.now numbers.now)) }
-{
-    let name = rebuilt_name(at, file);
-    match numbers.advice {
-        Some(advice) => write_line(advice, name, needs_whole(numbers), output),
-        None => Ok(()),
-    }
-}
-
-// Writes the line of what helps a file of this name.
-fn write_line<O: Write>(
+/// Writes what helps: the words for it, and how a file of this name is rebuilt so.
+pub(crate) fn write_help<O: Write>(
     advice: Advice,
-    name: &str,
+    file: &str,
     is_whole: bool,
     output: &mut O,
 ) -> io::Result<()>
     ensures { OnOk result (Appends (O.contents output.old) (O.contents output.new)
-        (line_of (Some advice) name.now is_whole)) }
+        (help_text advice file.now is_whole)) }
 {
     let (reason, options) = (advice.reason(), advice.options(is_whole));
-    writeln!(
-        output,
-        "may help      {reason}: odht rebuild {name} {options}"
-    )
-}
-
-/// Writes the field of an object of JSON: a string of the options for what helps, or null.
-pub(crate) fn write_field<O: Write>(numbers: &Numbers, output: &mut O) -> io::Result<()>
-    ensures { let field = json_field (codes "may_help", advice_or_null numbers.now)
-        in OnOk result (Appends (O.contents output.old) (O.contents output.new) (44 ∷ field)) }
-{
-    match numbers.advice {
-        Some(advice) => {
-            let options = advice.options(needs_whole(numbers));
-            write_string_field("may_help", options, output)
-        }
-        None => write_word_field("may_help", "null", output),
-    }
+    write!(output, "{reason}: odht rebuild {file} {options}")
 }

@@ -1,10 +1,10 @@
 //! How many items are found by reading one group, two groups, and so on.
 ghost use Rattle.std.specs.Prelude.{◌≡◌, ◌≤◌, ◌<◌, ◌^◌, ℕ, List, [], ◌∷◌, ◌++◌, IfOk};
-ghost use Rattle.std.specs.Prelude.{OnOk, length, min};
+ghost use Rattle.std.specs.Prelude.{OnOk, length};
 ghost use Rattle.std.specs.Io.KnownBytes.{Appends};
 ghost use Rattle.odht_tool_core.specs.InfoNumbers.{IsHistogram, largest};
 ghost use Rattle.odht_tool_core.specs.InfoTexts.{bar, longer_mark, tally_line, tallies_text};
-ghost use Rattle.odht_tool_core.specs.InfoJson.{count_item, counts_array, counts_text};
+ghost use Rattle.odht_tool_core.specs.InfoTexts.{count_item, counts_array, counts_text};
 
 use std::alloc::{AllocError, Global};
 use std::io::{self, Write};
@@ -48,54 +48,57 @@ impl Histogram {
         self.counts[index] = self.counts[index].saturating_add(1);
     }
 
-    /// Writes a line for each number of groups up to the largest: the number, the count, and a
-    /// bar.
-    pub fn write<W: Write>(&self, output: &mut W) -> io::Result<()>
-        requires { length self.now.counts.items ≡ 64 }
-        ensures { OnOk result (Appends (W.contents output.old) (W.contents output.new)
-            (tallies_text self.now.counts.items self.now.longest)) }
+    /// For each number of groups from 1 on the count. The last is that of all larger numbers too.
+    pub fn counts(&self) -> &[usize]
+        ensures { result.now ≡ self.now.counts.items }
     {
-        let most = largest_of(self.counts.as_slice());
-        for index in 0..self.longest.min(MOST) {
-            self.write_tally(index, most, output)?;
-        }
-        Ok(())
-    }
-
-    /// Writes an array of JSON: for each number of groups up to the largest the count. The last of
-    /// 64 counts is that of all larger numbers too.
-    pub fn write_array<W: Write>(&self, output: &mut W) -> io::Result<()>
-        requires { length self.now.counts.items ≡ 64 }
-        ensures { OnOk result (Appends (W.contents output.old) (W.contents output.new)
-            (counts_array self.now.counts.items self.now.longest)) }
-    {
-        write_array(self.counts.as_slice(), self.longest, output)
-    }
-
-    // Writes the line of a count.
-    fn write_tally<W: Write>(&self, index: usize, most: usize, output: &mut W) -> io::Result<()>
-        requires index { index < length self.now.counts.items }
-        requires all { length self.now.counts.items ≡ 64 }
-        requires most { most ≡ largest self.now.counts.items }
-        ensures { OnOk result (Appends (W.contents output.old) (W.contents output.new)
-            (tally_line self.now.counts.items self.now.longest index)) }
-    {
-        let groups = index + 1;
-        let count = self.counts[index];
-        let more = longer_mark(index, self.longest);
-        write!(output, "{groups:>8}{more}  {count:>12}  ")?;
-        write_bar(count, most, output)?;
-        output.write_all(b"\n")
+        self.counts.as_slice()
     }
 }
 
-/// Writes an array of JSON of the first `shown` counts, at most 64.
+/// Writes a line for each number of groups up to the longest: the number, its count, and a bar.
+pub(crate) fn write_bars<W: Write>(
+    counts: &[usize],
+    longest: usize,
+    output: &mut W,
+) -> io::Result<()>
+    ensures { OnOk result (Appends (W.contents output.old) (W.contents output.new)
+        (tallies_text counts.now longest)) }
+{
+    let most = largest_of(counts);
+    for index in 0..longest.min(counts.len()) {
+        write_tally(counts, longest, index, most, output)?;
+    }
+    Ok(())
+}
+
+// Writes the line of a count.
+fn write_tally<W: Write>(
+    counts: &[usize],
+    longest: usize,
+    index: usize,
+    most: usize,
+    output: &mut W,
+) -> io::Result<()>
+    requires index { index < length counts.now }
+    requires most { most ≡ largest counts.now }
+    ensures { OnOk result (Appends (W.contents output.old) (W.contents output.new)
+        (tally_line counts.now longest index)) }
+{
+    let groups = index + 1;
+    let count = counts[index];
+    let more = longer_mark(groups, longest);
+    write!(output, "{groups:>8}{more}  {count:>12}  ")?;
+    write_bar(count, most, output)?;
+    output.write_all(b"\n")
+}
+
+/// Writes an array of JSON of the first counts, as many as are shown.
 pub(crate) fn write_array<W: Write>(
     counts: &[usize],
     shown: usize,
     output: &mut W,
 ) -> io::Result<()>
-    requires { min shown 64 ≤ length counts.now }
     ensures { OnOk result (Appends (W.contents output.old) (W.contents output.new)
         (counts_array counts.now shown)) }
 {
@@ -106,11 +109,10 @@ pub(crate) fn write_array<W: Write>(
 
 // Writes the counts, with a comma before each but the first.
 fn write_counts<W: Write>(counts: &[usize], shown: usize, output: &mut W) -> io::Result<()>
-    requires { min shown 64 ≤ length counts.now }
     ensures { OnOk result (Appends (W.contents output.old) (W.contents output.new)
         (counts_text counts.now shown)) }
 {
-    for index in 0..shown.min(MOST) {
+    for index in 0..shown.min(counts.len()) {
         write_count(counts, index, output)?;
     }
     Ok(())
@@ -141,12 +143,11 @@ fn largest_of(counts: &[usize]) -> usize
     most
 }
 
-// A `+` after the last count, where it is also that of larger numbers of groups.
-fn longer_mark(index: usize, longest: usize) -> &'static str
-    requires { index < 64 }
-    ensures { result.now ≡ longer_mark longest index }
+// A `+` behind the last number of groups, where its count is also that of larger ones.
+fn longer_mark(groups: usize, longest: usize) -> &'static str
+    ensures { result.now ≡ longer_mark longest groups }
 {
-    if index + 1 == MOST && longest > MOST {
+    if groups == MOST && longest > MOST {
         "+"
     } else {
         ""

@@ -1,8 +1,7 @@
 //! Texts of JSON: strings, and the fields of objects.
 ghost use Rattle.std.specs.Prelude.{◌∷◌, codes, flat_map, OnOk};
 ghost use Rattle.std.specs.Io.KnownBytes.{Appends};
-ghost use Rattle.odht_tool_core.specs.Json.{json_byte, json_field, json_string, number_field};
-ghost use Rattle.odht_tool_core.specs.Json.{number_or_null, string_field};
+ghost use Rattle.odht_tool_core.specs.Json.{json_byte, json_field, json_string, string_field};
 
 pub mod answers;
 pub(crate) mod displayed;
@@ -54,44 +53,4 @@ pub fn write_file_field<O: Write>(file: &str, output: &mut O) -> io::Result<()>
 {
     output.write_all(b"{\"file\":")?;
     write_string(file.as_bytes(), output)
-}
-
-/// Writes one more field of an object: a number.
-pub fn write_number_field<O: Write>(name: &str, number: u128, output: &mut O) -> io::Result<()>
-    ensures { let field = json_field (number_field name.now number)
-        in OnOk result (Appends (O.contents output.old) (O.contents output.new) (44 ∷ field)) }
-{
-    write!(output, ",\"{name}\":{number}")
-}
-
-/// Writes one more field of an object: a number, or null where there is none.
-pub fn write_optional_field<O: Write>(
-    name: &str,
-    number: Option<usize>,
-    output: &mut O,
-) -> io::Result<()>
-    ensures { let field = json_field (name.now, number_or_null number)
-        in OnOk result (Appends (O.contents output.old) (O.contents output.new) (44 ∷ field)) }
-{
-    match number {
-        Some(number) => write_number_field(name, number as u128, output),
-        None => write_word_field(name, "null", output),
-    }
-}
-
-/// Writes one more field of an object: a value that is a word.
-pub fn write_word_field<O: Write>(name: &str, word: &str, output: &mut O) -> io::Result<()>
-    ensures { let field = json_field (name.now, word.now)
-        in OnOk result (Appends (O.contents output.old) (O.contents output.new) (44 ∷ field)) }
-{
-    write!(output, ",\"{name}\":{word}")
-}
-
-/// Writes one more field of an object: the string of a text.
-pub fn write_string_field<O: Write>(name: &str, text: &str, output: &mut O) -> io::Result<()>
-    ensures { let field = json_field (string_field name.now text.now)
-        in OnOk result (Appends (O.contents output.old) (O.contents output.new) (44 ∷ field)) }
-{
-    write!(output, ",\"{name}\":")?;
-    write_string(text.as_bytes(), output)
 }

@@ -22,7 +22,6 @@ pub mod help;
 pub mod hexadecimal;
 mod histogram;
 pub mod info;
-mod info_json;
 pub mod inside;
 pub mod job;
 pub mod json;

@@ -2,14 +2,18 @@
 ghost use Rattle.std.specs.Prelude.{◌≡◌, ◌∷◌, OnOk, map};
 ghost use Rattle.std.specs.Io.KnownBytes.{Appends};
 ghost use Rattle.std.specs.Option.{option_map};
+ghost use Rattle.odht_tool_core.specs.InfoTexts.{groups_words};
 ghost use Rattle.odht_tool_core.specs.Json.{json_field};
 ghost use Rattle.odht_tool_core.specs.Reports.{between, is_said, member, report_among, report_as};
 ghost use Rattle.odht_tool_core.specs.Reports.{report_object, report_text, said, said_number, told, told_text};
 ghost use Rattle.odht_tool_core.specs.Reports.{value_json, value_text, with_words, wording};
 
+use crate::advice::{Advice, write_help};
+use crate::histogram::{write_array, write_bars};
 use crate::json::displayed::write_displayed;
 use crate::json::write_string;
 use crate::refusal::Refusal;
+use crate::stretches::write_stretches;
 use odht_header::error::Error;
 use std::io::{self, Write};
 
@@ -33,10 +37,32 @@ pub enum Value<'a> {
     Truth(bool),
     /// A number.
     Number(u128),
+    /// A number of groups. Where it is above the bound, a text tells that alone.
+    Groups {
+        count: usize,
+        bound: Option<usize>,
+    },
     /// A text.
     Text(&'a str),
     /// The text of an error of a table.
     Refused(Error),
+    /// How many slots of each stretch are occupied, of a table of that many slots; a sign for each in
+    /// a text.
+    Stretches {
+        slot_count: usize,
+        counts: &'a [usize],
+    },
+    /// Counts of a histogram, up to the longest number of groups; a line for each in a text.
+    Histogram {
+        counts: &'a [usize],
+        longest: usize,
+    },
+    /// What makes the searches of a file of this name short; the options for it in an object.
+    Help {
+        advice: Advice,
+        file: &'a str,
+        is_whole: bool,
+    },
 }
 
 /// The words of a text round a value.
@@ -170,11 +196,30 @@ fn write_plain<O: Write>(value: &Value<'_>, output: &mut O) -> io::Result<()>
     match *value {
         Value::Absent | Value::Truth(_) => Ok(()),
         Value::Number(number) => write!(output, "{number}"),
+        Value::Groups { count, bound } => write_groups(count, bound, output),
         Value::Text(text) => output.write_all(text.as_bytes()),
         Value::Refused(error) => {
             let refusal = Refusal(error);
             write!(output, "{refusal}")
         }
+        Value::Stretches { slot_count, counts } => write_stretches(slot_count, counts, output),
+        Value::Histogram { counts, longest } => write_bars(counts, longest, output),
+        Value::Help {
+            advice,
+            file,
+            is_whole,
+        } => write_help(advice, file, is_whole, output),
+    }
+}
+
+// Writes a number of groups, or that it is above the bound.
+fn write_groups<O: Write>(count: usize, bound: Option<usize>, output: &mut O) -> io::Result<()>
+    ensures { OnOk result (Appends (O.contents output.old) (O.contents output.new)
+        (groups_words count bound)) }
+{
+    match bound {
+        Some(bound) if bound < count => write!(output, "more than {bound} groups"),
+        _ => write!(output, "{count} groups"),
     }
 }
 
@@ -199,7 +244,15 @@ fn write_value<O: Write>(value: &Value<'_>, output: &mut O) -> io::Result<()>
         Value::Truth(true) => output.write_all(b"true"),
         Value::Truth(false) => output.write_all(b"false"),
         Value::Number(number) => write!(output, "{number}"),
+        Value::Groups { count, .. } => write!(output, "{count}"),
         Value::Text(text) => write_string(text.as_bytes(), output),
         Value::Refused(error) => write_displayed(Refusal(error), output),
+        Value::Stretches { counts, .. } => write_array(counts, counts.len(), output),
+        Value::Histogram { counts, longest } => write_array(counts, longest, output),
+        Value::Help {
+            advice,
+            is_whole,
+            ..
+        } => write_string(advice.options(is_whole).as_bytes(), output),
     }
 }

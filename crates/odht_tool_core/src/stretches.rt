@@ -2,7 +2,7 @@
 ghost use Rattle.std.specs.Prelude.{◌≡◌, ◌<◌, OnOk, map};
 ghost use Rattle.std.specs.Io.KnownBytes.{Appends};
 ghost use Rattle.odht_tool_core.specs.InfoNumbers.{stretch_len};
-ghost use Rattle.odht_tool_core.specs.InfoTexts.{stretch_sign, stretches_line};
+ghost use Rattle.odht_tool_core.specs.InfoTexts.{stretch_sign};
 
 use std::io::{self, Write};
 
@@ -16,18 +16,17 @@ pub(crate) fn stretch_len(slot_count: usize) -> usize
     (slot_count / STRETCHES).max(1)
 }
 
-/// Writes the line of how many slots of each stretch are occupied, a sign for each.
+/// Writes how many slots of each stretch are occupied, of a table of that many slots, a sign for
+/// each.
 pub(crate) fn write_stretches<O: Write>(
     slot_count: usize,
     counts: &[usize],
     output: &mut O,
 ) -> io::Result<()>
     ensures { OnOk result (Appends (O.contents output.old) (O.contents output.new)
-        (stretches_line (stretch_len slot_count) counts.now)) }
+        (map (stretch_sign (stretch_len slot_count)) counts.now)) }
 {
-    output.write_all(b"along slots   ")?;
-    write_signs(stretch_len(slot_count), counts, output)?;
-    output.write_all(b"\n")
+    write_signs(stretch_len(slot_count), counts, output)
 }
 
 // Writes the signs of stretches of that many slots.

@@ -80,7 +80,7 @@ pub const METHODS_OF_PROGRAMS: &str =
     into_inner into_iter into_string is_ascii_alphabetic is_ascii_hexdigit is_err is_file is_symlink is_terminal kind \
     map map_err metadata mode nlink ok ok_or or pop read_at read_exact read_link read_to_end remove rsplit_once set_permissions \
     simd_gt simd_lt skip split_once starts_with stderr stdin stdout strip_prefix swap_bytes sync_all take uid unwrap \
-    write_char write_str";
+    write_all write_char write_str";
 
 /// Methods that allocate in Rust: in Rattle each takes an allocator, or returns that memory was refused. They are an
 /// error also where a function of this name is declared.

@@ -23,16 +23,18 @@ pub fn run_reading<I: BufRead, O: Write, E: Write>(
         alloc,
         file,
         is_one,
-        at,
         bytes,
         ..
     } = job;
     match reading {
         Reading::Info { bound, is_json } => {
             let advice = advice_of(alloc, bytes)?;
-            info_file(
-                alloc, file, is_one, at, bytes, *bound, *is_json, advice, output,
-            )
+            let job = Job {
+                bound: *bound,
+                is_json: *is_json,
+                ..job
+            };
+            info_file(&job, advice, output)
         }
         Reading::Check {
             hash,

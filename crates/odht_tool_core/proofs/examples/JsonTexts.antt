@@ -1,20 +1,20 @@
 -- Worked examples: texts of JSON.
-use Rattle.std.proofs.Common.{◌≡◌, ◌∙◌, ℕ, true, false, refl, List, [], ◌∷◌, ◌++◌, Some, None, length, set, replicate, ap, ap₂}
+use Rattle.std.proofs.Common.{◌≡◌, true, false, refl, [], ◌∷◌, Some, None}
 use Rattle.std.specs.Prelude.{codes}
 use Rattle.std.specs.Fmt.{digits}
 use Rattle.std.specs.Char.{encode_utf8}
 use Rattle.std.specs.Str.{chars, is_utf8}
 use Rattle.odht_header.proofs.examples.Opened.{opened}
 use Rattle.odht_tool_core.specs.Finds.{table_report}
-use Rattle.odht_tool_core.specs.InfoJson.{at_fields, count_fields, counts_array, hash_or_null, info_as, length_fields, longest_hit}
-use Rattle.odht_tool_core.specs.InfoNumbers.{tallies, largest, IsHistogram}
-use Rattle.odht_tool_core.specs.Json.{is_simple, json_object, json_string, number_field, number_or_null, pair_object, string_field, text_field, truth}
+use Rattle.odht_tool_core.specs.InfoNumbers.{tallies}
+use Rattle.odht_tool_core.specs.InfoReports.{hash_said, hit_said}
+use Rattle.odht_tool_core.specs.InfoTexts.{counts_array}
+use Rattle.odht_tool_core.specs.Json.{is_simple, json_object, json_string, number_field, pair_object, string_field, text_field, truth}
 use Rattle.odht_tool_core.specs.JsonAnswers.{absent_object, answer_in}
 use Rattle.odht_tool_core.specs.JsonSlots.{slot_object}
-use Rattle.odht_tool_core.specs.Reports.{report_among}
+use Rattle.odht_tool_core.specs.Reports.{report_among, value_json}
 use Rattle.odht_tool_core.specs.Texts.{hex_text}
-use Rattle.odht_tool_core.specs.declared.numbers.Numbers.{Numbers}
-use Rattle.odht_tool_core.specs.declared.shapes.Hash.TheVariants.{Fx, Unhash}
+use Rattle.odht_tool_core.specs.declared.shapes.Hash.TheVariants.{Fx}
 use Rattle.odht_tool_core.proofs.examples.Shapes.{one_bytes}
 
 -- a quote and a backslash, bytes below 32, and an e with an accent
@@ -26,7 +26,7 @@ pub simple : (is_simple 65 ≡ true) × (is_simple 34 ≡ false) × (is_simple 9
 simple = (refl, refl, refl, refl, refl)
 
 -- no field, and some
-pub objects : (json_object [] ≡ codes "{}") × (json_object (number_field (codes "n") 12 ∷ (codes "valid", truth true) ∷ (codes "bound", number_or_null None) ∷ []) ≡ codes "{\"n\":12,\"valid\":true,\"bound\":null}")
+pub objects : (json_object [] ≡ codes "{}") × (json_object (number_field (codes "n") 12 ∷ (codes "valid", truth true) ∷ (codes "bound", codes "null") ∷ []) ≡ codes "{\"n\":12,\"valid\":true,\"bound\":null}")
 unfolding digits
 objects = (refl, refl)
 
@@ -50,34 +50,11 @@ unfolding chars is_utf8 encode_utf8 pair_object absent_object
 answers = (refl, refl, refl, refl)
 
 -- two keys by one group, none by two, one by three; and without a hash function
-pub counts : (counts_array (tallies (1 ∷ 3 ∷ 1 ∷ [])) 3 ≡ codes "[2,0,1]") × (counts_array (tallies []) 0 ≡ codes "[]") × (longest_hit None 0 ≡ None) × (longest_hit (Some Fx) 3 ≡ Some 3) × (hash_or_null (Some Fx) ≡ codes "\"fx\"") × (hash_or_null None ≡ codes "null")
+pub counts : (counts_array (tallies (1 ∷ 3 ∷ 1 ∷ [])) 3 ≡ codes "[2,0,1]") × (counts_array (tallies []) 0 ≡ codes "[]")
+    × (value_json (hit_said None (Some 128) 0) ≡ codes "null") × (value_json (hit_said (Some Fx) (Some 128) 3) ≡ codes "3")
+    × (value_json (hash_said (Some Fx)) ≡ codes "\"fx\"") × (value_json (hash_said None) ≡ codes "null")
 unfolding tallies digits
 counts = (refl, refl, refl, refl, refl, refl)
-
--- all numbers of a table
-abbrev one : Numbers → Numbers
-one n = record n {
-  key_size = 4;
-  value_size = 4;
-  len = 192;
-  item_count = 1;
-  slot_count = 16;
-  max_item_count = 1;
-  load = 6;
-  max_load = 7;
-  hash = Some Unhash;
-  bound = Some 128;
-  longest_miss = 1;
-  advice = None;
-}
-
-pub whole : (n : Numbers) → IsHistogram (1 ∷ []) n.histogram → n.stretches.items ≡ set (replicate 16 0) 5 1
-    → info_as true true (Some 2) (codes "a") (one n) ≡ codes "{\"file\":\"a\",\"at\":2,\"key_bytes\":4,\"value_bytes\":4,\"header_bytes\":32,\"all_bytes\":192,\"items\":1,\"slots\":16,\"maximum\":1,\"load_percent\":6,\"maximum_load_percent\":7,\"along_slots\":[0,0,0,0,0,1,0,0,0,0,0,0,0,0,0,0],\"hash\":\"unhash\",\"bound\":128,\"histogram\":[1],\"longest_hit\":1,\"longest_miss\":1,\"may_help\":null}\n"
-unfolding tallies largest digits
-whole n is along =
-    let front = string_field (codes "file") (codes "a") ∷ (at_fields (Some 2) ++ (length_fields (one n) ++ count_fields (one n))) in
-    let all = λ (slots : List ℕ). λ (cs : List ℕ). λ (l : ℕ). json_object (front ++ ((codes "along_slots", counts_array slots (length slots)) ∷ (codes "hash", hash_or_null (Some Unhash)) ∷ (codes "bound", number_or_null (Some 128)) ∷ (codes "histogram", counts_array cs l) ∷ (codes "longest_hit", number_or_null (longest_hit (Some Unhash) l)) ∷ number_field (codes "longest_miss") 1 ∷ (codes "may_help", codes "null") ∷ [])) ++ (10 ∷ []) in
-    ap₂ (all n.stretches.items) is.counts is.longest ∙ ap (λ slots. all slots (tallies (1 ∷ [])) (largest (1 ∷ []))) along
 
 -- a table inside a file, and its line
 pub found : (report_among true (table_report 2 one_bytes (codes "valid")) ≡ codes "{\"offset\":2,\"bytes\":192,\"key_bytes\":4,\"value_bytes\":4,\"items\":1,\"slots\":16,\"load_percent\":6,\"hash\":\"unhash\",\"check\":\"valid\"}")

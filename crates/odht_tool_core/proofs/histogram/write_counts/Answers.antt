@@ -1,7 +1,7 @@
 use Rattle.std.proofs.Common.{sym, subst}
 use Rattle.std.specs.Io.KnownBytes.{Appends}
 use Rattle.std.proofs.KnownBytes.{Appends-trans}
-use Rattle.odht_tool_core.specs.InfoJson.{count_item}
+use Rattle.odht_tool_core.specs.InfoTexts.{count_item}
 use Rattle.std.specs.List.{flat_map, range_with_len}
 use Rattle.odht_tool_core.proofs.Counting.{written_more}
 use Rattle.odht_tool_core.proofs.histogram.write_counts.Goals as goal

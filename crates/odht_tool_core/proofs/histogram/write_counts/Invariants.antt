@@ -1,6 +1,6 @@
 use Rattle.std.specs.Io.KnownBytes.{Appends}
 use Rattle.std.specs.List.{flat_map, range_with_len}
-use Rattle.odht_tool_core.specs.InfoJson.{count_item}
+use Rattle.odht_tool_core.specs.InfoTexts.{count_item}
 use Rattle.odht_tool_core.proofs.histogram.write_counts.Given as goal
 
 -- the counts so far are written

@@ -2,7 +2,6 @@
 //! What helps where the searches of a table are long.
 
 use crate::generated::core::arguments::is_stream;
-use crate::generated::core::json::{write_string_field, write_word_field};
 use crate::generated::core::numbers::Numbers;
 use crate::generated::raw::memory_layout::DEFAULT_GROUPS;
 use crate::host::prelude::*;
@@ -37,14 +36,14 @@ impl Advice {
     }
 }
 
-// Whether some search is above the bound with which `odht rebuild` checks a table before.
-fn needs_whole(numbers: &Numbers) -> bool {
+/// Whether some search is above the bound with which `odht rebuild` checks a table before.
+pub(crate) fn needs_whole(numbers: &Numbers) -> bool {
     numbers.longest_miss > DEFAULT_GROUPS
 }
 
-// The name for `odht rebuild`, which takes files of a table alone: FILE where this is none, or is
-// standard input.
-fn rebuilt_name<'a>(at: Option<usize>, file: &'a str) -> &'a str {
+/// The name for `odht rebuild`, which takes files of a table alone: FILE where this is none, or is
+/// standard input.
+pub(crate) fn rebuilt_name<'a>(at: Option<usize>, file: &'a str) -> &'a str {
     if at.is_some() || is_stream(file) {
         "FILE"
     } else {
@@ -52,38 +51,13 @@ fn rebuilt_name<'a>(at: Option<usize>, file: &'a str) -> &'a str {
     }
 }
 
-/// Writes the line of what helps the table at this byte of the file of this name, if anything.
-pub(crate) fn write_advice<O: Write>(
-    file: &str,
-    at: Option<usize>,
-    numbers: &Numbers,
-    output: &mut O,
-) -> io::Result<()> {
-    let name = rebuilt_name(at, file);
-    match numbers.advice {
-        Some(advice) => write_line(advice, name, needs_whole(numbers), output),
-        None => Ok(()),
-    }
-}
-
-// Writes the line of what helps a file of this name.
-fn write_line<O: Write>(
+/// Writes what helps: the words for it, and how a file of this name is rebuilt so.
+pub(crate) fn write_help<O: Write>(
     advice: Advice,
-    name: &str,
+    file: &str,
     is_whole: bool,
     output: &mut O,
 ) -> io::Result<()> {
     let (reason, options) = (advice.reason(), advice.options(is_whole));
-    writeln!(output, "may help      {reason}: odht rebuild {name} {options}")
-}
-
-/// Writes the field of an object of JSON: a string of the options for what helps, or null.
-pub(crate) fn write_field<O: Write>(numbers: &Numbers, output: &mut O) -> io::Result<()> {
-    match numbers.advice {
-        Some(advice) => {
-            let options = advice.options(needs_whole(numbers));
-            write_string_field("may_help", options, output)
-        }
-        None => write_word_field("may_help", "null", output),
-    }
+    write!(output, "{reason}: odht rebuild {file} {options}")
 }

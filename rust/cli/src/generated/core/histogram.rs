@@ -31,34 +31,42 @@ impl Histogram {
         self.counts[index] = self.counts[index].saturating_add(1);
     }
 
-    /// Writes a line for each number of groups up to the largest: the number, the count, and a
-    /// bar.
-    pub fn write<W: Write>(&self, output: &mut W) -> io::Result<()> {
-        let most = largest_of(self.counts.as_slice());
-        for index in 0..self.longest.min(MOST) {
-            self.write_tally(index, most, output)?;
-        }
-        Ok(())
-    }
-
-    /// Writes an array of JSON: for each number of groups up to the largest the count. The last of
-    /// 64 counts is that of all larger numbers too.
-    pub fn write_array<W: Write>(&self, output: &mut W) -> io::Result<()> {
-        write_array(self.counts.as_slice(), self.longest, output)
-    }
-
-    // Writes the line of a count.
-    fn write_tally<W: Write>(&self, index: usize, most: usize, output: &mut W) -> io::Result<()> {
-        let groups = index + 1;
-        let count = self.counts[index];
-        let more = longer_mark(index, self.longest);
-        write!(output, "{groups:>8}{more}  {count:>12}  ")?;
-        write_bar(count, most, output)?;
-        output.write_all(b"\n")
+    /// For each number of groups from 1 on the count. The last is that of all larger numbers too.
+    pub fn counts(&self) -> &[usize] {
+        self.counts.as_slice()
     }
 }
 
-/// Writes an array of JSON of the first `shown` counts, at most 64.
+/// Writes a line for each number of groups up to the longest: the number, its count, and a bar.
+pub(crate) fn write_bars<W: Write>(
+    counts: &[usize],
+    longest: usize,
+    output: &mut W,
+) -> io::Result<()> {
+    let most = largest_of(counts);
+    for index in 0..longest.min(counts.len()) {
+        write_tally(counts, longest, index, most, output)?;
+    }
+    Ok(())
+}
+
+// Writes the line of a count.
+fn write_tally<W: Write>(
+    counts: &[usize],
+    longest: usize,
+    index: usize,
+    most: usize,
+    output: &mut W,
+) -> io::Result<()> {
+    let groups = index + 1;
+    let count = counts[index];
+    let more = longer_mark(groups, longest);
+    write!(output, "{groups:>8}{more}  {count:>12}  ")?;
+    write_bar(count, most, output)?;
+    output.write_all(b"\n")
+}
+
+/// Writes an array of JSON of the first counts, as many as are shown.
 pub(crate) fn write_array<W: Write>(
     counts: &[usize],
     shown: usize,
@@ -71,7 +79,7 @@ pub(crate) fn write_array<W: Write>(
 
 // Writes the counts, with a comma before each but the first.
 fn write_counts<W: Write>(counts: &[usize], shown: usize, output: &mut W) -> io::Result<()> {
-    for index in 0..shown.min(MOST) {
+    for index in 0..shown.min(counts.len()) {
         write_count(counts, index, output)?;
     }
     Ok(())
@@ -96,9 +104,9 @@ fn largest_of(counts: &[usize]) -> usize {
     most
 }
 
-// A `+` after the last count, where it is also that of larger numbers of groups.
-fn longer_mark(index: usize, longest: usize) -> &'static str {
-    if index + 1 == MOST && longest > MOST {
+// A `+` behind the last number of groups, where its count is also that of larger ones.
+fn longer_mark(groups: usize, longest: usize) -> &'static str {
+    if groups == MOST && longest > MOST {
         "+"
     } else {
         ""

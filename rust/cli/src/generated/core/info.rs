@@ -1,144 +1,148 @@
 // Generated from crates/odht_tool_core/src/info.rt by make generate.
 //! `odht info`: what a table file of any shape holds.
 
-use crate::generated::core::advice::{write_advice, Advice};
+use crate::generated::core::advice::{needs_whole, rebuilt_name, Advice};
 use crate::generated::core::failure::Failure;
-use crate::generated::core::histogram::Histogram;
-use crate::generated::core::info_json::write_object;
+use crate::generated::core::job::Job;
 use crate::generated::core::numbers::{numbers_of, Numbers};
+use crate::generated::core::report::{write_report, Field, Value, Words};
 use crate::generated::core::shapes::Hash;
 use crate::generated::core::status::Status;
-use crate::generated::core::stretches::write_stretches;
 use crate::generated::header::header::HEADER_SIZE;
 use crate::host::prelude::*;
-use crate::shim::Global;
-use std::io::{self, Write};
+use std::io::Write;
 
-/// `odht info` of the bytes of the file of this name, or of the table at a byte of it: writes that
-/// byte, sizes, counts, load factors, how full the table is along its slots, how many groups a
-/// search reads for the items and for absent keys, up to the bound, and the advice, if any; after a line of the name where it is not the only one; with `is_json` as an object of
-/// JSON.
+/// `odht info` of the bytes of a file: writes where they begin in it, sizes, counts, load factors,
+/// how full the table is along its slots, how many groups a search reads for the items and for
+/// absent keys, up to the bound, and the advice, if any; after a line of the file's name where it
+/// is not the only one; or an object of JSON of all that.
 pub fn info_file<O: Write>(
-    alloc: Global,
-    file: &str,
-    is_one: bool,
-    at: Option<usize>,
-    bytes: &[u8],
-    bound: Option<usize>,
-    is_json: bool,
+    job: &Job<'_>,
     advice: Option<Advice>,
     output: &mut O,
 ) -> Result<Status, Failure> {
-    let numbers = numbers_of(alloc, bytes, bound, advice)?;
-    match write_as(file, is_one, at, &numbers, is_json, output) {
+    let numbers = numbers_of(job.alloc, job.bytes, job.bound, advice)?;
+    let report = report_of(job.file, job.is_one, job.at, &numbers);
+    match write_report(&report, job.is_json, output) {
         Ok(()) => Ok(Status::Done),
         Err(error) => Err(Failure::Output(error)),
     }
 }
 
-// The lines, after those of where the table is, or the object.
-fn write_as<O: Write>(
-    file: &str,
+// What is told of a file with these numbers.
+fn report_of<'a>(
+    file: &'a str,
     is_one: bool,
     at: Option<usize>,
-    numbers: &Numbers,
-    is_json: bool,
-    output: &mut O,
-) -> io::Result<()> {
-    if is_json {
-        return write_object(file, at, numbers, output);
-    }
-    write_place(file, is_one, at, output)?;
-    write_all(file, at, numbers, output)
+    numbers: &'a Numbers,
+) -> [Field<'a>; 18] {
+    [
+        file_field(file, is_one),
+        line("at", "at byte       ", Value::of_number(at), "\n"),
+        number_line("key_bytes", "key bytes     ", numbers.key_size as u128),
+        number_line("value_bytes", "value bytes   ", numbers.value_size as u128),
+        number_line("header_bytes", "header bytes  ", HEADER_SIZE as u128),
+        number_line("all_bytes", "all bytes     ", numbers.len as u128),
+        number_line("items", "items         ", numbers.item_count as u128),
+        number_line("slots", "slots         ", numbers.slot_count as u128),
+        number_line("maximum", "maximum       ", numbers.max_item_count as u128),
+        percent_line("load_percent", "load          ", numbers.load),
+        percent_line("maximum_load_percent", "maximum load  ", numbers.max_load as u128),
+        line("along_slots", "along slots   ", stretches_of(numbers), "\n"),
+        hash_field(numbers.hash),
+        bound_field(numbers.bound),
+        line("histogram", "", histogram_of(numbers), ""),
+        line("longest_hit", "longest hit   ", longest_hit(numbers), "\n"),
+        line("longest_miss", "longest miss  ", longest_miss(numbers), "\n"),
+        line("may_help", "may help      ", help_of(at, file, numbers), "\n"),
+    ]
 }
 
-// The lines of the file's name, where it is not the only one, and of the byte at which the table
-// stands in it.
-fn write_place<O: Write>(
-    file: &str,
-    is_one: bool,
-    at: Option<usize>,
-    output: &mut O,
-) -> io::Result<()> {
+// A field whose value stands on a line, behind this label.
+fn line<'a>(
+    name: &'static str,
+    label: &'static str,
+    value: Value<'a>,
+    end: &'static str,
+) -> Field<'a> {
+    Field { name, value, words: Words::between(label, end) }
+}
+
+// The same of a number.
+fn number_line(name: &'static str, label: &'static str, number: u128) -> Field<'static> {
+    line(name, label, Value::Number(number), "\n")
+}
+
+// The same of a number of percent.
+fn percent_line(name: &'static str, label: &'static str, number: u128) -> Field<'static> {
+    line(name, label, Value::Number(number), " percent\n")
+}
+
+// The name of the file. It has a line where the file is not the only one.
+fn file_field(file: &str, is_one: bool) -> Field<'_> {
+    Field { name: "file", value: Value::Text(file), words: file_words(is_one) }
+}
+
+fn file_words(is_one: bool) -> Option<Words<'static>> {
     if is_one {
-        return write_at(at, output);
-    }
-    writeln!(output, "file          {file}")?;
-    write_at(at, output)
-}
-
-// The line of the byte at which the table stands in the file, where that is told.
-fn write_at<O: Write>(at: Option<usize>, output: &mut O) -> io::Result<()> {
-    match at {
-        Some(at) => write_number_line("at byte       ", at as u128, "", output),
-        None => Ok(()),
+        None
+    } else {
+        Words::between("file          ", "\n")
     }
 }
 
-fn write_all<O: Write>(
-    file: &str,
-    at: Option<usize>,
-    numbers: &Numbers,
-    output: &mut O,
-) -> io::Result<()> {
-    write_sizes(numbers, output)?;
-    write_stretches(numbers.slot_count, numbers.stretches.as_slice(), output)?;
-    write_hash(numbers, output)?;
-    write_longest("longest miss  ", numbers.longest_miss, numbers.bound, output)?;
-    write_advice(file, at, numbers, output)
+// The hash function. The head of the histogram stands behind its line.
+fn hash_field(hash: Option<Hash>) -> Field<'static> {
+    Field {
+        name: "hash",
+        value: name_or_nothing(hash),
+        words: Some(Words {
+            before: "hash          ",
+            after: "\n  groups         items\n",
+            otherwise: "hash          none of fx, unhash and xxh64\n",
+        }),
+    }
 }
 
-// The lines of the hash function, where there is one with the histogram.
-fn write_hash<O: Write>(numbers: &Numbers, output: &mut O) -> io::Result<()> {
+fn name_or_nothing(hash: Option<Hash>) -> Value<'static> {
+    match hash {
+        Some(hash) => Value::Text(name_of(hash)),
+        None => Value::Absent,
+    }
+}
+
+// The bound, of which the lines of numbers of groups tell.
+fn bound_field(bound: Option<usize>) -> Field<'static> {
+    Field { name: "bound", value: Value::of_number(bound), words: None }
+}
+
+fn stretches_of(numbers: &Numbers) -> Value<'_> {
+    Value::Stretches { slot_count: numbers.slot_count, counts: numbers.stretches.as_slice() }
+}
+
+fn histogram_of(numbers: &Numbers) -> Value<'_> {
+    Value::Histogram { counts: numbers.histogram.counts(), longest: numbers.histogram.longest }
+}
+
+// The longest search for a present key, where there is a hash function.
+fn longest_hit(numbers: &Numbers) -> Value<'static> {
     match numbers.hash {
-        None => writeln!(output, "hash          none of fx, unhash and xxh64"),
-        Some(hash) => write_groups(hash, &numbers.histogram, numbers.bound, output),
+        Some(_) => Value::Groups { count: numbers.histogram.longest, bound: numbers.bound },
+        None => Value::Absent,
     }
 }
 
-// The lines of the sizes of keys, values and header, and of all bytes.
-fn write_lengths<O: Write>(numbers: &Numbers, output: &mut O) -> io::Result<()> {
-    write_number_line("key bytes     ", numbers.key_size as u128, "", output)?;
-    write_number_line("value bytes   ", numbers.value_size as u128, "", output)?;
-    write_number_line("header bytes  ", HEADER_SIZE as u128, "", output)?;
-    write_number_line("all bytes     ", numbers.len as u128, "", output)
+fn longest_miss(numbers: &Numbers) -> Value<'static> {
+    Value::Groups { count: numbers.longest_miss, bound: numbers.bound }
 }
 
-// The lines that do not depend on the hash function.
-fn write_sizes<O: Write>(numbers: &Numbers, output: &mut O) -> io::Result<()> {
-    write_lengths(numbers, output)?;
-    write_number_line("items         ", numbers.item_count as u128, "", output)?;
-    write_number_line("slots         ", numbers.slot_count as u128, "", output)?;
-    write_number_line("maximum       ", numbers.max_item_count as u128, "", output)?;
-    write_number_line("load          ", numbers.load, " percent", output)?;
-    write_number_line("maximum load  ", numbers.max_load as u128, " percent", output)
-}
-
-// The lines of the hash function and of the histogram.
-fn write_groups<O: Write>(
-    hash: Hash,
-    histogram: &Histogram,
-    bound: Option<usize>,
-    output: &mut O,
-) -> io::Result<()> {
-    let name = name_of(hash);
-    write!(output, "hash          {name}\n  groups         items\n")?;
-    histogram.write(output)?;
-    write_longest("longest hit   ", histogram.longest, bound, output)
-}
-
-// Writes a line of a label and a number of groups, or that it is above the bound.
-fn write_longest<O: Write>(
-    label: &str,
-    groups: usize,
-    bound: Option<usize>,
-    output: &mut O,
-) -> io::Result<()> {
-    match bound {
-        Some(bound) if bound < groups => {
-            writeln!(output, "{label}more than {bound} groups")
+// What helps the file, if anything.
+fn help_of<'a>(at: Option<usize>, file: &'a str, numbers: &Numbers) -> Value<'a> {
+    match numbers.advice {
+        Some(advice) => {
+            Value::Help { advice, file: rebuilt_name(at, file), is_whole: needs_whole(numbers) }
         }
-        _ => write_number_line(label, groups as u128, " groups", output),
+        None => Value::Absent,
     }
 }
 
@@ -149,14 +153,4 @@ pub fn name_of(hash: Hash) -> &'static str {
         Hash::Unhash => "unhash",
         Hash::Xxh64 => "xxh64",
     }
-}
-
-// Writes a line of a label and a number, with `end` after it.
-fn write_number_line<O: Write>(
-    label: &str,
-    number: u128,
-    end: &str,
-    output: &mut O,
-) -> io::Result<()> {
-    writeln!(output, "{label}{number}{end}")
 }

@@ -42,31 +42,3 @@ pub fn write_file_field<O: Write>(file: &str, output: &mut O) -> io::Result<()> 
     output.write_all(b"{\"file\":")?;
     write_string(file.as_bytes(), output)
 }
-
-/// Writes one more field of an object: a number.
-pub fn write_number_field<O: Write>(name: &str, number: u128, output: &mut O) -> io::Result<()> {
-    write!(output, ",\"{name}\":{number}")
-}
-
-/// Writes one more field of an object: a number, or null where there is none.
-pub fn write_optional_field<O: Write>(
-    name: &str,
-    number: Option<usize>,
-    output: &mut O,
-) -> io::Result<()> {
-    match number {
-        Some(number) => write_number_field(name, number as u128, output),
-        None => write_word_field(name, "null", output),
-    }
-}
-
-/// Writes one more field of an object: a value that is a word.
-pub fn write_word_field<O: Write>(name: &str, word: &str, output: &mut O) -> io::Result<()> {
-    write!(output, ",\"{name}\":{word}")
-}
-
-/// Writes one more field of an object: the string of a text.
-pub fn write_string_field<O: Write>(name: &str, text: &str, output: &mut O) -> io::Result<()> {
-    write!(output, ",\"{name}\":")?;
-    write_string(text.as_bytes(), output)
-}

@@ -1,9 +1,12 @@
 // Generated from crates/odht_tool_core/src/report.rt by make generate.
 //! Reports: names and values, which are written as a text or as an object of JSON.
 
+use crate::generated::core::advice::{write_help, Advice};
+use crate::generated::core::histogram::{write_array, write_bars};
 use crate::generated::core::json::displayed::write_displayed;
 use crate::generated::core::json::write_string;
 use crate::generated::core::refusal::Refusal;
+use crate::generated::core::stretches::write_stretches;
 use crate::generated::header::error::Error;
 use crate::host::prelude::*;
 use std::io::{self, Write};
@@ -28,10 +31,19 @@ pub enum Value<'a> {
     Truth(bool),
     /// A number.
     Number(u128),
+    /// A number of groups. Where it is above the bound, a text tells that alone.
+    Groups { count: usize, bound: Option<usize> },
     /// A text.
     Text(&'a str),
     /// The text of an error of a table.
     Refused(Error),
+    /// How many slots of each stretch are occupied, of a table of that many slots; a sign for each in
+    /// a text.
+    Stretches { slot_count: usize, counts: &'a [usize] },
+    /// Counts of a histogram, up to the longest number of groups; a line for each in a text.
+    Histogram { counts: &'a [usize], longest: usize },
+    /// What makes the searches of a file of this name short; the options for it in an object.
+    Help { advice: Advice, file: &'a str, is_whole: bool },
 }
 
 /// The words of a text round a value.
@@ -142,11 +154,23 @@ fn write_plain<O: Write>(value: &Value<'_>, output: &mut O) -> io::Result<()> {
     match *value {
         Value::Absent | Value::Truth(_) => Ok(()),
         Value::Number(number) => write!(output, "{number}"),
+        Value::Groups { count, bound } => write_groups(count, bound, output),
         Value::Text(text) => output.write_all(text.as_bytes()),
         Value::Refused(error) => {
             let refusal = Refusal(error);
             write!(output, "{refusal}")
         }
+        Value::Stretches { slot_count, counts } => write_stretches(slot_count, counts, output),
+        Value::Histogram { counts, longest } => write_bars(counts, longest, output),
+        Value::Help { advice, file, is_whole } => write_help(advice, file, is_whole, output),
+    }
+}
+
+// Writes a number of groups, or that it is above the bound.
+fn write_groups<O: Write>(count: usize, bound: Option<usize>, output: &mut O) -> io::Result<()> {
+    match bound {
+        Some(bound) if bound < count => write!(output, "more than {bound} groups"),
+        _ => write!(output, "{count} groups"),
     }
 }
 
@@ -165,7 +189,13 @@ fn write_value<O: Write>(value: &Value<'_>, output: &mut O) -> io::Result<()> {
         Value::Truth(true) => output.write_all(b"true"),
         Value::Truth(false) => output.write_all(b"false"),
         Value::Number(number) => write!(output, "{number}"),
+        Value::Groups { count, .. } => write!(output, "{count}"),
         Value::Text(text) => write_string(text.as_bytes(), output),
         Value::Refused(error) => write_displayed(Refusal(error), output),
+        Value::Stretches { counts, .. } => write_array(counts, counts.len(), output),
+        Value::Histogram { counts, longest } => write_array(counts, longest, output),
+        Value::Help { advice, is_whole, .. } => {
+            write_string(advice.options(is_whole).as_bytes(), output)
+        }
     }
 }

@@ -12,15 +12,14 @@ pub(crate) fn stretch_len(slot_count: usize) -> usize {
     (slot_count / STRETCHES).max(1)
 }
 
-/// Writes the line of how many slots of each stretch are occupied, a sign for each.
+/// Writes how many slots of each stretch are occupied, of a table of that many slots, a sign for
+/// each.
 pub(crate) fn write_stretches<O: Write>(
     slot_count: usize,
     counts: &[usize],
     output: &mut O,
 ) -> io::Result<()> {
-    output.write_all(b"along slots   ")?;
-    write_signs(stretch_len(slot_count), counts, output)?;
-    output.write_all(b"\n")
+    write_signs(stretch_len(slot_count), counts, output)
 }
 
 // Writes the signs of stretches of that many slots.

@@ -21,11 +21,12 @@ pub fn run_reading<I: BufRead, O: Write, E: Write>(
     output: &mut O,
     errors: &mut E,
 ) -> Result<Status, Failure> {
-    let Job { alloc, file, is_one, at, bytes, .. } = job;
+    let Job { alloc, file, is_one, bytes, .. } = job;
     match reading {
         Reading::Info { bound, is_json } => {
             let advice = advice_of(alloc, bytes)?;
-            info_file(alloc, file, is_one, at, bytes, *bound, *is_json, advice, output)
+            let job = Job { bound: *bound, is_json: *is_json, ..job };
+            info_file(&job, advice, output)
         }
         Reading::Check { hash, bound, is_json } => {
             let job = Job { bound: *bound, is_json: *is_json, ..job };

@@ -1,25 +1,21 @@
-use Rattle.std.proofs.Common.{◌≡◌, ◌∙◌, ◌+◌, ◌++◌, ◌∷◌, [], get_or, ap, ap₂, subst, arith}
+use Rattle.std.proofs.Common.{◌∙◌, ◌+◌, ◌++◌, ◌∷◌, [], get_or, ap, subst, arith}
 use Rattle.std.specs.Fmt.{styled_decimal}
 use Rattle.std.specs.Io.KnownBytes.{Appends}
 use Rattle.std.specs.Prelude.{OnOk, codes}
 use Rattle.std.proofs.KnownBytes.{Appends-trans}
-use Rattle.std.proofs.lemmas.List.{get_or_read}
 use Rattle.odht_tool_core.specs.InfoNumbers.{largest}
 use Rattle.odht_tool_core.specs.InfoTexts.{aligned, bar, longer_mark}
 use Rattle.odht_tool_core.proofs.InfoLines.{largest-at, aligned-8, aligned-12, joined, then_appends}
-use Rattle.odht_tool_core.proofs.histogram.Histogram.write_tally.Goals as goal
+use Rattle.odht_tool_core.proofs.histogram.write_tally.Goals as goal
 
 pub write_bar-requires : goal.write_bar-requires
-write_bar-requires g c =
-    let read : c.index.result.now ≡ get_or c.args.self.now.counts.items c.args.index 0 = get_or_read c.args.self.now.counts.items c.args.index _ c.requires.index c.index.ensures 0 in
-    omega (arith, read, c.requires.most, largest-at c.args.self.now.counts.items c.args.index c.requires.index)
+write_bar-requires g c = omega (arith, c.requires.most, largest-at c.args.counts.now c.args.index c.requires.index)
 
 pub returns : goal.returns
 returns g c =
-    let cs = c.args.self.now.counts.items in
+    let cs = c.args.counts.now in
     let i = c.args.index in
-    let count = c.index.result.now in
-    let read : count ≡ get_or cs i 0 = get_or_read cs i _ c.requires.index c.index.ensures 0 in
+    let count = get_or cs i 0 in
     let old = g.W.Write.contents c.args.output.now in
     let p1 = g.W.Write.contents c.write.new.self in
     let p2 = g.W.Write.contents c.write_bar.new.output in
@@ -29,8 +25,8 @@ returns g c =
     let n = styled_decimal c.laid_out-2.result count in
     let b = bar count c.args.most in
     let front = a ++ (m ++ (codes "  " ++ (n ++ codes "  "))) in
-    let text = joined a m n b (aligned 8 (i + 1)) (longer_mark c.args.self.now.longest i) (aligned 12 (get_or cs i 0)) (bar (get_or cs i 0) (largest cs))
+    let text = joined a m n b (aligned 8 (i + 1)) (longer_mark c.args.longest (i + 1)) (aligned 12 count) (bar count (largest cs))
     (ap (λ s. styled_decimal s (i + 1)) c.laid_out.ensures ∙ aligned-8 (i + 1)) c.longer_mark-more.ensures
-    (ap (λ s. styled_decimal s count) c.laid_out-2.ensures ∙ aligned-12 count ∙ ap (aligned 12) read) (ap₂ bar read c.requires.most) in
+    (ap (λ s. styled_decimal s count) c.laid_out-2.ensures ∙ aligned-12 count) (ap (bar count) c.requires.most) in
     subst (λ t. OnOk c.write_all.result (Appends old new t)) text
     (then_appends c.write_all.result old p2 new (front ++ b) (10 ∷ []) (Appends-trans old p1 p2 front b c.in_ok-write.ensures.bytes c.in_ok-write_bar.ensures) c.write_all.ensures.bytes)

@@ -4,11 +4,11 @@ use Rattle.std.proofs.KnownBytes.{Appends-trans}
 use Rattle.odht_tool_core.specs.InfoTexts.{tally_line}
 use Rattle.std.specs.List.{flat_map, range_with_len}
 use Rattle.odht_tool_core.proofs.Counting.{written_more}
-use Rattle.odht_tool_core.proofs.histogram.Histogram.write.Goals as goal
+use Rattle.odht_tool_core.proofs.histogram.write_bars.Goals as goal
 
 pub loop-index-preserved : goal.loop-index-preserved
 loop-index-preserved g c =
-    let line = tally_line c.args.self.now.counts.items c.args.self.now.longest in
+    let line = tally_line c.args.counts.now c.args.longest in
     let n = c.loop-index.index in
     let old = g.W.Write.contents c.args.output.now in
     let new = g.W.Write.contents c.write_tally.new.output in
