@@ -21,6 +21,8 @@ pub mod ListInserts
 pub mod DynLists
 -- a list of them: the accepted items, and the one that failed
 pub mod DynRuns
+-- lookups of many keys that are given as bytes
+pub mod ByteLookups
 -- keys and values that their bytes decode to
 pub mod LosslessPairs
 -- inserts in an insert order make a table again

@@ -17,6 +17,8 @@ pub mod Rebuilds
 pub mod Growths
 -- lookups of many keys
 pub mod Lookups
+-- the same of keys that are given as bytes
+pub mod ByteLookups
 -- what a lookup answers
 pub mod Gets
 -- what a walk gives

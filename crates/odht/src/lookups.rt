@@ -1,14 +1,22 @@
 //! Lookups of many keys. A first look hashes a key and reads the group of control bytes at its
 //! home. The first looks of eight keys are taken before any of their searches goes on, so that the
 //! loads from memory overlap.
-ghost use Rattle.std.specs.Prelude.{◌≡◌, ◌+◌, ◌≤◌, ◌<◌, ℕ, length, set, Some};
-ghost use Rattle.odht.specs.Lookups.{IsFirstLookAt, lookups_of, ArePut, PutsOn, IsLookupAt};
+ghost use Rattle.std.specs.Prelude.{◌≡◌, ◌≤◌, ◌<◌, ℕ, List, length, option_map, set};
+ghost use Rattle.std.specs.Prelude.{IfSome, ⊤};
+ghost use Rattle.std.specs.Borrow.{Bor};
+ghost use Rattle.odht.specs.Lookups.{lookups_of, ArePut};
 
+use crate::bytes::ByteArray;
 use crate::config::{Coded, Config};
-use crate::raw_table::{FirstLook, RawTable};
+use crate::layout::Fixed;
+use crate::raw_table::RawTable;
+use std::marker::PhantomData;
 
-// How many first looks are taken before the searches go on, in keys.
-const BATCH: usize = 8;
+mod batches;
+mod keys;
+
+pub(crate) use batches::get_all_of;
+pub(crate) use keys::{KeyBytes, KeysOf, TypedKeys};
 
 /// Where the results of many lookups go, each to a place with a number.
 ///
@@ -46,6 +54,68 @@ impl<'a, T: Drop> Answers<T> for InSlice<'a, T> {
     }
 }
 
+/// Where the values that many lookups find go, each to a place with a number. In a contract
+/// `takes` says which values may be put.
+pub(crate) trait Finds<T>: Drop {
+    ghost places: { Self → ℕ };
+
+    ghost takes: { T → Type 0 };
+
+    ghost after_put: { Self → ℕ → T → Self };
+
+    /// Puts what was found at an index.
+    fn put(&mut self, index: usize, found: T)
+        requires index { index < places self.old }
+        requires takes { takes found }
+        ensures put { self.new ≡ after_put self.old index found }
+        ensures places { places self.new ≡ places self.old };
+}
+
+impl<'a, T: Drop> Finds<T> for InSlice<'a, T> {
+    ghost places = { λ s. length s.answers.now };
+
+    ghost takes = { λ _. ⊤ };
+
+    ghost after_put = { λ s i o. record s {
+      answers = record s.answers { now = set s.answers.now i o };
+    } };
+
+    #[inline(always)]
+    fn put(&mut self, index: usize, found: T) {
+        self.answers[index] = found;
+    }
+}
+
+// Puts what the bytes that were found decode to.
+#[derive(Drop)]
+struct Decoded<'a, C: Config, A> {
+    answers: &'a mut A,
+    config: PhantomData<C>,
+}
+
+impl<'a, 'v, C: Config, A: Answers<Option<C::Value>>> Finds<Option<&'v [u8]>>
+    for Decoded<'a, C, A> {
+    ghost places = { λ s. A.places s.answers.now };
+
+    ghost takes = { λ o. IfSome o (λ v. length v.now ≡ C.EncodedValue.LEN) };
+
+    ghost after_put = { λ s i o. record s {
+      answers = record s.answers {
+        now = A.after_put s.answers.now i
+            (option_map (λ (v : Bor (List ℕ)). C.decode_value (C.EncodedValue.of_bytes v.now)) o);
+      };
+    } };
+
+    #[inline(always)]
+    fn put(&mut self, index: usize, found: Option<&'v [u8]>) {
+        let answer = match found {
+            Some(value) => Some(C::decode_value(&C::EncodedValue::from_slice(value))),
+            None => None,
+        };
+        self.answers.put(index, answer);
+    }
+}
+
 /// Puts the result of each key at its index: on the parts of a placed table the value for the key,
 /// on any parts None or a value stored with this very key. There are at least as many places as
 /// keys. Eight keys are taken at a time, then the rest one by one.
@@ -62,115 +132,15 @@ pub fn get_all<C: Config, A: Answers<Option<C::Value>>>(
         in ArePut all answers.old answers.new (length keys.now) }
     ensures places { A.places answers.new ≡ A.places answers.old }
 {
-    let from = get_batches::<C, A>(raw, keys, answers);
-    for index in from..keys.len() {
-        let look = first_look_at::<C>(raw, keys, index);
-        get_one::<C, A>(raw, look, keys, index, answers);
-    }
-}
-
-// Puts the results of the keys of the full batches, and returns how many keys these are.
-#[inline(always)]
-fn get_batches<C: Config, A: Answers<Option<C::Value>>>(
-    raw: &RawTable<'_, C::EncodedKey, C::EncodedValue, C::H>,
-    keys: &[C::Key],
-    answers: &mut A,
-) -> usize
-    requires { length keys.now ≤ A.places answers.old }
-    ensures within { result ≤ length keys.now }
-    ensures answers { let all = lookups_of ⟦<C as Coded>⟧.coding raw.now keys.now A.after_put
-        in ArePut all answers.old answers.new result }
-    ensures places { A.places answers.new ≡ A.places answers.old }
-{
-    let batches = keys.len() / BATCH;
-    for batch in 0..batches {
-        get_eight::<C, A>(raw, keys, batch * BATCH, answers);
-    }
-    batches * BATCH
-}
-
-// Puts the results of the eight keys from an index on. It has no loop, so that the first looks
-// stay in registers.
-#[inline(always)]
-fn get_eight<C: Config, A: Answers<Option<C::Value>>>(
-    raw: &RawTable<'_, C::EncodedKey, C::EncodedValue, C::H>,
-    keys: &[C::Key],
-    from: usize,
-    answers: &mut A,
-)
-    requires within { from + 8 ≤ length keys.now }
-    requires places { length keys.now ≤ A.places answers.old }
-    ensures answers { let all = lookups_of ⟦<C as Coded>⟧.coding raw.now keys.now A.after_put
-        in PutsOn all answers.old answers.new from (from + 8) }
-    ensures places { A.places answers.new ≡ A.places answers.old }
-{
-    let first = first_look_at::<C>(raw, keys, from);
-    let second = first_look_at::<C>(raw, keys, from + 1);
-    let third = first_look_at::<C>(raw, keys, from + 2);
-    let fourth = first_look_at::<C>(raw, keys, from + 3);
-    let fifth = first_look_at::<C>(raw, keys, from + 4);
-    let sixth = first_look_at::<C>(raw, keys, from + 5);
-    let seventh = first_look_at::<C>(raw, keys, from + 6);
-    let eighth = first_look_at::<C>(raw, keys, from + 7);
-    get_one::<C, A>(raw, first, keys, from, answers);
-    get_one::<C, A>(raw, second, keys, from + 1, answers);
-    get_one::<C, A>(raw, third, keys, from + 2, answers);
-    get_one::<C, A>(raw, fourth, keys, from + 3, answers);
-    get_one::<C, A>(raw, fifth, keys, from + 4, answers);
-    get_one::<C, A>(raw, sixth, keys, from + 5, answers);
-    get_one::<C, A>(raw, seventh, keys, from + 6, answers);
-    get_one::<C, A>(raw, eighth, keys, from + 7, answers);
-}
-
-// Puts the result of the key at an index, from its first look.
-#[inline(always)]
-fn get_one<C: Config, A: Answers<Option<C::Value>>>(
-    raw: &RawTable<'_, C::EncodedKey, C::EncodedValue, C::H>,
-    look: FirstLook,
-    keys: &[C::Key],
-    index: usize,
-    answers: &mut A,
-)
-    requires index { index < length keys.now }
-    requires places { length keys.now ≤ A.places answers.old }
-    requires look { IsFirstLookAt ⟦<C as Coded>⟧.coding raw.now keys.now index look }
-    ensures answers { let all = lookups_of ⟦<C as Coded>⟧.coding raw.now keys.now A.after_put
-        in PutsOn all answers.old answers.new index (index + 1) }
-    ensures places { A.places answers.new ≡ A.places answers.old }
-{
-    answers.put(index, find_at::<C>(raw, look, keys, index));
-}
-
-// The first look of the search for the key at an index, which `find_at` continues. It reads one
-// group of control bytes.
-#[inline(always)]
-fn first_look_at<C: Config>(
-    raw: &RawTable<'_, C::EncodedKey, C::EncodedValue, C::H>,
-    keys: &[C::Key],
-    index: usize,
-) -> FirstLook
-    requires { index < length keys.now }
-    ensures { IsFirstLookAt ⟦<C as Coded>⟧.coding raw.now keys.now index result }
-{
-    raw.first_look(&C::encode_key(&keys[index]))
-}
-
-// The value of the key at an index, from its first look by `first_look_at`. The key is encoded
-// again.
-#[inline(always)]
-fn find_at<C: Config>(
-    raw: &RawTable<'_, C::EncodedKey, C::EncodedValue, C::H>,
-    look: FirstLook,
-    keys: &[C::Key],
-    index: usize,
-) -> Option<C::Value>
-    requires index { index < length keys.now }
-    requires look { IsFirstLookAt ⟦<C as Coded>⟧.coding raw.now keys.now index look }
-    ensures { IsLookupAt ⟦<C as Coded>⟧.coding raw.now keys.now index result }
-{
-    let key = C::encode_key(&keys[index]);
-    match raw.find_from(look, &key) {
-        Some(value) => Some(C::decode_value(&value)),
-        None => None,
-    }
+    let keys: TypedKeys<'_, C> = TypedKeys { keys };
+    let mut decoded: Decoded<'_, C, A> = Decoded {
+        answers,
+        config: PhantomData,
+    };
+    let parts = raw.parts();
+    get_all_of::<Fixed<C::EncodedKey, C::EncodedValue>, C::H, TypedKeys<'_, C>, Decoded<'_, C, A>>(
+        &parts,
+        &keys,
+        &mut decoded,
+    );
 }

@@ -132,9 +132,9 @@ impl<'a, K: ByteArray, V: ByteArray, H: HashFn> RawTable<'a, K, V, H> {
         }
     }
 
-    // The same parts, with keys and values as bytes.
+    /// The same parts, with keys and values as bytes.
     #[inline(always)]
-    pub(crate) fn parts(&self) -> Parts<'a, Fixed<K, V>, H>
+    pub fn parts(&self) -> Parts<'a, Fixed<K, V>, H>
         ensures { result ≡ record { key_len = K.LEN; value_len = V.LEN; parts = self.now } }
     {
         self.parts.copy()
