@@ -2,12 +2,12 @@
 """Tests the program `odht` of erased source (rust/cli), which cargo builds and installs, without the kit of Rattle.
 
   tests/cli.py [PROGRAM]     PROGRAM is one that is built already
+  tests/cli.py beside TOOL   only compares it with TOOL, the program as the kit compiles it, by tests/beside.py
 
 It has no warning and passes its own tests; `make install-tool` puts a program in place and `make uninstall-tool`
 removes it; all cases of tests/tool go on it; each of its calls for a file fails in turn (tests/stored.py); and each
 request for memory of each command fails in turn, from the first buffer on: the program then says that it is out of
-memory, and returns 1 or 2, and the file is as it was. Where ODHT_TOOL names the program as the kit compiles it,
-tests/beside.py runs both. The last line counts.
+memory, and returns 1 or 2, and the file is as it was. The last line counts.
 """
 import filecmp
 import os
@@ -85,16 +85,24 @@ def run(*words, **variables):
     return printed
 
 
+CARGO = {"CARGO_TARGET_DIR": f"{TOP}/build/cargo-cli", "CARGO_TERM_COLOR": "never"}
+QUIET = ["--quiet", "--offline"]
+
+
 def installed(room):
-    """Builds and installs the program, and returns its file and how many tests passed."""
-    files = {"CARGO_TARGET_DIR": f"{TOP}/build/cargo-cli", "CARGO_TERM_COLOR": "never"}
-    words = ["--quiet", "--offline"]
-    tested = run("cargo", "test", *words, "--manifest-path", "rust/cli/Cargo.toml", **files)
-    printed = run("cargo", "install", *words, "--path", "rust/cli", "--root", room, **files)
-    if "warning" in tested + printed:
-        raise Failed(f"a warning:\n{tested}{printed}")
-    passed = sum(int(it) for it in re.findall(r"test result: ok\. (\d+) passed", tested))
-    return f"{room}/bin/odht", passed + 1 + put_in_place(room)
+    """Builds and installs the program, and returns its file and what was printed."""
+    printed = run("cargo", "install", *QUIET, "--path", "rust/cli", "--root", room, **CARGO)
+    return f"{room}/bin/odht", printed
+
+
+def tested(room):
+    """Builds, tests and installs the program, and returns its file and how many tests passed."""
+    told = run("cargo", "test", *QUIET, "--manifest-path", "rust/cli/Cargo.toml", **CARGO)
+    program, printed = installed(room)
+    if "warning" in told + printed:
+        raise Failed(f"a warning:\n{told}{printed}")
+    passed = sum(int(it) for it in re.findall(r"test result: ok\. (\d+) passed", told))
+    return program, passed + 1 + put_in_place(room)
 
 
 def put_in_place(room):
@@ -172,25 +180,29 @@ def memory(program, room):
     return passed
 
 
+def all_tests(words, room):
+    """Returns how many tests of the program passed so far, and the commands of the others."""
+    program, passed = (os.path.abspath(words[0]), 0) if words else tested(room)
+    passed += memory(program, room)
+    runs = [["tests/cases.py", program, "made=erased", "tests/tool"]]
+    names = "sizes", "objects", "lines", "progress", "together", "pairs", "stored", "mixing", "evidence"
+    return passed, runs + [[f"tests/{it}.py", program] for it in names]
+
+
 def main(*words):
     watched.end_on_signals()
-    if not words and not shutil.which("cargo"):
+    if not (words and words[0] != "beside") and not shutil.which("cargo"):
         print("there is no cargo here\n0 passed, 0 failed")
         return 0
     with tempfile.TemporaryDirectory(prefix="odht-cli-") as room:
         try:
-            program, passed = (os.path.abspath(words[0]), 0) if words else installed(room)
-            passed += memory(program, room)
+            if words[:1] == ("beside",):
+                passed, runs = 0, [["tests/beside.py", os.path.abspath(words[1]), installed(room)[0]]]
+            else:
+                passed, runs = all_tests(words, room)
         except Failed as what:
             print(f"FAILED {what}\n0 passed, 1 failed")
             return 1
-        runs = [["tests/cases.py", program, "made=erased", "tests/tool"]]
-        runs += [["tests/sizes.py", program], ["tests/objects.py", program]]
-        runs += [["tests/lines.py", program], ["tests/progress.py", program]]
-        runs += [["tests/together.py", program], ["tests/pairs.py", program], ["tests/stored.py", program]]
-        runs += [["tests/mixing.py", program], ["tests/evidence.py", program]]
-        if os.environ.get("ODHT_TOOL"):
-            runs.append(["tests/beside.py", os.environ["ODHT_TOOL"], program])
         failed = 0
         for words in runs:
             status, printed = watched.run([sys.executable, *words], cwd=TOP)

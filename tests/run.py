@@ -8,6 +8,7 @@
     memory     each request for memory fails in turn          vectors    all vectors
     tool       the program for table files, by tests/tool     edits      each edit's text is where it says
     cli        the same of erased source, by tests/cli.py     generated  generated text is current, documents are well
+    both       both builds of that program do the same      beside     the crate for Rust beside the library for C
     script     the program for scripts, by tests/script     table      the same of plain Rust, and `make run`
     runner     that the runner of cases reports faults       watch      what is done with parts that fail or hang
     bench      the figures of bench/run                     manual     the manual page, and what completes words
@@ -19,8 +20,8 @@ of tests. What `word` needs is in these two, as copies of the crates under other
 
 What a part prints is in build/logs/PART.log too. A part that hangs, for 600 seconds or those that TEST_SECONDS gives
 (tools/watched.py), is ended: it counts as failed, and is told as ENDED. Where there is no kit of Rattle, the parts that
-need a build by it are left out, and `rust`, `cli` and `table` leave out the comparison with such a build. The lines
-above the last one say so.
+need a build by it are left out, and `beside` and `table` leave out the comparison with such a build. The lines above the
+last one say so.
 """
 import os
 import re
@@ -155,10 +156,18 @@ def calls_for_c(part):
     return part.counted("sh", "tests/c/run.sh", f"{BUILT}/libodht.a", env={**os.environ, "OBJECTS": rust.OBJECTS})
 
 
+# what needs no build by the kit lets such builds go first: the tests that wait for them end last
+AFTER_BUILDS = ["nice", "-n", "5", sys.executable]
+
+
 def crate_for_rust(part):
-    # `current` is of the part `generated`
-    names = [it for it in rust.TESTS if it != "current"]
-    return part.counted(sys.executable, "tests/rust.py", *names, env={**os.environ, "ODHT_LIB_DIR": BUILT})
+    # these two are of other parts
+    names = [it for it in rust.TESTS if it not in ("current", "beside")]
+    return part.counted(*AFTER_BUILDS, "tests/rust.py", *names)
+
+
+def crate_beside_the_archive(part):
+    return part.counted(sys.executable, "tests/rust.py", "beside", env={**os.environ, "ODHT_LIB_DIR": BUILT})
 
 
 def program_of_the_kit(part):
@@ -171,8 +180,11 @@ def program_of_the_kit(part):
 
 
 def program_of_erased_source(part):
-    tool = f"{BUILT}/odht_tool" if unproved.KIT else ""
-    return part.counted(sys.executable, "tests/cli.py", env={**os.environ, "ODHT_TOOL": tool})
+    return part.counted(*AFTER_BUILDS, "tests/cli.py")
+
+
+def both_programs(part):
+    return part.counted(sys.executable, "tests/cli.py", "beside", f"{BUILT}/odht_tool")
 
 
 def program_of_plain_rust(part):
@@ -191,14 +203,16 @@ def package_over_the_archive(part):
 # each part, what it needs, and its call; those that take longest first
 PARTS = {
     "calls": (["libodht.a"], calls_for_c),
-    "rust": (["libodht.a"] if unproved.KIT else [], crate_for_rust),
+    "rust": ([], crate_for_rust),
+    "beside": (["libodht.a"] if unproved.KIT else [], crate_beside_the_archive),
     "ffi": (["libodht.a"], package_over_the_archive),
     "rattle": ([IN_RATTLE], tests_in_rattle),
     "vectors": (["odht_vectors"], vectors),
     "word": ([IN_RATTLE, "word/odht_vectors"], with_word_search),
     "memory": (["odht_memory", "odht_table", "odht_tool"], script("tests/memory.py", BUILT)),
     "tool": (["odht_tool"], program_of_the_kit),
-    "cli": (["odht_tool"] if unproved.KIT else [], program_of_erased_source),
+    "cli": ([], program_of_erased_source),
+    "both": (["odht_tool"], both_programs),
     "script": (["odht_table"], script("tests/cases.py", f"{BUILT}/odht_table", "tests/script")),
     "table": (["odht_table"] if unproved.KIT else [], program_of_plain_rust),
     "edits": ([], script("tools/edits.py", "check")),
@@ -295,7 +309,7 @@ def tell_left_out(names):
     if names:
         print("left out, because there is no kit of Rattle (`rt`) here:")
         print(f"    the parts {', '.join(names)}, which need a build by it; the head of tests/run.py describes them")
-        print("    in rust, cli and table the comparison with such a build")
+        print("    in beside and table the comparison with such a build")
 
 
 def total():
