@@ -172,10 +172,11 @@ def crate_beside_the_archive(part):
 
 def program_of_the_kit(part):
     tool = f"{BUILT}/odht_tool"
-    ran = [part.run(sys.executable, *words) for words in (["tests/cases.py", tool, "tests/tool"], ["tests/sizes.py", tool],
-                                                      ["tests/objects.py", tool], ["tests/lines.py", tool],
-                                                      ["tests/progress.py", tool], ["tests/together.py", tool],
-                                                      ["tests/pairs.py", tool], ["tests/stored.py", tool])]
+    names = "sizes", "objects", "lines", "progress", "together", "pairs", "stored"
+    runs = [["tests/cases.py", tool, "tests/tool"], *([f"tests/{it}.py", tool] for it in names)]
+    # some of them mostly wait
+    with ThreadPoolExecutor(4) as pool:
+        ran = list(pool.map(lambda words: part.run(sys.executable, *words), runs))
     return counted(max(status for status, _ in ran), "".join(printed for _, printed in ran))
 
 
