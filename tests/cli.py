@@ -16,6 +16,7 @@ import resource
 import shutil
 import sys
 import tempfile
+from concurrent.futures import ThreadPoolExecutor
 
 HERE = os.path.dirname(os.path.realpath(__file__))
 TOP = os.path.dirname(HERE)
@@ -204,8 +205,10 @@ def main(*words):
             print(f"FAILED {what}\n0 passed, 1 failed")
             return 1
         failed = 0
-        for words in runs:
-            status, printed = watched.run([sys.executable, *words], cwd=TOP)
+        # some of them mostly wait
+        with ThreadPoolExecutor(4) as pool:
+            ran = list(pool.map(lambda words: watched.run([sys.executable, *words], cwd=TOP), runs))
+        for status, printed in ran:
             found = re.search(r"(\d+) passed, (\d+) failed\n$", printed)
             print(printed[: found.start()] if found else printed, end="")
             passed += int(found[1]) if found else 0
