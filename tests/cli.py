@@ -16,7 +16,6 @@ import resource
 import shutil
 import sys
 import tempfile
-from concurrent.futures import ThreadPoolExecutor
 
 HERE = os.path.dirname(os.path.realpath(__file__))
 TOP = os.path.dirname(HERE)
@@ -206,8 +205,7 @@ def main(*words):
             return 1
         failed = 0
         # some of them mostly wait
-        with ThreadPoolExecutor(4) as pool:
-            ran = list(pool.map(lambda words: watched.run([sys.executable, *words], cwd=TOP), runs))
+        ran = watched.run_at_once(4, runs, lambda words: watched.run([sys.executable, *words], cwd=TOP))
         for status, printed in ran:
             found = re.search(r"(\d+) passed, (\d+) failed\n$", printed)
             print(printed[: found.start()] if found else printed, end="")

@@ -156,14 +156,10 @@ def calls_for_c(part):
     return part.counted("sh", "tests/c/run.sh", f"{BUILT}/libodht.a", env={**os.environ, "OBJECTS": rust.OBJECTS})
 
 
-# what needs no build by the kit lets such builds go first: the tests that wait for them end last
-AFTER_BUILDS = ["nice", "-n", "5", sys.executable]
-
-
 def crate_for_rust(part):
     # these two are of other parts
     names = [it for it in rust.TESTS if it not in ("current", "beside")]
-    return part.counted(*AFTER_BUILDS, "tests/rust.py", *names)
+    return part.counted(sys.executable, "tests/rust.py", *names)
 
 
 def crate_beside_the_archive(part):
@@ -175,13 +171,13 @@ def program_of_the_kit(part):
     names = "sizes", "objects", "lines", "progress", "together", "pairs", "stored"
     runs = [["tests/cases.py", tool, "tests/tool"], *([f"tests/{it}.py", tool] for it in names)]
     # some of them mostly wait
-    with ThreadPoolExecutor(4) as pool:
-        ran = list(pool.map(lambda words: part.run(sys.executable, *words), runs))
+    ran = watched.run_at_once(4, runs, lambda words: part.run(sys.executable, *words))
     return counted(max(status for status, _ in ran), "".join(printed for _, printed in ran))
 
 
 def program_of_erased_source(part):
-    return part.counted(*AFTER_BUILDS, "tests/cli.py")
+    # it ends first in any case
+    return part.counted("nice", "-n", "5", sys.executable, "tests/cli.py")
 
 
 def both_programs(part):

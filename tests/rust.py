@@ -347,21 +347,22 @@ def library_for_c():
     return passed + int(re.search(r"(\d+) passed, 0 failed", printed)[1])
 
 
+# those that take longest first
 TESTS = {
+    "crate": tests_of_crate,
+    "checked": lambda: tests_of_crate("--features", "checked"),
+    "c": library_for_c,
+    "lints": lints,
     "current": current,
     "planted": planted,
     "erase": lambda: cargo("tools/erase", "test"),
-    "crate": tests_of_crate,
     "examples": examples,
-    "checked": lambda: tests_of_crate("--features", "checked"),
     "no_simd": lambda: cargo("rust", "test", "--features", "no_simd", *NO_SIMD, **NO_PASSES),
     "without_std": without_std,
     "programs": programs,
     "compat": lambda: user("rust/compat"),
     "beside": lambda: user("rust/beside") + user("rust/beside", "--features", "checked"),
-    "lints": lints,
     "package": package,
-    "c": library_for_c,
 }
 
 

@@ -13,6 +13,7 @@ import sys
 import tempfile
 import threading
 import time
+from concurrent.futures import ThreadPoolExecutor
 
 LIMIT = float(os.environ.get("TEST_SECONDS", "600"))
 SIGNALS = (signal.SIGTERM, signal.SIGINT, signal.SIGHUP)
@@ -180,3 +181,16 @@ def run(words, limit=LIMIT, **how):
     if is_hung:
         raise Hung(limit, printed)
     return process.returncode, printed
+
+
+def run_at_once(count, commands, call=run):
+    """Runs commands, so many at a time, and returns what `run` does of each. The processor time is this thread's."""
+
+    def ran(command):
+        before = processor_time()
+        return call(command), processor_time() - before
+
+    with ThreadPoolExecutor(count) as pool:
+        all_of_them = list(pool.map(ran, commands))
+    used.seconds = processor_time() + sum(seconds for _, seconds in all_of_them)
+    return [result for result, _ in all_of_them]
