@@ -1,21 +1,20 @@
--- Reports: names and values, and what is written of them.
---     Said                 what a field says: nothing, whether something is so, a number, a number of groups and the bound
---                          of these, a text, how many slots of each stretch of that many slots are occupied, the counts of
---                          a histogram and the longest number of groups, or what helps a file
---     Wording              the words of a text round a value, and those in place of all that where it says nothing, or that
---                          something is not so
---     Told                 a field: its name, what it says, and the words round that, which a field of objects alone has not
---     told f               the field f as that
---     value_json s         what is said, as a value of JSON: null where nothing is
---     is_said s            something is said, and not that something is not so
---     value_text s         what is said, as a text; whether something is so is told by the words round it alone
---     with_words w s       this with the words w
+-- Reports: lists of names and values, and what is printed for them.
+--     Said                 the value of a field: none, true or false, a number, a number of groups with their bound, a text,
+--                          the number of occupied slots in each stretch of a table with so many slots, the counts of a
+--                          histogram with the longest number of groups, or the command that helps a file
+--     Wording              the words before and after a value in a text, and those written instead if there is no value or
+--                          it is false
+--     Told                 a field: its name, its value, and the words around it; only the object has a field without words
+--     told f               the field f as such a record
+--     value_json s         the value s in JSON: null if there is none
+--     is_said s            there is a value, and it is not false
+--     value_text s         the value s as a text; true and false are told only by the words around them
+--     with_words w s       the text of s with the words w
 --     report_object ts     the object of the fields ts
---     report_text ts       their texts one after the other
---     report_among j ts    what is written of them as one report of several: the object; without j the text
---     report_as j ts       a line of the object; without j the text
---     field, between, said_number    a field of these parts; a value with these words round it; the number, where there is
---                          one
+--     report_text ts       the texts of the fields ts, one after the other
+--     report_among j ts    one report among several: the object if j, else the text
+--     report_as j ts       one report: the object in one line if j, else the text
+--     field, between, said_number    a field of these parts; the words around a value; the number, if there is one
 use Rattle.std.specs.Prelude.{ℕ, Bool, true, false, List, [], ◌∷◌, ◌++◌, codes, decimal, flat_map, length, map, Option, Some, None, if◌then◌else◌}
 use Rattle.std.specs.Option.{option_map}
 use Rattle.odht_tool_core.specs.Advice.{help_text, options}

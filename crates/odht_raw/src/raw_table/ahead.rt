@@ -44,8 +44,8 @@ impl<'a, L: Lengths, H: HashFn> Parts<'a, L, H> {
     }
 
     /// Where the search for a key with this hash ends, and the key's tag. It was expected to end at
-    /// this slot. Where there is room and the slot still counts as free it ends there; else the
-    /// whole search is made: without room it alone says what comes before its end.
+    /// this slot. If there is room and the slot still counts as free, it ends there. Otherwise the
+    /// whole search runs: without room, only it finds what comes before the end.
     #[inline(always)]
     pub(crate) fn expected_end(
         &self,

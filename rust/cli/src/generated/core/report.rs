@@ -1,5 +1,5 @@
 // Generated from crates/odht_tool_core/src/report.rt by make generate.
-//! Reports: names and values, which are written as a text or as an object of JSON.
+//! Reports: lists of names and values. One writer prints text, the other a JSON object.
 
 use crate::generated::core::advice::{write_help, Advice};
 use crate::generated::core::histogram::{write_array, write_bars};
@@ -14,58 +14,58 @@ use std::io::{self, Write};
 /// A field of a report.
 #[derive(Clone, Copy)]
 pub struct Field<'a> {
-    /// Its name in an object.
+    /// Its name in the object.
     pub name: &'a str,
-    /// What it says.
+    /// Its value.
     pub value: Value<'a>,
-    /// The words round its value in a text; none of a field that objects alone have.
+    /// The words around its value in the text. None for a field that only the object has.
     pub words: Option<Words<'a>>,
 }
 
-/// What a field says.
+/// The value of a field.
 #[derive(Clone, Copy)]
 pub enum Value<'a> {
-    /// Nothing: null in an object.
+    /// No value: null in the object.
     Absent,
-    /// Whether something is so.
+    /// True or false.
     Truth(bool),
     /// A number.
     Number(u128),
-    /// A number of groups. Where it is above the bound, a text tells that alone.
+    /// A number of groups. If it exceeds the bound, the text says only that.
     Groups { count: usize, bound: Option<usize> },
     /// A text.
     Text(&'a str),
     /// The text of an error of a table.
     Refused(Error),
-    /// How many slots of each stretch are occupied, of a table of that many slots; a sign for each in
-    /// a text.
+    /// The number of occupied slots in each stretch of a table with `slot_count` slots. The text
+    /// has one character for each.
     Stretches { slot_count: usize, counts: &'a [usize] },
-    /// Counts of a histogram, up to the longest number of groups; a line for each in a text.
+    /// The counts of a histogram, up to the longest number of groups. The text has a line for each.
     Histogram { counts: &'a [usize], longest: usize },
-    /// What makes the searches of a file of this name short; the options for it in an object.
+    /// The command that makes the searches of this file shorter. The object has only its options.
     Help { advice: Advice, file: &'a str, is_whole: bool },
 }
 
-/// The words of a text round a value.
+/// The words around a value in the text.
 #[derive(Clone, Copy)]
 pub struct Words<'a> {
-    /// What stands before it.
+    /// The words before it.
     pub before: &'a str,
-    /// What stands behind it.
+    /// The words after it.
     pub after: &'a str,
-    /// What stands there in place of both where nothing is said, or that something is not so.
+    /// The words written instead if there is no value, or if the value is false.
     pub otherwise: &'a str,
 }
 
 impl<'a> Words<'a> {
-    /// These words round a value, and none where there is none.
+    /// These words around a value, and no words if there is no value.
     pub fn between(before: &'a str, after: &'a str) -> Option<Words<'a>> {
         Some(Words { before, after, otherwise: "" })
     }
 }
 
 impl Value<'_> {
-    /// The number, where there is one.
+    /// The number, if there is one.
     pub fn of_number(number: Option<usize>) -> Value<'static> {
         match number {
             Some(number) => Value::Number(number as u128),
@@ -74,7 +74,7 @@ impl Value<'_> {
     }
 }
 
-/// Writes a report: the text, or the object on a line.
+/// Writes a report: the text, or the object in one line.
 pub fn write_report<O: Write>(
     report: &[Field<'_>],
     is_json: bool,

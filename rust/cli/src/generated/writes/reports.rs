@@ -40,7 +40,7 @@ fn taken(lines: u64, pairs: usize, bytes: u64) -> Taken {
     Taken { lines, pairs: pairs as u64, bytes }
 }
 
-/// So many bytes, and those of this line with its end.
+/// `bytes`, plus the bytes of this line and its end.
 #[inline(always)]
 pub fn with_line(bytes: u64, line: &[u8]) -> u64 {
     bytes.saturating_add(line.len() as u64 + 1)

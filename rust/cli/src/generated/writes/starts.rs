@@ -59,6 +59,6 @@ pub fn copy_lengths<H: HashFn>(
 ) -> Result<DynTableOwned<H>, Failure> {
     let bytes = bytes.as_slice();
     check_lengths::<H>(layout, bytes, bound).map_err(Failure::Refused)?;
-    // The bytes are valid, so that memory alone may be lacking.
+    // The bytes are valid, so only an allocation can fail.
     DynTableOwned::from_raw_bytes(alloc, layout, bytes).map_err(|_| Failure::Memory)
 }
