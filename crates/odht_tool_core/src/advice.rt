@@ -48,8 +48,8 @@ pub(crate) fn needs_whole(numbers: &Numbers) -> bool
     numbers.longest_miss > DEFAULT_GROUPS
 }
 
-/// The name for `odht rebuild`, which takes files of a table alone: FILE where this is none, or is
-/// standard input.
+/// The name for `odht rebuild`, which takes files that contain only a table: FILE if this is
+/// another file, or standard input.
 pub(crate) fn rebuilt_name<'a>(at: Option<usize>, file: &'a str) -> &'a str
     ensures { result.now ≡ rebuilt_name at file.now }
 {
