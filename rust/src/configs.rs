@@ -59,5 +59,5 @@ macro_rules! ready {
     )* };
 }
 
-include!("configs/list.rs");
+include!("configs/generated/list.rs");
 each_configuration!(ready);

@@ -165,8 +165,8 @@ tuples! {
 /// | keys | hash function |
 /// |---|---|
 /// | numbers that count up | `by Fx` |
-/// | addresses and offsets | `by Fx`, shifted right by the bits that are always zero |
-/// | hashes already, evenly spread in their last four bytes | `by UnHash` |
+/// | addresses and offsets | `by Fx`, after you shift out the bits that are always zero |
+/// | hashes, evenly spread in their last four bytes | `by UnHash` |
 /// | text, tuples, floats, big-endian numbers | `by Xxh64` |
 /// | anything else, or if you do not know | `by Xxh64` |
 ///

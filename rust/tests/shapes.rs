@@ -160,7 +160,7 @@ where
     format::<K, V, C::H>()
 }
 
-include!("../src/configs/list.rs");
+include!("../src/configs/generated/list.rs");
 
 macro_rules! tests {
     ($(

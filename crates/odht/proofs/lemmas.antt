@@ -41,6 +41,8 @@ pub mod DynOpens
 pub mod DynPrefixes
 -- an insert that a view takes is one that a table that grows takes
 pub mod OwnedInserts
+-- an insert into the bytes of a borrowed store
+pub mod StoreInserts
 -- what the insert into a view says of that into a table that grows
 pub mod DynOwned
 -- tables that are read by position

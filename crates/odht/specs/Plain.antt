@@ -15,7 +15,7 @@
 --     IsPlainReserve c P n r Q    room for n more items in P is made, with the result r, and leaves Q: on success Q is
 --                          `reserved` of P (`table`), with the map of P and the room; it is `Capacity` exactly where the
 --                          room is lacking and no table is that large, and an error only where the room is lacking
-use Rattle.std.specs.Prelude.{◌≡◌, ◌↔◌, ◌≤◌, ◌+◌, ℕ, List, length, take, Option, Some, Result, Err, IsOk, OnOk, OnErr, bytes_eq, if◌then◌else◌}
+use Rattle.std.specs.Prelude.{◌≡◌, ◌↔◌, ◌≤◌, ◌+◌, ℕ, List, length, take, Some, Result, Err, IsOk, OnOk, OnErr, bytes_eq, if◌then◌else◌}
 use Rattle.odht_base.specs.Format.{Format}
 use Rattle.odht_base.specs.Insert.{insert_owned, run}
 use Rattle.odht_base.specs.Load.{factor_of, max_items}

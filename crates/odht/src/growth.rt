@@ -1,6 +1,7 @@
 //! Growth: a table with the slots for twice as many items, written into larger bytes.
-ghost use Rattle.odht.specs.Tables.{InTable};
-ghost use Rattle.std.specs.Prelude.{◌≡◌, All, length};
+ghost use Rattle.odht.specs.Tables.{InTable, OfTable};
+ghost use Rattle.std.specs.Prelude.{◌≡◌, All, IfSome, length};
+ghost use Rattle.odht_base.specs.Image.{image_len};
 ghost use Rattle.odht_base.specs.Decoded.{header_count, header_factor};
 ghost use Rattle.odht_base.specs.Format.{format_of};
 ghost use Rattle.odht_base.specs.Insert.{grown_slots};
@@ -20,9 +21,10 @@ use crate::hash::HashFn;
 use crate::hash_table::HashTable;
 use crate::layout::{Fixed, Layout, Lengths};
 use crate::load::Factor;
-use crate::memory_layout::{self, HEADER_SIZE, Header, parts_in};
+use crate::memory_layout::{self, HEADER_SIZE, Header, clear_entries, parts_in};
 use crate::raw_table::{PartPairs, write_new};
 use crate::swisstable_group_query::GroupQuery;
+use std::alloc::Global;
 
 impl<C: Config, D: ByteStore> HashTable<C, D> {
     /// Returns the length in bytes of the table that this one grows into. That table has the slots
@@ -41,10 +43,8 @@ impl<C: Config, D: ByteStore> HashTable<C, D> {
         ensures on_valid { InTable ⟦<C as Coded>⟧.coding (D.bytes self.now)
             (λ c P. result ≡ table_len c.format (grown_slots P)) }
     {
-        match grown_layout::<C>(&self.allocation.header()) {
-            Some((_, len)) => Some(len),
-            None => None,
-        }
+        let lengths: Fixed<C::EncodedKey, C::EncodedValue> = Fixed::new();
+        grown_len_of::<Fixed<C::EncodedKey, C::EncodedValue>, C::H>(self.raw_bytes(), lengths)
     }
 
     /// Writes the table that this one grows into to `out`, over any bytes that are there. `out`
@@ -61,29 +61,39 @@ impl<C: Config, D: ByteStore> HashTable<C, D> {
         requires { HasGrownLen ⟦<C as Coded>⟧.coding.format (D.bytes self.now) out.old }
         ensures { IsGrownFrom ⟦<C as Coded>⟧.coding.format (D.bytes self.now) out.new }
     {
-        let Some((slot_count, _)) = grown_layout::<C>(&self.allocation.header()) else {
-            // `out` has the length of the grown table.
-            unreachable!()
-        };
         let lengths: Fixed<C::EncodedKey, C::EncodedValue> = Fixed::new();
-        memory_layout::clear_entries(out, lengths, slot_count);
-        write_moved(self, slot_count, out);
+        grow_parts::<Fixed<C::EncodedKey, C::EncodedValue>, C::H>(self.raw_bytes(), lengths, out);
     }
 }
 
-/// The slot count and the length in bytes of the table that the one with this header grows into.
-/// None exactly where no slot count is enough, or the length passes `usize`.
-pub(crate) fn grown_layout<C: Config>(header: &Header<'_>) -> Option<(usize, usize)>
-    ensures { IsGrownLayout ⟦<C as Coded>⟧.coding.format header.now result }
+/// `grown_len` of the bytes of a table. All tables grow by these functions, whose lengths of keys
+/// and values are types or numbers.
+pub(crate) fn grown_len_of<L: Lengths, H: HashFn>(bytes: &[u8], lengths: L) -> Option<usize>
+    requires accepted { IsAccepted (format_of (L.key_len lengths) (L.value_len lengths) H.hash)
+        bytes.now }
+    requires pair { ArePairLengths H.MIN_LEN (L.key_len lengths) (L.value_len lengths) }
+    ensures by_header { result
+        ≡ grown_len (format_of (L.key_len lengths) (L.value_len lengths) H.hash) bytes.now }
+    ensures on_valid { let F = format_of (L.key_len lengths) (L.value_len lengths) H.hash
+        in OfTable F bytes.now (λ P. result ≡ table_len F (grown_slots P)) }
 {
-    grown_sizes::<C::H>(Layout::of::<C>(), header)
+    match grown_sizes::<L, H>(bytes, lengths) {
+        Some((_, len)) => Some(len),
+        None => None,
+    }
 }
 
-/// The same of a table of these lengths.
+// The slot count and the length in bytes of the table that the one in the bytes grows into. None
+// exactly where no slot count is enough, or the length passes `usize`.
 #[inline(always)]
-pub(crate) fn grown_sizes<H: HashFn>(layout: Layout, header: &Header<'_>) -> Option<(usize, usize)>
-    ensures { IsGrownLayout (format_of layout.key_len layout.value_len H.hash) header.now result }
+fn grown_sizes<L: Lengths, H: HashFn>(bytes: &[u8], lengths: L) -> Option<(usize, usize)>
+    requires accepted { IsAccepted (format_of (L.key_len lengths) (L.value_len lengths) H.hash)
+        bytes.now }
+    requires pair { ArePairLengths H.MIN_LEN (L.key_len lengths) (L.value_len lengths) }
+    ensures { IsGrownLayout (format_of (L.key_len lengths) (L.value_len lengths) H.hash) bytes.now
+        result }
 {
+    let header = Header::of(bytes);
     let factor = header.max_load_factor();
     let Some(twice) = header.item_count().checked_mul(2) else {
         return None;
@@ -91,35 +101,79 @@ pub(crate) fn grown_sizes<H: HashFn>(layout: Layout, header: &Header<'_>) -> Opt
     if factor.0 == 0 {
         return None;
     }
-    layout.table_for(twice.max(1), factor)
+    Layout::of_lengths(lengths).table_for(twice.max(1), factor)
 }
 
-/// Writes the pairs of a table, placed in slot order into that many slots, into bytes whose entries
-/// are zeros. The new header has the item count and the load factor of the table.
-pub(crate) fn write_moved<C: Config, D: ByteStore>(
-    table: &HashTable<C, D>,
-    slot_count: usize,
-    out: &mut [u8],
-)
-    requires slots { IsSlotCount slot_count }
-    requires room { IsRoomFor ⟦<C as Coded>⟧.coding.format slot_count out.old }
-    ensures moved { IsMove ⟦<C as Coded>⟧.coding.format (D.bytes table.now) slot_count out.new }
-    ensures count { header_count out.new ≡ header_count (D.bytes table.now) }
-    ensures factor { header_factor out.new ≡ header_factor (D.bytes table.now) }
+/// `grow_into` of the bytes of a table.
+pub(crate) fn grow_parts<L: Lengths, H: HashFn>(bytes: &[u8], lengths: L, out: &mut [u8])
+    requires accepted { IsAccepted (format_of (L.key_len lengths) (L.value_len lengths) H.hash)
+        bytes.now }
+    requires pair { ArePairLengths H.MIN_LEN (L.key_len lengths) (L.value_len lengths) }
+    requires len { HasGrownLen (format_of (L.key_len lengths) (L.value_len lengths) H.hash)
+        bytes.now out.old }
+    ensures { IsGrownFrom (format_of (L.key_len lengths) (L.value_len lengths) H.hash) bytes.now
+        out.new }
 {
-    let lengths: Fixed<C::EncodedKey, C::EncodedValue> = Fixed::new();
-    let bytes = table.allocation.raw_bytes();
-    move_parts::<Fixed<C::EncodedKey, C::EncodedValue>, C::H>(bytes, lengths, slot_count, out);
+    let Some((slot_count, _)) = grown_sizes::<L, H>(bytes, lengths) else {
+        // `out` has the length of the grown table.
+        unreachable!()
+    };
+    clear_entries(out, lengths, slot_count);
+    move_parts::<L, H>(bytes, lengths, slot_count, out);
 }
 
-/// `write_moved` of the bytes of a table, whose lengths of keys and values are types or numbers.
-/// All tables grow by it.
-pub(crate) fn move_parts<L: Lengths, H: HashFn>(
+/// The bytes of the table that the one in the bytes grows into, in new memory. None where the
+/// allocator gives no memory for it, or it would be too large.
+#[inline(never)]
+pub(crate) fn grown_bytes<L: Lengths, H: HashFn>(
+    alloc: Global,
+    bytes: &[u8],
+    lengths: L,
+) -> Option<Vec<u8>>
+    requires accepted { IsAccepted (format_of (L.key_len lengths) (L.value_len lengths) H.hash)
+        bytes.now }
+    requires pair { ArePairLengths H.MIN_LEN (L.key_len lengths) (L.value_len lengths) }
+    ensures { let F = format_of (L.key_len lengths) (L.value_len lengths) H.hash
+        in IfSome result (λ v. IsGrownFrom F bytes.now v.items) }
+{
+    let (slot_count, len) = grown_sizes::<L, H>(bytes, lengths)?;
+    let grown = moved_bytes::<L, H>(alloc, bytes, lengths, slot_count, len)?;
+    Some(grown)
+}
+
+/// The pairs of the table in the bytes, placed in slot order into that many slots in new memory.
+/// `len` is the length for them. The new header has the item count and the load factor of the
+/// table. None where the allocator gives no memory.
+#[inline(always)]
+pub(crate) fn moved_bytes<L: Lengths, H: HashFn>(
+    alloc: Global,
     bytes: &[u8],
     lengths: L,
     slot_count: usize,
-    out: &mut [u8],
-)
+    len: usize,
+) -> Option<Vec<u8>>
+    requires accepted { IsAccepted (format_of (L.key_len lengths) (L.value_len lengths) H.hash)
+        bytes.now }
+    requires pair { ArePairLengths H.MIN_LEN (L.key_len lengths) (L.value_len lengths) }
+    requires slots { IsSlotCount slot_count }
+    requires len { let F = format_of (L.key_len lengths) (L.value_len lengths) H.hash
+        in len ≡ image_len F slot_count }
+    ensures moved { let F = format_of (L.key_len lengths) (L.value_len lengths) H.hash
+        in IfSome result (λ v. IsMove F bytes.now slot_count v.items) }
+    ensures count { IfSome result (λ v. header_count v.items ≡ header_count bytes.now) }
+    ensures factor { IfSome result (λ v. header_factor v.items ≡ header_factor bytes.now) }
+{
+    let Ok(mut out) = vec![in alloc; 0; len] else {
+        return None;
+    };
+    move_parts::<L, H>(bytes, lengths, slot_count, out.as_mut_slice());
+    Some(out)
+}
+
+// Writes the pairs of the table in the bytes, placed in slot order into that many slots, into
+// bytes whose entries are zeros. The new header has the item count and the load factor of the
+// table.
+fn move_parts<L: Lengths, H: HashFn>(bytes: &[u8], lengths: L, slot_count: usize, out: &mut [u8])
     requires accepted { IsAccepted (format_of (L.key_len lengths) (L.value_len lengths) H.hash)
         bytes.now }
     requires pair { ArePairLengths H.MIN_LEN (L.key_len lengths) (L.value_len lengths) }

@@ -18,9 +18,11 @@ use crate::bytes::{ByteStore, ByteStoreMut};
 use crate::config::{Coded, Config};
 use crate::error::Error;
 use crate::iter::Iter;
+use crate::layout::Fixed;
 use crate::load::Factor;
 use crate::lookups::{self, InSlice};
 use crate::memory_layout::{self, Allocation};
+use crate::new_tables::init_bytes;
 use crate::raw_table::{RawIter, RawTable};
 use crate::swisstable_group_query::GroupQuery;
 use std::marker::Model;
@@ -273,18 +275,13 @@ impl<C: Config, D: ByteStoreMut> HashTable<C, D> {
         ensures refused { OnErr result (store.new ≡ store.old) }
         ensures same_store { store.new ≡ D.holding store.old (D.bytes store.new) }
     {
-        let factor = Factor::from_percent(max_load_factor_percent);
-        let Some((slot_count, expected)) = memory_layout::layout_for::<C>(max_item_count, factor)
-        else {
-            return Err(Error::Capacity);
-        };
-        let found = store.bytes().len();
-        if found != expected {
-            return Err(Error::InitLength { found, expected });
-        }
-        let table = memory_layout::init_in_place::<C, &mut D>(store, slot_count, 0, factor);
-        let _store = table.into_data();
-        Ok(())
+        let lengths: Fixed<C::EncodedKey, C::EncodedValue> = Fixed::new();
+        init_bytes::<Fixed<C::EncodedKey, C::EncodedValue>, C::H, D>(
+            lengths,
+            store,
+            max_item_count,
+            max_load_factor_percent,
+        )
     }
 
     /// Inserts a pair, and returns the former value of the key: on valid bytes the table's value

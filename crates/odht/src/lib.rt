@@ -21,4 +21,5 @@ mod hash_table_owned;
 mod iter;
 pub mod laws;
 pub mod lookups;
+mod new_tables;
 mod reserve;

@@ -48,7 +48,6 @@ fn run(rt: &HostRuntime) -> Result<(), Stopped> {
     Ok(())
 }
 
-// The number that a word writes.
 fn number(word: &String) -> Result<u64, Stopped> {
     word.as_str().parse().or(Err(Stopped::Usage))
 }

@@ -96,7 +96,6 @@ fn byte_arrays(rt: HostRuntime) {
     );
 }
 
-// The bytes of a store.
 fn bytes_of<S: ByteStore>(store: &S) -> &[u8]
     ensures { result.now ≡ S.bytes store.now }
 {

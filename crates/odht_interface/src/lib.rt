@@ -1,6 +1,6 @@
-//! Tests that use each public name that the port began with, with the types of its arguments and
-//! of its result written out: one that goes missing, or has another type, does not compile. They
-//! are a crate of their own so that they are built and proved beside the other tests.
+//! Tests that use each public name of odht 0.3.1, with the types of its arguments and of its result
+//! written out: one that goes missing, or has another type, does not compile. They are a crate of
+//! their own so that they are built and proved beside the other tests.
 #![tactic(auto)]
 
 #[cfg(test)]

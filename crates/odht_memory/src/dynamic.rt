@@ -7,7 +7,6 @@ use std::alloc::Global;
 
 type Table = DynTableOwned<FxHashFn>;
 
-// Keys and values of four bytes.
 const LAYOUT: Layout = Layout {
     key_len: 4,
     value_len: 4,

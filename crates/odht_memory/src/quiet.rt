@@ -12,7 +12,6 @@ use odht::swisstable_group_query::{Group, lanes, no_simd};
 use odht::{HashTable, bytes_needed};
 use std::alloc::Global;
 
-// The number in an option.
 fn number(size: Option<usize>) -> Option<u64> {
     size.map(|size| size as u64)
 }

@@ -15,10 +15,10 @@ pub mod Placings
 pub mod Checked
 -- and what it knows of the slots that it has been through
 pub mod Summaries
--- what placing a key through borrowed parts may not do
+-- what placing a key and an insert through borrowed parts may not do
 pub mod MutPlacings
--- the same where lengths are numbers
-pub mod DynRawInserts
+-- what items that are inserted in turn may not do
+pub mod Runs
 -- the first free slot, and a pair that is written there
 pub mod FreePlacings
 -- inserts into any parts

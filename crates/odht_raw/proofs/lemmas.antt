@@ -123,3 +123,5 @@ pub mod PassOrders
 pub mod Reads
 -- the former value that an insert answers, decoded
 pub mod Formers
+-- the search for a key in parts that are read to be written
+pub mod SearchedParts

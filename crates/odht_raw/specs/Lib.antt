@@ -52,8 +52,6 @@ pub mod Frontiers
 pub mod Expected
 -- the parts of a table whose lengths of keys and values are numbers
 pub mod DynParts
--- such parts that are borrowed to be written
-pub mod PartsMutChanges
 -- the passes in which an order of inserts takes the slots, as they are found by walks
 pub mod Passes
 -- a search in the parts of a table that are read by position

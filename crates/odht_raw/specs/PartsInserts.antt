@@ -5,6 +5,8 @@
 --     IsPartsInsert F f P p r ..       for the parts of P: an Ok does so (`ok`), and the answer is Full exactly where p has no
 --                                      place in P (`full`), which is where each slot is occupied by another key (`no_room`)
 --     IsInsertChange F f es ctrl p r ..  for any parts es and ctrl: the frame; Full is the only error and changes nothing
+--     IsInsertAt F f A t p r t'        both, the first only for placed tables P for which A P; t and t' are entries and
+--                                      control bytes
 use Rattle.std.specs.Prelude.{◌≡◌, ℕ, ◌↔◌, List, Option, Some, None, option_map, Result, Err, IfOk}
 use Rattle.odht_base.specs.Format.{Format}
 use Rattle.odht_base.specs.Insert.{place}
@@ -32,3 +34,7 @@ module _ {V : Type 0} (F : Format) (f : List ℕ → V) where
   pub record IsInsertChange (es ctrl : List ℕ) (p : Pair) (r : Result (Option V) Error) (es' ctrl' : List ℕ) : Type 0 where
     pub frame : IsPartsFramed F f es ctrl p r es' ctrl'
     pub errors : IsOnlyFull es ctrl r es' ctrl'
+
+  pub record IsInsertAt (A : Table → Type 0) (t : List ℕ × List ℕ) (p : Pair) (r : Result (Option V) Error) (t' : List ℕ × List ℕ) : Type 0 where
+    pub placed : (P : Table) → IsPartsOf F P t.0 t.1 → A P → IsPartsInsert P p r t'.0 t'.1
+    pub any : IsInsertChange t.0 t.1 p r t'.0 t'.1

@@ -1,14 +1,13 @@
--- The parts of a table, borrowed to be written by a `RawTableMut`: two slices.
+-- The parts of a table, borrowed to be written as a `RawTableMut`: two slices. The lengths of keys and values are types.
 --     mut_control t        the control bytes with their mirror
 --     mut_entries t        the bytes of the entries
---     mut_parts t          both; the slot count is the number of control bytes without the mirror
---     control_loan t       the borrow of the control bytes: what is written goes to the slice of this borrow
---     entries_loan t       the borrow of the entries
---     table_format t       the format of the table's keys, values and hash
+--     control_loan t, entries_loan t  the borrows of both: what is written goes to their slices
+--     table_format t       the format of these lengths and of the table's hash
+--     IsMutPlacing t k v r t'  placing the key k and the value v through t returns r and leaves t': what placing a pair
+--                          with a new key into parts does, and the borrows stay
+--     mut_parts t          both slices; the slot count is the number of control bytes without the mirror
 --     IsParts P t          the parts are those of the placed table P
 --     pair_of t k v        the key k and the value v, in bytes
---     IsMutPlacing t k v r t'  placing k and v through t answers r and leaves t': what placing a pair with a new key
---                          into parts does, and both borrows stay
 use Rattle.std.specs.Prelude.{◌≡◌, ℕ, ◌-◌, List, length, Result}
 use Rattle.std.specs.Borrow.{GName}
 use Rattle.std.specs.declared.cmp.PartialEq.{Ghosts as PartialEqOf}
@@ -18,9 +17,9 @@ use Rattle.odht_base.specs.declared.hash.HashFn.{Ghosts as HashFnOf}
 use Rattle.odht_base.specs.Format.{Format, format_of}
 use Rattle.odht_base.specs.Table.{Pair, Table}
 use Rattle.odht_base.specs.Valid.{IsPartsOf}
+use Rattle.odht_header.specs.declared.error.Error.{Error}
 use Rattle.odht_raw.specs.Parts.{TableParts}
 use Rattle.odht_raw.specs.PartsPlacings.{IsNewTo, IsNewPlacing, IsAddition}
-use Rattle.odht_header.specs.declared.error.Error.{Error}
 use Rattle.odht_raw.specs.declared.raw_table.table_mut.RawTableMut.{RawTableMut}
 
 module _ {K V H : Type 0} {key : ByteArrayOf K} {key_eq : PartialEqOf K} {key_debug : DebugOf K}

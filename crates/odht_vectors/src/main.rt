@@ -1,6 +1,6 @@
 //! Runs the cases of files of vectors, and prints how many held.
 //!
-//! vectors/README.md describes such a file. Each case that does not hold, each line that is not
+//! data/README.md describes such a file. Each case that does not hold, each line that is not
 //! understood and each section without a case is printed, and the program then ends with status 1.
 #![tactic(auto)]
 

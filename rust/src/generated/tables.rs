@@ -20,4 +20,5 @@ mod hash_table;
 mod hash_table_owned;
 mod iter;
 pub mod lookups;
+mod new_tables;
 mod reserve;

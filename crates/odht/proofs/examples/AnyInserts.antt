@@ -1,5 +1,5 @@
 -- Worked examples: what an insert into bytes that need not be valid returns and leaves.
-use Rattle.std.proofs.Common.{◌≡◌, ◌-◌, ℕ, refl, sym, Option, List, [], ◌∷◌, Some, None, Result, Ok, Err, lit<, lit≤, arith, length}
+use Rattle.std.proofs.Common.{◌≡◌, ℕ, refl, sym, Option, List, [], ◌∷◌, None, Result, Ok, Err, lit<, lit≤, arith}
 use Rattle.std.specs.Prelude.{option_map}
 use Rattle.std.specs.Result.{result_map_both}
 use Rattle.std.proofs.lemmas.Option.{none-some}

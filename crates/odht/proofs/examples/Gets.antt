@@ -28,14 +28,10 @@ got = (
   record { on_valid = λ P is. ap (λ T. value_for number_coding T 3) (only_one_pair P is); on_any = tt },
 )
 
--- another value, and none of a key that has one
+-- another value
 pub other_value : IsGet number_coding (bytes_of (one_pair 2)) 1 (Some 3) → ⊥
 unfolding opened
 other_value h = omega (arith, some_same 3 2 (h.on_valid (one_pair 2) one_pair_image.0))
-
-pub no_value : IsGet number_coding (bytes_of (one_pair 2)) 1 None → ⊥
-unfolding opened
-no_value h = none-some 2 (h.on_valid (one_pair 2) one_pair_image.0)
 
 -- one group is read, and not two
 pub counted : IsCountedGet number_coding (bytes_of (one_pair 2)) 1 (Some 2, 1)

@@ -1,5 +1,5 @@
 -- Worked examples: what a new table is, and what an insert leaves.
-use Rattle.std.proofs.Common.{◌≡◌, ◌∙◌, ℕ, Bool, true, false, refl, sym, ap, arith, List, [], Option, Some, None, Ok, Err, option_map, if◌then◌else◌, bytes_eq}
+use Rattle.std.proofs.Common.{◌≡◌, ◌∙◌, Bool, true, false, refl, sym, ap, arith, [], Some, None, Ok, Err, option_map, if◌then◌else◌, bytes_eq}
 use Rattle.std.proofs.lemmas.Option.{none-some}
 use Rattle.odht_base.specs.Insert.{insert_owned}
 use Rattle.odht_base.specs.Load.{factor_of}
@@ -13,7 +13,7 @@ use Rattle.odht_header.specs.declared.error.Error.TheVariants.{Full, Memory}
 use Rattle.odht_header.proofs.examples.Opened.{opened}
 use Rattle.odht.specs.Inserts.{IsFresh, IsInserted, IsInsertInto, IsInsertOwned}
 use Rattle.odht_header.proofs.examples.Apart.{unequal_lists, some_unequal_lists}
-use Rattle.odht.proofs.examples.SmallTables.{number_coding, no_pairs, one_pair, other_pair, full_of_none, one_of_32, bytes_of, no_pairs_image, one_pair_image, one_of_32_image}
+use Rattle.odht.proofs.examples.SmallTables.{number_coding, no_pairs, one_pair, full_of_none, one_of_32, bytes_of, no_pairs_image, one_pair_image, one_of_32_image}
 
 -- ---- new tables
 -- sixteen slots at 87 percent
@@ -25,11 +25,6 @@ a_fresh_table = record { table = no_pairs; new = refl; image = no_pairs_image }
 pub larger : IsFresh my_config 0 87 (bytes_of (empty 32 (factor_of 87))) → ⊥
 unfolding opened
 larger h = unequal_lists _ _ refl (h.image.bytes ∙ ap bytes_of (sym (some_same no_pairs h.table h.new)))
-
--- the bytes of none
-pub no_bytes : IsFresh my_config 0 87 [] → ⊥
-unfolding opened
-no_bytes h = unequal_lists _ _ refl (h.image.bytes ∙ ap bytes_of (sym (some_same no_pairs h.table h.new)))
 
 -- the table at no percent, which is not valid
 pub no_percent : IsFresh my_config 0 0 (bytes_of (empty 16 0)) → ⊥
@@ -53,36 +48,6 @@ a_new_key = record {
     go true = refl
     go false = refl
 
--- a present key
-pub an_old_key : IsInserted my_config (insert_owned my_config) (one_pair 2) (pair64 1 3) (bytes_of (one_pair 3))
-unfolding opened
-an_old_key = record {
-  table = one_pair 3;
-  inserted = refl;
-  image = one_pair_image.1;
-  maps = λ q. go (bytes_eq q (le_bytes 8 1));
-}
-  where
-    value : Bool → ℕ → Option (List ℕ)
-    value b v = option_map (λ (p : Pair). p.value) (if b then Some (pair64 1 v) else None)
-
-    go : (b : Bool) → value b 3 ≡ (if b then Some (le_bytes 4 3) else value b 2)
-    go true = refl
-    go false = refl
-
--- the former value of a new key, and of a present one
-pub new_former : value_for number_coding no_pairs 1 ≡ None
-unfolding opened
-new_former = refl
-
-pub old_former : value_for number_coding (one_pair 2) 1 ≡ Some 2
-unfolding opened
-old_former = refl
-
--- another former value
-pub other_former : Some 3 ≡ value_for number_coding (one_pair 2) 1 → ⊥
-other_former h = omega (arith, some_same 3 2 h)
-
 -- no former value
 pub no_former : None ≡ value_for number_coding (one_pair 2) 1 → ⊥
 no_former h = none-some 2 h
@@ -96,20 +61,10 @@ not_inserted h = unequal_lists _ _ refl (h.image.bytes ∙ ap bytes_of (sym (som
 pub refused : IsInserted my_config (λ P p. None) no_pairs (pair64 1 2) (bytes_of (one_pair 2)) → ⊥
 refused h = none-some h.table h.inserted
 
--- no bytes of a table
-pub no_image : IsInserted my_config (insert_owned my_config) no_pairs (pair64 1 2) [] → ⊥
-unfolding opened
-no_image h = unequal_lists _ _ refl (h.image.bytes ∙ ap bytes_of (sym (some_same (one_pair 2) h.table h.inserted)))
-
 -- an insert of another value
 pub other_value : IsInserted my_config (λ P p. Some (one_pair 3)) no_pairs (pair64 1 2) (bytes_of (one_pair 3)) → ⊥
 other_value h =
     some_unequal_lists _ _ refl (ap (λ T. map_of T (le_bytes 8 1)) (some_same (one_pair 3) h.table h.inserted) ∙ h.maps (le_bytes 8 1))
-
--- one that loses the other keys
-pub other_key_lost : IsInserted my_config (λ P p. Some other_pair) (one_pair 2) (pair64 3 4) (bytes_of other_pair) → ⊥
-other_key_lost h =
-    none-some _ (ap (λ T. map_of T (le_bytes 8 1)) (some_same other_pair h.table h.inserted) ∙ h.maps (le_bytes 8 1))
 
 -- ---- inserts into bytes that cannot grow
 -- a new key
@@ -118,15 +73,6 @@ unfolding opened a_new_key
 into_none = record {
   former = refl;
   inserted = record { table = one_pair 2; inserted = refl; image = one_pair_image.0; maps = a_new_key.maps };
-  full = (λ e. absurd cc, λ full. absurd (omega (arith, full.0)));
-}
-
--- a present key
-pub into_one : IsInsertInto number_coding (one_pair 2) 1 3 (Ok (Some 2)) (bytes_of (one_pair 3))
-unfolding opened an_old_key
-into_one = record {
-  former = refl;
-  inserted = record { table = one_pair 3; inserted = refl; image = one_pair_image.1; maps = an_old_key.maps };
   full = (λ e. absurd cc, λ full. absurd (omega (arith, full.0)));
 }
 

@@ -1,7 +1,6 @@
 -- Worked examples: the last value of a key in a list of items.
-use Rattle.std.proofs.Common.{◌≡◌, ◌≢◌, ◌∙◌, ◌++◌, ℕ, Bool, true, false, refl, sym, ap, arith, length, length-append, List, [], ◌∷◌, Some, None, option_map, if◌then◌else◌, bytes_eq, subst, ◌⊎◌, inl, inr, lit<}
+use Rattle.std.proofs.Common.{◌≡◌, ◌≢◌, ◌∙◌, ◌++◌, ℕ, Bool, true, false, refl, ap, arith, length, length-append, List, [], ◌∷◌, Some, None, option_map, if◌then◌else◌, bytes_eq, subst, ◌⊎◌, inl, inr, lit<}
 use Rattle.std.proofs.lemmas.List.Elements.{All-nil, All-cons}
-use Rattle.std.proofs.lemmas.Option.{none-some}
 use Rattle.odht_base.specs.Map.{map_of}
 use Rattle.odht_base.specs.Numbers.{le_bytes}
 use Rattle.odht_base.specs.Table.{Pair, Table}
@@ -29,10 +28,6 @@ Lacks k item = item.0 ≢ k
 pub without_key : HasNoKey items 2
 without_key =
     All-cons (Lacks 2) (1, 2) ((3, 4) ∷ []) (λ e. omega (arith, e)) (All-cons (Lacks 2) (3, 4) [] (λ e. omega (arith, e)) (All-nil (Lacks 2)))
-
--- the first item has it
-pub without_first : HasNoKey items 1 → ⊥
-without_first h = h 0 (0, 0) (lit< tt) refl
 
 -- the last item has it
 pub without_second : HasNoKey items 3 → ⊥
@@ -101,17 +96,6 @@ pub first_value : HasLastValues number_coding ((1, 2) ∷ (1, 3) ∷ []) (bytes_
 unfolding opened
 first_value h =
     some_unequal_lists _ _ refl (ap (λ T. map_of T (le_bytes 8 1)) (the_table h.table _ h.image) ∙ h.maps (le_bytes 8 1))
-
--- a table with a further key
-pub further_key : HasLastValues number_coding [] (bytes_of (one_pair 2)) → ⊥
-unfolding opened
-further_key h =
-    none-some _ (sym (ap (λ T. map_of T (le_bytes 8 1)) (the_table h.table _ h.image) ∙ h.maps (le_bytes 8 1)))
-
--- a table that lacks a key
-pub lacking_key : HasLastValues number_coding ((1, 2) ∷ (3, 4) ∷ []) (bytes_of (one_pair 2)) → ⊥
-unfolding opened
-lacking_key h = none-some _ (ap (λ T. map_of T (le_bytes 8 3)) (the_table h.table _ h.image) ∙ h.maps (le_bytes 8 3))
 
 -- bytes with the right map, but with a load factor that no valid table has
 abbrev no_factor : Table

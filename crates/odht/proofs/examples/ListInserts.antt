@@ -23,7 +23,7 @@ use Rattle.odht.specs.LastValues.{IsCollected}
 use Rattle.odht.specs.Rebuilds.{IsBuilt}
 use Rattle.odht.specs.Lists.{encoded_all, HasSizeOf, IsAfterInserts, IsRefusedAt, IsStoppedAt, IsFreshAfterInserts}
 use Rattle.odht_header.proofs.examples.Apart.{unequal_lists, some_unequal_lists}
-use Rattle.odht.proofs.examples.SmallTables.{number_coding, no_pairs, one_pair, other_pair, full_of_none, one_of_32, bytes_of, one_pair_image, one_of_32_image}
+use Rattle.odht.proofs.examples.SmallTables.{number_coding, no_pairs, one_pair, one_of_32, bytes_of, one_pair_image}
 
 -- ---- items as pairs, in their order
 pub encoded_items : encoded_all number_coding ((1, 2) ∷ (3, 4) ∷ []) ≡ pair64 1 2 ∷ pair64 3 4 ∷ []
@@ -58,17 +58,6 @@ a_list = record {
   stays = λ room. ((refl, refl), lit≤ tt);
 }
 
--- of a full one, whose size does not stay
-pub a_growth : IsAfterInserts my_config (insert_owned my_config) full_of_none (pair64 1 2 ∷ []) (bytes_of (one_of_32 6 2))
-unfolding opened
-a_growth = record {
-  table = one_of_32 6 2;
-  runs = refl;
-  image = one_of_32_image;
-  maps = λ k. over_none (bytes_eq k (le_bytes 8 1));
-  stays = λ room. absurd (omega (arith, room));
-}
-
 -- inserts in another order: both keys have home 15, so the first one is there
 abbrev two_in_turn : ℕ → ℕ → Table
 two_in_turn k l = record {
@@ -86,36 +75,15 @@ other_order h =
 pub refused : IsAfterInserts my_config (λ P p. None) no_pairs (pair64 1 2 ∷ []) (bytes_of (one_pair 2)) → ⊥
 refused h = none-some h.table h.runs
 
--- no bytes of a table
-pub no_image : IsAfterInserts my_config (insert_owned my_config) no_pairs (pair64 1 2 ∷ []) [] → ⊥
-unfolding opened
-no_image h = unequal_lists _ _ refl (h.image.bytes ∙ ap bytes_of (sym (some_same (one_pair 2) h.table h.runs)))
-
 -- inserts of another value
 pub other_value : IsAfterInserts my_config (λ P p. Some (one_pair 3)) no_pairs (pair64 1 2 ∷ []) (bytes_of (one_pair 3)) → ⊥
 other_value h =
     some_unequal_lists _ _ refl (ap (λ T. map_of T (le_bytes 8 1)) (some_same (one_pair 3) h.table h.runs) ∙ h.maps (le_bytes 8 1))
 
--- inserts that lose the other keys
-pub other_key_lost : IsAfterInserts my_config (λ P p. Some other_pair) (one_pair 2) (pair64 3 4 ∷ []) (bytes_of other_pair)
-    → ⊥
-other_key_lost h =
-    none-some _ (ap (λ T. map_of T (le_bytes 8 1)) (some_same other_pair h.table h.runs) ∙ h.maps (le_bytes 8 1))
-
--- the table of 1 to 2 at another load factor
-abbrev other_factor : Table
-other_factor = record { factor = factor_of 86; cells = (one_pair 2).cells }
-
 -- inserts that change the slot count of a table with room
 pub grown_with_room : IsAfterInserts my_config (λ P p. Some (one_of_32 87 2)) no_pairs (pair64 1 2 ∷ []) (bytes_of (one_of_32 87 2))
     → ⊥
 grown_with_room h = omega (arith, (h.stays (lit≤ tt)).0.0, ap slot_count (some_same (one_of_32 87 2) h.table h.runs))
-
--- inserts that change its load factor
-pub changed_factor : IsAfterInserts my_config (λ P p. Some other_factor) no_pairs (pair64 1 2 ∷ []) (bytes_of other_factor)
-    → ⊥
-changed_factor h =
-    omega (arith, (h.stays (lit≤ tt)).0.1, ap (λ (T : Table). T.factor) (some_same other_factor h.table h.runs))
 
 -- ---- errors
 -- 1 is present and 3 is absent
@@ -182,11 +150,6 @@ the_list B h =
 pub larger_start : IsFreshAfterInserts number_coding 87 ((1, 2) ∷ []) (bytes_of (one_of_32 87 2)) → ⊥
 unfolding opened
 larger_start h = unequal_lists _ _ refl (the_list _ h)
-
--- no bytes of a table
-pub no_fresh_image : IsFreshAfterInserts number_coding 87 ((1, 2) ∷ []) [] → ⊥
-unfolding opened
-no_fresh_image h = unequal_lists _ _ refl (the_list _ h)
 
 -- ---- what is collected, and what is built from scratch
 pub collected : IsCollected number_coding 87 ((1, 2) ∷ []) (bytes_of (one_pair 2))

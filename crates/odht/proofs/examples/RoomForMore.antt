@@ -52,11 +52,6 @@ pub move : IsMove my_config (bytes_of (one_pair 2)) 32 (bytes_of (one_of_32 87 2
 unfolding opened moved_image
 move = record { on_valid = λ P is room. subst (λ T. IsMovedImage my_config T 32 (bytes_of (one_of_32 87 2))) (only_one_pair P is) moved_image; accepted = refl }
 
--- no move where there is room
-pub too_wide : IsReserved my_config (one_pair 2) 12 (bytes_of (one_of_32 87 2)) → ⊥
-unfolding opened reserved
-too_wide h = unequal_lists _ _ refl (h.image.bytes ∙ ap bytes_of (sym (some_same (one_pair 2) h.table h.is)))
-
 -- a table without the room
 pub too_small : IsReserved my_config (one_pair 2) 13 (bytes_of (one_pair 2)) → ⊥
 unfolding opened reserved

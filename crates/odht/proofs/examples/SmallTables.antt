@@ -2,7 +2,6 @@
 --     number_coding        keys and values are numbers, little-endian
 --     no_pairs             sixteen slots at 87 percent without a pair
 --     one_pair v           the same with 1 to v
---     other_pair           the same with 3 to 4 alone
 --     full_of_none         sixteen slots at 6 percent, which may hold no item
 --     one_of_32 p v        32 slots at p percent with 1 to v; at 6 percent they may hold no other item
 --     bytes_of P           its bytes
@@ -34,9 +33,6 @@ no_pairs = empty 16 (factor_of 87)
 abbrev pub one_pair : ℕ → Table
 one_pair v = record { factor = factor_of 87; cells = replicate 5 None ++ Some (pair64 1 v) ∷ replicate 10 None }
 
-abbrev pub other_pair : Table
-other_pair = record { factor = factor_of 87; cells = replicate 15 None ++ Some (pair64 3 4) ∷ [] }
-
 abbrev pub full_of_none : Table
 full_of_none = empty 16 (factor_of 6)
 
@@ -49,12 +45,11 @@ bytes_of P = image my_config P
 -- they are what inserts leave
 pub made_by_inserts : (fresh 0 87 ≡ Some no_pairs)
     × (owned_of my_config 0 87 (pair64 1 2 ∷ []) ≡ Some (one_pair 2))
-    × (owned_of my_config 0 87 (pair64 3 4 ∷ []) ≡ Some other_pair)
     × (fresh 0 6 ≡ Some full_of_none)
     × (owned_of my_config 0 6 (pair64 1 2 ∷ []) ≡ Some (one_of_32 6 2))
     × (owned_of my_config 20 87 (pair64 1 2 ∷ []) ≡ Some (one_of_32 87 2))
 unfolding opened
-made_by_inserts = (refl, refl, refl, refl, refl, refl)
+made_by_inserts = (refl, refl, refl, refl, refl)
 
 -- the coding encodes these pairs so
 pub coded_pair : encoded number_coding 1 2 ≡ pair64 1 2

@@ -10,7 +10,6 @@ use Rattle.odht_header.proofs.examples.Opened.{opened}
 use Rattle.odht_raw.specs.Walks.{decoded_all, decoded_slots}
 use Rattle.odht_raw.proofs.lemmas.BoundedSearches.{image_bounded}
 use Rattle.odht.specs.Dynamic.{dyn_store, dyn_parts}
-use Rattle.odht.specs.Gets.{AreGot}
 use Rattle.odht.specs.SearchBounds.{IsValidWithin, IsBound}
 use Rattle.odht.specs.Tables.{HasParts}
 use Rattle.odht.specs.Walks.{ArePairs, AreSlots, IsWalk, IsWalkFrom, IsItemCount}
@@ -52,11 +51,6 @@ counted = record { by_header = refl; on_valid = λ P is. ap count (only_one_pair
 pub miscounted : IsItemCount my_config (bytes_of (one_pair 2)) 2 → ⊥
 unfolding opened
 miscounted h = let two : 2 ≡ 1 = h.by_header in omega (arith, two)
-
--- lookups of another value, and of too few
-pub not_got : AreGot number_coding (bytes_of (one_pair 2)) (1 ∷ []) [] → ⊥
-unfolding opened
-not_got h = let none : 0 ≡ 1 = ap length (h.on_valid (one_pair 2) one_pair_image.0) in omega (arith, none)
 
 -- ---- parts
 pub parts : HasParts my_config (bytes_of (one_pair 2))

@@ -7,7 +7,6 @@ use Rattle.std.specs.Option.{option_or}
 use Rattle.std.proofs.lemmas.Bool.Decides.{eqb_tells}
 use Rattle.odht_header.specs.declared.error.Error.{Error}
 use Rattle.odht.specs.Dynamic.{DynStore}
-use Rattle.odht.specs.DynFormers.{lengths_error}
 use Rattle.odht.specs.DynLists.{length_error}
 use Rattle.odht.specs.declared.dynamic.DynError.{DynError}
 use Rattle.odht.specs.declared.dynamic.DynError.TheVariants.{WrongKeyLength, WrongValueLength, Rejected}
@@ -47,14 +46,14 @@ module _ {D : Type 0} (t : DynStore D) (k v : List ℕ) where
   -- ---- of an insert that returns this error, where there is one
   module _ {T : Type 0} (r : Result T DynError) (lengths : IfSome (length_error t (k, v)) (λ e. r ≡ Err e)) where
     -- a key of another length is the first error
-    pub key_first : length k ≢ t.key_len → r ≡ Err (WrongKeyLength t.key_len (length k))
+    key_first : length k ≢ t.key_len → r ≡ Err (WrongKeyLength t.key_len (length k))
     key_first apart = elim (eqb_tells (length k) t.key_len) [
       | inl same ↦ absurd (apart same.1)
       | inr other ↦ subst (λ (o : Option DynError). IfSome o (λ e. r ≡ Err e)) (key_error other.0) lengths
     ]
 
     -- a value of another length the second
-    pub value_second : length k ≡ t.key_len → length v ≢ t.value_len → r ≡ Err (WrongValueLength t.value_len (length v))
+    value_second : length k ≡ t.key_len → length v ≢ t.value_len → r ≡ Err (WrongValueLength t.value_len (length v))
     value_second key apart = elim (eqb_tells (length k) t.key_len) [
       | inr other ↦ absurd (other.1 key)
       | inl same ↦ elim (eqb_tells (length v) t.value_len) [
@@ -80,24 +79,3 @@ module _ {D : Type 0} (t : DynStore D) (k v : List ℕ) where
         | inl both ↦ no_error same.0 both.0
       ]
     ]
-
--- ---- of an insert that writes the former value to the bytes f of the caller
-module _ {D : Type 0} (t : DynStore D) (k v f : List ℕ) where
-  module _ {T : Type 0} (r : Result T DynError) (lengths : IfSome (lengths_error t k v f) (λ e. r ≡ Err e)) where
-    -- the lengths of the key and the value come first
-    pub pair_first : IfSome (length_error t (k, v)) (λ e. r ≡ Err e)
-    pair_first = go (length_error t (k, v)) lengths
-      where
-        go : (o : Option DynError) → IfSome (option_or o (length_error t (k, f))) (λ e. r ≡ Err e) → IfSome o (λ e. r ≡ Err e)
-        go None said = tt
-        go (Some e) said = said
-
-    -- and then that of these bytes
-    pub former_third : length k ≡ t.key_len → length v ≡ t.value_len → length f ≢ t.value_len → r ≡ Err (WrongValueLength t.value_len (length f))
-    former_third key value apart =
-        value_second t k f r
-        (subst (λ (o : Option DynError). IfSome (option_or o (length_error t (k, f))) (λ e. r ≡ Err e)) (of_fitting t k v key value) lengths) key apart
-
-  -- where all three fit there is no error
-  pub of_three_fitting : length k ≡ t.key_len → length v ≡ t.value_len → length f ≡ t.value_len → lengths_error t k v f ≡ None
-  of_three_fitting key value former = ap (λ o. option_or o (length_error t (k, f))) (of_fitting t k v key value) ∙ of_fitting t k f key former

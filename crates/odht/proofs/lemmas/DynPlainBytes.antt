@@ -1,8 +1,7 @@
 -- What the clauses of the owned table of lengths that are known only at run time say of its bytes: each is what the
 -- same call of a view says of valid bytes. B are the image of its plain table.
-use Rattle.std.proofs.Common.{◌≡◌, ◌↔◌, ◌∙◌, ℕ, Bool, List, Option, None, Some, Result, Ok, Err, refl, sym, ap}
+use Rattle.std.proofs.Common.{◌≡◌, ◌↔◌, ◌∙◌, ℕ, Bool, List, Option, Some, Result, Ok, Err, refl, sym, ap}
 use Rattle.std.specs.Prelude.{IfOk, IsSome, IsTrue, OnOk, OnErr}
-use Rattle.odht_base.specs.Decoded.{decoded_pairs}
 use Rattle.odht_base.specs.Format.{IsFormat}
 use Rattle.odht_base.specs.Insert.{insert_owned, IsFullFor}
 use Rattle.odht_base.specs.Map.{map_of}
@@ -10,7 +9,6 @@ use Rattle.odht_base.specs.Search.{groups_read}
 use Rattle.odht_base.specs.Table.{Pair, Table, count, walk}
 use Rattle.odht_base.specs.Valid.{IsImage}
 use Rattle.odht_header.specs.Coding.{encoded}
-use Rattle.odht_header.specs.declared.error.Error.{Error}
 use Rattle.odht_header.specs.declared.error.Error.TheVariants.{Memory}
 use Rattle.odht.specs.Dynamic.{DynStore, dyn_coding, dyn_format, dyn_store}
 use Rattle.odht.specs.DynOwned.{IsDynInsertOwned, IsDynReserve, IsRejecting}

@@ -1,20 +1,19 @@
 -- What the clauses of an owned table say of its bytes: each is what the same call of a view says of valid bytes. B are the
 -- image of the plain table P.
-use Rattle.std.proofs.Common.{◌≡◌, ◌↔◌, ◌≤◌, ◌+◌, ◌/◌, ◌∙◌, ℕ, Bool, refl, sym, ap, subst, subst₂, arith, List, Option, Some, None, Result, Ok, Err, take, length, map}
-use Rattle.std.specs.Prelude.{IfOk, IfSome, IsOk, IsSome, IsTrue, OnOk, OnErr, slice_get, option_map}
+use Rattle.std.proofs.Common.{◌≡◌, ◌↔◌, ◌≤◌, ◌+◌, ◌/◌, ◌∙◌, ℕ, Bool, refl, sym, ap, subst, arith, List, Option, Some, None, Result, Ok, Err, take, length}
+use Rattle.std.specs.Prelude.{IfOk, IfSome, IsSome, IsTrue, OnOk, OnErr, option_map}
 use Rattle.std.specs.Option.{option_or}
 use Rattle.std.proofs.lemmas.Bool.{false≢true}
-use Rattle.std.proofs.lemmas.List.{take_all, length-map}
-use Rattle.odht_base.specs.Decoded.{HoldsKey, controls_of, decoded_pairs, decoded_table, header_slots}
-use Rattle.odht_base.specs.Format.{Format, IsFormat}
+use Rattle.std.proofs.lemmas.List.{length-map}
+use Rattle.odht_base.specs.Decoded.{HoldsKey, controls_of, header_slots}
+use Rattle.odht_base.specs.Format.{IsFormat}
 use Rattle.odht_base.specs.Insert.{insert_owned, IsFullFor}
-use Rattle.odht_base.specs.Load.{factor_of, max_items}
 use Rattle.odht_base.specs.Map.{map_of, last}
 use Rattle.odht_base.specs.Search.{groups_read}
-use Rattle.odht_base.specs.Table.{Table, count, fresh, slot_count, walk}
+use Rattle.odht_base.specs.Table.{Table, slot_count, walk}
 use Rattle.odht_base.specs.Valid.{IsImage}
 use Rattle.odht_base.proofs.lemmas.Fits.{IsSized-IsPlaced}
-use Rattle.odht_base.proofs.lemmas.FreeSlots.{fresh-slots, slot_count-empty, count-empty, map_of-fresh, max_items-holds}
+use Rattle.odht_base.proofs.lemmas.FreeSlots.{map_of-fresh}
 use Rattle.odht_base.proofs.lemmas.Image.{controls_of-image, header_slots-image}
 use Rattle.odht_base.proofs.lemmas.Options.{option_or-none_right}
 use Rattle.odht_base.proofs.lemmas.Parts.{length-controls}
@@ -24,13 +23,12 @@ use Rattle.odht_header.specs.declared.error.Error.{Error}
 use Rattle.odht_raw.specs.Walks.{decoded_all}
 use Rattle.odht.specs.Gets.{IsCountedGet, IsGet, IsKnown}
 use Rattle.odht.specs.Inserts.{IsInsertOwned}
-use Rattle.odht.specs.LastValues.{HasLastValues, IsCollected}
+use Rattle.odht.specs.LastValues.{IsCollected}
 use Rattle.odht.specs.ListResults.{IsOwnedList}
-use Rattle.odht.specs.Lists.{encoded_all, IsAfterInserts, IsFreshAfterInserts, IsRefusedAt}
-use Rattle.odht.specs.Plain.{HasMapWith, HasLastValuesIn, IsCollectedIn, IsPlainList}
+use Rattle.odht.specs.Lists.{encoded_all, IsAfterInserts, IsRefusedAt}
+use Rattle.odht.specs.Plain.{HasMapWith, IsCollectedIn, IsPlainList}
 use Rattle.odht.specs.Tables.{OfTable}
 use Rattle.odht.specs.Walks.{IsWalk}
-use Rattle.odht.proofs.lemmas.ListInserts.{fresh_inserted, inserted_all}
 use Rattle.odht.proofs.lemmas.Plain.{the_table}
 use Rattle.odht.proofs.lemmas.PlainLists.{list_after, list_fresh, list_last_values}
 use Rattle.odht.proofs.lemmas.Stored.{decoded_stores, groups_few}

@@ -1,6 +1,6 @@
 -- Room for more, of bytes and of the plain table whose image they are.
 use Rattle.std.proofs.Common.{◌≡◌, ◌≤◌, ◌+◌, ◌∙◌, ℕ, List, Result, Ok, Err, Some, sym, ap, subst}
-use Rattle.std.specs.Prelude.{OnOk, OnErr}
+use Rattle.std.specs.Prelude.{OnErr}
 use Rattle.odht_base.specs.Decoded.{decoded_table}
 use Rattle.odht_base.specs.Format.{IsFormat}
 use Rattle.odht_base.specs.Load.{max_items}

@@ -1,5 +1,5 @@
 -- Inserts in turn into the plain table of an owned table.
-use Rattle.std.proofs.Common.{◌≡◌, ◌≤◌, ◌+◌, ◌∙◌, ◌++◌, ℕ, Bool, true, false, cond, List, [], ◌∷◌, Option, Some, None, refl, sym, ap, subst, arith, length, length-append, bytes_eq}
+use Rattle.std.proofs.Common.{◌≡◌, ◌∙◌, ◌++◌, ℕ, Bool, true, false, cond, List, [], ◌∷◌, Some, None, refl, sym, ap, subst, arith, length, length-append, bytes_eq}
 use Rattle.std.specs.Prelude.{option_and_then}
 use Rattle.std.specs.Option.{option_or}
 use Rattle.odht_base.specs.Format.{Format}
@@ -13,7 +13,7 @@ use Rattle.odht_base.proofs.lemmas.InsertRuns.{run-push, last-append, last-cons}
 use Rattle.odht_base.proofs.lemmas.Options.{some_same}
 use Rattle.odht_base.proofs.lemmas.TableInserts.{insert_owned-IsInsert}
 use Rattle.odht.specs.Lists.{IsAfterInserts}
-use Rattle.odht.specs.Plain.{HasMapWith, HasValuesOver, IsRunOf, KeepsSize}
+use Rattle.odht.specs.Plain.{HasMapWith, IsRunOf, KeepsSize}
 use Rattle.odht.proofs.lemmas.ListInserts.{inserted_more}
 
 module _ (F : Format) (P : Table) where

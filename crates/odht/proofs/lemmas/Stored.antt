@@ -1,15 +1,15 @@
 -- A value that a table has for a key is stored in its bytes, and a search reads no more groups than there are.
-use Rattle.std.proofs.Common.{◌≡◌, ◌<◌, ◌≤◌, ◌+◌, ◌-◌, ◌%◌, ◌/◌, ◌∙◌, ℕ, zero, suc, Bool, true, false, cond, refl, sym, ap, subst, List, [], ◌∷◌, Option, Some, None, length, length-drop, map, bytes_eq, arith, slice_index}
+use Rattle.std.proofs.Common.{◌≡◌, ◌<◌, ◌≤◌, ◌+◌, ◌-◌, ◌%◌, ◌/◌, ◌∙◌, ℕ, zero, suc, Bool, true, false, cond, refl, sym, ap, subst, List, ◌∷◌, Option, Some, None, length, map, bytes_eq, arith, slice_index}
 use Rattle.std.specs.Prelude.{filter_map, position}
 use Rattle.std.specs.Option.{option_map_or}
 use Rattle.std.specs.List.{range_with_len}
 use Rattle.std.proofs.lemmas.List.Quantifiers.{position-Some}
 use Rattle.std.proofs.lemmas.Option.{none-some}
 use Rattle.odht_base.specs.Decoded.{Stores, counts_as_free, controls_of, decoded_cell, decoded_cells, decoded_table, entries_of, header_slots, slot_key, slot_value}
-use Rattle.odht_base.specs.Format.{Format, IsFormat, home}
+use Rattle.odht_base.specs.Format.{Format, home}
 use Rattle.odht_base.specs.Map.{map_of, value_in}
 use Rattle.odht_base.specs.Search.{groups_read, reach, search_order, stops_at}
-use Rattle.odht_base.specs.Table.{Cells, Pair, Table}
+use Rattle.odht_base.specs.Table.{Cells, Pair}
 use Rattle.odht_base.proofs.lemmas.Keys.{same_bytes}
 use Rattle.odht_base.proofs.lemmas.Options.{some_same}
 use Rattle.odht_base.proofs.lemmas.Orders.{length-order}

@@ -1,9 +1,7 @@
 //! Lists of inserts into a dynamic table.
-ghost use Rattle.std.specs.Prelude.{◌≡◌, ◌≢◌, length, map};
+ghost use Rattle.std.specs.Prelude.{◌≡◌, map};
 ghost use Rattle.odht_base.specs.Format.{format_of};
-ghost use Rattle.odht_header.specs.declared.error.Error.TheVariants.{Full};
 ghost use Rattle.odht_raw.specs.DynParts.{bytes_coding};
-ghost use Rattle.odht_raw.specs.Frame.{IsAccepted};
 ghost use Rattle.odht_raw.specs.Runs.{HasLengthsAt, IsEncodedRun};
 ghost use Rattle.odht.specs.Dynamic.{dyn_store, IsOpened};
 ghost use Rattle.odht.specs.DynLists.{IsDynList};
@@ -28,13 +26,16 @@ impl<H: HashFn, D: ByteStoreMut> DynTable<H, D> {
         ensures { let pairs = map (λ item. (item.0.now, item.1.now)) items.now
             in IsDynList H.hash D.bytes D.holding self.old self.new pairs result }
     {
-        let layout = self.layout;
-        let accepted = insert_store_items::<H, D>(&mut self.store, layout, items);
+        let accepted = insert_store_items::<H, D>(&mut self.store, self.layout, items);
         if accepted >= items.len() {
             return (accepted, Ok(()));
         }
         let (key, value) = items[accepted];
-        (accepted, Err(refusal(layout, key, value)))
+        let refused = match self.wrong_length(key, value) {
+            Some(wrong) => wrong,
+            None => DynError::Rejected(Error::Full),
+        };
+        (accepted, Err(refused))
     }
 }
 
@@ -54,28 +55,4 @@ fn insert_store_items<H: HashFn, D: ByteStoreMut>(
     ensures same_store { store.new ≡ D.holding store.old (D.bytes store.new) }
 {
     insert_items_dynamic::<H>(store.bytes_mut(), layout, items)
-}
-
-// The error of an item that a list of inserts did not accept.
-fn refusal(layout: Layout, key: &[u8], value: &[u8]) -> DynError
-    ensures key { length key.now ≢ layout.key_len
-        → result ≡ DynError.WrongKeyLength layout.key_len (length key.now) }
-    ensures value { length key.now ≡ layout.key_len → length value.now ≢ layout.value_len
-        → result ≡ DynError.WrongValueLength layout.value_len (length value.now) }
-    ensures full { length key.now ≡ layout.key_len → length value.now ≡ layout.value_len
-        → result ≡ DynError.Rejected Full }
-{
-    if key.len() != layout.key_len as usize {
-        return DynError::WrongKeyLength {
-            expected: layout.key_len,
-            found: key.len(),
-        };
-    }
-    if value.len() != layout.value_len as usize {
-        return DynError::WrongValueLength {
-            expected: layout.value_len,
-            found: value.len(),
-        };
-    }
-    DynError::Rejected(Error::Full)
 }

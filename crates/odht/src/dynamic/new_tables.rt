@@ -3,7 +3,6 @@ ghost use Rattle.std.specs.Prelude.{◌≡◌, ◌≤◌, length, OnErr, OnOk};
 ghost use Rattle.std.specs.Result.{result_err};
 ghost use Rattle.odht_base.specs.Format.{format_of};
 ghost use Rattle.odht_base.specs.Load.{factor_of, IsPercent};
-ghost use Rattle.odht_header.specs.Refusals.{new_refusal};
 ghost use Rattle.odht_raw.specs.Frame.{IsAccepted};
 ghost use Rattle.odht_raw.specs.DynParts.{bytes_coding};
 ghost use Rattle.odht.specs.Dynamic.{dyn_new_refusal};
@@ -12,11 +11,10 @@ ghost use Rattle.odht.specs.NewTables.{new_len};
 
 use super::{DynError, DynTable};
 use crate::bytes::{ByteStore, ByteStoreMut};
-use crate::error::Error;
 use crate::hash::HashFn;
 use crate::layout::Layout;
 use crate::load::Factor;
-use crate::memory_layout::init_parts;
+use crate::new_tables::init_bytes;
 
 impl<H: HashFn, D: ByteStore> DynTable<H, D> {
     /// The length in bytes of a new table of these lengths for `max_item_count` items, at a load
@@ -70,39 +68,9 @@ impl<H: HashFn, D: ByteStoreMut> DynTable<H, D> {
                 least: H::MIN_LEN,
             });
         }
-        match init_bytes::<H, D>(layout, store, max_item_count, max_load_factor_percent) {
+        match init_bytes::<Layout, H, D>(layout, store, max_item_count, max_load_factor_percent) {
             Ok(()) => Ok(()),
             Err(rejected) => Err(DynError::Rejected(rejected)),
         }
     }
-}
-
-// `init_store` of keys that are long enough for the hash function.
-fn init_bytes<H: HashFn, D: ByteStoreMut>(
-    layout: Layout,
-    store: &mut D,
-    max_item_count: usize,
-    max_load_factor_percent: u8,
-) -> Result<(), Error>
-    requires percent { IsPercent max_load_factor_percent }
-    ensures ok { let F = format_of layout.key_len layout.value_len H.hash
-        in OnOk result (IsFresh F max_item_count max_load_factor_percent (D.bytes store.new)) }
-    ensures accepted { let F = format_of layout.key_len layout.value_len H.hash
-        in OnOk result (IsAccepted F (D.bytes store.new)) }
-    ensures err { let F = format_of layout.key_len layout.value_len H.hash
-        in let f = factor_of max_load_factor_percent
-        in result_err result ≡ new_refusal F max_item_count f (length (D.bytes store.old)) }
-    ensures refused { OnErr result (store.new ≡ store.old) }
-    ensures same_store { store.new ≡ D.holding store.old (D.bytes store.new) }
-{
-    let factor = Factor::from_percent(max_load_factor_percent);
-    let Some((slot_count, expected)) = layout.table_for(max_item_count, factor) else {
-        return Err(Error::Capacity);
-    };
-    let found = store.bytes().len();
-    if found != expected {
-        return Err(Error::InitLength { found, expected });
-    }
-    init_parts(store.bytes_mut(), layout, slot_count, 0, factor);
-    Ok(())
 }

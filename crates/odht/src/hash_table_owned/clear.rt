@@ -3,7 +3,7 @@ ghost use Rattle.std.specs.Prelude.{◌≡◌};
 ghost use Rattle.odht_base.specs.Table.{empty, slot_count};
 
 use super::HashTableOwned;
-use crate::config::{Coded, Config};
+use crate::config::Config;
 
 impl<C: Config> HashTableOwned<C> {
     /// Takes all items out: leaves the empty table of as many slots and the same load factor, to

@@ -1,19 +1,14 @@
 //! Room for items that are still to come.
-ghost use Rattle.std.specs.Prelude.{◌≡◌, ◌≤◌, IfOk, OnErr};
-ghost use Rattle.odht_base.specs.Image.{image_len};
-ghost use Rattle.odht_base.specs.Load.{IsSlotCount, max_items};
-ghost use Rattle.odht_base.specs.Table.{count};
+ghost use Rattle.std.specs.Prelude.{◌≡◌, OnErr};
 ghost use Rattle.odht.specs.Plain.{IsPlainReserve};
-ghost use Rattle.odht.specs.Reserves.{IsMovedImage};
 
 use super::HashTableOwned;
 use crate::bytes::OwnedBytes;
 use crate::config::{Coded, Config};
 use crate::error::Error;
-use crate::growth::write_moved;
 use crate::hash_table::HashTable;
-use crate::layout::Layout;
-use crate::reserve::sizes_for_more;
+use crate::layout::Fixed;
+use crate::reserve::room_for;
 
 impl<C: Config> HashTableOwned<C> {
     /// Makes room for `additional` more items: that many new keys can be inserted before the table
@@ -32,32 +27,17 @@ impl<C: Config> HashTableOwned<C> {
         // On failure.
         ensures refused { OnErr result (self.new ≡ self.old) }
     {
-        let header = self.table.allocation.header();
-        let sizes = sizes_for_more::<C::H>(Layout::of::<C>(), &header, additional)?;
-        let Some((slot_count, len)) = sizes else {
-            return Ok(());
-        };
-        let Ok(moved) = self.moved(slot_count, len) else {
-            return Err(Error::Memory);
-        };
-        self.table = moved;
-        Ok(())
-    }
-
-    // The pairs of this table, placed in slot order into that many slots in new memory. `len` is
-    // the length for them.
-    #[inline(never)]
-    fn moved(&self, slot_count: usize, len: usize) -> Result<HashTable<C, OwnedBytes>, Error>
-        requires slots { IsSlotCount slot_count }
-        requires len { len ≡ image_len ⟦<C as Coded>⟧.coding.format slot_count }
-        ensures ok { let P = self.now in count P ≤ max_items slot_count P.factor
-            → IfOk result (IsMovedImage ⟦<C as Coded>⟧.coding.format P slot_count) }
-        ensures memory { OnErr result (result ≡ Err Error.Memory) }
-    {
-        let Ok(mut bytes) = vec![in self.alloc; 0; len] else {
-            return Err(Error::Memory);
-        };
-        write_moved(&self.table, slot_count, bytes.as_mut_slice());
-        Ok(HashTable::from_raw_bytes_unchecked(OwnedBytes::new(bytes)))
+        let lengths: Fixed<C::EncodedKey, C::EncodedValue> = Fixed::new();
+        let bytes = self.table.raw_bytes();
+        match room_for::<Fixed<C::EncodedKey, C::EncodedValue>, C::H>(
+            self.alloc, bytes, lengths, additional,
+        ) {
+            Ok(None) => Ok(()),
+            Ok(Some(moved)) => {
+                self.table = HashTable::from_raw_bytes_unchecked(OwnedBytes::new(moved));
+                Ok(())
+            }
+            Err(refused) => Err(refused),
+        }
     }
 }

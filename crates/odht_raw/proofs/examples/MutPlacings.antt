@@ -8,7 +8,6 @@ use Rattle.odht_base.specs.declared.hash.HashFn.{Ghosts as HashFnOf}
 use Rattle.odht_base.specs.Format.{Format}
 use Rattle.odht_base.specs.Insert.{place}
 use Rattle.odht_base.specs.Table.{Pair, Table, slot_count, is_free}
-use Rattle.odht_base.specs.Valid.{IsFullWithout}
 use Rattle.odht_raw.specs.FreeSlots.{IsFirstFree}
 use Rattle.odht_raw.specs.PartsInserts.{ArePartsPlaced}
 use Rattle.odht_raw.specs.PartsPlacings.{IsNewTo, IsNewPlacing, PlacingFrame, IsAddition}
@@ -42,10 +41,6 @@ module _ {K V H : Type 0} {key : ByteArrayOf K} {key_eq : PartialEqOf K} {key_de
       → (ArePartsPlaced (table_format t) P (pair_of t k v) (mut_entries t') (mut_control t') → ⊥) → IsMutPlacing t k v (Ok tt) t' → ⊥
   other_parts_refused P is new other h = other (h.parts P is new).ok
 
-  -- and there is none where each slot is occupied
-  pub occupied_refused : (P : Table) → IsParts P t → IsNewTo P (pair_of t k v) → IsFullWithout P (pair_of t k v).key → IsMutPlacing t k v (Ok tt) t' → ⊥
-  occupied_refused P is new full h = let is_full = (h.parts P is new).no_room.1 full in absurd cc
-
   -- where the pair has a place, and where a slot is free, the answer is not Full
   pub placed_refused : (P Q : Table) → IsParts P t → IsNewTo P (pair_of t k v) → place (table_format t) P (pair_of t k v) ≡ Some Q → IsMutPlacing t k v (Err Full) t' → ⊥
   placed_refused P Q is new fits h = none-some Q (sym ((h.parts P is new).full.0 refl) ∙ fits)
@@ -62,13 +57,6 @@ module _ {K V H : Type 0} {key : ByteArrayOf K} {key_eq : PartialEqOf K} {key_de
   -- it answers no other error than Full
   pub other_error_refused : (n : ℕ) → IsMutPlacing t k v (Err (TooShort n)) t' → ⊥
   other_error_refused n h = let is = h.change.errors.only_full in absurd cc
-
-  -- and then changes neither control bytes nor entries
-  pub written_control_refused : (mut_control t' ≡ mut_control t → ⊥) → IsMutPlacing t k v (Err Full) t' → ⊥
-  written_control_refused other h = other h.change.errors.refused_control
-
-  pub written_entries_refused : (mut_entries t' ≡ mut_entries t → ⊥) → IsMutPlacing t k v (Err Full) t' → ⊥
-  written_entries_refused other h = other h.change.errors.refused_entries
 
   -- the slices that are borrowed stay so
   pub other_control_refused : (r : Result (Unit {0}) Error) → (control_loan t' ≡ control_loan t → ⊥) → IsMutPlacing t k v r t' → ⊥

@@ -175,10 +175,10 @@ changed_refused = (
 )
 
 -- nor is a new entry added there
+pub added_frame_refused : (es' ctrl' : List ℕ) → IsPartsFramed direct_config (λ b. b) no_entries occupied_controls (pair32 5 7) (Ok None) es' ctrl' → ⊥
+added_frame_refused es' ctrl' (Ok None, is, frame) = parts_entry_in_occupied_slot_refused direct_config no_entries (pair32 5 7) es' ctrl' frame
+added_frame_refused es' ctrl' (Ok (Some v), is, frame) = absurd cc
+added_frame_refused es' ctrl' (Err e, is, frame) = absurd cc
+
 pub added_refused : changes (Ok None) no_entries occupied_controls → ⊥
-added_refused h = refuted h.frame
-  where
-    refuted : IsPartsFramed direct_config (λ b. b) no_entries occupied_controls (pair32 5 7) (Ok None) no_entries occupied_controls → ⊥
-    refuted (Ok None, is, frame) = parts_entry_in_occupied_slot_refused direct_config no_entries (pair32 5 7) no_entries occupied_controls frame
-    refuted (Ok (Some v), is, frame) = absurd cc
-    refuted (Err e, is, frame) = absurd cc
+added_refused h = added_frame_refused no_entries occupied_controls h.frame

@@ -9,9 +9,9 @@ use Rattle.std.specs.declared.fmt.Error.{Error}
 use Rattle.std.specs.declared.fmt.Formatter.{Formatter}
 use Rattle.odht_base.specs.Format.{Format}
 use Rattle.odht_base.specs.Load.{max_items, percent_of}
-use Rattle.odht_base.specs.Decoded.{slot_key, slot_value, counts_as_free, header_count, header_slots, header_factor, entries_of, controls_of}
-use Rattle.odht_raw.specs.Parts.{EntryBytes, TableParts}
-use Rattle.odht_raw.specs.Dumps.{DebugText, texts_in_turn, slot_text, slots_text, parts_of, counts_text}
+use Rattle.odht_base.specs.Decoded.{slot_key, slot_value, counts_as_free, header_count, header_slots, header_factor}
+use Rattle.odht_raw.specs.Parts.{TableParts}
+use Rattle.odht_raw.specs.Dumps.{DebugText, texts_in_turn, slot_text, slots_text, counts_text}
 
 -- three texts joined are one text
 joined : (a b c : List ℕ) (o : Option (List ℕ)) → Some a ++? Some b ++? Some c ++? o ≡ Some (a ++ b ++ c) ++? o
@@ -46,14 +46,6 @@ pub slots_text-more : (F : Format) (key_text value_text : DebugText) (T : TableP
 slots_text-more F key_text value_text T n =
     let line = slot_text F key_text value_text T in
     ap texts_in_turn (map-range_with_len_more line 0 n n (omega arith)) ∙ texts_in_turn-append (map line (range_with_len 0 n)) (line n ∷ []) ∙ ap (λ last. slots_text F key_text value_text T n ++? last) (append-nothing (line n))
-
--- the parts that are cut from the bytes
-pub parts_of-cut : (F : Format) (A B ctrl : List ℕ) (E : EntryBytes) → A ≡ B
-    → ctrl ≡ controls_of F A → E.bytes ≡ entries_of F A → E.slots ≡ header_slots A
-    → record { control = ctrl; entries = E } ≡ parts_of F B
-parts_of-cut F A B ctrl E same control bytes slots =
-    let whole : record { control = ctrl; entries = E } ≡ parts_of F A = λ i. record { control = control i; entries = record { slots = slots i; bytes = bytes i } } in
-    whole ∙ ap (parts_of F) same
 
 -- a text behind one that is written
 pub displayed-append : {W : Type 0} (took : W → List ℕ → W → Type 0) (f g h : Formatter W) (r : Result (Unit {0}) Error) (o p : Option (List ℕ))

@@ -21,7 +21,7 @@ end_low F es ctrl k s (Free i) e end = tt
 end_low F es ctrl k s Neither e end = tt
 
 -- what leaves bytes as they are changes no value
-pub same_option : (o : Option (List ℕ)) → option_map (λ (b : List ℕ). b) o ≡ o
+same_option : (o : Option (List ℕ)) → option_map (λ (b : List ℕ). b) o ≡ o
 same_option None = refl
 same_option (Some b) = refl
 

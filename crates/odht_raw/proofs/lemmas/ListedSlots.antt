@@ -3,10 +3,9 @@ use Rattle.std.proofs.Common.{◌≡◌, ◌<◌, ◌≤◌, ◌+◌, ◌^◌, �
 use Rattle.std.specs.Prelude.{is_some, is_none}
 use Rattle.std.specs.List.{range_with_len}
 use Rattle.std.proofs.lemmas.Bool.{cases_lt, lt-leb}
-use Rattle.std.proofs.lemmas.List.{take_all, take-append-le, take_more_set, length-take-le, length-take, length-map, length-set, map-append, append-nil}
+use Rattle.std.proofs.lemmas.List.{take_all, take-append-le, take_more_set, length-take-le, length-take, length-map, length-set, map-append}
 use Rattle.std.proofs.lemmas.List.Elements.{filter-append}
 use Rattle.std.proofs.lemmas.Simd.{map-map}
-use Rattle.std.proofs.Math.Seq.{take-nil}
 use native.Mathlib.Decide.{dec_le}
 use Rattle.odht_base.specs.Bytes.{bytes_at}
 use Rattle.odht_base.specs.Decoded.{counts_as_free}
@@ -18,7 +17,7 @@ use Rattle.odht_base.proofs.lemmas.OccupiedSlots.{length-occupied}
 use Rattle.odht_raw.specs.Waiting.{waiting}
 use Rattle.odht_raw.proofs.lemmas.GroupLooks.{index-bytes_at}
 use Rattle.odht_raw.proofs.lemmas.SpanLooks.{kept_low}
-use Rattle.odht_raw.proofs.lemmas.Walks.{range-append, list-none, list-first}
+use Rattle.odht_raw.proofs.lemmas.Walks.{range-append, list-first}
 
 -- ---- the occupied slots below a slot
 -- tests that agree below a + n keep the same numbers of the n from a on
@@ -84,10 +83,6 @@ pub record IsListedBelow (ctrl : List ℕ) (n : ℕ) (out : List ℕ) (m : ℕ) 
   pub listed : take m out ≡ take (length out) (map waiting (taken_below ctrl n))
 
 module _ (ctrl : List ℕ) where
-  -- none below slot 0
-  pub listed_none : (out : List ℕ) → IsListedBelow ctrl 0 out 0
-  listed_none out = record { room = omega arith; listed = sym (take-nil (length out)) }
-
   -- with those of a span behind them, as far as there is room
   pub listed_span : (n k : ℕ) (out new : List ℕ) (m r : ℕ) → n + k ≤ length ctrl → length new ≡ length out → r ≤ length new
       → take r new ≡ take (length new) (take m out ++ map (λ i. waiting (n + i)) (occupied_of (bytes_at ctrl n k)))
@@ -191,13 +186,3 @@ module _ (start : ℕ) (before marks left out : List ℕ) (listed x : ℕ) (h : 
         ∙ sym (take-append-le (length out) (take listed out) (map listed_as left) all)
         ∙ h.same;
   }
-
--- at the end
-pub listing_end : (start : ℕ) (before marks left out : List ℕ) (listed : ℕ) → IsListing start before marks left out listed → None ≡ slice_get left 0
-    → take listed out ≡ take (length out) (before ++ map (λ i. waiting (start + i)) marks)
-listing_end start before marks left out listed h none =
-    let few : length (take listed out) ≤ length out = omega (arith, length-take-le listed out h.room, h.room) in
-    sym (take_all (length out) (take listed out) few)
-    ∙ ap (take (length out)) (sym (append-nil (take listed out)))
-    ∙ ap (λ xs. take (length out) (take listed out ++ map (λ i. waiting (start + i)) xs)) (sym (list-none left none))
-    ∙ h.same

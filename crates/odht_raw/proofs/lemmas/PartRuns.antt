@@ -1,10 +1,10 @@
 -- Items inserted in turn into the parts of a table: one more item.
-use Rattle.std.proofs.Common.{◌≡◌, ◌<◌, ◌≤◌, ◌+◌, ◌-◌, ◌∙◌, ◌++◌, ℕ, Bool, true, false, not, cond, sym, ap, subst, refl, List, [], ◌∷◌, Option, Some, None, Result, Ok, Err, take, drop, length, slice_get, All, arith, length-drop, get_or, get_or-drop}
+use Rattle.std.proofs.Common.{◌≡◌, ◌<◌, ◌≤◌, ◌+◌, ◌-◌, ◌∙◌, ◌++◌, ℕ, cond, sym, ap, subst, refl, List, [], ◌∷◌, Option, Some, None, Result, Ok, Err, take, drop, length, slice_get, All, arith, length-drop, get_or, get_or-drop}
 use Rattle.std.proofs.Math.Seq.{take-add}
 use Rattle.std.proofs.lemmas.List.{take_more, map-append}
 use Rattle.std.proofs.lemmas.List.Elements.{All-append, All-cons, All-nil}
 use Rattle.std.proofs.lemmas.Option.{slice_get-get_or}
-use Rattle.std.specs.Prelude.{is_none, is_some, option_map, option_and_then, IfOk}
+use Rattle.std.specs.Prelude.{is_none, option_map, option_and_then, IfOk}
 use Rattle.std.specs.List.{slice_range}
 use Rattle.std.specs.Result.{result_map_both}
 use Rattle.odht_base.specs.Format.{Format}
@@ -55,13 +55,6 @@ count_after-former f n None None e = refl
 count_after-former f n None (Some w) e = cc
 count_after-former f n (Some v) None e = cc
 count_after-former f n (Some v) (Some w) e = refl
-
--- an answer that is no value is none
-pub is_none-not : {W : Type 0} (o : Option W) (b : Bool) → is_some o ≡ not b → is_none o ≡ b
-is_none-not None true e = refl
-is_none-not None false e = cc
-is_none-not (Some w) true e = cc
-is_none-not (Some w) false e = refl
 
 -- one more item on any parts
 pub run_more : {K V : Type 0} (c : Coding K V) (es0 ctrl0 : List ℕ) (items : List (K × V)) (k : K) (v : V) (n : ℕ) (es ctrl es' ctrl' : List ℕ)

@@ -1,5 +1,5 @@
 //! The parts of a table, borrowed to be read. The lengths of keys and values are types or numbers.
-ghost use Rattle.std.specs.Prelude.{◌≡◌, ◌+◌, ◌*◌, ◌^◌, ◌<◌, ◌≤◌, ◌↔◌, All, drop, length};
+ghost use Rattle.std.specs.Prelude.{◌≡◌, ◌+◌, ◌-◌, ◌*◌, ◌^◌, ◌<◌, ◌≤◌, ◌↔◌, All, drop, length};
 ghost use Rattle.std.specs.Prelude.{slice_index, IfSome, IsTrue, ⊤, ℕ, List};
 ghost use Rattle.std.specs.List.{filter_map};
 ghost use Rattle.std.specs.Option.{option_copied};
@@ -11,6 +11,7 @@ ghost use Rattle.odht_header.specs.Refusals.{checked, hashes_refusal};
 ghost use Rattle.odht_raw.specs.Checks.{cells_of};
 ghost use Rattle.odht_raw.specs.Finds.{IsFind, IsCountedFind};
 ghost use Rattle.odht_raw.specs.Formers.{former_of};
+ghost use Rattle.odht_raw.specs.PartLengths.{ArePartLengths};
 ghost use Rattle.odht_raw.specs.Parts.{entry_format};
 ghost use Rattle.odht_raw.specs.SearchResults.{MatchSearchResult};
 ghost use Rattle.odht_raw.specs.Searches.{IsSearchEnd};
@@ -331,4 +332,22 @@ impl<'a, L: Lengths, H: HashFn> Parts<'a, L, H> {
     {
         check_hashes(self, slots_to_check)
     }
+}
+
+/// The parts of a table that is written, to be read.
+#[inline(always)]
+pub(super) fn read_parts<'a, L: Lengths, H: HashFn>(
+    control: &'a [EntryMetadata],
+    entries: &'a [u8],
+    slots: usize,
+    lengths: L,
+) -> Parts<'a, L, H>
+    requires lengths { ArePartLengths H.MIN_LEN (L.key_len lengths) (L.value_len lengths)
+        (length entries.now) (length control.now) }
+    requires slots { slots ≡ length control.now - 16 }
+    ensures { result
+        ≡ dynamic_parts (L.key_len lengths) (L.value_len lengths) (length control.now - 16)
+        entries.now control.now }
+{
+    Parts::of(control, Stored::new(entries, slots, lengths))
 }

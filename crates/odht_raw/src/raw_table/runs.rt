@@ -4,7 +4,7 @@ ghost use Rattle.std.specs.Prelude.{◌≡◌, ◌+◌, ◌-◌, ◌≤◌, leng
 ghost use Rattle.odht_base.specs.Format.{format_of};
 ghost use Rattle.odht_base.specs.Table.{Pair};
 ghost use Rattle.odht_base.specs.Valid.{IsPairOf};
-ghost use Rattle.odht_raw.specs.DynParts.{bytes_coding, dynamic_parts, parts_format};
+ghost use Rattle.odht_raw.specs.DynParts.{bytes_coding, parts_format};
 ghost use Rattle.odht_raw.specs.Expected.{AreAhead};
 ghost use Rattle.odht_raw.specs.PartLengths.{ArePairLengths, ArePartLengths};
 ghost use Rattle.odht_raw.specs.Runs.{CanRun, IsRun, IsRunUpTo};
@@ -12,8 +12,9 @@ ghost use Rattle.odht_raw.specs.SearchResults.{answer};
 ghost use Rattle.odht_raw.specs.Steps.{IsCountedStep, IsTaggedEnd};
 ghost use Rattle.odht_raw.specs.Stored.{AreLengths};
 
-use super::writes::{is_found, write_at_end};
-use super::{EntryMetadata, Parts, Search, Stored};
+use super::parts::read_parts;
+use super::writes::write_at_end;
+use super::{EntryMetadata, Parts, Search};
 use crate::encoded_items::EncodedItems;
 use crate::hash::HashFn;
 use crate::layout::Lengths;
@@ -93,7 +94,7 @@ fn insert_in_turn<L: Lengths, H: HashFn, I: EncodedItems>(
         let (key, value) = (I::key_bytes(&key), I::value_bytes(&value));
         let parts = read_parts::<L, H>(&*control, &*entries, slots, lengths);
         let end = parts.insert_end(key);
-        let answer = write_by_kind::<L, H>(control, entries, slots, lengths, key, value, end, left);
+        let answer = write_counted::<L, H>(control, entries, slots, lengths, key, value, end, left);
         let Some(is_new) = answer else {
             return (index, room - left);
         };
@@ -220,66 +221,10 @@ fn look_ahead<L: Lengths, H: HashFn, I: EncodedItems>(
     ahead
 }
 
-// The parts of a table that is written, to be read.
-#[inline(always)]
-fn read_parts<'a, L: Lengths, H: HashFn>(
-    control: &'a [EntryMetadata],
-    entries: &'a [u8],
-    slots: usize,
-    lengths: L,
-) -> Parts<'a, L, H>
-    requires lengths { ArePartLengths H.MIN_LEN (L.key_len lengths) (L.value_len lengths)
-        (length entries.now) (length control.now) }
-    requires slots { slots ≡ length control.now - 16 }
-    ensures { result
-        ≡ dynamic_parts (L.key_len lengths) (L.value_len lengths) (length control.now - 16)
-        entries.now control.now }
-{
-    Parts::of(control, Stored::new(entries, slots, lengths))
-}
-
-// `write_counted`, with a call of its own for each kind of end, so that the compiler goes from
-// where a search ends to what is written there, with no second test of the kind.
-#[inline(always)]
-fn write_by_kind<L: Lengths, H: HashFn>(
-    control: &mut [EntryMetadata],
-    entries: &mut [u8],
-    slots: usize,
-    lengths: L,
-    key: &[u8],
-    value: &[u8],
-    end: (Search, u8),
-    room: usize,
-) -> Option<bool>
-    requires lengths { ArePartLengths H.MIN_LEN (L.key_len lengths) (L.value_len lengths)
-        (length entries.old) (length control.old) }
-    requires slots { slots ≡ length control.old - 16 }
-    requires key { length key.now ≡ L.key_len lengths }
-    requires value { length value.now ≡ L.value_len lengths }
-    requires end { let F = format_of (L.key_len lengths) (L.value_len lengths) H.hash
-        in IsTaggedEnd F room entries.old control.old key.now end }
-    ensures step { let F = format_of (L.key_len lengths) (L.value_len lengths) H.hash
-        in let p : Pair = record { key = key.now; value = value.now }
-        in IsCountedStep (λ P. end.0 ≡ answer F P.cells p.key) F room (entries.old, control.old) p
-        result (entries.new, control.new) }
-    ensures pair { IsPairOf (format_of (L.key_len lengths) (L.value_len lengths) H.hash)
-        (record { key = key.now; value = value.now }) }
-{
-    match end.0 {
-        Search::Found(_) => {
-            write_counted::<L, H>(control, entries, slots, lengths, key, value, end, room)
-        }
-        Search::Free(_) => {
-            write_counted::<L, H>(control, entries, slots, lengths, key, value, end, room)
-        }
-        Search::Neither => {
-            write_counted::<L, H>(control, entries, slots, lengths, key, value, end, room)
-        }
-    }
-}
-
 // Writes a pair where the search for its key ended, which comes with the key's tag. Returns whether
-// that adds an entry; None, with nothing changed, where the pair is rejected with `Full`.
+// that adds an entry; None, with nothing changed, where the pair is rejected with `Full`. Each kind
+// of end has a write of its own, so that the compiler goes from where a search ends to what is
+// written there, with no second test of the kind.
 #[inline(always)]
 fn write_counted<L: Lengths, H: HashFn>(
     control: &mut [EntryMetadata],
@@ -307,8 +252,18 @@ fn write_counted<L: Lengths, H: HashFn>(
 {
     prove_bytes(key);
     prove_bytes(value);
-    if !write_at_end::<L, H>(control, entries, slots, lengths, key, value, end, room) {
-        return None;
+    match end.0 {
+        Search::Found(_) => {
+            let ok = write_at_end::<L, H>(control, entries, slots, lengths, key, value, end, room);
+            ok.then_some(false)
+        }
+        Search::Free(_) => {
+            let ok = write_at_end::<L, H>(control, entries, slots, lengths, key, value, end, room);
+            ok.then_some(true)
+        }
+        Search::Neither => {
+            let ok = write_at_end::<L, H>(control, entries, slots, lengths, key, value, end, room);
+            ok.then_some(true)
+        }
     }
-    Some(!is_found(end.0))
 }

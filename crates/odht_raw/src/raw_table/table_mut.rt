@@ -3,8 +3,8 @@ ghost use Rattle.std.specs.Prelude.{◌≡◌, ◌-◌, ◌*◌, ◌+◌, ◌≤
 ghost use Rattle.odht_base.specs.Load.{IsSlotCount};
 ghost use Rattle.odht_raw.specs.PartLengths.{ArePartLengths};
 
-use super::insert::insert_step;
-use super::writes::write_new;
+use super::parts::read_parts;
+use super::writes::{insert_at, write_new};
 use super::{Entries, EntryMetadata, RawTable, slot_count_of};
 use crate::bytes::ByteArray;
 use crate::error::Error;
@@ -95,8 +95,14 @@ impl<'c, 'e, K: ByteArray, V: ByteArray, H: HashFn> RawTableMut<'c, 'e, K, V, H>
         ensures control_loan { control_loan self.new ≡ control_loan self.old }
         ensures entries_loan { entries_loan self.new ≡ entries_loan self.old }
     {
-        // As many entries may be added as there are free slots.
-        insert_step::<K, V, H, Q>(self.control, self.entries, key, value, usize::MAX)
+        let lengths: Fixed<K, V> = Fixed::new();
+        let (key, value) = (key.as_slice(), value.as_slice());
+        let (control, entries) = (&mut *self.control, &mut *self.entries);
+        let slots = slot_count_of(control);
+        let parts = read_parts::<Fixed<K, V>, H>(&*control, &*entries, slots, lengths);
+        let end = parts.search_end::<Q>(key);
+        let former = parts.typed_value_at(end.0);
+        insert_at::<Fixed<K, V>, H, V>(control, entries, lengths, key, value, end, former)
     }
 
     /// Writes the pair into the first free slot of its key's probe order. No key is compared, so

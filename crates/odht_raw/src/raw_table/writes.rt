@@ -4,7 +4,7 @@
 //! It does not return the former value of the key. A caller that wants it reads it where the search
 //! ended, before the write.
 ghost use Rattle.std.specs.Prelude.{◌≡◌, ◌+◌, ◌-◌, ◌*◌, ◌<◌, ◌++◌, ℕ, List, length, IsTrue, IsFalse};
-ghost use Rattle.std.specs.Prelude.{Some, None, ⊤};
+ghost use Rattle.std.specs.Prelude.{Some, None, ⊤, option_map};
 ghost use Rattle.odht_base.specs.Bytes.{overwritten_at};
 ghost use Rattle.odht_base.specs.Format.{Format, format_of};
 ghost use Rattle.odht_base.specs.Load.{IsSlotCount};
@@ -14,6 +14,7 @@ ghost use Rattle.odht_base.specs.Valid.{IsPartsOf};
 ghost use Rattle.odht_base.specs.Writes.{tagged};
 ghost use Rattle.odht_raw.specs.Formers.{answered, former_of, write_result};
 ghost use Rattle.odht_raw.specs.PartLengths.{ArePairLengths, ArePartLengths};
+ghost use Rattle.odht_raw.specs.PartsInserts.{IsInsertAt};
 ghost use Rattle.odht_raw.specs.PartsPlacings.{IsNewTo, IsNewPlacing, IsAddition};
 ghost use Rattle.odht_raw.specs.SearchResults.{MatchSearchResult, answer};
 ghost use Rattle.odht_raw.specs.Steps.{IsStepWhere, IsTaggedEnd};
@@ -78,6 +79,44 @@ pub(crate) fn write_at_end<L: Lengths, H: HashFn>(
     }
 }
 
+/// `write_at_end` with room for any number of entries. Returns `former`, the value that the caller
+/// read where the search ended; or `Full`, with nothing changed, where the search met neither slot.
+///
+/// In the clauses `f` decodes a value.
+#[inline(always)]
+pub(super) fn insert_at<L: Lengths, H: HashFn, T: Drop>(
+    control: &mut [EntryMetadata],
+    entries: &mut [u8],
+    lengths: L,
+    key: &[u8],
+    value: &[u8],
+    end: (Search, u8),
+    former: Option<T>,
+) -> Result<Option<T>, Error>
+    requires lengths { ArePartLengths H.MIN_LEN (L.key_len lengths) (L.value_len lengths)
+        (length entries.old) (length control.old) }
+    requires key { length key.now ≡ L.key_len lengths }
+    requires value { length value.now ≡ L.value_len lengths }
+    requires end { let F = format_of (L.key_len lengths) (L.value_len lengths) H.hash
+        in IsTaggedEnd F usize.MAX entries.old control.old key.now end }
+    ensures { let F = format_of (L.key_len lengths) (L.value_len lengths) H.hash
+        in let p : Pair = record { key = key.now; value = value.now }
+        in (f : List ℕ → T) → former ≡ option_map f (former_of F entries.old end.0)
+        → IsInsertAt F f (λ P. end.0 ≡ answer F P.cells p.key) (entries.old, control.old) p result
+        (entries.new, control.new) }
+{
+    prove_bytes(key);
+    prove_bytes(value);
+    let slots = slot_count_of(control);
+    // As many entries may be added as there are free slots.
+    let room = usize::MAX;
+    if write_at_end::<L, H>(control, entries, slots, lengths, key, value, end, room) {
+        Ok(former)
+    } else {
+        Err(Error::Full)
+    }
+}
+
 /// Writes the pair into the first free slot of its key's probe order. No key is compared, so it is
 /// for a key that the table does not have. `Full`, with nothing changed, where no slot is free.
 #[inline(always)]
@@ -123,7 +162,7 @@ pub fn write_new<L: Lengths, H: HashFn, Q: Group>(
 /// Writes the pair into a slot, the tag into the slot's control byte, and for a slot below 16 the
 /// tag into the mirror.
 #[inline(always)]
-pub(super) fn write_slot<L: Lengths>(
+pub(crate) fn write_slot<L: Lengths>(
     control: &mut [EntryMetadata],
     entries: &mut [u8],
     slots: usize,

@@ -163,7 +163,6 @@ fn read_slots<C: Config>(
     }
 }
 
-// The hash of some bytes.
 fn hash_of<H: HashFn>(case: &Case<'_>, answer: &mut Answer) -> Result<(), Fault> {
     let [bytes] = case.args else {
         return Err(Fault::Unread);

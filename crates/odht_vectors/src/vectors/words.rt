@@ -99,7 +99,6 @@ impl<'a> Words<'a> {
     }
 }
 
-// The array of these bytes.
 fn array<A: ByteArray>(bytes: &[u8]) -> Result<A, Fault> {
     if bytes.len() != A::LEN {
         return Err(Fault::Unread);
@@ -114,7 +113,6 @@ fn hex(alloc: Global, digits: &str) -> Result<Vec<u8>, Fault> {
     Ok(bytes)
 }
 
-// Appends the bytes that digits write.
 fn append(bytes: &mut Vec<u8>, digits: &str) -> Result<(), Fault> {
     if digits == "-" {
         return Ok(());
@@ -137,7 +135,6 @@ fn digit(digit: u8) -> Result<u8, Fault> {
     }
 }
 
-// Writes a piece over the bytes from an offset on.
 fn write_at(bytes: &mut [u8], at: usize, piece: &[u8]) -> Result<(), Fault> {
     let place = bytes.get_mut(at..).ok_or(Fault::Unread)?;
     if place.len() < piece.len() {

@@ -18,7 +18,6 @@ mod file;
 mod growth;
 mod insert_order;
 mod inserts;
-mod inserts_into;
 mod lists;
 mod lookups;
 mod new_tables;

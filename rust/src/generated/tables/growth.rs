@@ -7,9 +7,11 @@ use crate::generated::tables::hash::HashFn;
 use crate::generated::tables::hash_table::HashTable;
 use crate::generated::tables::layout::{Fixed, Layout, Lengths};
 use crate::generated::tables::load::Factor;
-use crate::generated::tables::memory_layout::{self, parts_in, Header, HEADER_SIZE};
+use crate::generated::tables::memory_layout::{self, clear_entries, parts_in, Header, HEADER_SIZE};
 use crate::generated::tables::raw_table::{write_new, PartPairs};
 use crate::generated::tables::swisstable_group_query::GroupQuery;
+use crate::shim::Global;
+use alloc::vec::Vec;
 
 impl<C: Config, D: ByteStore> HashTable<C, D> {
     /// Returns the length in bytes of the table that this one grows into. That table has the slots
@@ -24,10 +26,8 @@ impl<C: Config, D: ByteStore> HashTable<C, D> {
     /// The count is the header's. In bytes that were not checked it may be any number: check them,
     /// or bound the length, before you allocate.
     pub fn grown_len(&self) -> Option<usize> {
-        match grown_layout::<C>(&self.allocation.header()) {
-            Some((_, len)) => Some(len),
-            None => None,
-        }
+        let lengths: Fixed<C::EncodedKey, C::EncodedValue> = Fixed::new();
+        grown_len_of::<Fixed<C::EncodedKey, C::EncodedValue>, C::H>(self.raw_bytes(), lengths)
     }
 
     /// Writes the table that this one grows into to `out`, over any bytes that are there. `out`
@@ -41,28 +41,25 @@ impl<C: Config, D: ByteStore> HashTable<C, D> {
     /// On any bytes the new header has the item count and the load factor of this one. The pairs
     /// of the walk are placed as long as a slot is free. The contract does not state this.
     pub fn grow_into(&self, out: &mut [u8]) {
-        let Some((slot_count, _)) = grown_layout::<C>(&self.allocation.header()) else {
-            // `out` has the length of the grown table.
-            unreachable!()
-        };
         let lengths: Fixed<C::EncodedKey, C::EncodedValue> = Fixed::new();
-        memory_layout::clear_entries(out, lengths, slot_count);
-        write_moved(self, slot_count, out);
+        grow_parts::<Fixed<C::EncodedKey, C::EncodedValue>, C::H>(self.raw_bytes(), lengths, out);
     }
 }
 
-/// The slot count and the length in bytes of the table that the one with this header grows into.
-/// None exactly where no slot count is enough, or the length passes `usize`.
-pub(crate) fn grown_layout<C: Config>(header: &Header<'_>) -> Option<(usize, usize)> {
-    grown_sizes::<C::H>(Layout::of::<C>(), header)
+/// `grown_len` of the bytes of a table. All tables grow by these functions, whose lengths of keys
+/// and values are types or numbers.
+pub(crate) fn grown_len_of<L: Lengths, H: HashFn>(bytes: &[u8], lengths: L) -> Option<usize> {
+    match grown_sizes::<L, H>(bytes, lengths) {
+        Some((_, len)) => Some(len),
+        None => None,
+    }
 }
 
-/// The same of a table of these lengths.
+// The slot count and the length in bytes of the table that the one in the bytes grows into. None
+// exactly where no slot count is enough, or the length passes `usize`.
 #[inline(always)]
-pub(crate) fn grown_sizes<H: HashFn>(
-    layout: Layout,
-    header: &Header<'_>,
-) -> Option<(usize, usize)> {
+fn grown_sizes<L: Lengths, H: HashFn>(bytes: &[u8], lengths: L) -> Option<(usize, usize)> {
+    let header = Header::of(bytes);
     let factor = header.max_load_factor();
     let Some(twice) = header.item_count().checked_mul(2) else {
         return None;
@@ -70,29 +67,54 @@ pub(crate) fn grown_sizes<H: HashFn>(
     if factor.0 == 0 {
         return None;
     }
-    layout.table_for(twice.max(1), factor)
+    Layout::of_lengths(lengths).table_for(twice.max(1), factor)
 }
 
-/// Writes the pairs of a table, placed in slot order into that many slots, into bytes whose entries
-/// are zeros. The new header has the item count and the load factor of the table.
-pub(crate) fn write_moved<C: Config, D: ByteStore>(
-    table: &HashTable<C, D>,
-    slot_count: usize,
-    out: &mut [u8],
-) {
-    let lengths: Fixed<C::EncodedKey, C::EncodedValue> = Fixed::new();
-    let bytes = table.allocation.raw_bytes();
-    move_parts::<Fixed<C::EncodedKey, C::EncodedValue>, C::H>(bytes, lengths, slot_count, out);
+/// `grow_into` of the bytes of a table.
+pub(crate) fn grow_parts<L: Lengths, H: HashFn>(bytes: &[u8], lengths: L, out: &mut [u8]) {
+    let Some((slot_count, _)) = grown_sizes::<L, H>(bytes, lengths) else {
+        // `out` has the length of the grown table.
+        unreachable!()
+    };
+    clear_entries(out, lengths, slot_count);
+    move_parts::<L, H>(bytes, lengths, slot_count, out);
 }
 
-/// `write_moved` of the bytes of a table, whose lengths of keys and values are types or numbers.
-/// All tables grow by it.
-pub(crate) fn move_parts<L: Lengths, H: HashFn>(
+/// The bytes of the table that the one in the bytes grows into, in new memory. None where the
+/// allocator gives no memory for it, or it would be too large.
+#[inline(never)]
+pub(crate) fn grown_bytes<L: Lengths, H: HashFn>(
+    alloc: Global,
+    bytes: &[u8],
+    lengths: L,
+) -> Option<Vec<u8>> {
+    let (slot_count, len) = grown_sizes::<L, H>(bytes, lengths)?;
+    let grown = moved_bytes::<L, H>(alloc, bytes, lengths, slot_count, len)?;
+    Some(grown)
+}
+
+/// The pairs of the table in the bytes, placed in slot order into that many slots in new memory.
+/// `len` is the length for them. The new header has the item count and the load factor of the
+/// table. None where the allocator gives no memory.
+#[inline(always)]
+pub(crate) fn moved_bytes<L: Lengths, H: HashFn>(
+    alloc: Global,
     bytes: &[u8],
     lengths: L,
     slot_count: usize,
-    out: &mut [u8],
-) {
+    len: usize,
+) -> Option<Vec<u8>> {
+    let Ok(mut out) = crate::shim::zeroed_bytes(alloc, len) else {
+        return None;
+    };
+    move_parts::<L, H>(bytes, lengths, slot_count, out.as_mut_slice());
+    Some(out)
+}
+
+// Writes the pairs of the table in the bytes, placed in slot order into that many slots, into
+// bytes whose entries are zeros. The new header has the item count and the load factor of the
+// table.
+fn move_parts<L: Lengths, H: HashFn>(bytes: &[u8], lengths: L, slot_count: usize, out: &mut [u8]) {
     let header = Header::of(bytes);
     let items = header.item_count();
     let factor = header.max_load_factor();

@@ -5,9 +5,11 @@ use crate::generated::tables::bytes::{ByteStore, ByteStoreMut};
 use crate::generated::tables::config::Config;
 use crate::generated::tables::error::Error;
 use crate::generated::tables::iter::Iter;
+use crate::generated::tables::layout::Fixed;
 use crate::generated::tables::load::Factor;
 use crate::generated::tables::lookups::{self, InSlice};
 use crate::generated::tables::memory_layout::{self, Allocation};
+use crate::generated::tables::new_tables::init_bytes;
 use crate::generated::tables::raw_table::{RawIter, RawTable};
 use crate::generated::tables::swisstable_group_query::GroupQuery;
 
@@ -193,18 +195,13 @@ impl<C: Config, D: ByteStoreMut> HashTable<C, D> {
         max_item_count: usize,
         max_load_factor_percent: u8,
     ) -> Result<(), Error> {
-        let factor = Factor::from_percent(max_load_factor_percent);
-        let Some((slot_count, expected)) = memory_layout::layout_for::<C>(max_item_count, factor)
-        else {
-            return Err(Error::Capacity);
-        };
-        let found = store.bytes().len();
-        if found != expected {
-            return Err(Error::InitLength { found, expected });
-        }
-        let table = memory_layout::init_in_place::<C, &mut D>(store, slot_count, 0, factor);
-        let _store = table.into_data();
-        Ok(())
+        let lengths: Fixed<C::EncodedKey, C::EncodedValue> = Fixed::new();
+        init_bytes::<Fixed<C::EncodedKey, C::EncodedValue>, C::H, D>(
+            lengths,
+            store,
+            max_item_count,
+            max_load_factor_percent,
+        )
     }
 
     /// Inserts a pair, and returns the former value of the key: on valid bytes the table's value

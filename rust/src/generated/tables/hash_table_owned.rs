@@ -4,9 +4,10 @@
 use crate::generated::tables::bytes::OwnedBytes;
 use crate::generated::tables::config::Config;
 use crate::generated::tables::error::Error;
-use crate::generated::tables::growth::{grown_layout, write_moved};
+use crate::generated::tables::growth::grown_bytes;
 use crate::generated::tables::hash_table::HashTable;
 use crate::generated::tables::iter::Iter;
+use crate::generated::tables::layout::Fixed;
 use crate::generated::tables::load::{slots_needed, Factor};
 use crate::generated::tables::memory_layout;
 use crate::shim::Global;
@@ -186,29 +187,20 @@ impl<C: Config> HashTableOwned<C> {
     // `insert` of an absent key at the maximum: into the grown table.
     #[inline(never)]
     fn insert_grown(&mut self, key: &C::Key, value: &C::Value) -> Result<Option<C::Value>, Error> {
-        let Ok(mut grown) = self.grown_table() else {
+        let lengths: Fixed<C::EncodedKey, C::EncodedValue> = Fixed::new();
+        let bytes = self.table.raw_bytes();
+        let Some(bytes) =
+            grown_bytes::<Fixed<C::EncodedKey, C::EncodedValue>, C::H>(self.alloc, bytes, lengths)
+        else {
             return Err(Error::Memory);
         };
+        let mut grown = HashTable::from_raw_bytes_unchecked(OwnedBytes::new(bytes));
         let Ok(old) = grown.insert(key, value) else {
             // The grown table is below its maximum.
             unreachable!()
         };
         self.table = grown;
         Ok(old)
-    }
-
-    // The pairs of this table, placed in slot order into a table with the slots for twice as many,
-    // and for one at least.
-    #[inline(never)]
-    fn grown_table(&self) -> Result<HashTable<C, OwnedBytes>, Error> {
-        let Some((slot_count, len)) = grown_layout::<C>(&self.table.allocation.header()) else {
-            return Err(Error::Memory);
-        };
-        let Ok(mut bytes) = crate::shim::zeroed_bytes(self.alloc, len) else {
-            return Err(Error::Memory);
-        };
-        write_moved(&self.table, slot_count, bytes.as_mut_slice());
-        Ok(HashTable::from_raw_bytes_unchecked(OwnedBytes::new(bytes)))
     }
 }
 

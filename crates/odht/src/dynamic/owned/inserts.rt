@@ -3,17 +3,17 @@ ghost use Rattle.std.specs.Prelude.{◌≡◌, length, None, Some, IfSome, IfOk,
 ghost use Rattle.odht_base.specs.Insert.{insert_owned, IsFullFor};
 ghost use Rattle.odht_base.specs.Map.{map_of};
 ghost use Rattle.odht_header.specs.Coding.{encoded};
-ghost use Rattle.odht.specs.Dynamic.{dyn_coding, dyn_format, dyn_store};
+ghost use Rattle.odht.specs.Dynamic.{dyn_coding, dyn_store};
 ghost use Rattle.odht.specs.DynLists.{length_error};
-ghost use Rattle.odht.specs.DynOwned.{IsDynWith};
-ghost use Rattle.odht.specs.Growths.{IsGrownImage};
 ghost use Rattle.odht.specs.Plain.{HasMapWith, KeepsSize};
 
 use super::DynTableOwned;
 use crate::bytes::OwnedBytes;
 use crate::dynamic::{DynError, DynTable};
 use crate::error::Error;
+use crate::growth::grown_bytes;
 use crate::hash::HashFn;
+use crate::layout::Layout;
 use crate::raw_table::ShortBytes;
 
 impl<H: HashFn> DynTableOwned<H> {
@@ -67,27 +67,14 @@ impl<H: HashFn> DynTableOwned<H> {
         ensures memory { OnErr result (result ≡ Err (DynError.Rejected Error.Memory)) }
         ensures refused { OnErr result (self.new ≡ self.old) }
     {
-        let Some(mut grown) = self.grown_table() else {
+        let layout = self.table.layout();
+        let grown = grown_bytes::<Layout, H>(self.alloc, self.table.raw_bytes(), layout);
+        let Some(bytes) = grown else {
             return Err(DynError::Rejected(Error::Memory));
         };
+        let mut grown = DynTable::open_unchecked(layout, OwnedBytes::new(bytes));
         let former = grown.insert(key, value)?;
         self.table = grown;
         Ok(former)
-    }
-
-    // The pairs of this table, placed in slot order into a table with the slots for twice as many,
-    // and for one at least. None where the allocator gives no memory for it, or it would be too
-    // large.
-    #[inline(never)]
-    fn grown_table(&self) -> Option<DynTable<H, OwnedBytes>>
-        ensures { IfSome result (IsDynWith self.now.key_len self.now.value_len
-            (IsGrownImage (dyn_format self.now H.hash) self.now.store)) }
-    {
-        let len = self.table.grown_len()?;
-        let Ok(mut bytes) = vec![in self.alloc; 0; len] else {
-            return None;
-        };
-        self.table.grow_into(bytes.as_mut_slice());
-        Some(DynTable::open_unchecked(self.table.layout(), OwnedBytes::new(bytes)))
     }
 }

@@ -1,20 +1,15 @@
 //! Room for items that are still to come, of the owned dynamic table.
-ghost use Rattle.std.specs.Prelude.{◌≡◌, ◌≤◌, IfSome, OnErr};
-ghost use Rattle.odht_base.specs.Image.{image_len};
-ghost use Rattle.odht_base.specs.Load.{IsSlotCount, max_items};
-ghost use Rattle.odht_base.specs.Table.{count};
-ghost use Rattle.odht.specs.Dynamic.{dyn_coding, dyn_format, dyn_store};
-ghost use Rattle.odht.specs.DynOwned.{IsDynWith, IsRejecting};
+ghost use Rattle.std.specs.Prelude.{◌≡◌, OnErr};
+ghost use Rattle.odht.specs.Dynamic.{dyn_coding, dyn_store};
+ghost use Rattle.odht.specs.DynOwned.{IsRejecting};
 ghost use Rattle.odht.specs.Plain.{IsPlainReserve};
-ghost use Rattle.odht.specs.Reserves.{IsMovedImage};
 
 use super::DynTableOwned;
 use crate::bytes::OwnedBytes;
 use crate::dynamic::{DynError, DynTable};
-use crate::error::Error;
 use crate::hash::HashFn;
-use crate::memory_layout::Header;
-use crate::reserve::sizes_for_more;
+use crate::layout::Layout;
+use crate::reserve::room_for;
 
 impl<H: HashFn> DynTableOwned<H> {
     /// Makes room for `additional` more items: that many new keys can be inserted before the table
@@ -33,35 +28,14 @@ impl<H: HashFn> DynTableOwned<H> {
         ensures refused { OnErr result (self.new ≡ self.old) }
         ensures layout { self.new ≡ dyn_store self.old.key_len self.old.value_len self.new.store }
     {
-        let header = Header::of(self.table.raw_bytes());
-        let sizes = match sizes_for_more::<H>(self.table.layout(), &header, additional) {
-            Ok(sizes) => sizes,
-            Err(too_large) => return Err(DynError::Rejected(too_large)),
-        };
-        let Some((slot_count, len)) = sizes else {
-            return Ok(());
-        };
-        let Some(moved) = self.moved(slot_count, len) else {
-            return Err(DynError::Rejected(Error::Memory));
-        };
-        self.table = moved;
-        Ok(())
-    }
-
-    // The pairs of this table, placed in slot order into that many slots in new memory. `len` is
-    // the length for them. None where the allocator gives no memory.
-    #[inline(never)]
-    fn moved(&self, slot_count: usize, len: usize) -> Option<DynTable<H, OwnedBytes>>
-        requires slots { IsSlotCount slot_count }
-        requires len { len ≡ image_len (dyn_format self.now H.hash) slot_count }
-        ensures { let P = self.now.store in count P ≤ max_items slot_count P.factor
-            → IfSome result (IsDynWith self.now.key_len self.now.value_len
-            (IsMovedImage (dyn_format self.now H.hash) P slot_count)) }
-    {
-        let Ok(mut bytes) = vec![in self.alloc; 0; len] else {
-            return None;
-        };
-        self.table.move_into(slot_count, bytes.as_mut_slice());
-        Some(DynTable::open_unchecked(self.table.layout(), OwnedBytes::new(bytes)))
+        let layout = self.table.layout();
+        match room_for::<Layout, H>(self.alloc, self.table.raw_bytes(), layout, additional) {
+            Ok(None) => Ok(()),
+            Ok(Some(moved)) => {
+                self.table = DynTable::open_unchecked(layout, OwnedBytes::new(moved));
+                Ok(())
+            }
+            Err(refused) => Err(DynError::Rejected(refused)),
+        }
     }
 }

@@ -1,6 +1,6 @@
 //! Single writes to the bytes of a table, for callers who search themselves: an entry with its
 //! tag, only a value, and the item count. No insert of the library calls them: it writes the
-//! parts (`fill_slot`) and the count (`write_count`).
+//! parts (`write_slot`) and the count (`write_count`).
 ghost use Rattle.std.specs.Prelude.{◌≡◌, ◌<◌};
 ghost use Rattle.odht_base.specs.Numbers.{IsBytes};
 ghost use Rattle.odht_base.specs.Table.{Pair};
@@ -12,8 +12,9 @@ ghost use Rattle.odht_raw.specs.Frame.{IsAccepted};
 use super::Allocation;
 use crate::bytes::{ByteArray, ByteStoreMut};
 use crate::config::{Coded, Config};
+use crate::layout::Fixed;
 use crate::memory_layout::{EntryMetadata, HEADER_SIZE, Header, entry_at};
-use crate::raw_table::fill_slot;
+use crate::raw_table::write_slot;
 use odht_header::header::ITEM_COUNT_AT;
 
 impl<C: Config, M: ByteStoreMut> Allocation<C, M> {
@@ -58,9 +59,9 @@ impl<C: Config, M: ByteStoreMut> Allocation<C, M> {
         let slots = Header::of(bytes).slot_count();
         let (table, control) = bytes.split_at_mut(entry_at::<C>(slots));
         let (_, entries) = table.split_at_mut(HEADER_SIZE);
-        fill_slot::<C::EncodedKey, C::EncodedValue, C::H>(
-            control, entries, slots, key, value, tag, slot,
-        );
+        let lengths: Fixed<C::EncodedKey, C::EncodedValue> = Fixed::new();
+        let (key, value) = (key.as_slice(), value.as_slice());
+        write_slot(control, entries, slots, lengths, key, value, tag, slot);
     }
 
     /// Writes only the value into the entry of a slot. No other byte changes. The clause `value`

@@ -198,3 +198,14 @@ impl<'a, L: Lengths, H: HashFn> Parts<'a, L, H> {
         check_hashes(self, slots_to_check)
     }
 }
+
+/// The parts of a table that is written, to be read.
+#[inline(always)]
+pub(super) fn read_parts<'a, L: Lengths, H: HashFn>(
+    control: &'a [EntryMetadata],
+    entries: &'a [u8],
+    slots: usize,
+    lengths: L,
+) -> Parts<'a, L, H> {
+    Parts::of(control, Stored::new(entries, slots, lengths))
+}

@@ -3,12 +3,14 @@
 //! of the searches by groups. They are the reference of the tests; no call of the library uses
 //! them.
 
-use super::insert::insert_at;
+use super::parts::read_parts;
 use super::probe_seq::probed_slot;
+use super::writes::insert_at;
 use super::{is_empty_or_deleted, slot_count_of, tag_of, Entries, EntryMetadata, Search};
 use crate::generated::raw::bytes::ByteArray;
 use crate::generated::raw::error::Error;
 use crate::generated::raw::hash::HashFn;
+use crate::generated::raw::layout::Fixed;
 
 /// The value stored with the key, searched for slot by slot along the probe order.
 ///
@@ -47,7 +49,12 @@ pub fn plain_insert<K: ByteArray, V: ByteArray, H: HashFn>(
     let hash = H::hash(key.as_slice());
     let stored: Entries<'_, K, V> = Entries::new(entries, slots);
     let end = plain_search::<K, V, H>(control, &stored, &key, hash);
-    insert_at::<K, V, H>(control, entries, slots, key, value, (end, tag_of(hash)), usize::MAX)
+    let lengths: Fixed<K, V> = Fixed::new();
+    let parts = read_parts::<Fixed<K, V>, H>(control, entries, slots, lengths);
+    let former = parts.typed_value_at(end);
+    let (key, value) = (key.as_slice(), value.as_slice());
+    let end = (end, tag_of(hash));
+    insert_at::<Fixed<K, V>, H, V>(control, entries, lengths, key, value, end, former)
 }
 
 // Searches for the key with this hash slot by slot along its probe order, and stops at the first

@@ -2,8 +2,9 @@
 //! Inserts of items in turn into the parts of a table, eight at a time where the table is large.
 //! The lengths of keys and values are types or numbers.
 
-use super::writes::{is_found, write_at_end};
-use super::{EntryMetadata, Parts, Search, Stored};
+use super::parts::read_parts;
+use super::writes::write_at_end;
+use super::{EntryMetadata, Parts, Search};
 use crate::generated::raw::encoded_items::EncodedItems;
 use crate::generated::raw::hash::HashFn;
 use crate::generated::raw::layout::Lengths;
@@ -63,7 +64,7 @@ fn insert_in_turn<L: Lengths, H: HashFn, I: EncodedItems>(
         let (key, value) = (I::key_bytes(&key), I::value_bytes(&value));
         let parts = read_parts::<L, H>(&*control, &*entries, slots, lengths);
         let end = parts.insert_end(key);
-        let answer = write_by_kind::<L, H>(control, entries, slots, lengths, key, value, end, left);
+        let answer = write_counted::<L, H>(control, entries, slots, lengths, key, value, end, left);
         let Some(is_new) = answer else {
             return (index, room - left);
         };
@@ -161,45 +162,10 @@ fn look_ahead<L: Lengths, H: HashFn, I: EncodedItems>(
     ahead
 }
 
-// The parts of a table that is written, to be read.
-#[inline(always)]
-fn read_parts<'a, L: Lengths, H: HashFn>(
-    control: &'a [EntryMetadata],
-    entries: &'a [u8],
-    slots: usize,
-    lengths: L,
-) -> Parts<'a, L, H> {
-    Parts::of(control, Stored::new(entries, slots, lengths))
-}
-
-// `write_counted`, with a call of its own for each kind of end, so that the compiler goes from
-// where a search ends to what is written there, with no second test of the kind.
-#[inline(always)]
-fn write_by_kind<L: Lengths, H: HashFn>(
-    control: &mut [EntryMetadata],
-    entries: &mut [u8],
-    slots: usize,
-    lengths: L,
-    key: &[u8],
-    value: &[u8],
-    end: (Search, u8),
-    room: usize,
-) -> Option<bool> {
-    match end.0 {
-        Search::Found(_) => {
-            write_counted::<L, H>(control, entries, slots, lengths, key, value, end, room)
-        }
-        Search::Free(_) => {
-            write_counted::<L, H>(control, entries, slots, lengths, key, value, end, room)
-        }
-        Search::Neither => {
-            write_counted::<L, H>(control, entries, slots, lengths, key, value, end, room)
-        }
-    }
-}
-
 // Writes a pair where the search for its key ended, which comes with the key's tag. Returns whether
-// that adds an entry; None, with nothing changed, where the pair is rejected with `Full`.
+// that adds an entry; None, with nothing changed, where the pair is rejected with `Full`. Each kind
+// of end has a write of its own, so that the compiler goes from where a search ends to what is
+// written there, with no second test of the kind.
 #[inline(always)]
 fn write_counted<L: Lengths, H: HashFn>(
     control: &mut [EntryMetadata],
@@ -213,8 +179,18 @@ fn write_counted<L: Lengths, H: HashFn>(
 ) -> Option<bool> {
     prove_bytes(key);
     prove_bytes(value);
-    if !write_at_end::<L, H>(control, entries, slots, lengths, key, value, end, room) {
-        return None;
+    match end.0 {
+        Search::Found(_) => {
+            let ok = write_at_end::<L, H>(control, entries, slots, lengths, key, value, end, room);
+            ok.then_some(false)
+        }
+        Search::Free(_) => {
+            let ok = write_at_end::<L, H>(control, entries, slots, lengths, key, value, end, room);
+            ok.then_some(true)
+        }
+        Search::Neither => {
+            let ok = write_at_end::<L, H>(control, entries, slots, lengths, key, value, end, room);
+            ok.then_some(true)
+        }
     }
-    Some(!is_found(end.0))
 }

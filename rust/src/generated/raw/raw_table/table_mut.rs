@@ -1,8 +1,8 @@
 // Generated from crates/odht_raw/src/raw_table/table_mut.rt by make generate.
 //! The parts of a table, borrowed to be written.
 
-use super::insert::insert_step;
-use super::writes::write_new;
+use super::parts::read_parts;
+use super::writes::{insert_at, write_new};
 use super::{slot_count_of, Entries, EntryMetadata, RawTable};
 use crate::generated::raw::bytes::ByteArray;
 use crate::generated::raw::error::Error;
@@ -48,8 +48,14 @@ impl<'c, 'e, K: ByteArray, V: ByteArray, H: HashFn> RawTableMut<'c, 'e, K, V, H>
     /// group searches leave the same parts.
     #[inline(always)]
     pub fn insert_by<Q: Group>(&mut self, key: K, value: V) -> Result<Option<V>, Error> {
-        // As many entries may be added as there are free slots.
-        insert_step::<K, V, H, Q>(self.control, self.entries, key, value, usize::MAX)
+        let lengths: Fixed<K, V> = Fixed::new();
+        let (key, value) = (key.as_slice(), value.as_slice());
+        let (control, entries) = (&mut *self.control, &mut *self.entries);
+        let slots = slot_count_of(control);
+        let parts = read_parts::<Fixed<K, V>, H>(&*control, &*entries, slots, lengths);
+        let end = parts.search_end::<Q>(key);
+        let former = parts.typed_value_at(end.0);
+        insert_at::<Fixed<K, V>, H, V>(control, entries, lengths, key, value, end, former)
     }
 
     /// Writes the pair into the first free slot of its key's probe order. No key is compared, so

@@ -51,6 +51,32 @@ pub(crate) fn write_at_end<L: Lengths, H: HashFn>(
     }
 }
 
+/// `write_at_end` with room for any number of entries. Returns `former`, the value that the caller
+/// read where the search ended; or `Full`, with nothing changed, where the search met neither slot.
+///
+/// In the clauses `f` decodes a value.
+#[inline(always)]
+pub(super) fn insert_at<L: Lengths, H: HashFn, T>(
+    control: &mut [EntryMetadata],
+    entries: &mut [u8],
+    lengths: L,
+    key: &[u8],
+    value: &[u8],
+    end: (Search, u8),
+    former: Option<T>,
+) -> Result<Option<T>, Error> {
+    prove_bytes(key);
+    prove_bytes(value);
+    let slots = slot_count_of(control);
+    // As many entries may be added as there are free slots.
+    let room = usize::MAX;
+    if write_at_end::<L, H>(control, entries, slots, lengths, key, value, end, room) {
+        Ok(former)
+    } else {
+        Err(Error::Full)
+    }
+}
+
 /// Writes the pair into the first free slot of its key's probe order. No key is compared, so it is
 /// for a key that the table does not have. `Full`, with nothing changed, where no slot is free.
 #[inline(always)]
@@ -75,7 +101,7 @@ pub fn write_new<L: Lengths, H: HashFn, Q: Group>(
 /// Writes the pair into a slot, the tag into the slot's control byte, and for a slot below 16 the
 /// tag into the mirror.
 #[inline(always)]
-pub(super) fn write_slot<L: Lengths>(
+pub(crate) fn write_slot<L: Lengths>(
     control: &mut [EntryMetadata],
     entries: &mut [u8],
     slots: usize,

@@ -2,12 +2,27 @@
 //! Inserts into a dynamic table.
 
 use super::{DynError, DynTable};
-use crate::generated::tables::bytes::ByteStoreMut;
+use crate::generated::tables::bytes::{ByteStore, ByteStoreMut};
 use crate::generated::tables::error::Error;
 use crate::generated::tables::hash::HashFn;
 use crate::generated::tables::layout::Layout;
-use crate::generated::tables::memory_layout::insert_dynamic;
+use crate::generated::tables::memory_layout::{insert_dynamic, insert_dynamic_into};
 use crate::generated::tables::raw_table::ShortBytes;
+
+impl<H: HashFn, D: ByteStore> DynTable<H, D> {
+    // The error of a key or a value of another length than the table's, that of the key first.
+    #[inline(always)]
+    pub(super) fn wrong_length(&self, key: &[u8], value: &[u8]) -> Option<DynError> {
+        let Layout { key_len, value_len } = self.layout;
+        if key.len() != key_len as usize {
+            return Some(DynError::WrongKeyLength { expected: key_len, found: key.len() });
+        }
+        if value.len() != value_len as usize {
+            return Some(DynError::WrongValueLength { expected: value_len, found: value.len() });
+        }
+        None
+    }
+}
 
 impl<H: HashFn, D: ByteStoreMut> DynTable<H, D> {
     /// Inserts a pair, and returns the former value of the key: on valid bytes the table's value
@@ -23,18 +38,34 @@ impl<H: HashFn, D: ByteStoreMut> DynTable<H, D> {
     /// On bytes that are not valid no more changes than that call changes. The key is hashed once.
     /// [`DynTable::get_counted`] counts the groups that such a search reads.
     pub fn insert(&mut self, key: &[u8], value: &[u8]) -> Result<Option<ShortBytes>, DynError> {
-        let layout = self.layout;
-        if key.len() != layout.key_len as usize {
-            return Err(DynError::WrongKeyLength { expected: layout.key_len, found: key.len() });
+        if let Some(refused) = self.wrong_length(key, value) {
+            return Err(refused);
         }
-        if value.len() != layout.value_len as usize {
-            return Err(DynError::WrongValueLength {
-                expected: layout.value_len,
-                found: value.len(),
-            });
-        }
-        match insert_store::<H, D>(&mut self.store, layout, key, value) {
+        match insert_store::<H, D>(&mut self.store, self.layout, key, value) {
             Ok(former) => Ok(former),
+            Err(refused) => Err(DynError::Rejected(refused)),
+        }
+    }
+
+    /// Like [`DynTable::insert`], but writes the former value to `former`, and returns whether there
+    /// is one. So no value passes through memory of its own. If `former` has another length than
+    /// the table's values, the error is `WrongValueLength`, too. If the key has no value, and on an
+    /// error, `former` is unchanged.
+    #[inline(always)]
+    pub fn insert_into(
+        &mut self,
+        key: &[u8],
+        value: &[u8],
+        former: &mut [u8],
+    ) -> Result<bool, DynError> {
+        if let Some(wrong) = self.wrong_length(key, value) {
+            return Err(wrong);
+        }
+        if let Some(wrong) = self.wrong_length(key, former) {
+            return Err(wrong);
+        }
+        match insert_store_into::<H, D>(&mut self.store, self.layout, key, value, former) {
+            Ok(had) => Ok(had),
             Err(refused) => Err(DynError::Rejected(refused)),
         }
     }
@@ -48,4 +79,16 @@ fn insert_store<H: HashFn, D: ByteStoreMut>(
     value: &[u8],
 ) -> Result<Option<ShortBytes>, Error> {
     insert_dynamic::<H>(store.bytes_mut(), layout, key, value)
+}
+
+// `insert_into` on the store itself, of a key, a value and bytes of the table's lengths.
+#[inline(always)]
+fn insert_store_into<H: HashFn, D: ByteStoreMut>(
+    store: &mut D,
+    layout: Layout,
+    key: &[u8],
+    value: &[u8],
+    former: &mut [u8],
+) -> Result<bool, Error> {
+    insert_dynamic_into::<H>(store.bytes_mut(), layout, key, value, former)
 }

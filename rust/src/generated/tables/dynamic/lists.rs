@@ -18,13 +18,16 @@ impl<H: HashFn, D: ByteStoreMut> DynTable<H, D> {
     /// [`HashTable::insert_all`](crate::generated::tables::hash_table::HashTable::insert_all) costs: a search for each
     /// item, and the header is read and the item count written once.
     pub fn insert_all(&mut self, items: &[(&[u8], &[u8])]) -> (usize, Result<(), DynError>) {
-        let layout = self.layout;
-        let accepted = insert_store_items::<H, D>(&mut self.store, layout, items);
+        let accepted = insert_store_items::<H, D>(&mut self.store, self.layout, items);
         if accepted >= items.len() {
             return (accepted, Ok(()));
         }
         let (key, value) = items[accepted];
-        (accepted, Err(refusal(layout, key, value)))
+        let refused = match self.wrong_length(key, value) {
+            Some(wrong) => wrong,
+            None => DynError::Rejected(Error::Full),
+        };
+        (accepted, Err(refused))
     }
 }
 
@@ -36,15 +39,4 @@ fn insert_store_items<H: HashFn, D: ByteStoreMut>(
     items: &[(&[u8], &[u8])],
 ) -> usize {
     insert_items_dynamic::<H>(store.bytes_mut(), layout, items)
-}
-
-// The error of an item that a list of inserts did not accept.
-fn refusal(layout: Layout, key: &[u8], value: &[u8]) -> DynError {
-    if key.len() != layout.key_len as usize {
-        return DynError::WrongKeyLength { expected: layout.key_len, found: key.len() };
-    }
-    if value.len() != layout.value_len as usize {
-        return DynError::WrongValueLength { expected: layout.value_len, found: value.len() };
-    }
-    DynError::Rejected(Error::Full)
 }

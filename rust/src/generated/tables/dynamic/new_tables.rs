@@ -3,11 +3,10 @@
 
 use super::{DynError, DynTable};
 use crate::generated::tables::bytes::{ByteStore, ByteStoreMut};
-use crate::generated::tables::error::Error;
 use crate::generated::tables::hash::HashFn;
 use crate::generated::tables::layout::Layout;
 use crate::generated::tables::load::Factor;
-use crate::generated::tables::memory_layout::init_parts;
+use crate::generated::tables::new_tables::init_bytes;
 
 impl<H: HashFn, D: ByteStore> DynTable<H, D> {
     /// The length in bytes of a new table of these lengths for `max_item_count` items, at a load
@@ -41,28 +40,9 @@ impl<H: HashFn, D: ByteStoreMut> DynTable<H, D> {
         if (layout.key_len as usize) < H::MIN_LEN {
             return Err(DynError::KeyTooShort { key_len: layout.key_len, least: H::MIN_LEN });
         }
-        match init_bytes::<H, D>(layout, store, max_item_count, max_load_factor_percent) {
+        match init_bytes::<Layout, H, D>(layout, store, max_item_count, max_load_factor_percent) {
             Ok(()) => Ok(()),
             Err(rejected) => Err(DynError::Rejected(rejected)),
         }
     }
-}
-
-// `init_store` of keys that are long enough for the hash function.
-fn init_bytes<H: HashFn, D: ByteStoreMut>(
-    layout: Layout,
-    store: &mut D,
-    max_item_count: usize,
-    max_load_factor_percent: u8,
-) -> Result<(), Error> {
-    let factor = Factor::from_percent(max_load_factor_percent);
-    let Some((slot_count, expected)) = layout.table_for(max_item_count, factor) else {
-        return Err(Error::Capacity);
-    };
-    let found = store.bytes().len();
-    if found != expected {
-        return Err(Error::InitLength { found, expected });
-    }
-    init_parts(store.bytes_mut(), layout, slot_count, 0, factor);
-    Ok(())
 }

@@ -1,10 +1,15 @@
-use Rattle.std.proofs.Common.{◌≡◌, ◌<◌, ℕ, Bor, List, [], Ok, Err, inl, inr, ap, subst, refl, arith, map, length, slice_index_or}
+use Rattle.std.proofs.Common.{◌≡◌, ◌<◌, ◌∙◌, ◌↔◌, ℕ, Bor, List, [], Some, Result, Ok, Err, IsOk, inl, inr, ap, sym, subst, refl, arith, map, length, slice_index_or}
+use Rattle.std.specs.Prelude.{IfErr}
+use Rattle.std.specs.Option.{option_or}
 use Rattle.std.proofs.lemmas.Bool.{false≢true}
 use Rattle.std.proofs.lemmas.List.{length-map}
 use Rattle.odht_header.proofs.lemmas.Formats.{IsFormat-format_of}
 use Rattle.odht_raw.proofs.lemmas.ItemBytes.{bytes_of, item_at}
 use Rattle.odht.specs.Dynamic.{DynStore, dyn_store}
-use Rattle.odht.specs.DynLists.{IsDynList}
+use Rattle.odht_header.specs.declared.error.Error.TheVariants.{Full}
+use Rattle.odht.specs.DynLists.{length_error, IsDynList, IsDynStop}
+use Rattle.odht.specs.declared.dynamic.DynError.{DynError}
+use Rattle.odht.specs.declared.dynamic.DynError.TheVariants.{Rejected}
 use Rattle.odht.proofs.lemmas.DynRuns.{accepted_fit, accepted_inserted, accepted_framed, stopped_here}
 use Rattle.odht.proofs.dynamic.DynTable.insert_all.Given.{Over}
 use Rattle.odht.proofs.dynamic.DynTable.insert_all.Goals.{After-insert_store_items-accepted}
@@ -22,50 +27,56 @@ module _ (g : Over) (c : After-insert_store_items-accepted g) where
   abbrev pairs : List (List ℕ × List ℕ)
   pairs = map bytes_of c.args.items.now
 
-  same_store : after ≡ dyn_store before.key_len before.value_len (g.D.ByteStoreMut.holding before.store (g.D.ByteStore.bytes after.store))
-  same_store = ap (dyn_store before.key_len before.value_len) c.insert_store_items-accepted.ensures.same_store
+  -- what a result says of them
+  list : (r : Result Unit DynError) → (let n = c.insert_store_items-accepted.result in IsOk r ↔ (n ≡ length pairs)) → IfErr r (λ e. IsDynStop g.H.HashFn.hash g.D.ByteStore.bytes after pairs c.insert_store_items-accepted.result e)
+      → IsDynList g.H.HashFn.hash g.D.ByteStore.bytes g.D.ByteStoreMut.holding c.args.self.now after pairs (c.insert_store_items-accepted.result, r)
+  list r all stopped =
+      let hash = g.H.HashFn.hash in
+      let n = c.insert_store_items-accepted.result in
+      let run = c.insert_store_items-accepted.ensures.run in
+      let done : IsDynList hash g.D.ByteStore.bytes g.D.ByteStoreMut.holding before after pairs (n, r) = record {
+        bound = run.within;
+        all = all;
+        fit = accepted_fit before hash _ _ pairs n _ run;
+        inserted = accepted_inserted before hash _ _ pairs n _ run;
+        framed = accepted_framed before hash _ _ pairs n _ run;
+        same_store = ap (dyn_store before.key_len before.value_len) c.insert_store_items-accepted.ensures.same_store;
+        accepted = run.accepted;
+        stopped = stopped;
+      } in
+      subst (λ (x : DynStore g.row.D.Denot). IsDynList hash g.D.ByteStore.bytes g.D.ByteStoreMut.holding x after pairs (n, r)) c.self.view_is done
+
+  -- the item that failed has this error
+  abbrev none : Bor (List ℕ) × Bor (List ℕ)
+  none = (record { ref_ptr = (0, 0); now = [] }, record { ref_ptr = (0, 0); now = [] })
+
+  abbrev item : Bor (List ℕ) × Bor (List ℕ)
+  item = slice_index_or c.args.items.now c.insert_store_items-accepted.result none
+
+  ended : c.insert_store_items-accepted.result < length c.args.items.now → (e : DynError) → Some e ≡ option_or (length_error after (item.0.now, item.1.now)) (Some (Rejected Full))
+      → IsDynList g.H.HashFn.hash g.D.ByteStore.bytes g.D.ByteStoreMut.holding c.args.self.now after pairs (c.insert_store_items-accepted.result, Err e)
+  ended more e error =
+      let n = c.insert_store_items-accepted.result in
+      let run = c.insert_store_items-accepted.ensures.run in
+      let long : length pairs ≡ length c.args.items.now = length-map c.args.items.now bytes_of in
+      let low : n < length pairs = omega (arith, long, more) in
+      let format = IsFormat-format_of _ _ _ _ c.self.invariant.key_short c.self.invariant.value_short c.self.invariant.hashes g.met.H.HashFn.fits in
+      list (Err e) (λ e. absurd (false≢true e), λ e. absurd (omega (arith, e, low)))
+      (stopped_here after item.0.now item.1.now g.H.HashFn.hash g.D.ByteStore.bytes pairs n e (item_at c.args.items.now n none low) format
+      (elim run.stopped [ inl e ↦ absurd (omega (arith, e, low)) | inr stop ↦ stop ]) error)
 
 pub returns-then-accepted-items : goal.returns-then-accepted-items
 returns-then-accepted-items g c =
-    let at = (goal.at.returns-then-accepted-items g c).After-insert_store_items-accepted in
-    let hash = g.H.HashFn.hash in
-    let n = c.insert_store_items-accepted.result in
-    let t = before g at in
-    let run = c.insert_store_items-accepted.ensures.run in
-    let long : length (pairs g at) ≡ length c.args.items.now = length-map c.args.items.now bytes_of in
-    let done : IsDynList hash g.D.ByteStore.bytes g.D.ByteStoreMut.holding t (after g at) (pairs g at) (n, Ok tt) = record {
-      bound = run.within;
-      all = (λ _. omega (arith, run.within, long, c.if-accepted-items.true), λ _. refl);
-      fit = accepted_fit t hash _ _ (pairs g at) n _ run;
-      inserted = accepted_inserted t hash _ _ (pairs g at) n _ run;
-      framed = accepted_framed t hash _ _ (pairs g at) n _ run;
-      same_store = same_store g at;
-      accepted = run.accepted;
-      stopped = tt;
-    } in
-    subst (λ (x : DynStore g.row.D.Denot). IsDynList hash g.D.ByteStore.bytes g.D.ByteStoreMut.holding x (after g at) (pairs g at) (n, Ok tt)) c.self.view_is done
+    let long : length (map bytes_of c.args.items.now) ≡ length c.args.items.now = length-map c.args.items.now bytes_of in
+    let within = c.insert_store_items-accepted.ensures.run.within in
+    list g (goal.at.returns-then-accepted-items g c).After-insert_store_items-accepted (Ok tt) (λ _. omega (arith, within, long, c.if-accepted-items.true), λ _. refl) tt
 
-pub returns : goal.returns
-returns g c =
-    let at = (goal.at.returns g c).After-insert_store_items-accepted in
-    let hash = g.H.HashFn.hash in
-    let n = c.insert_store_items-accepted.result in
-    let t = before g at in
-    let run = c.insert_store_items-accepted.ensures.run in
-    let long : length (pairs g at) ≡ length c.args.items.now = length-map c.args.items.now bytes_of in
-    let low : n < length (pairs g at) = omega (arith, long, c.if-accepted-items.false) in
-    let none : Bor (List ℕ) × Bor (List ℕ) = (record { ref_ptr = (0, 0); now = [] }, record { ref_ptr = (0, 0); now = [] }) in
-    let item : Bor (List ℕ) × Bor (List ℕ) = slice_index_or c.args.items.now n none in
-    let format = IsFormat-format_of _ _ _ _ c.self.invariant.key_short c.self.invariant.value_short c.self.invariant.hashes g.met.H.HashFn.fits in
-    let done : IsDynList hash g.D.ByteStore.bytes g.D.ByteStoreMut.holding t (after g at) (pairs g at) (n, Err c.refusal.result) = record {
-      bound = run.within;
-      all = (λ e. absurd (false≢true e), λ e. absurd (omega (arith, e, low)));
-      fit = accepted_fit t hash _ _ (pairs g at) n _ run;
-      inserted = accepted_inserted t hash _ _ (pairs g at) n _ run;
-      framed = accepted_framed t hash _ _ (pairs g at) n _ run;
-      same_store = same_store g at;
-      accepted = run.accepted;
-      stopped = stopped_here (after g at) item.0.now item.1.now hash g.D.ByteStore.bytes (pairs g at) n c.refusal.result (item_at c.args.items.now n none low) format
-          (elim run.stopped [ inl e ↦ absurd (omega (arith, e, low)) | inr stop ↦ stop ]) c.refusal.ensures.key c.refusal.ensures.value c.refusal.ensures.full;
-    } in
-    subst (λ (x : DynStore g.row.D.Denot). IsDynList hash g.D.ByteStore.bytes g.D.ByteStoreMut.holding x (after g at) (pairs g at) (n, Err c.refusal.result)) c.self.view_is done
+pub returns-in-Some : goal.returns-in-Some
+returns-in-Some g c =
+    let at = (goal.at.returns-in-Some g c).After-insert_store_items-accepted in
+    ended g at c.if-accepted-items.false c.in-Some.wrong (ap (λ o. option_or o (Some (Rejected Full))) (sym c.in-Some.is ∙ c.wrong_length.ensures))
+
+pub returns-in-None : goal.returns-in-None
+returns-in-None g c =
+    let at = (goal.at.returns-in-None g c).After-insert_store_items-accepted in
+    ended g at c.if-accepted-items.false (Rejected Full) (ap (λ o. option_or o (Some (Rejected Full))) (sym c.in-None.is ∙ c.wrong_length.ensures))

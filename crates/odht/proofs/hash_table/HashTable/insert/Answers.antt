@@ -1,14 +1,11 @@
-use Rattle.std.proofs.Common.{◌≡◌, ◌∙◌, ap, subst}
-use Rattle.std.specs.Prelude.{IfOk}
+use Rattle.std.proofs.Common.{◌≡◌, subst}
 use Rattle.std.proofs.lemmas.Result.{on_err_weaker}
 use Rattle.odht_base.specs.Format.{IsFormat}
-use Rattle.odht_base.specs.Table.{Table}
-use Rattle.odht_base.specs.Valid.{IsImage}
 use Rattle.odht_header.specs.Coding.{Coding, coding_of}
 use Rattle.odht_header.proofs.lemmas.Formats.{IsFormat-format_of}
-use Rattle.odht_raw.specs.Frame.{IsFramed}
-use Rattle.odht_raw.specs.Runs.{IsOnePlaced}
-use Rattle.odht.proofs.lemmas.ViewInserts.{if_inserted, if_former, framed-full, full-framed, framed-only_full, framed-refused, held_same_bytes}
+use Rattle.odht.specs.DynInserts.{IsStoreInsert}
+use Rattle.odht.proofs.lemmas.StoreInserts.{view_insert}
+use Rattle.odht.proofs.lemmas.ViewInserts.{framed-refused, held_same_bytes}
 use Rattle.odht.proofs.hash_table.HashTable.insert.Given.{Over}
 use Rattle.odht.proofs.hash_table.HashTable.insert.Goals as goal
 use Rattle.odht.proofs.hash_table.HashTable.insert.Goals.{After-insert_by}
@@ -25,39 +22,18 @@ coding g =
 fits : (g : Over) → IsFormat (coding g).format
 fits g = IsFormat-format_of _ _ _ _ g.met.C.Config.key_fits g.met.C.Config.value_fits g.met.C.Config.key_hashes g.met.C.H.HashFn.fits
 
--- what the insert leaves of a valid table
-placed : (g : Over) (c : After-insert_by g) (P : Table) → IsImage (coding g).format P (g.D.ByteStore.bytes c.args.self.now)
-    → IfOk c.insert_by.result (λ old. IsOnePlaced (coding g) P c.args.key.now c.args.value.now old (g.D.ByteStore.bytes c.insert_by.new.self))
-placed g c P is = c.insert_by.ensures.placed P (record { valid = is.valid; bytes = ap g.D.ByteStore.bytes c.self.view_is ∙ is.bytes })
-
--- and of any bytes
-framed : (g : Over) (c : After-insert_by g) → IsFramed (coding g) (g.D.ByteStore.bytes c.args.self.now) c.args.key.now c.args.value.now c.insert_by.result (g.D.ByteStore.bytes c.insert_by.new.self)
-framed g c =
-    subst (λ s. IsFramed (coding g) (g.D.ByteStore.bytes s) c.args.key.now c.args.value.now c.insert_by.result (g.D.ByteStore.bytes c.insert_by.new.self)) c.self.view_is c.insert_by.ensures.framed
+-- the insert into the view
+insert : (g : Over) (c : After-insert_by g) → IsStoreInsert (coding g) (g.D.ByteStore.bytes c.args.self.now) c.args.key.now c.args.value.now c.insert_by.result (g.D.ByteStore.bytes c.insert_by.new.self)
+insert g c =
+    let done = c.insert_by.ensures in
+    subst (λ s. IsStoreInsert (coding g) (g.D.ByteStore.bytes s) c.args.key.now c.args.value.now c.insert_by.result (g.D.ByteStore.bytes c.insert_by.new.self)) c.self.view_is
+    (view_insert (coding g) (fits g) _ _ _ _ _ done.placed done.framed done.accepted)
 
 pub returns-clause-on_valid : goal.returns-clause-on_valid
-returns-clause-on_valid g c P is =
-    let K = coding g in
-    let k = c.args.key.now in
-    let v = c.args.value.now in
-    let r = c.insert_by.result in
-    let at = (goal.at.returns-clause-on_valid g c).After-insert_by in
-    let one = framed g at in
-    record {
-      former = if_former K P k v r _ (placed g at P is);
-      inserted = if_inserted K P _ k v r _ is (placed g at P is);
-      full = (λ e. framed-full K _ k v (fits g) P is r _ e one, λ full. full-framed K _ k v (fits g) P is r _ (placed g at P is) one full);
-    }
+returns-clause-on_valid g c = (insert g (goal.at.returns-clause-on_valid g c).After-insert_by).on_valid
 
 pub returns-clause-on_any : goal.returns-clause-on_any
-returns-clause-on_any g c =
-    let at = (goal.at.returns-clause-on_any g c).After-insert_by in
-    let one = framed g at in
-    record {
-      frame = one;
-      only_full = framed-only_full (coding g) _ c.args.key.now c.args.value.now c.insert_by.result _ one;
-      accepted = c.insert_by.ensures.accepted;
-    }
+returns-clause-on_any g c = (insert g (goal.at.returns-clause-on_any g c).After-insert_by).on_any
 
 -- it is the same store
 same : (g : Over) (c : After-insert_by g) → c.insert_by.new.self ≡ g.D.ByteStoreMut.holding c.args.self.now (g.D.ByteStore.bytes c.insert_by.new.self)
@@ -69,6 +45,6 @@ returns-clause-same_store g c = same g (goal.at.returns-clause-same_store g c).A
 pub returns-clause-refused : goal.returns-clause-refused
 returns-clause-refused g c =
     let at = (goal.at.returns-clause-refused g c).After-insert_by in
-    let kept = framed-refused (coding g) _ c.args.key.now c.args.value.now c.insert_by.result _ (framed g at) in
+    let kept = framed-refused (coding g) _ c.args.key.now c.args.value.now c.insert_by.result _ (insert g at).on_any.frame in
     on_err_weaker c.insert_by.result
     (λ kept. held_same_bytes g.D.ByteStoreMut.holding g.D.ByteStore.bytes g.met.D.ByteStoreMut.held_same c.args.self.now c.insert_by.new.self (same g at) kept) kept

@@ -1,4 +1,4 @@
-use Rattle.std.proofs.Common.{rules, true, false, ◌≡◌, ◌<◌, ◌≤◌, ◌+◌, ◌-◌, ◌*◌, ◌^◌, ◌∙◌, ℕ, List, [], ◌∷◌, length, Some, None, Ok, sym, ap, subst, refl, arith, take, drop, ◌++◌}
+use Rattle.std.proofs.Common.{rules, true, false, ◌≡◌, ◌<◌, ◌+◌, ◌-◌, ◌*◌, ◌^◌, ◌∙◌, ℕ, List, [], ◌∷◌, length, Some, None, Ok, sym, ap, subst, refl, arith, take, drop, ◌++◌}
 use Rattle.odht_base.specs.Format.{Format, format_of, entry_len}
 use Rattle.std.specs.Prelude.{Bool, Option, Result, IsTrue, ⊤}
 use Rattle.odht_raw.specs.SearchResults.{MatchSearchResult}
@@ -26,7 +26,7 @@ use Rattle.odht_raw.specs.Runs.{IsOnePlaced}
 use Rattle.odht_raw.specs.Frame.{IsFramed}
 use Rattle.odht_raw.specs.Searches.{IsSearchEnd}
 use Rattle.odht_raw.specs.Steps.{IsStepFramed}
-use Rattle.odht_raw.proofs.lemmas.Accepted.{accepted_opening, accepted_len, accepted_slots}
+use Rattle.odht_raw.proofs.lemmas.Accepted.{accepted_len, accepted_slots}
 use Rattle.odht_raw.proofs.lemmas.ListWrites.{IsCut, cut_accepted, cut-image, kept-cut, list_accepted, list_length}
 use Rattle.odht_raw.proofs.lemmas.OneInsert.{one_overwritten, one_added, one_refused, one_run, one_placed}
 use Rattle.odht_raw.proofs.lemmas.Steps.{step_added}

@@ -4,7 +4,7 @@ use Rattle.odht_base.specs.Format.{Format}
 use Rattle.odht_base.specs.Decoded.{counts_as_free, slot_key, slot_value}
 use Rattle.odht_raw.specs.Parts.{EntryBytes, TableParts, entry_format}
 use Rattle.odht_raw.specs.DynParts.{DynParts}
-use Rattle.odht_raw.specs.Dumps.{DebugText, slot_text}
+use Rattle.odht_raw.specs.Dumps.{DebugText}
 use Rattle.odht_raw.proofs.lemmas.Dumps.{slot_text-occupied}
 use Rattle.odht_raw.proofs.raw_table.RawTable.write_slot_line.Goals as goal
 

@@ -1,17 +1,16 @@
 use Rattle.std.proofs.Common.{rules, true, ◌≤◌, ◌≡◌, ◌+◌, ◌-◌, ◌<◌, ◌∙◌, ℕ, Some, inl, inr, sym, ap, subst, cond, arith, length, slice_get}
-use Rattle.odht_base.specs.Format.{Format, format_of, tag as key_tag}
+use Rattle.odht_base.specs.Format.{Format, format_of}
 use Rattle.odht_base.specs.Table.{Pair, Table}
-use Rattle.odht_raw.specs.DynParts.{DynParts, bytes_coding, parts_format}
-use Rattle.odht_raw.specs.Parts.{stored_in}
+use Rattle.odht_raw.specs.DynParts.{bytes_coding}
 use Rattle.odht_raw.specs.Runs.{IsRunTo}
 use Rattle.odht_raw.specs.SearchResults.{answer}
 use Rattle.odht_raw.specs.Steps.{IsCountedStep}
-use Rattle.odht_raw.specs.Searches.{IsSearchEnd}
 use Rattle.odht_raw.proofs.lemmas.CountedSteps.{counted_more, counted_refused, counted_room}
 use Rattle.odht_raw.proofs.lemmas.PartRuns.{run_to_none}
+use Rattle.odht_raw.proofs.lemmas.SearchedParts.{ended, tagged_end}
 use Rattle.odht_raw.proofs.raw_table.runs.insert_in_turn.Given.{Over}
 use Rattle.odht_raw.proofs.raw_table.runs.insert_in_turn.Goals as goal
-use Rattle.odht_raw.proofs.raw_table.runs.insert_in_turn.Goals.{After-value_bytes-value, After-insert_end-end, After-write_by_kind-answer, then-is_new, else-is_new}
+use Rattle.odht_raw.proofs.raw_table.runs.insert_in_turn.Goals.{After-value_bytes-value, After-write_counted-answer, then-is_new, else-is_new}
 
 pub loop-index-init : goal.loop-index-init
 loop-index-init g c =
@@ -29,22 +28,12 @@ loop-index-init g c =
 item_is : (g : Over) (c : After-value_bytes-value g) → slice_get (g.I.EncodedItems.items c.args.items.now) c.loop-index.index ≡ Some (c.key_bytes-key.result.now, c.value_bytes-value.result.now)
 item_is g c = c.pair-key.ensures.pair ∙ (λ i. Some (sym c.key_bytes-key.ensures i, sym c.value_bytes-value.ensures i))
 
--- where the search for its key ends
-ended : (g : Over) (c : After-insert_end-end g)
-    → IsSearchEnd (format_of (g.L.Lengths.key_len c.args.lengths) (g.L.Lengths.value_len c.args.lengths) g.H.HashFn.hash) (stored_in c.loop-index.entries c.loop-index.control) c.loop-index.control c.key_bytes-key.result.now c.insert_end-end.result.0
-ended g c =
-    subst (λ (S : DynParts). IsSearchEnd (parts_format S g.H.HashFn.hash) S.parts.entries S.parts.control c.key_bytes-key.result.now c.insert_end-end.result.0) c.read_parts-parts.ensures c.insert_end-end.ensures.end
-
-pub write_by_kind-answer-requires-clause-end : goal.write_by_kind-answer-requires-clause-end
-write_by_kind-answer-requires-clause-end g c =
-    let end = ended g (goal.at.write_by_kind-answer-requires-clause-end g c).After-insert_end-end in
-    record {
-      end = record { slot = end.slot; earlier = λ none. end.earlier };
-      tag = c.insert_end-end.ensures.tag ∙ ap (λ (S : DynParts). key_tag (parts_format S g.H.HashFn.hash) c.key_bytes-key.result.now) c.read_parts-parts.ensures;
-    }
+pub write_counted-answer-requires-clause-end : goal.write_counted-answer-requires-clause-end
+write_counted-answer-requires-clause-end g c =
+    tagged_end _ _ g.H.HashFn.hash c.loop-index.entries c.loop-index.control _ c.read_parts-parts.ensures c.loop-index.left c.key_bytes-key.result.now _ c.insert_end-end.ensures.end c.insert_end-end.ensures.tag
 
 -- what was written, by the room that is left
-module _ (g : Over) (c : After-write_by_kind-answer g) where
+module _ (g : Over) (c : After-write_counted-answer g) where
   abbrev F : Format
   F = format_of (g.L.Lengths.key_len c.args.lengths) (g.L.Lengths.value_len c.args.lengths) g.H.HashFn.hash
 
@@ -54,19 +43,19 @@ module _ (g : Over) (c : After-write_by_kind-answer g) where
   abbrev p : Pair
   p = record { key = c.key_bytes-key.result.now; value = c.value_bytes-value.result.now }
 
-  stepped : IsCountedStep Ends F (c.args.room - (c.args.room - c.loop-index.left)) (c.loop-index.entries, c.loop-index.control) p c.write_by_kind-answer.result
-      (c.write_by_kind-answer.new.entries, c.write_by_kind-answer.new.control)
+  stepped : IsCountedStep Ends F (c.args.room - (c.args.room - c.loop-index.left)) (c.loop-index.entries, c.loop-index.control) p c.write_counted-answer.result
+      (c.write_counted-answer.new.entries, c.write_counted-answer.new.control)
   stepped =
       let same : c.loop-index.left ≡ c.args.room - (c.args.room - c.loop-index.left) = omega (arith, c.loop-index.invariant.within) in
-      subst (λ (m : ℕ). IsCountedStep Ends F m (c.loop-index.entries, c.loop-index.control) p c.write_by_kind-answer.result (c.write_by_kind-answer.new.entries, c.write_by_kind-answer.new.control)) same
-      c.write_by_kind-answer.ensures.step
+      subst (λ (m : ℕ). IsCountedStep Ends F m (c.loop-index.entries, c.loop-index.control) p c.write_counted-answer.result (c.write_counted-answer.new.entries, c.write_counted-answer.new.control)) same
+      c.write_counted-answer.ensures.step
 
-  had_room : c.write_by_kind-answer.result ≡ Some true → 0 < c.loop-index.left
-  had_room is = counted_room F Ends c.loop-index.left (c.loop-index.entries, c.loop-index.control) p c.write_by_kind-answer.result (c.write_by_kind-answer.new.entries, c.write_by_kind-answer.new.control) c.write_by_kind-answer.ensures.step is
+  had_room : c.write_counted-answer.result ≡ Some true → 0 < c.loop-index.left
+  had_room is = counted_room F Ends c.loop-index.left (c.loop-index.entries, c.loop-index.control) p c.write_counted-answer.result (c.write_counted-answer.new.entries, c.write_counted-answer.new.control) c.write_counted-answer.ensures.step is
 
 pub overflow_sub-left : goal.overflow_sub-left
 overflow_sub-left g c =
-    let some = had_room g (goal.at.overflow_sub-left g c).After-write_by_kind-answer (c.in-Some.is ∙ ap Some c.if-is_new.true) in
+    let some = had_room g (goal.at.overflow_sub-left g c).After-write_counted-answer (c.in-Some.is ∙ ap Some c.if-is_new.true) in
     search rules
 
 pub loop-index-preserved : goal.loop-index-preserved
@@ -74,9 +63,9 @@ loop-index-preserved g c =
     let at = goal.at.loop-index-preserved g c in
     let n = c.args.room - c.loop-index.left in
     let within = c.loop-index.invariant.within in
-    let wrote = c.write_by_kind-answer in
-    let step = at.After-write_by_kind-answer in
-    let end = ended g at.After-insert_end-end in
+    let wrote = c.write_counted-answer in
+    let step = at.After-write_counted-answer in
+    let end = ended _ _ g.H.HashFn.hash c.loop-index.entries c.loop-index.control _ c.read_parts-parts.ensures c.key_bytes-key.result.now _ c.insert_end-end.ensures.end in
     let counted : (c.if-is_new.left ≤ c.args.room) × (c.args.room - c.if-is_new.left ≡ cond c.in-Some.is_new (n + 1) n) =
     elim c.if-is_new.branch [
       | then-is_new w ↦ (
@@ -96,8 +85,8 @@ loop-index-preserved g c =
 pub returns-in_default : goal.returns-in_default
 returns-in_default g c =
     let at = goal.at.returns-in_default g c in
-    let wrote = c.write_by_kind-answer in
-    let step = at.After-write_by_kind-answer in
+    let wrote = c.write_counted-answer in
+    let step = at.After-write_counted-answer in
     let refused = counted_refused (F g step) (Ends g step) c.args.room c.args.entries.now c.args.control.now (g.I.EncodedItems.items c.args.items.now) c.args.from c.loop-index.index (c.args.room - c.loop-index.left) c.loop-index.entries c.loop-index.control
     c.loop-index.invariant.inserted c.key_bytes-key.result.now c.value_bytes-value.result.now (item_is g at.After-value_bytes-value) wrote.result wrote.new.entries wrote.new.control (stepped g step) c.in_default.is in
     record {

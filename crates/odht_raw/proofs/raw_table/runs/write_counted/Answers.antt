@@ -1,29 +1,35 @@
-use Rattle.std.proofs.Common.{◌≡◌, ◌∙◌, Bool, true, false, not, ℕ, List, Option, Some, None, refl, sym, ap}
-use Rattle.odht_base.specs.Format.{format_of}
-use Rattle.odht_raw.specs.Formers.{answered, with_former, write_result}
-use Rattle.odht_raw.specs.Steps.{adds}
+use Rattle.std.proofs.Common.{◌≡◌, ◌∙◌, Bool, true, false, ℕ, List, Option, Some, refl, sym, ap}
+use Rattle.std.specs.Bool.{then_some}
+use Rattle.std.specs.Prelude.{is_none}
+use Rattle.odht_base.specs.Format.{Format, format_of}
+use Rattle.odht_base.specs.Table.{Pair, Table}
+use Rattle.odht_raw.specs.Formers.{answered, former_of, write_result}
+use Rattle.odht_raw.specs.Steps.{adds, IsCountedStep, IsStepWhere}
+use Rattle.odht_raw.specs.declared.raw_table.search_result.Search.{Search}
+use Rattle.odht_raw.proofs.raw_table.runs.write_counted.Given.{Over}
 use Rattle.odht_raw.proofs.raw_table.runs.write_counted.Goals as goal
 
--- a write adds an entry where the search did not find the key
-told_of : (found : Bool) (o : Option (List ℕ)) → (found ≡ true → (v : List ℕ) × (o ≡ Some v)) → (found ≡ false → o ≡ None) → Some (not found) ≡ adds (with_former o (write_result true))
-told_of true o former absent = ap (λ x. adds (with_former x (write_result true))) (sym (former refl).1)
-told_of false o former absent = ap (λ x. adds (with_former x (write_result true))) (sym (absent refl))
+-- what is told of a write where the search ended: it adds an entry where there is no value before
+told_of : (F : Format) (es : List ℕ) (end : Search) (w b : Bool) → b ≡ is_none (former_of F es end) → then_some w b ≡ adds (answered F es end (write_result w))
+told_of F es end true b is = ap Some is
+told_of F es end false b is = refl
 
-pub returns-then-not-write_at_end-clause-step : goal.returns-then-not-write_at_end-clause-step
-returns-then-not-write_at_end-clause-step g c =
-    let F = format_of (g.L.Lengths.key_len c.args.lengths) (g.L.Lengths.value_len c.args.lengths) g.H.HashFn.hash in
-    record {
-      answer = answered F c.args.entries.now c.args.end.0 (write_result c.write_at_end.result);
-      told = ap (λ w. adds (answered F c.args.entries.now c.args.end.0 (write_result w))) (sym c.if-not-write_at_end.true);
-      step = c.write_at_end.ensures.step;
-    }
+counted : (A : Table → Type 0) (F : Format) (m : ℕ) (t : List ℕ × List ℕ) (p : Pair) (t' : List ℕ × List ℕ) (end : Search) (w b : Bool) (r : Option Bool)
+    → IsStepWhere A F (λ x. x) m t p (answered F t.0 end (write_result w)) t' → b ≡ is_none (former_of F t.0 end) → r ≡ then_some w b → IsCountedStep A F m t p r t'
+counted A F m t p t' end w b r step is told = record { answer = answered F t.0 end (write_result w); told = told ∙ told_of F t.0 end w b is; step = step }
 
-pub returns-clause-step : goal.returns-clause-step
-returns-clause-step g c =
-    let F = format_of (g.L.Lengths.key_len c.args.lengths) (g.L.Lengths.value_len c.args.lengths) g.H.HashFn.hash in
-    record {
-      answer = answered F c.args.entries.now c.args.end.0 (write_result c.write_at_end.result);
-      told = told_of c.is_found.result _ (c.is_found.ensures.found F c.args.entries.now) (c.is_found.ensures.absent F c.args.entries.now)
-          ∙ ap (λ w. adds (answered F c.args.entries.now c.args.end.0 (write_result w))) (sym c.if-not-write_at_end.false);
-      step = c.write_at_end.ensures.step;
-    }
+-- whether there is a value where the search ended
+abbrev is_new : (g : Over) → g.row.L.Denot → List ℕ → Search → Bool
+is_new g lengths es end = is_none (former_of (format_of (g.L.Lengths.key_len lengths) (g.L.Lengths.value_len lengths) g.H.HashFn.hash) es end)
+
+pub returns-in-Found-clause-step : goal.returns-in-Found-clause-step
+returns-in-Found-clause-step g c =
+    counted _ _ _ _ _ _ _ _ _ _ c.write_at_end-ok.ensures.step (ap (is_new g c.args.lengths c.args.entries.now) (sym c.in-Found.is)) c.then_some.ensures
+
+pub returns-in-Free-clause-step : goal.returns-in-Free-clause-step
+returns-in-Free-clause-step g c =
+    counted _ _ _ _ _ _ _ _ _ _ c.write_at_end-ok-in-Free.ensures.step (ap (is_new g c.args.lengths c.args.entries.now) (sym c.in-Free.is)) c.then_some-in-Free.ensures
+
+pub returns-in-Neither-clause-step : goal.returns-in-Neither-clause-step
+returns-in-Neither-clause-step g c =
+    counted _ _ _ _ _ _ _ _ _ _ c.write_at_end-ok-in-Neither.ensures.step (ap (is_new g c.args.lengths c.args.entries.now) (sym c.in-Neither.is)) c.then_some-in-Neither.ensures

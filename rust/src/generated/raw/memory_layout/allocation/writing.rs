@@ -1,14 +1,15 @@
 // Generated from crates/odht_raw/src/memory_layout/allocation/writing.rt by make generate.
 //! Single writes to the bytes of a table, for callers who search themselves: an entry with its
 //! tag, only a value, and the item count. No insert of the library calls them: it writes the
-//! parts (`fill_slot`) and the count (`write_count`).
+//! parts (`write_slot`) and the count (`write_count`).
 
 use super::Allocation;
 use crate::generated::header::header::ITEM_COUNT_AT;
 use crate::generated::raw::bytes::{ByteArray, ByteStoreMut};
 use crate::generated::raw::config::Config;
+use crate::generated::raw::layout::Fixed;
 use crate::generated::raw::memory_layout::{entry_at, EntryMetadata, Header, HEADER_SIZE};
-use crate::generated::raw::raw_table::fill_slot;
+use crate::generated::raw::raw_table::write_slot;
 
 impl<C: Config, M: ByteStoreMut> Allocation<C, M> {
     /// Writes the header's item count. No other byte changes.
@@ -35,9 +36,9 @@ impl<C: Config, M: ByteStoreMut> Allocation<C, M> {
         let slots = Header::of(bytes).slot_count();
         let (table, control) = bytes.split_at_mut(entry_at::<C>(slots));
         let (_, entries) = table.split_at_mut(HEADER_SIZE);
-        fill_slot::<C::EncodedKey, C::EncodedValue, C::H>(
-            control, entries, slots, key, value, tag, slot,
-        );
+        let lengths: Fixed<C::EncodedKey, C::EncodedValue> = Fixed::new();
+        let (key, value) = (key.as_slice(), value.as_slice());
+        write_slot(control, entries, slots, lengths, key, value, tag, slot);
     }
 
     /// Writes only the value into the entry of a slot. No other byte changes. The clause `value`

@@ -5,7 +5,9 @@ use super::DynTableOwned;
 use crate::generated::tables::bytes::OwnedBytes;
 use crate::generated::tables::dynamic::{DynError, DynTable};
 use crate::generated::tables::error::Error;
+use crate::generated::tables::growth::grown_bytes;
 use crate::generated::tables::hash::HashFn;
+use crate::generated::tables::layout::Layout;
 use crate::generated::tables::raw_table::ShortBytes;
 
 impl<H: HashFn> DynTableOwned<H> {
@@ -32,24 +34,14 @@ impl<H: HashFn> DynTableOwned<H> {
     // `insert` of an absent key of the table's length at the maximum: into the grown table.
     #[inline(never)]
     fn insert_grown(&mut self, key: &[u8], value: &[u8]) -> Result<Option<ShortBytes>, DynError> {
-        let Some(mut grown) = self.grown_table() else {
+        let layout = self.table.layout();
+        let grown = grown_bytes::<Layout, H>(self.alloc, self.table.raw_bytes(), layout);
+        let Some(bytes) = grown else {
             return Err(DynError::Rejected(Error::Memory));
         };
+        let mut grown = DynTable::open_unchecked(layout, OwnedBytes::new(bytes));
         let former = grown.insert(key, value)?;
         self.table = grown;
         Ok(former)
-    }
-
-    // The pairs of this table, placed in slot order into a table with the slots for twice as many,
-    // and for one at least. None where the allocator gives no memory for it, or it would be too
-    // large.
-    #[inline(never)]
-    fn grown_table(&self) -> Option<DynTable<H, OwnedBytes>> {
-        let len = self.table.grown_len()?;
-        let Ok(mut bytes) = crate::shim::zeroed_bytes(self.alloc, len) else {
-            return None;
-        };
-        self.table.grow_into(bytes.as_mut_slice());
-        Some(DynTable::open_unchecked(self.table.layout(), OwnedBytes::new(bytes)))
     }
 }

@@ -4,10 +4,9 @@
 use super::DynTableOwned;
 use crate::generated::tables::bytes::OwnedBytes;
 use crate::generated::tables::dynamic::{DynError, DynTable};
-use crate::generated::tables::error::Error;
 use crate::generated::tables::hash::HashFn;
-use crate::generated::tables::memory_layout::Header;
-use crate::generated::tables::reserve::sizes_for_more;
+use crate::generated::tables::layout::Layout;
+use crate::generated::tables::reserve::room_for;
 
 impl<H: HashFn> DynTableOwned<H> {
     /// Makes room for `additional` more items: that many new keys can be inserted before the table
@@ -21,29 +20,14 @@ impl<H: HashFn> DynTableOwned<H> {
     ///
     /// Where it moves, one pass over the slots; each item is hashed once. No key is compared.
     pub fn reserve(&mut self, additional: usize) -> Result<(), DynError> {
-        let header = Header::of(self.table.raw_bytes());
-        let sizes = match sizes_for_more::<H>(self.table.layout(), &header, additional) {
-            Ok(sizes) => sizes,
-            Err(too_large) => return Err(DynError::Rejected(too_large)),
-        };
-        let Some((slot_count, len)) = sizes else {
-            return Ok(());
-        };
-        let Some(moved) = self.moved(slot_count, len) else {
-            return Err(DynError::Rejected(Error::Memory));
-        };
-        self.table = moved;
-        Ok(())
-    }
-
-    // The pairs of this table, placed in slot order into that many slots in new memory. `len` is
-    // the length for them. None where the allocator gives no memory.
-    #[inline(never)]
-    fn moved(&self, slot_count: usize, len: usize) -> Option<DynTable<H, OwnedBytes>> {
-        let Ok(mut bytes) = crate::shim::zeroed_bytes(self.alloc, len) else {
-            return None;
-        };
-        self.table.move_into(slot_count, bytes.as_mut_slice());
-        Some(DynTable::open_unchecked(self.table.layout(), OwnedBytes::new(bytes)))
+        let layout = self.table.layout();
+        match room_for::<Layout, H>(self.alloc, self.table.raw_bytes(), layout, additional) {
+            Ok(None) => Ok(()),
+            Ok(Some(moved)) => {
+                self.table = DynTable::open_unchecked(layout, OwnedBytes::new(moved));
+                Ok(())
+            }
+            Err(refused) => Err(DynError::Rejected(refused)),
+        }
     }
 }

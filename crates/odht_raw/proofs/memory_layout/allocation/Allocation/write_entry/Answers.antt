@@ -1,4 +1,4 @@
-use Rattle.std.proofs.Common.{◌≡◌, ◌+◌, ◌-◌, ◌*◌, ◌≤◌, ◌∙◌, ◌++◌, List, ℕ, ap, sym, subst, arith, length, length-append, append_assoc}
+use Rattle.std.proofs.Common.{◌≡◌, ◌+◌, ◌*◌, ◌≤◌, ◌∙◌, ◌++◌, List, ℕ, ap, sym, subst, arith, length, length-append, append_assoc}
 use Rattle.odht_base.specs.Bytes.{overwritten_at}
 use Rattle.odht_base.specs.Decoded.{header_slots}
 use Rattle.odht_base.specs.Format.{Format, format_of, entry_len}
@@ -13,7 +13,7 @@ use Rattle.odht_raw.proofs.lemmas.Borrows.{borrowed-bytes, borrowed-same}
 use Rattle.odht_raw.proofs.lemmas.ListWrites.{IsCut, cut_accepted}
 use Rattle.odht_raw.proofs.memory_layout.allocation.Allocation.write_entry.Given.{Over}
 use Rattle.odht_raw.proofs.memory_layout.allocation.Allocation.write_entry.Goals as goal
-use Rattle.odht_raw.proofs.memory_layout.allocation.Allocation.write_entry.Goals.{After-split_at_mut-entries, After-fill_slot}
+use Rattle.odht_raw.proofs.memory_layout.allocation.Allocation.write_entry.Goals.{After-split_at_mut-entries, After-write_slot}
 
 abbrev format : Over → Format
 format g = format_of g.C.EncodedKey.ByteArray.LEN g.C.EncodedValue.ByteArray.LEN g.C.H.HashFn.hash
@@ -42,31 +42,34 @@ cut g c =
     cut_accepted (format g) c.bytes_mut-bytes.result.now (accepted g c) c.entry_at.result (c.entry_at.ensures ∙ ap (λ s. 32 + s * entry_len (format g)) slots) _ _ _ _
     c.split_at_mut-table.ensures.front c.split_at_mut-table.ensures.back c.split_at_mut-entries.ensures.front c.split_at_mut-entries.ensures.back
 
--- the control bytes are those of as many slots as the header says
-behind : (g : Over) (c : After-split_at_mut-entries g) → length c.split_at_mut-table.result.1.now - 16 ≡ header_slots c.bytes_mut-bytes.result.now
-behind g c = let cut = cut g c in omega (arith, cut.mirrored, cut.slots)
+-- the slot count is that of the header
+slots_are : (g : Over) (c : After-split_at_mut-entries g) → c.slot_count-slots.result ≡ header_slots c.bytes_mut-bytes.result.now
+slots_are g c = c.slot_count-slots.ensures ∙ ap header_slots c.of.ensures
 
-pub fill_slot-requires-clause-lengths : goal.fill_slot-requires-clause-lengths
-fill_slot-requires-clause-lengths g c κs within =
-    let at = (goal.at.fill_slot-requires-clause-lengths g c).After-split_at_mut-entries in
+pub write_slot-requires-clause-slots : goal.write_slot-requires-clause-slots
+write_slot-requires-clause-slots g c =
+    let at = (goal.at.write_slot-requires-clause-slots g c).After-split_at_mut-entries in
+    subst IsSlotCount (sym (slots_are g at)) (accepted_slots (format g) c.bytes_mut-bytes.result.now (accepted g at))
+
+pub write_slot-requires-clause-control : goal.write_slot-requires-clause-control
+write_slot-requires-clause-control g c =
+    let at = (goal.at.write_slot-requires-clause-control g c).After-split_at_mut-entries in
     let cut = cut g at in
-    record {
-      pair = record { hashes = g.met.C.Config.key_hashes; key = g.met.C.Config.key_fits; value = g.met.C.Config.value_fits };
-      slots = subst IsSlotCount (sym (behind g at)) (accepted_slots (format g) c.bytes_mut-bytes.result.now (accepted g at));
-      entries = cut.long ∙ ap (λ s. s * entry_len (format g)) (cut.slots ∙ sym (behind g at));
-    }
+    omega (arith, cut.mirrored, cut.slots, slots_are g at)
 
-pub fill_slot-requires-clause-slots : goal.fill_slot-requires-clause-slots
-fill_slot-requires-clause-slots g c κs within =
-    c.slot_count-slots.ensures ∙ ap header_slots c.of.ensures ∙ sym (behind g (goal.at.fill_slot-requires-clause-slots g c).After-split_at_mut-entries)
+pub write_slot-requires-clause-entries : goal.write_slot-requires-clause-entries
+write_slot-requires-clause-entries g c =
+    let at = (goal.at.write_slot-requires-clause-entries g c).After-split_at_mut-entries in
+    let cut = cut g at in
+    cut.long ∙ ap (λ s. s * entry_len (format g)) (cut.slots ∙ sym (slots_are g at))
 
-pub fill_slot-requires-clause-slot : goal.fill_slot-requires-clause-slot
-fill_slot-requires-clause-slot g c κs within =
+pub write_slot-requires-clause-slot : goal.write_slot-requires-clause-slot
+write_slot-requires-clause-slot g c =
     let same : c.bytes_mut-bytes.result.now ≡ g.M.ByteStore.bytes c.args.self.now = c.bytes_mut-bytes.ensures.value ∙ ap g.M.ByteStore.bytes c.self.view_is in
-    omega (arith, behind g (goal.at.fill_slot-requires-clause-slot g c).After-split_at_mut-entries, ap header_slots same, c.requires)
+    omega (arith, slots_are g (goal.at.write_slot-requires-clause-slot g c).After-split_at_mut-entries, ap header_slots same, c.requires)
 
 -- what was written
-module _ (g : Over) (c : After-fill_slot g)
+module _ (g : Over) (c : After-write_slot g)
     (cut : IsCut (format g) c.bytes_mut-bytes.result.now c.split_at_mut-entries.result.0.now c.split_at_mut-entries.result.1.now c.split_at_mut-table.result.1.now) where
   abbrev B : List ℕ
   B = g.M.ByteStore.bytes c.args.self.now
@@ -79,7 +82,7 @@ module _ (g : Over) (c : After-fill_slot g)
 
   -- the bytes that are left
   abbrev joined : List ℕ
-  joined = c.split_at_mut-entries.result.0.now ++ c.fill_slot.new.entries ++ c.fill_slot.new.control
+  joined = c.split_at_mut-entries.result.0.now ++ c.write_slot.new.entries ++ c.write_slot.new.control
 
   written : joined ≡ with_tag (format g) (header_slots B) (with_entry (format g) B c.args.slot pair) c.args.slot c.args.tag
   written =
@@ -93,28 +96,30 @@ module _ (g : Over) (c : After-fill_slot g)
       let mirrored : length ctrl ≡ s + 16 = omega (arith, cut.mirrored, slots) in
       let es' = overwritten_at es (c.args.slot * entry_len F) (pair.key ++ pair.value) in
       let within = c.requires in
-      let long' : length es' ≡ s * entry_len F = sym (ap length c.fill_slot.ensures.entries) ∙ c.fill_slot.auto.entries ∙ long in
+      let entries : c.write_slot.new.entries ≡ es' =
+      c.write_slot.ensures.entries ∙ (λ i. overwritten_at es (c.args.slot * entry_len F) (c.as_slice-key.ensures.value i ++ c.as_slice-value.ensures.value i)) in
+      let long' : length es' ≡ s * entry_len F = sym (ap length entries) ∙ c.write_slot.auto.entries ∙ long in
       let entry : with_entry F B c.args.slot pair ≡ H ++ (es' ++ ctrl) =
-      ap (λ D. with_entry F D c.args.slot pair) (sym before ∙ cut.whole) ∙ with_entry-append F s H es ctrl c.args.slot pair cut.head long within c.fill_slot.ensures.key.len c.fill_slot.ensures.value.len in
-      append_assoc H c.fill_slot.new.entries c.fill_slot.new.control
-      ∙ (λ i. H ++ (c.fill_slot.ensures.entries i ++ c.fill_slot.ensures.control i))
+      ap (λ D. with_entry F D c.args.slot pair) (sym before ∙ cut.whole) ∙ with_entry-append F s H es ctrl c.args.slot pair cut.head long within c.as_slice-key.ensures.bytes.len c.as_slice-value.ensures.bytes.len in
+      append_assoc H c.write_slot.new.entries c.write_slot.new.control
+      ∙ (λ i. H ++ (entries i ++ c.write_slot.ensures.control i))
       ∙ sym (with_tag-append F s H es' ctrl c.args.slot c.args.tag cut.head long' mirrored)
       ∙ ap (λ D. with_tag F s D c.args.slot c.args.tag) (sym entry)
 
-  same_length : length (c.split_at_mut-entries.result.0.now ++ c.fill_slot.new.entries ++ c.fill_slot.new.control) ≡ length c.bytes_mut-bytes.result.now
+  same_length : length (c.split_at_mut-entries.result.0.now ++ c.write_slot.new.entries ++ c.write_slot.new.control) ≡ length c.bytes_mut-bytes.result.now
   same_length =
       let H = c.split_at_mut-entries.result.0.now in
-      let new = length-append H c.fill_slot.new.entries in
+      let new = length-append H c.write_slot.new.entries in
       let old = length-append c.split_at_mut-entries.result.1.now c.split_at_mut-table.result.1.now in
       omega (
         arith,
-        length-append (H ++ c.fill_slot.new.entries) c.fill_slot.new.control,
+        length-append (H ++ c.write_slot.new.entries) c.write_slot.new.control,
         new,
         length-append H (c.split_at_mut-entries.result.1.now ++ c.split_at_mut-table.result.1.now),
         old,
         ap length cut.whole,
-        c.fill_slot.auto.entries,
-        c.fill_slot.auto.control,
+        c.write_slot.auto.entries,
+        c.write_slot.auto.control,
       )
 
   -- the store has them
@@ -131,7 +136,7 @@ module _ (g : Over) (c : After-fill_slot g)
       let slot = c.args.slot in
       let d = pair.key ++ pair.value in
       let long = length-append pair.key pair.value in
-      let room : 32 + slot * entry_len F + length d ≤ length B = omega (arith, accepted_entry F B is slot c.requires, long, c.fill_slot.ensures.key.len, c.fill_slot.ensures.value.len) in
+      let room : 32 + slot * entry_len F + length d ≤ length B = omega (arith, accepted_entry F B is slot c.requires, long, c.as_slice-key.ensures.bytes.len, c.as_slice-value.ensures.bytes.len) in
       let D = overwritten_at B (32 + slot * entry_len F) d in
       let same : length D ≡ length B = length-overwritten_at B (32 + slot * entry_len F) d room in
       subst (IsAccepted F) (sym written)
@@ -140,25 +145,25 @@ module _ (g : Over) (c : After-fill_slot g)
 
 pub returns-clause-bytes : goal.returns-clause-bytes
 returns-clause-bytes g c =
-    let at = (goal.at.returns-clause-bytes g c).After-fill_slot in
+    let at = (goal.at.returns-clause-bytes g c).After-write_slot in
     let cut = cut g (goal.at.returns-clause-bytes g c).After-split_at_mut-entries in
     same g at cut ∙ written g at cut
 
 pub returns-clause-accepted : goal.returns-clause-accepted
 returns-clause-accepted g c =
-    let at = (goal.at.returns-clause-accepted g c).After-fill_slot in
+    let at = (goal.at.returns-clause-accepted g c).After-write_slot in
     let cut = cut g (goal.at.returns-clause-accepted g c).After-split_at_mut-entries in
     rw (same g at cut) (fits g at cut)
 
 pub invariant_of-self : goal.invariant_of-self
 invariant_of-self g c =
-    let at = (goal.at.invariant_of-self g c).After-fill_slot in
+    let at = (goal.at.invariant_of-self g c).After-write_slot in
     let cut = cut g (goal.at.invariant_of-self g c).After-split_at_mut-entries in
     (rw (same g at cut) (fits g at cut), omega (arith, ap length (same g at cut), same_length g at cut, c.bytes_mut-bytes.type_inv.0))
 
 pub returns-clause-same_store : goal.returns-clause-same_store
 returns-clause-same_store g c =
-    let at = (goal.at.returns-clause-same_store g c).After-fill_slot in
+    let at = (goal.at.returns-clause-same_store g c).After-write_slot in
     let cut = cut g (goal.at.returns-clause-same_store g c).After-split_at_mut-entries in
     subst (λ s. g.M.ByteStoreMut.after_borrow c.self.inside.store (joined g at cut) ≡ g.M.ByteStoreMut.holding s (g.M.ByteStore.bytes (g.M.ByteStoreMut.after_borrow c.self.inside.store (joined g at cut)))) c.self.view_is
     (borrowed-same g.M.ByteStore.bytes g.M.ByteStoreMut.holding g.M.ByteStoreMut.after_borrow g.met.M.ByteStoreMut.held g.met.M.ByteStoreMut.after_borrow_fits c.self.inside.store (joined g at cut) (same_length g at cut ∙ ap length c.bytes_mut-bytes.ensures.value))

@@ -1,8 +1,10 @@
 use Rattle.std.proofs.Common.{rules, ◌≡◌, ◌∙◌, ◌-◌, ◌+◌, ◌<◌, ◌%◌, ◌/◌, ◌^◌, ℕ, List, Some, sym, ap, subst, arith, length, bit_and}
 use Rattle.odht_base.specs.Bytes.{bytes_at}
-use Rattle.odht_base.specs.Format.{Format, home, tag}
+use Rattle.odht_base.specs.Format.{Format, IsFormat, home, tag}
 use Rattle.odht_base.specs.Groups.{IsReport, first_free}
 use Rattle.odht_base.specs.Load.{IsSlotCount}
+use Rattle.odht_base.specs.Table.{Table}
+use Rattle.odht_base.specs.Valid.{IsPartsOf}
 use Rattle.odht_base.proofs.lemmas.SlotCounts.{bit_and-slots}
 use Rattle.odht_raw.specs.DynParts.{AreWhole, DynParts, parts_format}
 use Rattle.odht_raw.specs.Expected.{IsExpected}
@@ -15,14 +17,17 @@ use Rattle.odht_raw.proofs.raw_table.parts.Parts.expected_slot.Goals as goal
 slots_are : (ml : ℕ) (S : DynParts) → AreWhole ml S → length S.parts.control - 16 ≡ S.parts.entries.slots
 slots_are ml S whole = omega (arith, whole.mirrored)
 
+-- the home is one of the slots
+home_low : (hash s : ℕ) → IsSlotCount s → bit_and hash (s - 1) < s
+home_low hash s count = let least = count.least in rw (bit_and-slots hash s count) (omega arith)
+
 pub overflow_add-home : goal.overflow_add-home
 overflow_add-home g c =
     let count : IsSlotCount c.len-slots.result = subst IsSlotCount (sym c.len-slots.ensures.value) c.len-slots.ensures.whole.slots in
     let few = c.len-slots.ensures.few in
     let positive = count.least in
     let small = size_fits g.Q.Group.SIZE g.met.Q.Group.divides in
-    let masked = bit_and-slots c.hash-hash.result c.len-slots.result count in
-    let low : bit_and c.hash-hash.result (c.len-slots.result - 1) < c.len-slots.result = rw masked (omega arith) in
+    let low = home_low c.hash-hash.result c.len-slots.result count in
     let size = c.SIZE.ensures in
     search rules
 
@@ -32,26 +37,24 @@ slice_bounds-of-end g c =
     let few = c.len-slots.ensures.few in
     let positive = count.least in
     let small = size_fits g.Q.Group.SIZE g.met.Q.Group.divides in
-    let masked = bit_and-slots c.hash-hash.result c.len-slots.result count in
-    let low : bit_and c.hash-hash.result (c.len-slots.result - 1) < c.len-slots.result = rw masked (omega arith) in
+    let low = home_low c.hash-hash.result c.len-slots.result count in
     let size = c.SIZE.ensures in
     let long = c.controls-control.ensures.len in
     let slots = c.len-slots.ensures.value in
     search rules
 
+-- the slot count is expected of any key
+unexpected : (ml : ℕ) (S : DynParts) (h : List ℕ → ℕ) (k : List ℕ) (n : ℕ) → IsFormat (parts_format S h) → AreWhole ml S → n ≡ S.parts.entries.slots
+    → (P : Table) (es : List ℕ) → IsPartsOf (parts_format S h) P es S.parts.control → IsExpected (parts_format S h) P k n
+unexpected ml S h k n f whole is P es parts =
+    let same = slots_are ml S whole in
+    subst (IsExpected (parts_format S h) P k) (same ∙ sym is) (no_slot (parts_format S h) P es S.parts.control k f parts (subst IsSlotCount (sym same) whole.slots))
+
 pub returns-then-is_some : goal.returns-then-is_some
 returns-then-is_some g c =
-    let S : DynParts = c.args.self.now in
-    let F : Format = parts_format S g.H.HashFn.hash in
     let whole = c.len-slots.ensures.whole in
     let f = IsFormat-format_of _ _ _ _ whole.fitting.key_short whole.fitting.value_short whole.hashes g.met.H.HashFn.fits in
-    let same = slots_are g.H.HashFn.MIN_LEN S whole in
-    record {
-      hash = c.hash-hash.ensures;
-      expected = λ P es h.
-          subst (IsExpected F P c.args.key.now) (same ∙ sym c.len-slots.ensures.value)
-          (no_slot F P es S.parts.control c.args.key.now f h (subst IsSlotCount (sym same) whole.slots));
-    }
+    record { hash = c.hash-hash.ensures; expected = unexpected g.H.HashFn.MIN_LEN c.args.self.now g.H.HashFn.hash c.args.key.now _ f whole c.len-slots.ensures.value }
 
 pub returns-in-Some : goal.returns-in-Some
 returns-in-Some g c =
@@ -87,14 +90,6 @@ returns-in-Some g c =
 
 pub returns : goal.returns
 returns g c =
-    let S : DynParts = c.args.self.now in
-    let F : Format = parts_format S g.H.HashFn.hash in
     let whole = c.len-slots.ensures.whole in
     let f = IsFormat-format_of _ _ _ _ whole.fitting.key_short whole.fitting.value_short whole.hashes g.met.H.HashFn.fits in
-    let same = slots_are g.H.HashFn.MIN_LEN S whole in
-    record {
-      hash = c.hash-hash.ensures;
-      expected = λ P es h.
-          subst (IsExpected F P c.args.key.now) (same ∙ sym c.len-slots.ensures.value)
-          (no_slot F P es S.parts.control c.args.key.now f h (subst IsSlotCount (sym same) whole.slots));
-    }
+    record { hash = c.hash-hash.ensures; expected = unexpected g.H.HashFn.MIN_LEN c.args.self.now g.H.HashFn.hash c.args.key.now _ f whole c.len-slots.ensures.value }

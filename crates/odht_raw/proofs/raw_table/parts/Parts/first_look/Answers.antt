@@ -1,4 +1,4 @@
-use Rattle.std.proofs.Common.{◌≡◌, ◌∙◌, ◌-◌, ◌%◌, ◌^◌, ◌/◌, ℕ, List, bit_and, ap, subst}
+use Rattle.std.proofs.Common.{◌≡◌, ◌∙◌, ◌-◌, ◌%◌, ◌^◌, ◌/◌, ℕ, List, bit_and, ap}
 use Rattle.odht_base.specs.Bytes.{bytes_at}
 use Rattle.odht_base.specs.Format.{Format, home, tag}
 use Rattle.odht_base.specs.Groups.{equal, first_free}
