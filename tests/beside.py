@@ -25,7 +25,8 @@ COMMANDS = [it.name for it in command_list.read()[0]]
 COMMANDS += "count get diff build put help --version -V inof chek buid".split() + [""]
 FILES = "table table table table - none folder link dangling loop odd".split()
 WORDS = """--hash fx unhash xxh64 --at 0 7 99999999999999999999 --whole --slots -- - -h --help --key u64 u32 hex16 hex8 none
-    hex0 --value --percent 87 0 100 101 --capacity 5 1000 18446744073709551615 --break-links --progress x -x --hsah
+    -0 --null --json --values hex0 --value --percent 87 0 100 101 --capacity 5 1000 18446744073709551615 --break-links
+    --progress x -x --hsah
     --key=u64 --value=u32 --percent= \u00e9 \u0301 \u200b \x7f "q" a'b \\ \U0001f600 \u0378 \ue000 \x1b[0m
     \udcff""".split()
 # of processor time, for one run

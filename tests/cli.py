@@ -31,7 +31,9 @@ LISTED = command_list.read()[0]
 COMMANDS = [([it.name, "table"], b"") for it in LISTED if it.is_reading and it.is_of_files]
 COMMANDS += [
     (["dump", "-"], None),
-    *(([it, "table", "--json"], b"") for it in ("info", "check", "find", "dump")),
+    *(([it, "table", "--json"], b"") for it in ("info", "check", "find", "keys", "dump")),
+    (["dump", "table", "--values", "-0"], b""),
+    *((["put", "table", *it], b"") for it in (["1", "2", "7", "8"], ["1", "x"])),
     *((["get", "table", it, "--json"], b"3\n7\n") for it in ("3", "-")),
     (["count", "table", "-"], None),
     (["diff", "table", "-"], None),
@@ -185,7 +187,8 @@ def all_tests(words, room):
     program, passed = (os.path.abspath(words[0]), 0) if words else tested(room)
     passed += memory(program, room)
     runs = [["tests/cases.py", program, "made=erased", "tests/tool"]]
-    names = "sizes", "objects", "lines", "progress", "together", "pairs", "stored", "mixing", "evidence"
+    names = ("sizes", "objects", "lines", "progress", "live", "large", "together", "pairs", "stored", "mixing",
+             "evidence", "random_files")
     return passed, runs + [[f"tests/{it}.py", program] for it in names]
 
 

@@ -61,7 +61,7 @@ def one_key(program, file):
     for number in range(TABLES):
         word = "iefidee" if number == 0 else "".join(chosen.choices("abcdefghij", k=chosen.randint(4, 16)))
         hash_name = HASHES[number % 3]
-        kind = chosen.choice(["text:16", "bytes:16"])
+        kind = "text:16" if number == 0 else chosen.choice(["text:16", "bytes:16"])
         key = word if kind == "text:16" else word.encode().ljust(16, b"\0").hex()
         run(program, "build", file, "--force", "--key", kind, "--value", "u32", "--hash", hash_name, "--capacity", "3000",
             given=f"{key}\t7\n")

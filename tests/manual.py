@@ -11,6 +11,9 @@ import sys
 import tempfile
 
 TOP = os.path.dirname(os.path.dirname(os.path.realpath(__file__)))
+sys.path.insert(0, f"{TOP}/tools/generate")
+import manual
+
 PACKAGING = f"{TOP}/packaging"
 COMPLETIONS = f"{PACKAGING}/completions"
 
@@ -24,7 +27,9 @@ ASKED = [
     (["dump", "--sl"], ["--slots"], ["--whole"]),
     (["get", "--hash", ""], ["fx", "unhash", "xxh64"], ["--at"]),
     (["merge", "x", "--duplicates", ""], ["last", "first", "error"], ["--at"]),
-    (["get", "x", "--key", ""], ["u32", "u64be", "hex", "text:"], ["none", "SHAPE"]),
+    (["get", "x", "--key", ""], ["u32", "u64be", "hex", "bytes:", "text:"], ["none", "SHAPE"]),
+    (["keys", "x", "--j"], ["--json"], ["--null"]),
+    (["dump", "x", "--"], ["--values", "--null"], ["--whole"]),
     (["build", "x", "--value", "n"], ["none"], ["u32"]),
     (["info", "a ta"], ["a table.odht"], ["--whole"]),
 ]
@@ -51,6 +56,8 @@ def fault_of_manual():
     wanted = ["ODHT(1)", "odht build FILE --key SHAPE --value SHAPE", "EXIT STATUS", "hex16  hex16  unhash"]
     # an option has a line of its own
     wanted += ["\n       --key, --value\n", "\n       --break-links\n", "\n       SHAPE  u32,"]
+    # each command has an example
+    wanted += [it.text[-1] for it in manual.listed()[0]]
     missing = [it for it in wanted if it not in printed]
     return f"status {status}, without {missing}" if status or missing or "warning:" in printed else None
 

@@ -88,6 +88,10 @@ def as_dump(name, text, words):
     return [pair(line.split(b"\t"), "--slots" in words) for line in text.split(b"\n")[:-1]]
 
 
+def as_list(name, text, words):
+    return [field("key" if words[0] == "keys" else "value", line) for line in text.split(b"\n")[:-1]]
+
+
 def as_get(name, text, words):
     rows = [line.split(b"\t") for line in text.split(b"\n")[:-1]]
     return [pair(row, False) if len(row) == 2 else {**field("key", row[0]), "value": None} for row in rows]
@@ -105,11 +109,12 @@ def field(name, text):
         return {f"{name}_hex": text.hex()}
 
 
-READ = {"info": as_info, "check": as_check, "find": as_find, "dump": as_dump, "get": as_get}
+READ = {"info": as_info, "check": as_check, "find": as_find, "keys": as_list, "dump": as_dump, "get": as_get}
 WORDS = [["info"], ["info", "--whole"], ["check"], ["check", "--whole"], ["check", "--hash=unhash"],
-         ["check", "--hash=xxh64"], ["find"], ["find", "--whole"], ["dump"], ["dump", "--slots"], ["get"]]
+         ["check", "--hash=xxh64"], ["find"], ["find", "--whole"], ["keys"], ["dump", "--values"], ["dump"],
+         ["dump", "--slots"], ["get"]]
 # those that write keys and values
-LISTS = WORDS[-3:]
+LISTS = WORDS[-5:]
 TEXTS = ["--key=text:16", "--value=text:16"]
 
 
@@ -136,7 +141,7 @@ def differs(program, words, name, room):
         return f"{ended} and {ended_too}"
     try:
         found = [with_signs(it) if words[0] == "info" else it for it in objects(told)]
-        wanted = READ[words[0]](name, plain, words)
+        wanted = (as_list if "--values" in words else READ[words[0]])(name, plain, words)
         if words[0] == "find" and b"forged" in ended[1]:
             wanted = []
         return None if found == wanted else f"{found} and not {wanted}"

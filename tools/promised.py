@@ -29,11 +29,7 @@ COMMANDS = ("make", "rt", "odht", "cargo", "python3", "sed", "cd", "cat", "Handl
 OF_STD = {"Read", "BufRead", "Write", "requires", "ensures"}
 CODE = (".rt", ".rs", ".py", ".c", ".h", ".hpp", ".sh")
 # what is generated, or no part of the library and its tests
-LEFT_OUT = (
-    "rust/src/generated/", "rust/src/configs/list.rs", "rust/c/src/generated/", "rust/cli/src/generated/",
-    "rust/table/src/generated/", "rust/examples/", "bindings/rust/src/shapes.rs", "crates/odht_c/src/generated/",
-    "crates/odht_c/exports/", "examples/", "include/",
-)
+LEFT_OUT = re.compile(r".*/generated/|rust/examples/|crates/odht_c/exports/|examples/|include/")
 BUILT = {"build", "out", "target", "__pycache__"}
 
 
@@ -202,7 +198,7 @@ def main():
     faults = list(faults_of_proofs(Source(files)))
     named = set(re.findall(r"[\w.]+", read("docs/ARCHITECTURE.md")))
     faults += [f"{it}/: docs/ARCHITECTURE.md does not name it" for it in sorted(folders_of(files) - named)]
-    code = [it for it in files if it.endswith(CODE) and not it.startswith(LEFT_OUT)]
+    code = [it for it in files if it.endswith(CODE) and not LEFT_OUT.match(it)]
     faults += [f"{it}: it begins with no sentence" for it in code if not has_sentence(it)]
     print("".join(f"{it}\n" for it in faults), end="")
     return 1 if faults else 0

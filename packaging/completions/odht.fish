@@ -9,7 +9,7 @@ complete -c odht -n __fish_use_subcommand -f -a find -d 'prints each table insid
 complete -c odht -n __fish_use_subcommand -f -a order -d 'prints the pairs in an order of inserts that makes the table'
 complete -c odht -n __fish_use_subcommand -f -a diff -d 'prints how the pairs of two tables differ'
 complete -c odht -n __fish_use_subcommand -f -a build -d 'makes a table file from the lines of standard input'
-complete -c odht -n __fish_use_subcommand -f -a put -d 'adds the lines of standard input to a table file'
+complete -c odht -n __fish_use_subcommand -f -a put -d 'adds pairs to a table file: words, or else the lines of standard input'
 complete -c odht -n __fish_use_subcommand -f -a delete -d 'removes keys; with - instead of keys, those on standard input'
 complete -c odht -n __fish_use_subcommand -f -a rebuild -d 'rebuilds a table file, with another load factor or hash function'
 complete -c odht -n __fish_use_subcommand -f -a merge -d 'makes a table file from the pairs of others'
@@ -31,18 +31,23 @@ complete -c odht -n '__fish_seen_subcommand_from count' -l hash -x -a 'fx unhash
 complete -c odht -n '__fish_seen_subcommand_from count' -l at -x -d 'a number below 2^64'
 complete -c odht -n '__fish_seen_subcommand_from get' -l help
 complete -c odht -n '__fish_seen_subcommand_from get' -l json
+complete -c odht -n '__fish_seen_subcommand_from get' -l null
 complete -c odht -n '__fish_seen_subcommand_from get' -l key -x -a 'u32 u64 i32 i64 u32be u64be hex bytes: text:' -d 'u32, u64, i32, i64, u32be, u64be, hexN, bytes:N or text:N'
 complete -c odht -n '__fish_seen_subcommand_from get' -l value -x -a 'u32 u64 i32 i64 u32be u64be none hex bytes: text:' -d 'u32, u64, i32, i64, u32be, u64be, none, hexN, bytes:N or text:N'
 complete -c odht -n '__fish_seen_subcommand_from get' -l hash -x -a 'fx unhash xxh64' -d 'fx, unhash or xxh64'
 complete -c odht -n '__fish_seen_subcommand_from get' -l at -x -d 'a number below 2^64'
 complete -c odht -n '__fish_seen_subcommand_from dump' -l help
 complete -c odht -n '__fish_seen_subcommand_from dump' -l slots
+complete -c odht -n '__fish_seen_subcommand_from dump' -l values
 complete -c odht -n '__fish_seen_subcommand_from dump' -l json
+complete -c odht -n '__fish_seen_subcommand_from dump' -l null
 complete -c odht -n '__fish_seen_subcommand_from dump' -l key -x -a 'u32 u64 i32 i64 u32be u64be hex bytes: text:' -d 'u32, u64, i32, i64, u32be, u64be, hexN, bytes:N or text:N'
 complete -c odht -n '__fish_seen_subcommand_from dump' -l value -x -a 'u32 u64 i32 i64 u32be u64be none hex bytes: text:' -d 'u32, u64, i32, i64, u32be, u64be, none, hexN, bytes:N or text:N'
 complete -c odht -n '__fish_seen_subcommand_from dump' -l hash -x -a 'fx unhash xxh64' -d 'fx, unhash or xxh64'
 complete -c odht -n '__fish_seen_subcommand_from dump' -l at -x -d 'a number below 2^64'
 complete -c odht -n '__fish_seen_subcommand_from keys' -l help
+complete -c odht -n '__fish_seen_subcommand_from keys' -l json
+complete -c odht -n '__fish_seen_subcommand_from keys' -l null
 complete -c odht -n '__fish_seen_subcommand_from keys' -l key -x -a 'u32 u64 i32 i64 u32be u64be hex bytes: text:' -d 'u32, u64, i32, i64, u32be, u64be, hexN, bytes:N or text:N'
 complete -c odht -n '__fish_seen_subcommand_from keys' -l hash -x -a 'fx unhash xxh64' -d 'fx, unhash or xxh64'
 complete -c odht -n '__fish_seen_subcommand_from keys' -l at -x -d 'a number below 2^64'
@@ -65,6 +70,7 @@ complete -c odht -n '__fish_seen_subcommand_from build' -l key -x -a 'u32 u64 i3
 complete -c odht -n '__fish_seen_subcommand_from build' -l value -x -a 'u32 u64 i32 i64 u32be u64be none hex bytes: text:' -d 'u32, u64, i32, i64, u32be, u64be, none, hexN, bytes:N or text:N'
 complete -c odht -n '__fish_seen_subcommand_from build' -l duplicates -x -a 'last first error' -d 'last, first or error'
 complete -c odht -n '__fish_seen_subcommand_from build' -l delimiter -x -d 'a printable character of ASCII that is no quote'
+complete -c odht -n '__fish_seen_subcommand_from build' -l null
 complete -c odht -n '__fish_seen_subcommand_from build' -l check-only
 complete -c odht -n '__fish_seen_subcommand_from build' -l hash -x -a 'fx unhash xxh64' -d 'fx, unhash or xxh64'
 complete -c odht -n '__fish_seen_subcommand_from build' -l percent -x -d 'a number from 1 to 100'
@@ -75,6 +81,7 @@ complete -c odht -n '__fish_seen_subcommand_from build' -l force
 complete -c odht -n '__fish_seen_subcommand_from put' -l help
 complete -c odht -n '__fish_seen_subcommand_from put' -l duplicates -x -a 'last first error' -d 'last, first or error'
 complete -c odht -n '__fish_seen_subcommand_from put' -l delimiter -x -d 'a printable character of ASCII that is no quote'
+complete -c odht -n '__fish_seen_subcommand_from put' -l null
 complete -c odht -n '__fish_seen_subcommand_from put' -l key -x -a 'u32 u64 i32 i64 u32be u64be hex bytes: text:' -d 'u32, u64, i32, i64, u32be, u64be, hexN, bytes:N or text:N'
 complete -c odht -n '__fish_seen_subcommand_from put' -l value -x -a 'u32 u64 i32 i64 u32be u64be none hex bytes: text:' -d 'u32, u64, i32, i64, u32be, u64be, none, hexN, bytes:N or text:N'
 complete -c odht -n '__fish_seen_subcommand_from put' -l whole
@@ -82,6 +89,7 @@ complete -c odht -n '__fish_seen_subcommand_from put' -l hash -x -a 'fx unhash x
 complete -c odht -n '__fish_seen_subcommand_from put' -l progress
 complete -c odht -n '__fish_seen_subcommand_from put' -l break-links
 complete -c odht -n '__fish_seen_subcommand_from delete' -l help
+complete -c odht -n '__fish_seen_subcommand_from delete' -l null
 complete -c odht -n '__fish_seen_subcommand_from delete' -l key -x -a 'u32 u64 i32 i64 u32be u64be hex bytes: text:' -d 'u32, u64, i32, i64, u32be, u64be, hexN, bytes:N or text:N'
 complete -c odht -n '__fish_seen_subcommand_from delete' -l whole
 complete -c odht -n '__fish_seen_subcommand_from delete' -l hash -x -a 'fx unhash xxh64' -d 'fx, unhash or xxh64'

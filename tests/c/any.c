@@ -37,6 +37,28 @@ uint8_t *empty_table(odht_layout layout, size_t len)
     return bytes;
 }
 
+void for_lengths(void (*one)(struct shape shape, struct random *random), uint64_t seed)
+{
+    static const size_t key_lens[] = { 1, 3, 4, 5, 8, 12, 13, 16, 20, 33, 64, 255 };
+    static const size_t value_lens[] = { 0, 1, 4, 12, 255 };
+    struct random random = { seed };
+
+    for (size_t key = 0; key < sizeof key_lens / sizeof key_lens[0]; key++)
+        for (size_t value = 0; value < sizeof value_lens / sizeof value_lens[0]; value++) {
+            struct shape by_fx = { key_lens[key], value_lens[value], FX };
+            struct shape by_un = { key_lens[key], value_lens[value], UN };
+            struct shape by_xxh64 = { key_lens[key], value_lens[value], XXH64 };
+            size_t before = buffer_count();
+
+            in_case("key and value", 1000 * by_fx.key + by_fx.value);
+            one(by_fx, &random);
+            if (by_un.key >= 4)
+                one(by_un, &random);
+            one(by_xxh64, &random);
+            drop_buffers_since(before);
+        }
+}
+
 /* Inserts a pair, also in the second writing, and looks at the answer by a search slot by slot. */
 static void insert_beside(struct shape shape, uint8_t *bytes, uint8_t *expected, size_t len,
                           const uint8_t *key, const uint8_t *value)

@@ -142,24 +142,7 @@ static void one_list(struct shape shape, struct random *random)
 
 static void lists_are_those_of_a_second_writing(void)
 {
-    static const size_t key_lens[] = { 1, 3, 4, 5, 8, 12, 13, 16, 20, 33, 64, 255 };
-    static const size_t value_lens[] = { 0, 1, 4, 12, 255 };
-    struct random random = { 71 };
-
-    for (size_t key = 0; key < sizeof key_lens / sizeof key_lens[0]; key++)
-        for (size_t value = 0; value < sizeof value_lens / sizeof value_lens[0]; value++) {
-            struct shape by_fx = { key_lens[key], value_lens[value], FX };
-            struct shape by_un = { key_lens[key], value_lens[value], UN };
-            struct shape by_xxh64 = { key_lens[key], value_lens[value], XXH64 };
-            size_t before = buffer_count();
-
-            in_case("key and value", 1000 * by_fx.key + by_fx.value);
-            one_list(by_fx, &random);
-            if (by_un.key >= 4)
-                one_list(by_un, &random);
-            one_list(by_xxh64, &random);
-            drop_buffers_since(before);
-        }
+    for_lengths(one_list, 71);
 }
 
 /* The same walk, lookups and numbers by the calls of each shape. */

@@ -119,37 +119,14 @@ static void growing_beside(struct shape shape, struct random *random)
     ALL_BYTES(out + len, most + 1 - len, FILL);
 }
 
-/* Runs a test of each of many lengths, and of each hash function that takes keys of this length. */
-static void for_lengths(void (*one)(struct shape shape, struct random *random))
-{
-    static const size_t key_lens[] = { 1, 3, 4, 5, 8, 12, 13, 16, 20, 33, 64, 255 };
-    static const size_t value_lens[] = { 0, 1, 4, 12, 255 };
-    struct random random = { 93 };
-
-    for (size_t key = 0; key < sizeof key_lens / sizeof key_lens[0]; key++)
-        for (size_t value = 0; value < sizeof value_lens / sizeof value_lens[0]; value++) {
-            struct shape by_fx = { key_lens[key], value_lens[value], FX };
-            struct shape by_un = { key_lens[key], value_lens[value], UN };
-            struct shape by_xxh64 = { key_lens[key], value_lens[value], XXH64 };
-            size_t before = buffer_count();
-
-            in_case("key and value", 1000 * by_fx.key + by_fx.value);
-            one(by_fx, &random);
-            if (by_un.key >= 4)
-                one(by_un, &random);
-            one(by_xxh64, &random);
-            drop_buffers_since(before);
-        }
-}
-
 static void views_find_what_a_second_reading_does(void)
 {
-    for_lengths(one_view);
+    for_lengths(one_view, 93);
 }
 
 static void growing_builds_are_those_of_a_second_writing(void)
 {
-    for_lengths(growing_beside);
+    for_lengths(growing_beside, 93);
 }
 
 /* A table of a shape: a view by either opening is the same, and is read by the lookups of either. */

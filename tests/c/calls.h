@@ -9,7 +9,7 @@
 #include <stdint.h>
 
 #include "odht.h"
-#include "shape_list.h"
+#include "generated/shape_list.h"
 
 /* The hash function of keys. */
 enum hash { FX, UN, XXH64 };

@@ -38,7 +38,7 @@ compiled() {
     made=$room/objects
     rm -rf "$made"
     if [ -n "${OBJECTS-}" ] && [ -z "$2" ] && has flock; then
-        sum=$({ "$1" --version && echo "$flags" && cat ./*.c ./*.h ../../include/*; } | sha256sum | cut -c1-16)
+        sum=$({ "$1" --version && echo "$flags" && cat ./*.c ./*.h generated/*.h ../../include/*; } | sha256sum | cut -c1-16)
         made=$OBJECTS/$1-$sum
     fi
     mkdir -p "$made"

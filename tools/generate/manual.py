@@ -14,7 +14,7 @@ sys.path.insert(0, f"{TOP}/tools/generate/commands")
 import command_list
 
 HELP = f"{TOP}/crates/odht_tool_core/src/help.rt"
-READY = f"{TOP}/crates/odht_tool_core/src/help/ready.rt"
+READY = f"{TOP}/crates/odht_tool_core/src/generated/shapes.rt"
 MADE = "Generated from lists/commands.txt and the help by make generate."
 # where in a line of the help what is said of an option begins
 TEXT_COLUMN = 15
@@ -54,7 +54,7 @@ def is_example(line):
 def described(line):
     """Returns the options or the words that a line describes, and the description, which begins at column 15; None for
     any other line."""
-    found = re.match(r"((?:--[a-z-]+(?:, )?)+|[A-Z]+|[a-z]+(?:,? [a-z]+)*(?=  )) +(\S.*)", line)
+    found = re.match(r"((?:-0, )?(?:--[a-z-]+(?:, )?)+|[A-Z]+|[a-z]+(?:,? [a-z]+)*(?=  )) +(\S.*)", line)
     return found.groups() if found and found.start(2) == TEXT_COLUMN else None
 
 

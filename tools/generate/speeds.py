@@ -55,10 +55,10 @@ def of_crate(text, results):
     found = [ratios(results, "## The crate for Rust", name) for name in CRATE_TOLD]
     (insert, insert_checked), (get, get_checked), (walk, walk_checked) = found
     told = (
-        f"Compared with the original, on tables of {SIZE} numbers, `insert` takes {insert} of the time, and "
-        f"{insert_checked} with `checked`; `get` of a present key {get} and {get_checked}; a walk {walk} and {walk_checked}."
+        f"Time divided by that of the original, for {SIZE} numbers, by default and with `checked`: `insert` {insert} and "
+        f"{insert_checked}, `get` of a present key {get} and {get_checked}, a walk {walk} and {walk_checked}."
     )
-    paragraph = re.search(r"Compared with the original, on tables of .*?\n\n", text, re.S)[0]
+    paragraph = re.search(r"Time divided by that of the original, .*?\n\n", text, re.S)[0]
     behind = re.search(r"`bench/RESULTS.md` .*", " ".join(paragraph.split()))[0]
     return text.replace(paragraph, textwrap.fill(f"{told} {behind}", WIDTH) + "\n\n")
 

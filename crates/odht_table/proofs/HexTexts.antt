@@ -1,5 +1,5 @@
 -- What follows from a text of hexadecimal digits: its length, that each is a digit, and that it has one decoding alone.
-use Rattle.std.proofs.Common.{◌≡◌, ◌∙◌, ℕ, suc, ◌+◌, ◌-◌, ◌*◌, ◌/◌, ◌%◌, ◌<◌, ◌^◌, inl, inr, true, false, List, [], ◌∷◌, ◌++◌, length, take, drop, get_or, sym, ap, subst, refl, arith}
+use Rattle.std.proofs.Common.{◌≡◌, ◌∙◌, ℕ, ◌+◌, ◌-◌, ◌*◌, ◌/◌, ◌%◌, ◌<◌, ◌^◌, inl, inr, true, false, List, [], ◌∷◌, ◌++◌, length, take, drop, get_or, sym, ap, subst, refl, arith}
 use Rattle.std.specs.Prelude.{codes}
 use Rattle.std.specs.Char.{is_ascii_hexdigit, to_ascii_lowercase}
 use Rattle.std.specs.Fmt.{digit_glyph}
@@ -7,10 +7,9 @@ use Rattle.std.specs.List.{All, AllPass}
 use Rattle.std.specs.Str.{str_to_ascii_lowercase}
 use Rattle.std.proofs.lemmas.Bool.{cases_lt}
 use Rattle.std.proofs.lemmas.List.Elements.{All-append, All-cons, All-head, All-nil, All-tail}
-use Rattle.std.proofs.lemmas.List.{append_assoc, length-map, map-append}
-use Rattle.std.proofs.lemmas.Grind.{flat_map-append}
-use Rattle.std.proofs.Math.Seq.{take-suc}
-use Rattle.odht_table.specs.Answers.{hex_digits, hex_text}
+use Rattle.std.proofs.lemmas.List.{length-map}
+use Rattle.odht_tool_core.specs.Texts.{hex_text}
+use Rattle.odht_tool_core.proofs.Words.{one_more as two_more}
 use Rattle.odht_table.specs.Commands.{IsHexText, IsCheckText}
 
 -- c is a hexadecimal digit, of either case
@@ -83,25 +82,12 @@ pub one_more : (digits bytes : List ℕ) (at high low : ℕ) → IsHexText (take
     → to_ascii_lowercase (get_or digits (2 * at + 1) 0) ≡ digit_glyph false low
     → IsHexText (take (2 * (at + 1)) digits) (bytes ++ ((16 * high + low) ∷ []))
 one_more digits bytes at high low h l small_high small_low is_high is_low =
-    let n : 2 * (at + 1) ≡ suc (suc (2 * at)) = omega arith in
-    let next : 2 * at + 1 ≡ suc (2 * at) = omega arith in
-    let first = take-suc digits (2 * at) 0 (omega (arith, l)) in
-    let second = take-suc digits (suc (2 * at)) 0 (omega (arith, l)) in
-    let front = take (2 * at) digits in
-    let d = get_or digits (2 * at) 0 in
-    let e = get_or digits (suc (2 * at)) 0 in
-    let parts : take (2 * (at + 1)) digits ≡ front ++ (d ∷ e ∷ []) =
-    ap (λ k. take k digits) n ∙ second ∙ ap (λ ds. ds ++ (e ∷ [])) first ∙ append_assoc front (d ∷ []) (e ∷ []) in
     let value = 16 * high + low in
     let fits : value < 2 ^ 8 = omega (arith, small_high, small_low) in
-    let highs : value / 16 ≡ high = omega (arith, small_low) in
-    let lows : value % 16 ≡ low = omega (arith, small_low) in
-    let low_digit : to_ascii_lowercase e ≡ digit_glyph false low = ap (λ k. to_ascii_lowercase (get_or digits k 0)) (sym next) ∙ is_low in
-    let lower : str_to_ascii_lowercase (d ∷ e ∷ []) ≡ hex_digits value = cc in
-    let text : str_to_ascii_lowercase (front ++ (d ∷ e ∷ [])) ≡ hex_text (bytes ++ (value ∷ [])) =
-    map-append to_ascii_lowercase front (d ∷ e ∷ []) ∙ ap (λ ds. ds ++ str_to_ascii_lowercase (d ∷ e ∷ [])) h.text
-    ∙ ap (λ ds. hex_text bytes ++ ds) lower ∙ sym (flat_map-append hex_digits bytes (value ∷ [])) in
-    record { text = ap str_to_ascii_lowercase parts ∙ text; bytes_fit = All-append IsByte bytes (value ∷ []) h.bytes_fit (All-cons IsByte value [] fits (All-nil IsByte)) }
+    record {
+      text = two_more digits bytes at high low h.text l small_high small_low is_high is_low;
+      bytes_fit = All-append IsByte bytes (value ∷ []) h.bytes_fit (All-cons IsByte value [] fits (All-nil IsByte));
+    }
 
 -- each digit is that of a value below sixteen
 digit_has_value : (c : ℕ) → is_ascii_hexdigit c ≡ true → (v : ℕ) × (v < 16) × (to_ascii_lowercase c ≡ digit_glyph false v)

@@ -1,7 +1,5 @@
 -- What a script is answered with.
 --     line_of text          the text with its end
---     hex_digits b          the two digits of a byte in base 16, letters in lower case
---     hex_text bytes        those of each byte in turn
 --     value_text o          of `get`: the value, or `none`
 --     former_text o         of `put`: `was` and the former value, or `none`
 --     walk_text xs          of `walk`: a line of each key and its value, and the line `end`
@@ -16,9 +14,9 @@
 --     MayChange r           the request r is a `put`
 --     check_text F B        of `check`: `valid`, or the text of the first error of the bytes B
 --     IsChecked F B t       t answers `check` of the bytes B: check_text, or `memory` when memory is exhausted
-use Rattle.std.specs.Prelude.{◌≡◌, ℕ, ◌/◌, ◌%◌, ◌≤◌, ◌⊎◌, ⊤, false, List, [], ◌∷◌, ◌++◌, Option, Some, None, codes}
+use Rattle.std.specs.Prelude.{◌≡◌, ℕ, ◌≤◌, ◌⊎◌, ⊤, List, [], ◌∷◌, ◌++◌, Option, Some, None, codes}
 use Rattle.std.specs.List.{flat_map}
-use Rattle.std.specs.Fmt.{decimal, digit_glyph, debug_list}
+use Rattle.std.specs.Fmt.{decimal, debug_list}
 use Rattle.odht_base.specs.Format.{Format}
 use Rattle.odht_base.specs.Load.{factor_of, max_items, slots_for}
 use Rattle.odht_base.specs.Table.{Table as Plain, count, walk, fresh}
@@ -30,17 +28,12 @@ use Rattle.odht_header.specs.ErrorTexts.{error_text}
 use Rattle.odht_header.specs.Refusals.{IsTooLarge, check_refusal}
 use Rattle.odht_header.specs.declared.error.Error.{Error}
 use Rattle.odht_raw.specs.Walks.{decoded_all}
+use Rattle.odht_tool_core.specs.Texts.{hex_text}
 use Rattle.odht_table.specs.declared.script.command.Request.{Request}
 use Rattle.odht_table.specs.declared.script.command.Request.TheVariants.{Put, Get, Len, Walk, Hex, Dump}
 
 abbrev pub line_of : List ℕ → List ℕ
 line_of text = text ++ (10 ∷ [])
-
-abbrev pub hex_digits : ℕ → List ℕ
-hex_digits b = digit_glyph false (b / 16) ∷ digit_glyph false (b % 16) ∷ []
-
-abbrev pub hex_text : List ℕ → List ℕ
-hex_text bytes = flat_map hex_digits bytes
 
 abbrev pub value_text : Option ℕ → List ℕ
 value_text None = codes "none"

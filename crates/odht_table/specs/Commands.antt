@@ -12,7 +12,7 @@ use Rattle.std.specs.Prelude.{◌≡◌, ℕ, ◌^◌, ◌<◌, List, ◌∷◌,
 use Rattle.std.specs.Str.Parse.{IsNumeral, digits_value}
 use Rattle.std.specs.List.{All}
 use Rattle.std.specs.Str.{str_to_ascii_lowercase}
-use Rattle.odht_table.specs.Answers.{hex_text}
+use Rattle.odht_tool_core.specs.Texts.{hex_text}
 use Rattle.odht_table.specs.declared.script.command.Command.{Command}
 use Rattle.odht_table.specs.declared.script.command.Command.TheVariants.{New, OnTable}
 use Rattle.odht_table.specs.declared.script.command.Request.{Request}

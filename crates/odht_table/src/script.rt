@@ -7,9 +7,10 @@ ghost use Rattle.std.specs.Fmt.{decimal};
 ghost use Rattle.odht_base.specs.Load.{factor_of, max_items, slots_for};
 ghost use Rattle.odht_base.specs.Table.{fresh};
 ghost use Rattle.odht_header.specs.Refusals.{IsTooLarge};
-ghost use Rattle.odht_table.specs.Answers.{line_of, hex_text, pair_line, value_text, walk_text};
+ghost use Rattle.odht_table.specs.Answers.{line_of, pair_line, value_text, walk_text};
 ghost use Rattle.odht_table.specs.Answers.{IsPutAnswered, IsAnswered, IsRenewed, MayChange};
 ghost use Rattle.odht_table.specs.Scripts.{script_lines, IsLineAnswered, IsAnsweredBy};
+ghost use Rattle.odht_tool_core.specs.Texts.{hex_text};
 
 mod check;
 mod command;
@@ -289,7 +290,6 @@ fn write_value<W: Write>(value: Option<u32>, output: &mut W) -> io::Result<()>
     }
 }
 
-// The number on a line.
 fn write_number_line<W: Write>(number: u64, output: &mut W) -> io::Result<()>
     ensures { OnOk result (Appends (W.contents output.old) (W.contents output.new)
         (line_of (decimal number))) }

@@ -124,6 +124,7 @@ class Case:
         self.order = order_text(self.table, key_text, value_text)
         self.keys = "".join(key_text(cell[0]) + "\r\n" for cell in filter(None, self.table.cells))
         self.key_lines = "".join(key_text(cell[0]) + "\n" for cell in filter(None, self.table.cells))
+        self.value_lines = "".join(value_text(cell[1]) + "\n" for cell in filter(None, self.table.cells))
         self.pairs = "".join(f"{key_text(k)}\t{value_text(v)}\n" for k, v in pairs)
 
     def write_file(self):
@@ -169,6 +170,7 @@ class Case:
             text += self.found_text()
             text += self.run_text("dump", f"dump {file}{self.kinds}", "", self.dump)
             text += self.run_text("keys", f"keys {file}{self.key_kind}", "", self.key_lines)
+            text += self.run_text("dump --values", f"dump --values {file}{self.kinds}", "", self.value_lines)
             text += self.run_text("count", f"count {file}", "", f"{self.table.count()}\n")
             text += self.run_text("dump --slots", f"dump --slots {file}{self.kinds}", "", self.slots)
             text += self.run_text("get all keys, in lines that end with \\r\\n", f"get {file} -{self.kinds}", self.keys, self.dump)

@@ -1,12 +1,15 @@
 //! Runs the commands, each from its parsed words to the status of the program.
-use odht_tool_core::arguments::{Command, Keys, Misuse, Reading, Request, parse};
+use crate::pairs::of_words;
+use odht_tool_core::arguments::{Command, Keys, Misuse, Reading, Request};
 use odht_tool_core::failure::Failure;
+use odht_tool_core::files::input_len;
 use odht_tool_core::front::table_at;
 use odht_tool_core::help::{write_help, write_version};
 use odht_tool_core::inside::{first_inside, is_followed, write_inside};
 use odht_tool_core::job::Job;
 use odht_tool_core::status::{Status, of_output};
 use odht_tool_reads::commands::diff;
+use odht_tool_reads::lookups::arriving::Arriving;
 use odht_tool_reads::positions;
 use odht_tool_tables::files::{finish, finish_as, read_bytes, read_table_bytes};
 use odht_tool_writes::commands::{build, delete, merge, rebuild};
@@ -18,14 +21,14 @@ use std::rt::{Clock, Files};
 
 mod readings;
 
-use readings::run_reading;
+use readings::{count_label, run_reading};
 
 /// Does what the words ask for. Each failure is reported by a line on `errors`; where that cannot
 /// be written either, only the status reports it. Where nobody reads `output` any more, nothing
 /// is reported.
-pub fn run<R: Files + AllocGlobal + Clock, I: BufRead, O: Write, E: Write + IsTerminal>(
+pub fn run<R: Files + AllocGlobal + Clock, I: BufRead + Arriving, O: Write, E: Write + IsTerminal>(
     rt: &R,
-    words: Vec<String>,
+    request: Result<Request, Misuse>,
     input: &mut I,
     output: &mut O,
     errors: &mut E,
@@ -33,8 +36,7 @@ pub fn run<R: Files + AllocGlobal + Clock, I: BufRead, O: Write, E: Write + IsTe
 where
     R::File: AsFd + FileExt,
 {
-    let alloc: Global = rt.alloc();
-    match parse(alloc, words) {
+    match request {
         Ok(Request::Help(topic)) => {
             let done = of_output(write_help(topic, output));
             finish("help", flushed(done, output), errors)
@@ -43,7 +45,7 @@ where
             let done = of_output(write_version(output));
             finish("version", flushed(done, output), errors)
         }
-        Ok(Request::Run { file, command }) => {
+        Ok(Request::Run { file, command, .. }) => {
             let file = file.as_str();
             let failed = command.failed();
             let done = run_command(rt, file, command, input, output, errors);
@@ -73,7 +75,12 @@ fn flushed<O: Write>(done: Result<Status, Failure>, output: &mut O) -> Result<St
     }
 }
 
-fn run_command<R: Files + AllocGlobal + Clock, I: BufRead, O: Write, E: Write + IsTerminal>(
+fn run_command<
+    R: Files + AllocGlobal + Clock,
+    I: BufRead + Arriving,
+    O: Write,
+    E: Write + IsTerminal,
+>(
     rt: &R,
     file: &str,
     command: Command,
@@ -101,7 +108,13 @@ where
         Command::Rebuild(options) => rebuild::rebuild(rt, file, options, errors),
         Command::Diff(options) => diff::diff(rt, file, options, input, output, errors),
         Command::Merge(options) => merge::merge(rt, file, options, input, output, errors),
-        Command::Put(mut options) => {
+        Command::Put { options, words } if !words.is_empty() => {
+            build::put(rt, file, options, input, output, errors).map_err(|failure| of_words(
+                rt.alloc(),
+                failure,
+            ))
+        }
+        Command::Put { mut options, .. } => {
             options.watch = options.watch.with_bar(rt, errors);
             build::put(rt, file, options, input, output, errors)
         }
@@ -111,7 +124,7 @@ where
 // Runs a command that only reads its file, on this file and on others. Where there are others,
 // each failure is reported, and the next one is read; but where the output cannot be written, no
 // more is.
-fn read_files<R: Files + AllocGlobal, I: BufRead, O: Write, E: Write>(
+fn read_files<R: Files + AllocGlobal, I: BufRead + Arriving, O: Write, E: Write>(
     rt: &R,
     file: &str,
     others: &[String],
@@ -158,7 +171,7 @@ fn is_read<O: Write, E: Write>(
     }
 }
 
-fn read_one<R: Files + AllocGlobal, I: BufRead, O: Write, E: Write>(
+fn read_one<R: Files + AllocGlobal, I: BufRead + Arriving, O: Write, E: Write>(
     rt: &R,
     file: &str,
     is_one: bool,
@@ -171,7 +184,7 @@ fn read_one<R: Files + AllocGlobal, I: BufRead, O: Write, E: Write>(
 where
     R::File: FileExt,
 {
-    if let Some(status) = read_by_position(rt, file, at, reading, output)? {
+    if let Some(status) = read_by_position(rt, file, is_one, at, reading, output)? {
         return Ok(status);
     }
     let offset = at.unwrap_or(0);
@@ -193,7 +206,7 @@ where
         bound: None,
         is_json: false,
     };
-    let done = run_reading(job, reading, input, output, errors);
+    let done = run_reading(job, reading, is_live(rt, reading), input, output, errors);
     if reading.is_search() {
         done
     } else {
@@ -211,10 +224,23 @@ where
     }
 }
 
-// Looks the keys of words up without reading all of the file. None where that does not do.
+// Whether lines are answered as they come: where they are keys, and standard input is no file.
+fn is_live<R: Files>(rt: &R, reading: &Reading) -> bool {
+    match reading {
+        Reading::Get {
+            keys: Keys::Lines,
+            ..
+        } => input_len(rt).is_none(),
+        _ => false,
+    }
+}
+
+// Looks the keys of words up, or counts the items, without reading all of the file. None where that
+// does not do.
 fn read_by_position<R: Files + AllocGlobal, O: Write>(
     rt: &R,
     file: &str,
+    is_one: bool,
     at: Option<usize>,
     reading: &Reading,
     output: &mut O,
@@ -243,6 +269,15 @@ where
                 words.as_slice(),
                 output,
             )
+        }
+        Reading::Count {
+            is_checked: false, ..
+        } => {
+            let Some((source, len)) = positions::open_regular(rt, file) else {
+                return Ok(None);
+            };
+            let label = count_label(rt.alloc(), file, is_one)?;
+            positions::count_at(source, len, at, label.as_str(), output)
         }
         _ => Ok(None),
     }

@@ -10,6 +10,10 @@ end_of_line x xs =
     let m = more_fields xs in
     ap (λ t. 123 ∷ (f ++ t)) (sym (append_assoc m (125 ∷ []) (10 ∷ []))) ∙ ap (λ t. 123 ∷ t) (sym (append_assoc f (m ++ (125 ∷ [])) (10 ∷ [])))
 
+-- the one field of a text
+pub text_parts : (x : List ℕ × List ℕ) → 123 ∷ (json_field x ++ (125 ∷ 10 ∷ [])) ≡ json_object (x ∷ []) ++ (10 ∷ [])
+text_parts x = end_of_line x []
+
 -- the two fields of a pair
 pub pair_parts : (k v : List ℕ × List ℕ) → 123 ∷ (json_field k ++ (44 ∷ (json_field v ++ (125 ∷ 10 ∷ [])))) ≡ json_object (k ∷ v ∷ []) ++ (10 ∷ [])
 pair_parts k v = ap (λ t. 123 ∷ (json_field k ++ t)) (sym (append_assoc (44 ∷ json_field v) [] (125 ∷ 10 ∷ []))) ∙ end_of_line k (v ∷ [])

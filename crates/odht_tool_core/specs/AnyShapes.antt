@@ -34,7 +34,7 @@ use Rattle.odht_tool_core.specs.FoundShapes.{has_items, first_hash, said_hash, s
 use Rattle.odht_tool_core.specs.InfoNumbers.{file_parts, least_key_len}
 use Rattle.odht_tool_core.specs.ReadAs.{form_for}
 use Rattle.odht_tool_core.specs.ReadyShapes.{default_hash, hash_of, own_key, own_value, shape_format, shape_of_parts, shape_of_sizes, typed_len, early_refusal}
-use Rattle.odht_tool_core.specs.ShapeList.{key_part, value_part, shape_hash}
+use Rattle.odht_tool_core.specs.generated.ShapeList.{key_part, value_part, shape_hash}
 use Rattle.odht_tool_core.specs.declared.any.AnyShape.{AnyShape}
 use Rattle.odht_tool_core.specs.declared.any.AnyShape.TheVariants.{Ready, Other}
 use Rattle.odht_tool_core.specs.declared.any.OtherShape.{OtherShape}
@@ -48,8 +48,8 @@ use Rattle.odht_tool_core.specs.declared.forms.Kinds.{Kinds}
 use Rattle.odht_tool_core.specs.declared.shapes.Hash.{Hash}
 use Rattle.odht_tool_core.specs.declared.shapes.Part.{Part}
 use Rattle.odht_tool_core.specs.declared.shapes.Part.TheVariants.{Bytes}
-use Rattle.odht_tool_core.specs.declared.shapes.ready.Shape.{Shape}
-use Rattle.odht_tool_core.specs.declared.shapes.ready.Shape.TheVariants.{U64ToU32}
+use Rattle.odht_tool_core.specs.declared.generated.shapes.Shape.{Shape}
+use Rattle.odht_tool_core.specs.declared.generated.shapes.Shape.TheVariants.{U64ToU32}
 
 abbrev pub other_format : OtherShape → Format
 other_format o = format_of (typed_len o.key) (typed_len o.value) (hash_of o.hash)

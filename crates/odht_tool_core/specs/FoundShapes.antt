@@ -21,9 +21,9 @@ use Rattle.odht_base.specs.Decoded.{header_count}
 use Rattle.odht_header.specs.Refusals.{check_refusal_by}
 use Rattle.odht_tool_core.specs.InfoNumbers.{DynParts, file_parts, info_refusal, agrees, format_by, found_hash, least_key_len}
 use Rattle.odht_tool_core.specs.ReadyShapes.{hashes, is_shape_of, same_hash}
-use Rattle.odht_tool_core.specs.ShapeList.{shape_hash, ready_shapes}
+use Rattle.odht_tool_core.specs.generated.ShapeList.{shape_hash, ready_shapes}
 use Rattle.odht_tool_core.specs.declared.shapes.Hash.{Hash}
-use Rattle.odht_tool_core.specs.declared.shapes.ready.Shape.{Shape}
+use Rattle.odht_tool_core.specs.declared.generated.shapes.Shape.{Shape}
 
 abbrev pub has_items : List ℕ → Bool
 has_items B = is_none (info_refusal B) && not (header_count B == 0)

@@ -11,6 +11,7 @@
 --                          string has the two digits of each byte in base 16
 --     truth b              true or false
 --     is_simple b          the byte b is a character of ASCII that stands for itself in a string
+--     text_object name t   a line of the object of the field of this name that is a text of any bytes
 --     pair_fields f g x    the fields of a key and its value, with the texts f and g
 --     pair_object f g x    a line of the object of these
 --     pair_objects f g xs  that of each pair in turn
@@ -54,6 +55,9 @@ truth b = if b then codes "true" else codes "false"
 
 abbrev pub is_simple : ℕ → Bool
 is_simple b = nat_lt 31 b && (nat_lt b 128 && (not (b == 34) && not (b == 92)))
+
+unfoldable pub text_object : List ℕ → List ℕ → List ℕ
+text_object name text = json_object (text_field name text ∷ []) ++ (10 ∷ [])
 
 -- ---- pairs
 abbrev pub pair_fields : {K V : Type 0} → (K → List ℕ) → (V → List ℕ) → K × V → List (List ℕ × List ℕ)

@@ -5,9 +5,9 @@ pub mod Texts
 pub mod Digits
 -- where bytes are cut
 pub mod Cuts
--- the list of ready shapes
-pub mod ShapeList
--- what follows of it
+-- what is generated: the ready shapes, commands and their options
+pub mod generated
+-- what follows of the ready shapes
 pub mod ReadyShapes
 -- in which group of its probe order a slot is
 pub mod GroupNumbers
@@ -35,8 +35,6 @@ pub mod FoundShapes
 pub mod AnyShapes
 -- which files are replaced, and what permissions the new one gets
 pub mod Replaced
--- the commands of the program and their options
-pub mod Commands
 -- words that one slip makes of each other
 pub mod Near
 -- bytes as they are shown

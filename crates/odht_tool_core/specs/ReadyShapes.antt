@@ -33,14 +33,14 @@ use Rattle.odht_header.specs.Refusals.{◌gives◌, first_of, tag_refusal, versi
 use Rattle.odht_header.specs.declared.error.Error.{Error}
 use Rattle.odht_header.specs.declared.error.Error.TheVariants.{TooShort}
 use Rattle.odht_header.specs.declared.error.Part.TheVariants.{EntryMetadata}
-use Rattle.odht_tool_core.specs.ShapeList.{key_part, value_part, shape_hash, ready_shapes}
+use Rattle.odht_tool_core.specs.generated.ShapeList.{key_part, value_part, shape_hash, ready_shapes}
 use Rattle.odht_tool_core.specs.Forms.{number_text, IsNumberText, StandsForNumber, bytes_text, IsBytesText, StandsForBytes}
 use Rattle.odht_tool_core.specs.declared.forms.Form.{Form}
 use Rattle.odht_tool_core.specs.declared.shapes.Hash.{Hash}
 use Rattle.odht_tool_core.specs.declared.shapes.Hash.TheVariants.{Fx, Unhash, Xxh64}
 use Rattle.odht_tool_core.specs.declared.shapes.Part.{Part}
 use Rattle.odht_tool_core.specs.declared.shapes.Part.TheVariants.{Nothing, U32, U64, Bytes}
-use Rattle.odht_tool_core.specs.declared.shapes.ready.Shape.{Shape}
+use Rattle.odht_tool_core.specs.declared.generated.shapes.Shape.{Shape}
 
 -- ---- types of keys and values
 abbrev pub Typed : Part → Type 0

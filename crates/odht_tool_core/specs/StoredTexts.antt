@@ -3,9 +3,12 @@
 --     key_text t b         that of a key, by the texts t
 --     value_text t b       that of a value
 --     texts_of s fs        the texts of the shape s in the forms fs
+--     side_typed t x       the type and the form of the side x of pairs, by the texts t
+--     side_bytes x p       the bytes of this side of the pair p
+--     side_name x          its name in objects of JSON
 --     bare_pairs ps        the keys and values of the pairs ps
 --     lines_of t ps        the line of each of them, by the texts t
-use Rattle.std.specs.Prelude.{ℕ, List, map}
+use Rattle.std.specs.Prelude.{ℕ, List, codes, map}
 use Rattle.odht_base.specs.Table.{Pair}
 use Rattle.odht_tool_core.specs.AnyShapes.{any_key, any_value}
 use Rattle.odht_tool_core.specs.ReadyShapes.{typed_of, typed_text}
@@ -14,7 +17,10 @@ use Rattle.odht_tool_core.specs.declared.any.AnyShape.{AnyShape}
 use Rattle.odht_tool_core.specs.declared.forms.Form.{Form}
 use Rattle.odht_tool_core.specs.declared.forms.GivenForms.{GivenForms}
 use Rattle.odht_tool_core.specs.declared.shapes.Part.{Part}
+use Rattle.odht_tool_core.specs.declared.typed.Side.{Side}
+use Rattle.odht_tool_core.specs.declared.typed.Side.TheVariants.{Key, Value}
 use Rattle.odht_tool_core.specs.declared.typed.Texts.{Texts}
+use Rattle.odht_tool_core.specs.declared.typed.stored.Typed.{Typed}
 
 abbrev pub stored_text : Form → Part → List ℕ → List ℕ
 stored_text f p b = typed_text f p (typed_of p b)
@@ -27,6 +33,18 @@ value_text t = stored_text t.forms.value t.value
 
 abbrev pub texts_of : AnyShape → GivenForms → Texts
 texts_of s fs = record { key = any_key s; value = any_value s; forms = fs }
+
+abbrev pub side_typed : Texts → Side → Typed
+side_typed t Key = record { part = t.key; form = t.forms.key }
+side_typed t Value = record { part = t.value; form = t.forms.value }
+
+abbrev pub side_bytes : Side → Pair → List ℕ
+side_bytes Key p = p.key
+side_bytes Value p = p.value
+
+abbrev pub side_name : Side → List ℕ
+side_name Key = codes "key"
+side_name Value = codes "value"
 
 abbrev pub bare_pairs : List Pair → List (List ℕ × List ℕ)
 bare_pairs ps = map (λ p. (p.key, p.value)) ps

@@ -8,7 +8,7 @@ ghost use Rattle.odht_tool_core.specs.AnyShapes.{named_any, read_any, with_kinds
 ghost use Rattle.odht_tool_core.specs.InfoNumbers.{least_key_len};
 ghost use Rattle.odht_tool_core.specs.ReadAs.{form_for};
 ghost use Rattle.odht_tool_core.specs.ReadyShapes.{early_refusal, typed_len};
-ghost use Rattle.odht_tool_core.specs.ShapeList.{key_part, value_part};
+ghost use Rattle.odht_tool_core.specs.generated.ShapeList.{key_part, value_part};
 
 use crate::failure::Failure;
 use crate::forms::{Form, GivenForms, Kind, Kinds, form_for};

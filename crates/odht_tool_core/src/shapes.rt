@@ -6,12 +6,9 @@ ghost use Rattle.odht_tool_core.specs.ReadyShapes.{has_parts, shape_of_parts, is
 ghost use Rattle.odht_tool_core.specs.ReadyShapes.{shape_of_sizes};
 ghost use Rattle.odht_tool_core.specs.ReadyShapes.{default_hash, own_key, own_value};
 
+pub(crate) use crate::generated::shapes::SHAPES;
+pub use crate::generated::shapes::Shape;
 use std::fmt;
-
-mod ready;
-
-pub(crate) use ready::SHAPES;
-pub use ready::Shape;
 
 /// A hash function of keys.
 #[derive(Clone, Copy)]

@@ -5,7 +5,8 @@ ghost use Rattle.std.specs.List.{AllPass};
 ghost use Rattle.odht_tool_core.specs.Forms.{bytes_text};
 ghost use Rattle.odht_tool_core.specs.Json.{is_simple};
 ghost use Rattle.odht_tool_core.specs.ReadyShapes.{typed_len};
-ghost use Rattle.odht_tool_core.specs.StoredTexts.{key_text, stored_text, texts_of, value_text};
+ghost use Rattle.odht_tool_core.specs.StoredTexts.{key_text, side_bytes, side_name, side_typed};
+ghost use Rattle.odht_tool_core.specs.StoredTexts.{stored_text, texts_of, value_text};
 ghost use Rattle.odht_tool_core.specs.Texts.{pair_line};
 
 pub mod stored;
@@ -18,6 +19,39 @@ use crate::shapes::Part;
 use crate::text::{Text, write_bytes};
 use odht_base::bytes::ByteArray;
 use std::io::{self, Write};
+use stored::Typed;
+
+/// One side of a pair.
+#[derive(Clone, Copy)]
+pub enum Side {
+    /// Its key.
+    Key,
+    /// Its value.
+    Value,
+}
+
+impl Side {
+    /// The bytes of this side of a pair.
+    #[inline(always)]
+    pub fn of<'a>(self, key: &'a [u8], value: &'a [u8]) -> &'a [u8]
+        ensures { result.now ≡ side_bytes self (record { key = key.now; value = value.now }) }
+    {
+        match self {
+            Side::Key => key,
+            Side::Value => value,
+        }
+    }
+
+    /// Its name in objects of JSON.
+    pub(crate) fn name(self) -> &'static str
+        ensures { result.now ≡ side_name self }
+    {
+        match self {
+            Side::Key => "key",
+            Side::Value => "value",
+        }
+    }
+}
 
 /// In which texts the keys and the values of a table are written.
 #[derive(Clone, Copy)]
@@ -40,6 +74,17 @@ impl Texts {
             value: shape.value(),
             forms,
         }
+    }
+
+    /// The type and the form of this side of pairs.
+    pub fn of_side(self, side: Side) -> Typed
+        ensures { result ≡ side_typed self side }
+    {
+        let (part, form) = match side {
+            Side::Key => (self.key, self.forms.key),
+            Side::Value => (self.value, self.forms.value),
+        };
+        Typed { part, form }
     }
 
     /// Writes the text of the key that is stored as these bytes.

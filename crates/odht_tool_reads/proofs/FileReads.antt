@@ -1,30 +1,32 @@
 -- Lookups in a table that is read by position, and the hash function that its first slots leave.
-use Rattle.std.proofs.Common.{arith, refl, ◌≡◌, ◌∙◌, ℕ, ◌+◌, ◌*◌, ◌<◌, ◌≤◌, ◌&&◌, ◌==◌, Bool, true, false, not, List, [], ◌∷◌, length, drop, take, find, is_none, is_some, Option, Some, None, Ok, sym, ap, ap₂, subst, cond, slice_index, le-ltb, mul-le-mul_right, add-mul, zero-add, length-drop}
+use Rattle.std.proofs.Common.{arith, refl, ◌≡◌, ◌∙◌, ℕ, ◌+◌, ◌-◌, ◌*◌, ◌<◌, ◌≤◌, ◌&&◌, ◌==◌, Bool, true, false, not, List, [], ◌∷◌, length, drop, take, find, is_none, is_some, Option, Some, None, Ok, sym, ap, ap₂, subst, cond, slice_index, le-ltb, mul-le-mul_right, add-mul, zero-add, length-drop}
 use Rattle.std.specs.Prelude.{◌||◌, if◌then◌else◌, option_map}
 use Rattle.std.specs.Bool.{then_some}
 use Rattle.std.specs.Option.{option_or, unwrap_or}
 use Rattle.std.proofs.lemmas.Option.{none-some}
 use Rattle.std.proofs.lemmas.Bool.{and_parts, eqb-true, leb-true, false_from_ne_true, true≢false}
-use Rattle.std.proofs.lemmas.List.{get_or-drop}
+use Rattle.std.proofs.lemmas.List.{get_or-drop, length-take-le}
 use Rattle.odht_base.specs.Bytes.{bytes_at}
 use Rattle.odht_base.specs.Decoded.{header_count, header_slots, entries_of, controls_of, counts_as_free, slot_key}
 use Rattle.odht_base.specs.Format.{Format, IsFormat, entry_len, format_of, tag}
 use Rattle.odht_base.specs.Numbers.{num}
 use Rattle.std.proofs.Math.Bool.{and-false}
 use Rattle.odht_base.specs.Valid.{IsValidBytes}
-use Rattle.odht_base.proofs.lemmas.ByteRanges.{bytes_at-bytes_at, index-bytes_at, length-bytes_at}
+use Rattle.odht_base.proofs.lemmas.ByteRanges.{bytes_at-bytes_at, bytes_at-take, index-bytes_at, length-bytes_at}
 use Rattle.odht_base.proofs.lemmas.Options.{some_same}
 use Rattle.odht_base.proofs.lemmas.PartsOf.{slot_within}
 use Rattle.odht_header.specs.Refusals.{opening_refusal, ◌gives◌, checked, differs, first_of, header_refusal, lists_differ, tag_refusal, version_refusal, wrong_size, first_slot, control_mismatch}
 use Rattle.odht_header.specs.declared.error.Error.{Error}
 use Rattle.odht_header.specs.declared.error.Error.TheVariants.{ControlMismatch, TooShort, WrongSizeOf, WrongTag, WrongVersion}
 use Rattle.odht_header.specs.declared.error.Part.TheVariants.{EntryMetadata}
-use Rattle.odht_header.proofs.lemmas.HeaderFits.{IsHeader-header_refusal}
+use Rattle.odht_header.proofs.lemmas.HeaderFits.{IsHeader-header_refusal, opening_refusal-IsOpening}
+use Rattle.odht_base.specs.Image.{image_len}
+use Rattle.odht_base.specs.Load.{IsSlotCount}
 use Rattle.odht_header.proofs.lemmas.FirstErrors.{Ok-checked, gives_both-None, None-gives_both, differs-false, false-differs, not-true, first_slot-None}
 use Rattle.odht_tool_core.specs.InfoNumbers.{DynParts, agrees, found_hash, info_refusal, file_format, file_parts, least_key_len}
 use Rattle.odht_tool_core.specs.AnyShapes.{any_of_sizes, fitting_any, found_any, named_any, of_hash}
 use Rattle.odht_tool_core.specs.ReadyShapes.{early_refusal, hash_of, is_shape_of, same_hash, typed_len}
-use Rattle.odht_tool_core.specs.ShapeList.{key_part, value_part, shape_hash, ready_shapes}
+use Rattle.odht_tool_core.specs.generated.ShapeList.{key_part, value_part, shape_hash, ready_shapes}
 use Rattle.odht_tool_core.specs.FoundShapes.{first_hash, fits, fitting_shape, is_other, is_valid_by, other_hash, said_hash, settled_hash, valid_hash}
 use Rattle.odht_tool_core.specs.declared.shapes.Hash.TheVariants.{Fx, Unhash, Xxh64}
 use Rattle.odht_tool_core.proofs.Refusals.{early_passes}
@@ -32,9 +34,9 @@ use Rattle.odht_raw.proofs.lemmas.Accepted.{IsAccepted-IsValidBytes, accepted_op
 use Rattle.odht_raw.proofs.lemmas.SoundBytes.{IsSound-late_refusal}
 use Rattle.odht_raw.proofs.lemmas.WholeChecks.{late_valid}
 use Rattle.odht_tool_core.specs.declared.any.AnyShape.TheVariants.{Ready, Other}
-use Rattle.odht_tool_core.specs.declared.shapes.ready.Shape.{Shape}
+use Rattle.odht_tool_core.specs.declared.generated.shapes.Shape.{Shape}
 use Rattle.odht_tool_core.specs.declared.shapes.Part.TheVariants.{Bytes}
-use Rattle.odht_tool_core.specs.declared.shapes.ready.Shape.TheVariants.{U32ToU32, DirectU32ToU32, U64ToU32, U64ToU64, U64Set, Bytes8ToU32, Bytes8ToU64, Bytes16ToU32, Bytes16ToU64, Bytes20ToU64, Bytes32ToU64, Bytes16ToBytes16, Bytes32ToBytes32, Bytes8Set, Bytes16Set, Bytes20Set, Bytes32Set}
+use Rattle.odht_tool_core.specs.declared.generated.shapes.Shape.TheVariants.{U64ToU32}
 use Rattle.odht_tool_core.specs.declared.shapes.Hash.{Hash}
 use Rattle.odht_tool_core.proofs.DynSlots.{all_agree}
 use Rattle.odht.specs.Files.{table_place}
@@ -253,6 +255,42 @@ started_long B start is long = omega (arith, long, length-bytes_at B start.at st
 pub counted : (B : List ℕ) (start : Start) → IsStartOf B start → 32 ≤ start.len → header_count start.header ≡ header_count (bytes_at B start.at start.len)
 counted B start is long = ap header_count (started B start is long) ∙ ap num (bytes_at-bytes_at (bytes_at B start.at start.len) 0 32 8 8 8 (omega arith) refl)
 
+-- and opens where its header has no error
+pub start_opens : (B : List ℕ) (start : Start) → IsStartOf B start → 32 ≤ start.len
+    → header_refusal (format_of (slice_index start.header 5) (slice_index start.header 6) (λ b. 0)) start.len start.header ≡ None
+    → info_refusal (bytes_at B start.at start.len) ≡ None
+start_opens B start is long e =
+    let T = bytes_at B start.at start.len in
+    let H = start.header in
+    let same = started B start is long in
+    let h = IsHeader-header_refusal _ start.len H e in
+    let byte : (i : ℕ) → i < 32 → slice_index H i ≡ slice_index T i = field T H (started_long B start is long) same in
+    let cut : (at n : ℕ) → at + n ≤ 32 → bytes_at H at n ≡ bytes_at T at n = part T H (started_long B start is long) same in
+    opening_refusal-IsOpening _ T (record {
+      long = started_long B start is long;
+      header = record {
+        tag_is = sym (cut 0 4 (omega arith)) ∙ h.tag_is;
+        version_is = sym (cut 24 4 (omega arith)) ∙ h.version_is;
+        metadata_is = sym (byte 4 (omega arith)) ∙ h.metadata_is;
+        key_len_is = refl;
+        value_len_is = refl;
+        header_len_is = sym (byte 7 (omega arith)) ∙ h.header_len_is;
+        slots = subst IsSlotCount (ap num (cut 16 8 (omega arith))) h.slots;
+        length_is = length-bytes_at B start.at start.len is.held ∙ h.length_is
+            ∙ (λ i. image_len (format_of (byte 5 (omega arith) i) (byte 6 (omega arith) i) (λ b. 0)) (num (cut 16 8 (omega arith) i)));
+      };
+    })
+
+-- what is left of bytes that were read are those from a later offset on
+pub left_of : (B xs : List ℕ) (at skipped offset : ℕ) → xs ≡ bytes_at B at (length xs) → skipped ≤ length xs → at + skipped ≡ offset
+    → take (length xs - skipped) (drop skipped xs) ≡ bytes_at B offset (length (take (length xs - skipped) (drop skipped xs)))
+left_of B xs at skipped offset read within e =
+    let n = length xs - skipped in
+    let long : length (take n (drop skipped xs)) ≡ n = length-take-le n (drop skipped xs) (omega (arith, length-drop skipped xs)) in
+    sym (bytes_at-take xs skipped n) ∙ ap (λ t. bytes_at t skipped n) read
+    ∙ bytes_at-bytes_at B at (length xs) skipped n offset (omega (arith, within)) e
+    ∙ ap (bytes_at B offset) (sym long)
+
 -- where it counts no items, no hash function is to be named
 pub counted_none : (B : List ℕ) (start : Start) → IsStartOf B start → 32 ≤ start.len → header_count start.header ≡ 0 → header_count (bytes_at B start.at start.len) ≡ 0
 counted_none B start is long e = sym (counted B start is long) ∙ e
@@ -399,23 +437,7 @@ module _ (T : List ℕ) (k v : ℕ) (g : Hash) (f : IsFormat (format_of k v (has
 
 -- ready shapes have keys that are long enough
 pub ready_long : (s : Shape) → least_key_len (shape_hash s) ≤ typed_len (key_part s)
-ready_long U32ToU32 = omega arith
-ready_long DirectU32ToU32 = omega arith
-ready_long U64ToU32 = omega arith
-ready_long U64ToU64 = omega arith
-ready_long U64Set = omega arith
-ready_long Bytes8ToU32 = omega arith
-ready_long Bytes8ToU64 = omega arith
-ready_long Bytes16ToU32 = omega arith
-ready_long Bytes16ToU64 = omega arith
-ready_long Bytes20ToU64 = omega arith
-ready_long Bytes32ToU64 = omega arith
-ready_long Bytes16ToBytes16 = omega arith
-ready_long Bytes32ToBytes32 = omega arith
-ready_long Bytes8Set = omega arith
-ready_long Bytes16Set = omega arith
-ready_long Bytes20Set = omega arith
-ready_long Bytes32Set = omega arith
+ready_long s = grind arith
 
 -- and so are the words
 pub valid_words : (T : List ℕ) (s : AnyShape) → IsTableIn T s → (h : Option Hash) (ks : Kinds) (j : Bool) (ws : List (List ℕ)) (old new : Option (List ℕ)) (r : Result (Option Status) Failure)

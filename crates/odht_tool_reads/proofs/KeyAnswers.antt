@@ -1,5 +1,5 @@
 -- Keys and their answers.
-use Rattle.std.proofs.Common.{◌≡◌, ◌∙◌, List, [], ◌∷◌, ◌++◌, ℕ, zero, suc, ◌+◌, Option, Some, Bool, ◌<◌, length, slice_get, take, get_or, ap, sym, subst, refl, arith}
+use Rattle.std.proofs.Common.{◌≡◌, ◌∙◌, List, [], ◌∷◌, ◌++◌, ℕ, zero, suc, ◌+◌, Option, Some, Bool, ◌<◌, ◌≤◌, length, slice_get, take, get_or, ap, sym, subst, refl, arith}
 use Rattle.std.specs.Prelude.{IfSome}
 use Rattle.std.proofs.KnownBytes.{Appends-nil}
 use Rattle.std.proofs.lemmas.List.{take_more}
@@ -7,7 +7,7 @@ use Rattle.odht.specs.Gets.{IsGet}
 use Rattle.odht_header.specs.Coding.{Coding, HasStored}
 use Rattle.odht_tool_core.specs.declared.misread.Wanted.{Wanted}
 use Rattle.odht_tool_core.specs.declared.failure.Failure.{Failure}
-use Rattle.odht_tool_core.specs.declared.failure.Failure.TheVariants.{Input, Misread}
+use Rattle.odht_tool_core.specs.declared.failure.Failure.TheVariants.{Input, Memory, Misread, Output}
 use Rattle.odht_tool_reads.specs.GetParts.{IsFlushed, IsKeysFailure, IsLineFailure, IsNextNone}
 use Rattle.odht_tool_reads.specs.Gets.{AreAnswers}
 use Rattle.odht_tool_reads.proofs.AnswerLists.{are_answers_append}
@@ -18,9 +18,9 @@ pub no_answers : {K V : Type 0} (c : Coding K V) (B : List ℕ) → AreAnswers c
 no_answers c B = record { each = refl; on_valid = λ P is. refl; on_any = λ i k v p q. cc }
 
 -- of no batch none is answered
-pub nothing_flushed : {K V : Type 0} (c : Coding K V) (l : K × Option V → List ℕ) (B : List ℕ) (ks : List K) (old : Option (List ℕ)) (all : Bool) → length ks < BATCH → IsFlushed c l B ks ks old old all all
-nothing_flushed c l B ks old all few =
-    record { done = []; left = refl; few = λ _. refl; full = λ m. absurd (omega (arith, few, m)); values = []; answers = no_answers c B; written = Appends-nil old; found = refl }
+pub nothing_flushed : {K V : Type 0} (c : Coding K V) (l : K × Option V → List ℕ) (B : List ℕ) (due : Bool) (ks : List K) (old : Option (List ℕ)) (all : Bool) → length ks < BATCH → IsFlushed c l B due ks ks old old all all
+nothing_flushed c l B due ks old all few =
+    record { done = []; left = refl; few = λ _ _. refl; full = λ m. absurd (omega (arith, few, m)); values = []; answers = no_answers c B; written = Appends-nil old; found = refl }
 
 -- of one key there is one
 stored_one : {K V : Type 0} (c : Coding K V) (B : List ℕ) (k : K) (o : Option V) → IfSome o (λ v. HasStored c B k v)
@@ -44,6 +44,12 @@ pub answers_more : {K V : Type 0} (c : Coding K V) (B : List ℕ) (ks : List K) 
 answers_more c B ks i k vs o within is h one =
     subst (λ xs. AreAnswers c B xs (vs ++ (o ∷ []))) (sym (take_more ks i k within ∙ ap (λ x. take i ks ++ (x ∷ [])) (sym is)))
     (are_answers_append c B (take i ks) (k ∷ []) vs (o ∷ []) h (one_answer c B k o one))
+
+-- a failure of so many keys
+pub full_failure : {K : Type 0} (n : ℕ) (ks : List K) (old new : Option (List ℕ)) (f : Failure) → n ≤ length ks → IsKeysFailure 1 ks old new f → IsKeysFailure n ks old new f
+full_failure n ks old new Memory most k = k
+full_failure n ks old new (Output error) most k = most
+full_failure n ks old new _ most k = absurd k
 
 -- a failure of the keys before a line that is no key is one of this line
 pub key_failed : {K V : Type 0} (c : Coding K V) (l : K × Option V → List ℕ) (R : List ℕ → K → Type 0) (p : Wanted) (B : List ℕ) (ks : List K) (n : ℕ) (bytes old new : Option (List ℕ)) (f : Failure)

@@ -1,5 +1,5 @@
 -- The lines that a loop has taken of an input, and the answers that it has written.
-use Rattle.std.proofs.Common.{◌≡◌, ◌∙◌, ◌⊎◌, inl, inr, ℕ, ◌+◌, ◌-◌, ◌*◌, ◌^◌, ◌<◌, ◌≤◌, Bool, true, ◌&&◌, List, [], ◌∷◌, ◌++◌, Option, Some, None, IfSome, length, take, is_some, sym, ap, refl, subst, arith, length-append, take_all}
+use Rattle.std.proofs.Common.{◌≡◌, ◌∙◌, ◌⊎◌, inl, inr, ℕ, ◌+◌, ◌-◌, ◌*◌, ◌^◌, ◌<◌, ◌≤◌, Bool, true, false, ◌&&◌, List, [], ◌∷◌, ◌++◌, Option, Some, None, IfSome, length, take, is_some, sym, ap, refl, subst, arith, length-append, take_all}
 use Rattle.std.specs.Prelude.{Err, string_bytes}
 use Rattle.std.specs.Io.KnownBytes.{Appends, Keeps, IsAtEnd}
 use Rattle.std.specs.List.{AllZip, list_all}
@@ -13,6 +13,7 @@ use Rattle.odht_tool_reads.specs.GetLines.{lines_read, AreAllAnswered, AreFirstA
 use Rattle.odht_tool_reads.specs.GetParts.{AreKeysAnswered, AreFaultAnswered, IsKeysFailure, IsFlushed, IsLineFailure, IsNextNone}
 use Rattle.odht_tool_reads.specs.Gets.{AreAnswers, IsAnswered, answered_status}
 use Rattle.odht_tool_tables.specs.KeyTexts.{found_status}
+use Rattle.odht_tool_core.specs.Endings.{IsOutputFailure}
 use Rattle.odht_tool_core.specs.InputLines.{AreLeft}
 use Rattle.odht_tool_core.specs.Misreads.{misread_text}
 use Rattle.odht_tool_core.specs.Texts.{answers_by}
@@ -39,11 +40,12 @@ pub record AreRead {K : Type 0} (R : List ℕ → K → Type 0) (bytes : List �
   pub texts : AllZip R words keys
 
 -- the lines before the one of this number were read as keys, of which `pending` are the last, and the answers to all
--- before these, which are that many batches, were written; `all` says whether each of those has a value
-pub record AreTaken {K V : Type 0} (c : Coding K V) (l : K × Option V → List ℕ) (R : List ℕ → K → Type 0) (B : List ℕ) (input now old new : Option (List ℕ)) (number : ℕ) (pending : List K) (all : Bool) : Type 0 where
+-- before these, which are that many batches but where `live` holds, were written; `all` says whether each of those has
+-- a value
+pub record AreTaken {K V : Type 0} (c : Coding K V) (l : K × Option V → List ℕ) (R : List ℕ → K → Type 0) (B : List ℕ) (live : Bool) (input now old new : Option (List ℕ)) (number : ℕ) (pending : List K) (all : Bool) : Type 0 where
   pub done : List K
   pub batches : ℕ
-  pub whole : length done ≡ batches * BATCH
+  pub whole : live ≡ false → length done ≡ batches * BATCH
   pub values : List (Option V)
   pub answers : AreAnswers c B done values
   pub written : Appends old new (answers_by l done values)
@@ -55,12 +57,12 @@ pub batch_at_most : {K : Type 0} (keys more : List K) (key : K) → more ≡ key
 batch_at_most keys more key e few = omega (arith, ap length e ∙ length-append keys (key ∷ []), few)
 
 -- at first no line was
-pub none_taken : {K V : Type 0} (c : Coding K V) (l : K × Option V → List ℕ) (R : List ℕ → K → Type 0) (B : List ℕ) (input old : Option (List ℕ)) (pending : List K) → pending ≡ []
-    → AreTaken c l R B input input old old 1 pending true
-none_taken c l R B input old pending e = record {
+pub none_taken : {K V : Type 0} (c : Coding K V) (l : K × Option V → List ℕ) (R : List ℕ → K → Type 0) (B : List ℕ) (live : Bool) (input old : Option (List ℕ)) (pending : List K) → pending ≡ []
+    → AreTaken c l R B live input input old old 1 pending true
+none_taken c l R B live input old pending e = record {
   done = [];
   batches = 0;
-  whole = refl;
+  whole = λ _. refl;
   values = [];
   answers = no_answers c B;
   written = Appends-nil old;
@@ -72,10 +74,24 @@ none_taken c l R B input old pending e = record {
     at now None h = tt
     at now (Some bytes) h = record { words = []; rest = bytes; left = h; place = refl; counted = refl; texts = subst (AllZip R []) (sym e) tt }
 
-module _ {K V : Type 0} (c : Coding K V) (l : K × Option V → List ℕ) (R : List ℕ → K → Type 0) (B : List ℕ) (input now old new : Option (List ℕ)) where
+-- what keeps the writer as it is keeps that
+pub taken_kept : {K V : Type 0} (c : Coding K V) (l : K × Option V → List ℕ) (R : List ℕ → K → Type 0) (B : List ℕ) (live : Bool) (input now old new last : Option (List ℕ)) (number : ℕ) (pending : List K) (all : Bool)
+    → AreTaken c l R B live input now old new number pending all → Keeps new last → AreTaken c l R B live input now old last number pending all
+taken_kept c l R B live input now old new last number pending all h k = record {
+  done = h.done;
+  batches = h.batches;
+  whole = h.whole;
+  values = h.values;
+  answers = h.answers;
+  written = appended_kept old new last (answers_by l h.done h.values) h.written k;
+  found = h.found;
+  read = h.read;
+}
+
+module _ {K V : Type 0} (c : Coding K V) (l : K × Option V → List ℕ) (R : List ℕ → K → Type 0) (B : List ℕ) (live : Bool) (input now old new : Option (List ℕ)) where
   -- one line more is read as a key
-  pub one_taken : (number : ℕ) (pending : List K) (all : Bool) (then : Option (List ℕ)) (key : K) (more : List K) → AreTaken c l R B input now old new number pending all
-      → IsNextKey R now then (is_key key) → more ≡ pending ++ (key ∷ []) → AreTaken c l R B input then old new (number + 1) more all
+  pub one_taken : (number : ℕ) (pending : List K) (all : Bool) (then : Option (List ℕ)) (key : K) (more : List K) → AreTaken c l R B live input now old new number pending all
+      → IsNextKey R now then (is_key key) → more ≡ pending ++ (key ∷ []) → AreTaken c l R B live input then old new (number + 1) more all
   one_taken number pending all then key more h next e = record {
     done = h.done;
     batches = h.batches;
@@ -100,13 +116,13 @@ module _ {K V : Type 0} (c : Coding K V) (l : K × Option V → List ℕ) (R : L
                 (AllZip-one_more R r.words (h.done ++ pending) next.0 key r.texts next.2);
           }
 
-  module _ (number : ℕ) (pending : List K) (all : Bool) (last : Option (List ℕ)) (h : AreTaken c l R B input now old new number pending all) where
+  module _ (number : ℕ) (pending : List K) (all : Bool) (last : Option (List ℕ)) (h : AreTaken c l R B live input now old new number pending all) where
     -- of the last keys those of a batch are answered, if there are that many, and fewer are left
-    pub batch_answered : (after : List K) (every : Bool) → length pending ≤ BATCH → IsFlushed c l B pending after new last all every
-        → AreTaken c l R B input now old last number after every × (length after < BATCH)
-    batch_answered after every most s = elim (eq-or-lt_of_le most) [
-      | inl full ↦ (flushed (h.batches + 1) (omega (arith, h.whole, long, full, none full)), omega (arith, none full))
-      | inr few ↦ (flushed h.batches (omega (arith, h.whole, few_done few)), omega (arith, long, few, few_done few))
+    pub batch_answered : (after : List K) (due every : Bool) → length pending ≤ BATCH → (live ≡ false → due ≡ false) → IsFlushed c l B due pending after new last all every
+        → AreTaken c l R B live input now old last number after every × (length after < BATCH)
+    batch_answered after due every most quiet s = elim (eq-or-lt_of_le most) [
+      | inl full ↦ (flushed (h.batches + 1) (λ e. omega (arith, h.whole e, long, full, none full)), omega (arith, none full))
+      | inr few ↦ (flushed h.batches (λ e. omega (arith, h.whole e, few_done (quiet e) few)), omega (arith, long, few))
     ]
       where
         long : length pending ≡ length s.done + length after
@@ -115,14 +131,14 @@ module _ {K V : Type 0} (c : Coding K V) (l : K × Option V → List ℕ) (R : L
         none : length pending ≡ BATCH → length after ≡ 0
         none full = ap length (s.full (omega (arith, full)))
 
-        few_done : length pending < BATCH → length s.done ≡ 0
-        few_done few = ap length (s.few few)
+        few_done : due ≡ false → length pending < BATCH → length s.done ≡ 0
+        few_done e few = ap length (s.few e few)
 
-        flushed : (batches : ℕ) → length h.done + length s.done ≡ batches * BATCH → AreTaken c l R B input now old last number after every
+        flushed : (batches : ℕ) → (live ≡ false → length h.done + length s.done ≡ batches * BATCH) → AreTaken c l R B live input now old last number after every
         flushed batches whole = record {
           done = h.done ++ s.done;
           batches = batches;
-          whole = length-append h.done s.done ∙ whole;
+          whole = λ e. length-append h.done s.done ∙ whole e;
           values = h.values ++ s.values;
           answers = are_answers_append c B h.done s.done h.values s.values h.answers s.answers;
           written = written_append l h.done s.done h.values s.values old new last h.answers.each h.written s.written;
@@ -198,16 +214,16 @@ module _ {K V : Type 0} (c : Coding K V) (l : K × Option V → List ℕ) (R : L
             }
 
     -- where no more is said, answers to some first lines were written
-    first_answered : Keeps new last → IfSome input (λ bytes. AreFirstAnswered c l R B (lines bytes) old last)
+    first_answered : Keeps new last → IfSome input (λ bytes. AreFirstAnswered c l R B live (lines bytes) old last)
     first_answered k = if_some input _ _ (λ bytes r. some bytes r (front_of R r.words h.done pending r.texts)) h.read
       where
-        some : (bytes : List ℕ) (r : AreRead R bytes now number (h.done ++ pending)) → IsFront R r.words h.done → AreFirstAnswered c l R B (lines bytes) old last
+        some : (bytes : List ℕ) (r : AreRead R bytes now number (h.done ++ pending)) → IsFront R r.words h.done → AreFirstAnswered c l R B live (lines bytes) old last
         some bytes r w = record {
           before = w.before;
           after = w.after ++ lines r.rest;
           place = r.place ∙ ap (λ ws. ws ++ lines r.rest) w.place ∙ append_assoc w.before w.after (lines r.rest);
           batches = h.batches;
-          counted = AllZip-length R w.before h.done w.texts ∙ h.whole;
+          counted = λ e. AllZip-length R w.before h.done w.texts ∙ h.whole e;
           status = answered_status h.values;
           answered = record {
             keys = h.done;
@@ -220,11 +236,11 @@ module _ {K V : Type 0} (c : Coding K V) (l : K × Option V → List ℕ) (R : L
         }
 
     -- where the writer failed the answers to the keys that are left were to be written
-    first_asked : 1 ≤ length pending → length pending ≤ BATCH → ((bytes : List ℕ) (r : AreRead R bytes now number (h.done ++ pending)) → length pending < BATCH → AreKeysEnded R (lines r.rest) (length r.words))
-        → IfSome input (λ bytes. AreFirstAsked R (lines bytes))
+    first_asked : 1 ≤ length pending → length pending ≤ BATCH → ((bytes : List ℕ) (r : AreRead R bytes now number (h.done ++ pending)) → live ≡ false → length pending < BATCH → AreKeysEnded R (lines r.rest) (length r.words))
+        → IfSome input (λ bytes. AreFirstAsked R live (lines bytes))
     first_asked few most end = if_some input _ _ (λ bytes r. asked bytes r (front_of R r.words h.done pending r.texts)) h.read
       where
-        asked : (bytes : List ℕ) (r : AreRead R bytes now number (h.done ++ pending)) → IsFront R r.words h.done → AreFirstAsked R (lines bytes)
+        asked : (bytes : List ℕ) (r : AreRead R bytes now number (h.done ++ pending)) → IsFront R r.words h.done → AreFirstAsked R live (lines bytes)
         asked bytes r w =
             let front : length w.before ≡ length h.done = AllZip-length R w.before h.done w.texts in
             let all : length r.words ≡ length (h.done ++ pending) = AllZip-length R r.words (h.done ++ pending) r.texts in
@@ -235,19 +251,25 @@ module _ {K V : Type 0} (c : Coding K V) (l : K × Option V → List ℕ) (R : L
               after = lines r.rest;
               place = r.place ∙ ap (λ ws. ws ++ lines r.rest) w.place ∙ append_assoc w.before w.after (lines r.rest);
               batches = h.batches;
-              counted = front ∙ h.whole;
+              counted = λ e. front ∙ h.whole e;
               some = omega (arith, count, few);
               most = omega (arith, count, most);
               keys = h.done ++ pending;
               texts = subst (λ ws. AllZip R ws (h.done ++ pending)) w.place r.texts;
-              ended = λ less. subst (λ ws. AreKeysEnded R (lines r.rest) (length ws)) w.place (end bytes r (omega (arith, count, less)));
+              ended = λ e less. subst (λ ws. AreKeysEnded R (lines r.rest) (length ws)) w.place (end bytes r e (omega (arith, count, less)));
             }
 
-    -- where the keys that are left are a batch, so with a failure of them
-    pub batch_failed : (p : Wanted) (failure : Failure) → length pending ≤ BATCH → IsKeysFailure BATCH pending new last failure → AreLinesAnswered c l R p B input old last (Err failure)
-    batch_failed p Memory most k = first_answered k
-    batch_failed p (Output error) most k = first_asked (omega (arith, k)) most (λ bytes r less. absurd (omega (arith, k, less)))
-    batch_failed p _ most k = absurd k
+    -- where the keys that are left are a batch, or `live` holds, so with a failure of them
+    pub batch_failed : (p : Wanted) (failure : Failure) → length pending ≤ BATCH → IsKeysFailure 1 pending new last failure → (live ≡ false → IsKeysFailure BATCH pending new last failure)
+        → AreLinesAnswered c l R p B live input old last (Err failure)
+    batch_failed p Memory most k full = first_answered k
+    batch_failed p (Output error) most k full = first_asked k most (λ bytes r e less. absurd (omega (arith, full e, less)))
+    batch_failed p _ most k full = absurd k
+
+    -- and where what was written of them cannot be written out
+    pub write_failed : (p : Wanted) (failure : Failure) → 1 ≤ length pending → length pending ≤ BATCH → IsOutputFailure failure → (live ≡ false → ⊥) → AreLinesAnswered c l R p B live input old last (Err failure)
+    write_failed p (Output error) some most k loud = first_asked some most (λ bytes r e less. absurd (loud e))
+    write_failed p _ some most k loud = absurd k
 
     -- and where they are the last
     none_left : (bytes : List ℕ) (r : AreRead R bytes now number (h.done ++ pending)) → ((IsAtEnd now ⊎ IsLeftOut R now) × (number ≤ 2 ^ 64 - 1)) ⊎ (number ≡ 2 ^ 64 - 1) → AreKeysEnded R (lines r.rest) (length r.words)
@@ -262,9 +284,9 @@ module _ {K V : Type 0} (c : Coding K V) (l : K × Option V → List ℕ) (R : L
         past (w ∷ ws) = inr (sym (limit r.counted e))
 
     pub last_failed : (p : Wanted) (failure : Failure) → length pending < BATCH → ((IsAtEnd now ⊎ IsLeftOut R now) × (number ≤ 2 ^ 64 - 1)) ⊎ (number ≡ 2 ^ 64 - 1) → IsKeysFailure 1 pending new last failure
-        → AreLinesAnswered c l R p B input old last (Err failure)
+        → AreLinesAnswered c l R p B live input old last (Err failure)
     last_failed p Memory less end k = first_answered k
-    last_failed p (Output error) less end k = first_asked k (omega (arith, less)) (λ bytes r few. none_left bytes r end)
+    last_failed p (Output error) less end k = first_asked k (omega (arith, less)) (λ bytes r e few. none_left bytes r end)
     last_failed p _ less end k = absurd k
 
     -- and with one of the next line
@@ -273,9 +295,9 @@ module _ {K V : Type 0} (c : Coding K V) (l : K × Option V → List ℕ) (R : L
         let n = next_of now a.then r.rest a.line r.left a.next in
         subst (λ ls. AreKeysEnded R ls (length r.words)) (sym n.2) (inl a.fault)
 
-    pub line_failed : (p : Wanted) (failure : Failure) → length pending < BATCH → IsLineFailure c l R p B pending number now new last failure → AreLinesAnswered c l R p B input old last (Err failure)
+    pub line_failed : (p : Wanted) (failure : Failure) → length pending < BATCH → IsLineFailure c l R p B pending number now new last failure → AreLinesAnswered c l R p B live input old last (Err failure)
     line_failed p (Misread message) less k = line_fault p (string_bytes message) k
     line_failed p (Input error) less k = first_answered k
     line_failed p Memory less k = first_answered k.1
-    line_failed p (Output error) less k = first_asked k.1 (omega (arith, less)) (λ bytes r few. fault_left k.0 bytes r)
+    line_failed p (Output error) less k = first_asked k.1 (omega (arith, less)) (λ bytes r e few. fault_left k.0 bytes r)
     line_failed p _ less k = absurd k.1

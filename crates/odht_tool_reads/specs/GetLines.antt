@@ -1,29 +1,31 @@
 -- What `get -` does with the bytes B of a file and the lines of an input. R says which line is a text of which key.
 --     lines_read ws        those of the lines ws of an input that are read: all, unless there are 2^64 - 1 or more
---     AreFirstAnswered c l R B ws old new     the answers to some first lines of ws, as many as some batches have and all
---                          of them texts of keys, were written, which took the writer from the bytes old to new; l is the
---                          line of a key and its value
+--     AreFirstAnswered c l R B live ws old new    the answers to some first lines of ws, all of them texts of keys, were
+--                          written, which took the writer from the bytes old to new; l is the line of a key and its value.
+--                          They are as many as some batches have, but where `live` holds
 --     IsLineFault c l R p B ws t old new      one of the lines ws is the first that is a text of no key, where p is wanted,
 --                          and no empty last one; the text t tells it with its number, counted from 1, and the answers to
 --                          those before it were written
 --     AreKeysEnded R ws n  where no more of the lines ws are keys after those before them, which are n: none is left, or the
 --                          next one is a text of no key, or n lines are all that are read
---     AreFirstAsked R ws   some first lines of ws are texts of keys: as many as some batches have, and then one or more, of
---                          which the answers were to be written: a batch, or fewer where the lines of keys end
+--     AreFirstAsked R live ws     some first lines of ws are texts of keys, and of the last of them, one or more, the
+--                          answers were to be written. But where `live` holds those before are as many as some batches
+--                          have, and these are a batch, or fewer where the lines of keys end
 --     AreAllAnswered c l R B bytes old new status the answers to the lines of an input with these bytes were written,
 --                          but for an empty last one that is a text of no key
---     AreLinesAnswered c l R p B input old new r  what is returned, r, and written once the table is opened, where the
---                          input has these bytes, which may be known. Where the writer failed some answers were to be
---                          written; how much of them it then has no call of it tells
---     AreLinesGot c l R p B input old new r   the same of opening too
---     lines_of_shape fs j B input old new r s the same of bytes of the shape s in the forms fs of keys and of values, with j
---                          as objects of JSON
---     lines_of_other fs j B input old new r o the same of bytes of the shape o, which is no ready one
---     lines_of_any fs j B input old new r s   the same of any shape
---     AreFileLinesGot B h ks j input old new r    the same of the bytes of a file, where the hash function h, or none, is
+--     AreLinesAnswered c l R p B live input old new r     what is returned, r, and written once the table is opened, where
+--                          the input has these bytes, which may be known, and lines are answered as they come where `live`
+--                          holds. Where the writer failed some answers were to be written; how much of them it then has
+--                          no call of it tells
+--     AreLinesGot c l R p B live input old new r  the same of opening too
+--     lines_of_shape fs j live B input old new r s    the same of bytes of the shape s in the forms fs of keys and of values,
+--                          with j as objects of JSON
+--     lines_of_other fs j live B input old new r o    the same of bytes of the shape o, which is no ready one
+--     lines_of_any fs j live B input old new r s  the same of any shape
+--     AreFileLinesGot B h ks j live input old new r   the same of the bytes of a file, where the hash function h, or none, is
 --                          named, and ks is said of keys and values
 -- Nothing is said of answers where the bytes of the input are not known.
-use Rattle.std.specs.Prelude.{◌≡◌, ◌≢◌, ◌⊎◌, ℕ, ◌+◌, ◌-◌, ◌*◌, ◌^◌, ◌<◌, ◌≤◌, Bool, List, [], ◌∷◌, ◌++◌, length, take, Option, None, Some, IfSome, Result, Ok, Err, string_bytes}
+use Rattle.std.specs.Prelude.{◌≡◌, ◌≢◌, ◌⊎◌, ℕ, ◌+◌, ◌-◌, ◌*◌, ◌^◌, ◌<◌, ◌≤◌, Bool, false, List, [], ◌∷◌, ◌++◌, length, take, Option, None, Some, IfSome, Result, Ok, Err, string_bytes}
 use Rattle.std.specs.Io.KnownBytes.{Keeps}
 use Rattle.std.specs.List.{AllZip}
 use Rattle.std.specs.Str.Lines.{lines}
@@ -36,7 +38,7 @@ use Rattle.odht_tool_core.specs.Keys.{IsTextOfNone}
 use Rattle.odht_tool_core.specs.AnyShapes.{other_coding}
 use Rattle.odht_tool_core.specs.Misreads.{misread_text, typed_wanted}
 use Rattle.odht_tool_core.specs.ReadyShapes.{typed_text, shape_coding}
-use Rattle.odht_tool_core.specs.ShapeList.{key_part, value_part}
+use Rattle.odht_tool_core.specs.generated.ShapeList.{key_part, value_part}
 use Rattle.odht_tool_core.specs.Forms.{bytes_form}
 use Rattle.odht_tool_core.specs.DynTexts.{IsDynamicOf, dynamic_text, dynamic_wanted}
 use Rattle.odht_tool_reads.specs.declared.lookups.TheConstants.{BATCH}
@@ -51,7 +53,7 @@ use Rattle.odht_tool_core.specs.declared.forms.GivenForms.{GivenForms}
 use Rattle.odht_tool_core.specs.declared.forms.Kinds.{Kinds}
 use Rattle.odht_tool_core.specs.declared.misread.Wanted.{Wanted}
 use Rattle.odht_tool_core.specs.declared.shapes.Hash.{Hash}
-use Rattle.odht_tool_core.specs.declared.shapes.ready.Shape.{Shape}
+use Rattle.odht_tool_core.specs.declared.generated.shapes.Shape.{Shape}
 use Rattle.odht_tool_core.specs.declared.status.Status.{Status}
 
 abbrev pub lines_read : List (List ℕ) → List (List ℕ)
@@ -62,12 +64,12 @@ pub record AreAllAnswered {K V : Type 0} (c : Coding K V) (l : K × Option V →
   pub place : AreLinesOf R bytes words
   pub answered : IsAnswered c l R B (lines_read words) old new status
 
-pub record AreFirstAnswered {K V : Type 0} (c : Coding K V) (l : K × Option V → List ℕ) (R : List ℕ → K → Type 0) (B : List ℕ) (ws : List (List ℕ)) (old new : Option (List ℕ)) : Type 0 where
+pub record AreFirstAnswered {K V : Type 0} (c : Coding K V) (l : K × Option V → List ℕ) (R : List ℕ → K → Type 0) (B : List ℕ) (live : Bool) (ws : List (List ℕ)) (old new : Option (List ℕ)) : Type 0 where
   pub before : List (List ℕ)
   pub after : List (List ℕ)
   pub place : ws ≡ before ++ after
   pub batches : ℕ
-  pub counted : length before ≡ batches * BATCH
+  pub counted : live ≡ false → length before ≡ batches * BATCH
   pub status : Status
   pub answered : IsAnswered c l R B before old new status
 
@@ -86,26 +88,26 @@ abbrev pub AreKeysEnded : {K : Type 0} → (List ℕ → K → Type 0) → List 
 AreKeysEnded R [] n = Unit {0}
 AreKeysEnded R (w ∷ ws) n = IsTextOfNone R w ⊎ (n ≡ 2 ^ 64 - 2)
 
-pub record AreFirstAsked {K : Type 0} (R : List ℕ → K → Type 0) (ws : List (List ℕ)) : Type 0 where
+pub record AreFirstAsked {K : Type 0} (R : List ℕ → K → Type 0) (live : Bool) (ws : List (List ℕ)) : Type 0 where
   pub before : List (List ℕ)
   pub asked : List (List ℕ)
   pub after : List (List ℕ)
   pub place : ws ≡ before ++ (asked ++ after)
   pub batches : ℕ
-  pub counted : length before ≡ batches * BATCH
+  pub counted : live ≡ false → length before ≡ batches * BATCH
   pub some : 0 < length asked
   pub most : length asked ≤ BATCH
   pub keys : List K
   pub texts : AllZip R (before ++ asked) keys
-  pub ended : length asked < BATCH → AreKeysEnded R after (length (before ++ asked))
+  pub ended : live ≡ false → length asked < BATCH → AreKeysEnded R after (length (before ++ asked))
 
-module _ {K V : Type 0} (c : Coding K V) (l : K × Option V → List ℕ) (R : List ℕ → K → Type 0) (p : Wanted) (B : List ℕ) where
+module _ {K V : Type 0} (c : Coding K V) (l : K × Option V → List ℕ) (R : List ℕ → K → Type 0) (p : Wanted) (B : List ℕ) (live : Bool) where
   abbrev pub AreLinesAnswered : Option (List ℕ) → Option (List ℕ) → Option (List ℕ) → Result Status Failure → Type 0
   AreLinesAnswered input old new (Ok status) = IfSome input (λ bytes. AreAllAnswered c l R B bytes old new status)
   AreLinesAnswered input old new (Err (Misread message)) = IfSome input (λ bytes. IsLineFault c l R p B (lines bytes) (string_bytes message) old new)
-  AreLinesAnswered input old new (Err Memory) = IfSome input (λ bytes. AreFirstAnswered c l R B (lines bytes) old new)
-  AreLinesAnswered input old new (Err (Input error)) = IfSome input (λ bytes. AreFirstAnswered c l R B (lines bytes) old new)
-  AreLinesAnswered input old new (Err (Output error)) = IfSome input (λ bytes. AreFirstAsked R (lines bytes))
+  AreLinesAnswered input old new (Err Memory) = IfSome input (λ bytes. AreFirstAnswered c l R B live (lines bytes) old new)
+  AreLinesAnswered input old new (Err (Input error)) = IfSome input (λ bytes. AreFirstAnswered c l R B live (lines bytes) old new)
+  AreLinesAnswered input old new (Err (Output error)) = IfSome input (λ bytes. AreFirstAsked R live (lines bytes))
   AreLinesAnswered input old new (Err _) = ⊥
 
   abbrev pub AreLinesGot : Option (List ℕ) → Option (List ℕ) → Option (List ℕ) → Result Status Failure → Type 0
@@ -113,22 +115,22 @@ module _ {K V : Type 0} (c : Coding K V) (l : K × Option V → List ℕ) (R : L
   AreLinesGot input old new r = (view_refusal c.format B ≡ None) × AreLinesAnswered input old new r
 
 -- ---- of a file
-abbrev pub lines_of_shape : Form × Form → Bool → List ℕ → Option (List ℕ) → Option (List ℕ) → Option (List ℕ) → Result Status Failure → Shape → Type 0
-lines_of_shape fs j B input old new r s =
+abbrev pub lines_of_shape : Form × Form → Bool → Bool → List ℕ → Option (List ℕ) → Option (List ℕ) → Option (List ℕ) → Result Status Failure → Shape → Type 0
+lines_of_shape fs j live B input old new r s =
     let k = key_part s in
-    AreLinesGot (shape_coding s) (answer_in j (typed_text fs.0 k) (typed_text fs.1 (value_part s))) (IsTextOf fs.0 k) (typed_wanted fs.0 k) B input old new r
+    AreLinesGot (shape_coding s) (answer_in j (typed_text fs.0 k) (typed_text fs.1 (value_part s))) (IsTextOf fs.0 k) (typed_wanted fs.0 k) B live input old new r
 
-abbrev pub lines_of_other : Form × Form → Bool → List ℕ → Option (List ℕ) → Option (List ℕ) → Option (List ℕ) → Result Status Failure → OtherShape → Type 0
-lines_of_other fs j B input old new r o =
+abbrev pub lines_of_other : Form × Form → Bool → Bool → List ℕ → Option (List ℕ) → Option (List ℕ) → Option (List ℕ) → Result Status Failure → OtherShape → Type 0
+lines_of_other fs j live B input old new r o =
     let k = bytes_form fs.0 o.key in
-    AreLinesGot (other_coding o) (answer_in j (dynamic_text k) (dynamic_text (bytes_form fs.1 o.value))) (IsDynamicOf k) (dynamic_wanted k) B input old new r
+    AreLinesGot (other_coding o) (answer_in j (dynamic_text k) (dynamic_text (bytes_form fs.1 o.value))) (IsDynamicOf k) (dynamic_wanted k) B live input old new r
 
-abbrev pub lines_of_any : Form × Form → Bool → List ℕ → Option (List ℕ) → Option (List ℕ) → Option (List ℕ) → Result Status Failure → AnyShape → Type 0
-lines_of_any fs j B input old new r (Ready s) = lines_of_shape fs j B input old new r s
-lines_of_any fs j B input old new r (Other o) = lines_of_other fs j B input old new r o
+abbrev pub lines_of_any : Form × Form → Bool → Bool → List ℕ → Option (List ℕ) → Option (List ℕ) → Option (List ℕ) → Result Status Failure → AnyShape → Type 0
+lines_of_any fs j live B input old new r (Ready s) = lines_of_shape fs j live B input old new r s
+lines_of_any fs j live B input old new r (Other o) = lines_of_other fs j live B input old new r o
 
-abbrev pub lines_of_forms : Bool → List ℕ → Option (List ℕ) → Option (List ℕ) → Option (List ℕ) → Result Status Failure → AnyShape × GivenForms → Type 0
-lines_of_forms j B input old new r x = lines_of_any (x.1.key, x.1.value) j B input old new r x.0
+abbrev pub lines_of_forms : Bool → Bool → List ℕ → Option (List ℕ) → Option (List ℕ) → Option (List ℕ) → Result Status Failure → AnyShape × GivenForms → Type 0
+lines_of_forms j live B input old new r x = lines_of_any (x.1.key, x.1.value) j live B input old new r x.0
 
-abbrev pub AreFileLinesGot : List ℕ → Option Hash → Kinds → Bool → Option (List ℕ) → Option (List ℕ) → Option (List ℕ) → Result Status Failure → Type 0
-AreFileLinesGot B h ks j input old new r = by_shape B h ks old new r (lines_of_forms j B input old new r)
+abbrev pub AreFileLinesGot : List ℕ → Option Hash → Kinds → Bool → Bool → Option (List ℕ) → Option (List ℕ) → Option (List ℕ) → Result Status Failure → Type 0
+AreFileLinesGot B h ks j live input old new r = by_shape B h ks old new r (lines_of_forms j live B input old new r)

@@ -3,9 +3,9 @@
 --                          bytes old to new, and `all` says whether each has a value; l is the line of a key and its value
 --     IsKeysFailure n ks old new f     no memory, and nothing was written; or the writer failed, when the answers to the keys ks
 --                          were to be written, which are at least n
---     IsFlushed c l B before after old new was all   of the keys `before` those that are not left in `after` were
---                          answered: all where they are a batch, and else none; `all` says whether each has a value, and
---                          `was` holds
+--     IsFlushed c l B due before after old new was all   of the keys `before` those that are not left in `after` were
+--                          answered: all where they are a batch, and else none, unless `due` holds; `all` says whether each
+--                          has a value, and `was` holds
 --     IsReadKey R o o' k   k is the key of the next line of the bytes o, and o' are those after it; or there is no line, or
 --                          an empty last one that is a text of no key
 --     AreFaultAnswered c l R p B ks n o old new t   the next line of the bytes o, which is line n, is a text of no key,
@@ -16,7 +16,7 @@
 --                          nothing was written. Only where the next line is a text of no key is there no memory, and nothing
 --                          was written then; or the writer failed, when the answers to the keys ks, which are some, were to be
 --                          written
-use Rattle.std.specs.Prelude.{◌≡◌, ℕ, ◌<◌, ◌≤◌, Bool, ◌&&◌, List, [], ◌++◌, length, is_some, Option, Some, None, string_bytes}
+use Rattle.std.specs.Prelude.{◌≡◌, ℕ, ◌<◌, ◌≤◌, Bool, false, ◌&&◌, List, [], ◌++◌, length, is_some, Option, Some, None, string_bytes}
 use Rattle.std.specs.Io.KnownBytes.{Appends, Keeps}
 use Rattle.std.specs.List.{list_all}
 use Rattle.odht_header.specs.Coding.{Coding}
@@ -43,10 +43,10 @@ IsKeysFailure least ks old new Memory = Keeps old new
 IsKeysFailure least ks old new (Output error) = least ≤ length ks
 IsKeysFailure least ks old new _ = ⊥
 
-pub record IsFlushed {K V : Type 0} (c : Coding K V) (l : K × Option V → List ℕ) (B : List ℕ) (before after : List K) (old new : Option (List ℕ)) (was all : Bool) : Type 0 where
+pub record IsFlushed {K V : Type 0} (c : Coding K V) (l : K × Option V → List ℕ) (B : List ℕ) (due : Bool) (before after : List K) (old new : Option (List ℕ)) (was all : Bool) : Type 0 where
   pub done : List K
   pub left : before ≡ done ++ after
-  pub few : length before < BATCH → done ≡ []
+  pub few : due ≡ false → length before < BATCH → done ≡ []
   pub full : BATCH ≤ length before → after ≡ []
   pub values : List (Option V)
   pub answers : AreAnswers c B done values

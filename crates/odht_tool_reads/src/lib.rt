@@ -3,6 +3,6 @@
 
 pub mod commands;
 mod dynamic;
-mod lookups;
+mod generated;
+pub mod lookups;
 pub mod positions;
-mod shapes;

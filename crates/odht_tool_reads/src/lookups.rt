@@ -1,7 +1,9 @@
 //! Keys that are looked up in a table, and what is written of them: those of lines, a batch at a
 //! time, and of the words of a command line.
-ghost use Rattle.std.specs.Prelude.{◌≡◌, Ok, Some, None, [], ◌∷◌, ◌++◌, IfOk, IfErr, OnOk};
+ghost use Rattle.std.specs.Prelude.{◌≡◌, ◌<◌, ◌≤◌, false, Ok, Some, None, IfOk, IfErr, IsFalse, IsOk, IsTrue, OnOk};
 ghost use Rattle.std.specs.Prelude.{string_bytes};
+ghost use Rattle.std.specs.Io.KnownBytes.{Keeps};
+ghost use Rattle.odht_tool_core.specs.Endings.{IsOutputFailure};
 ghost use Rattle.odht_tool_core.specs.JsonAnswers.{answer_in};
 ghost use Rattle.odht_tool_core.specs.Keys.{IsReadAs, IsNextKey, IsNoKeyLine};
 ghost use Rattle.odht_tool_core.specs.Misreads.{misread_text};
@@ -21,11 +23,24 @@ use odht_tool_core::text::Text;
 use std::alloc::{AllocError, Global};
 use std::io::{self, BufRead, Write};
 
+pub mod arriving;
 mod tables;
 pub mod words;
 
+use arriving::Arriving;
+
 /// How many keys are looked up at once.
 const BATCH: usize = 1024;
+
+/// How the keys of lines are answered.
+#[derive(Clone, Copy)]
+pub struct LineStyle<F: Forms> {
+    /// How they and their values are written.
+    pub answers: AnswerStyle<F>,
+    /// Whether the answers to the lines that have come are written out before the next line is
+    /// waited for.
+    pub is_live: bool,
+}
 
 /// A table in which keys are looked up that have texts, as its values have.
 pub trait Lookups {
@@ -52,44 +67,52 @@ pub trait Lookups {
             (λ values. AreAnswers (coding self.now) (bytes self.now) keys.now values.items) };
 }
 
-/// Looks up the keys of the lines, a batch at a time, and writes a line for each.
-pub fn answer_lines<T: Lookups, F: Forms, I: BufRead, O: Write>(
+/// Looks up the keys of the lines, a batch at a time, and writes a line for each. Where that is asked
+/// for, the lines that have come are answered before the next one is waited for.
+pub fn answer_lines<T: Lookups, F: Forms, I: BufRead + Arriving, O: Write>(
     alloc: Global,
     table: &T,
-    style: AnswerStyle<F>,
+    style: LineStyle<F>,
     input: &mut I,
     output: &mut O,
 ) -> Result<Status, Failure>
-    ensures { AreLinesAnswered (T.coding table.now)
-        (answer_in style.is_json (T.Key.text (F.pair style.forms).0)
-        (T.Value.text (F.pair style.forms).1))
-        (IsReadAs (T.Key.is_word (F.pair style.forms).0) (T.Key.stands_for (F.pair style.forms).0))
-        (T.Key.wants (F.pair style.forms).0) (T.bytes table.now) (I.remaining input.old)
+    ensures { let forms = F.pair style.answers.forms
+        in AreLinesAnswered (T.coding table.now)
+        (answer_in style.answers.is_json (T.Key.text forms.0) (T.Value.text forms.1))
+        (IsReadAs (T.Key.is_word forms.0) (T.Key.stands_for forms.0))
+        (T.Key.wants forms.0) (T.bytes table.now) style.is_live (I.remaining input.old)
         (O.contents output.old) (O.contents output.new) result }
 {
+    let answers = style.answers;
     let mut keys = Vec::new(alloc);
     let mut line = Vec::new(alloc);
     let mut is_all_found = true;
     for number in 1..u64::MAX {
+        let taken = keys.as_slice();
         let read = read_key(
-            alloc,
-            table,
-            number,
-            input,
-            &mut line,
-            keys.as_slice(),
-            style,
-            output,
+            alloc, table, number, input, &mut line, taken, answers, output,
         )?;
         match read {
             Some(key) => {
-                is_all_found = take_key(alloc, table, &mut keys, key, is_all_found, style, output)?;
+                push_key(&mut keys, key)?;
+                let is_live = is_due(style.is_live, input);
+                let due = LineStyle { answers, is_live };
+                is_all_found = answer_batch(alloc, table, &mut keys, is_all_found, due, output)?;
+                write_out(is_live, output)?;
             }
             None => break,
         }
     }
-    let is_last_found = answer_keys(alloc, table, keys.as_slice(), style, output)?;
+    let is_last_found = answer_keys(alloc, table, keys.as_slice(), answers, output)?;
     Ok(Status::of(is_last_found && is_all_found))
+}
+
+// Whether the lines that have come are to be answered.
+#[inline(always)]
+fn is_due<I: Arriving>(is_live: bool, input: &I) -> bool
+    ensures { is_live ≡ false → result ≡ false }
+{
+    is_live && input.is_waiting()
 }
 
 // Reads the key of the line of this number, if there is such a line. Where it is no key, the keys
@@ -163,53 +186,55 @@ fn wrong_line<K: Text, F: Forms>(
     misread.message(alloc)
 }
 
-// Adds a key, and answers all where they are a batch. Returns whether each was found, and those
-// before.
-fn take_key<T: Lookups, F: Forms, O: Write>(
-    alloc: Global,
-    table: &T,
-    keys: &mut Vec<T::Key>,
-    key: T::Key,
-    is_all_found: bool,
-    style: AnswerStyle<F>,
-    output: &mut O,
-) -> Result<bool, Failure>
-    ensures ok { IfOk result (IsFlushed (T.coding table.now)
-        (answer_in style.is_json (T.Key.text (F.pair style.forms).0)
-        (T.Value.text (F.pair style.forms).1))
-        (T.bytes table.now) (keys.old.items ++ key ∷ []) keys.new.items
-        (O.contents output.old) (O.contents output.new) is_all_found) }
-    ensures err { IfErr result (IsKeysFailure BATCH (keys.old.items ++ key ∷ [])
-        (O.contents output.old) (O.contents output.new)) }
-{
-    push_key(keys, key)?;
-    answer_batch(alloc, table, keys, is_all_found, style, output)
-}
-
-// Answers the keys where they are a batch, and drops them. Returns whether each was found, and
-// those before.
+// Answers the keys where they are a batch, and drops them; where `is_live` holds, fewer too. Returns
+// whether each was found, and those before.
 fn answer_batch<T: Lookups, F: Forms, O: Write>(
     alloc: Global,
     table: &T,
     keys: &mut Vec<T::Key>,
     is_all_found: bool,
-    style: AnswerStyle<F>,
+    style: LineStyle<F>,
     output: &mut O,
 ) -> Result<bool, Failure>
-    ensures ok { IfOk result (IsFlushed (T.coding table.now)
-        (answer_in style.is_json (T.Key.text (F.pair style.forms).0)
-        (T.Value.text (F.pair style.forms).1))
-        (T.bytes table.now) keys.old.items keys.new.items
+    ensures ok { let forms = F.pair style.answers.forms
+        in IfOk result (IsFlushed (T.coding table.now)
+        (answer_in style.answers.is_json (T.Key.text forms.0) (T.Value.text forms.1))
+        (T.bytes table.now) style.is_live keys.old.items keys.new.items
         (O.contents output.old) (O.contents output.new) is_all_found) }
-    ensures err { IfErr result (IsKeysFailure BATCH keys.old.items
+    ensures err { IfErr result (IsKeysFailure 1 keys.old.items
+        (O.contents output.old) (O.contents output.new)) }
+    ensures full { style.is_live ≡ false → IfErr result (IsKeysFailure BATCH keys.old.items
         (O.contents output.old) (O.contents output.new)) }
 {
-    if keys.len() < BATCH {
+    if is_few(keys.len(), style.is_live) {
         return Ok(is_all_found);
     }
-    let is_found = answer_keys(alloc, table, keys.as_slice(), style, output)?;
+    let is_found = answer_keys(alloc, table, keys.as_slice(), style.answers, output)?;
     keys.clear();
     Ok(is_found && is_all_found)
+}
+
+// Whether that many keys wait for more of a batch.
+#[inline(always)]
+fn is_few(count: usize, is_live: bool) -> bool
+    ensures few { IsTrue result → count < BATCH }
+    ensures quiet { IsTrue result → is_live ≡ false }
+    ensures full { is_live ≡ false → IsFalse result → BATCH ≤ count }
+{
+    count < BATCH && !is_live
+}
+
+// Writes out what the buffer of the output has, where that is due.
+#[inline(always)]
+fn write_out<O: Write>(is_due: bool, output: &mut O) -> Result<(), Failure>
+    ensures kept { Keeps (O.contents output.old) (O.contents output.new) }
+    ensures err { IfErr result IsOutputFailure }
+    ensures quiet { is_due ≡ false → IsOk result }
+{
+    if is_due {
+        output.flush().map_err(Failure::Output)?;
+    }
+    Ok(())
 }
 
 // Looks the keys up, and writes a line for each. Returns whether each was found.

@@ -1,6 +1,6 @@
-//! `odht get` of a regular file that is read by position: its header, some groups of slots until
-//! they tell the hash function, and what lookups read. Where that does not do, all bytes are read
-//! as for other commands.
+//! `odht get` and `odht count` of a regular file that is read by position: its header, and for
+//! `get` some groups of slots until they tell the hash function, and what lookups read. Where that
+//! does not do, all bytes are read as for other commands.
 ghost use Rattle.std.specs.Prelude.{◌≡◌, ◌+◌, ◌<◌, ◌≤◌, ◌^◌, ℕ, List, length, map, string_bytes};
 ghost use Rattle.std.specs.Prelude.{IfSome, unwrap_or};
 ghost use Rattle.odht_base.specs.Bytes.{bytes_at};
@@ -22,14 +22,21 @@ use std::io::Write;
 use std::os::unix::fs::FileExt;
 use std::rt::Files;
 
+mod counts;
 mod lookups;
 mod names;
+mod remembered;
 mod shaped;
 mod source;
 
+pub use counts::count_at;
 use names::named_or_left_hash;
+use remembered::Remembered;
 use shaped::words_of;
 pub use source::FileSource;
+
+/// How many bytes are read at first: the header, and in most tables the entries of sixteen slots.
+const FRONT: usize = 4096;
 
 /// A regular file as a source of bytes, and its length. None for any other file, for standard
 /// input, and where the file cannot be opened.
@@ -109,6 +116,46 @@ fn front_len(header: &[u8], found: usize) -> Option<usize>
 /// [`get_file_words`](crate::commands::get::get_file_words) writes of the table in this list, with
 /// the hash function that the first slots leave where none is named.
 pub fn get_words_at<S: ReadAt + Drop, O: Write>(
+    alloc: Global,
+    source: S,
+    len: usize,
+    offset: Option<usize>,
+    hash: Option<Hash>,
+    kinds: Kinds,
+    is_json: bool,
+    words: &[String],
+    output: &mut O,
+) -> Result<Option<Status>, Failure>
+    ensures named { (B : List ℕ) → S.gives source B → length B ≡ len → ByPosition
+        (O.contents output.old) (O.contents output.new)
+        (IsAnsweredBy (table_read B offset) hash kinds is_json (map string_bytes words.now)
+        (O.contents output.old) (O.contents output.new)) result }
+    ensures valid { (B : List ℕ) → S.gives source B → length B ≡ len → (s : AnyShape)
+        → IsTableIn (table_read B offset) s → ByPosition
+        (O.contents output.old) (O.contents output.new)
+        (AreFileWordsGot (table_read B offset) hash kinds is_json (map string_bytes words.now)
+        (O.contents output.old) (O.contents output.new)) result }
+{
+    let at = offset.unwrap_or(0);
+    let few = len.saturating_sub(at).min(FRONT);
+    let mut room = [0; FRONT];
+    let (front, _) = room.split_at_mut(few);
+    match read_exact_at(&source, at as u64, front) {
+        Ok(()) => {}
+        Err(_) => return Ok(None),
+    }
+    let source = Remembered {
+        source,
+        at: at as u64,
+        bytes: &*front,
+    };
+    get_words_in(
+        alloc, source, len, offset, hash, kinds, is_json, words, output,
+    )
+}
+
+// The same of a source of which the first bytes of the table are remembered.
+fn get_words_in<S: ReadAt + Drop, O: Write>(
     alloc: Global,
     source: S,
     len: usize,

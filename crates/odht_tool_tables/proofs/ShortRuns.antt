@@ -1,5 +1,5 @@
 -- Tables that are rebuilt in memory while their searches are short.
-use Rattle.std.proofs.Common.{◌≡◌, ◌∙◌, ◌+◌, ◌*◌, ℕ, true, false, List, ◌∷◌, Option, Some, None, Result, Ok, Err, length, drop, sym, ap, ap₂, refl, slice_index}
+use Rattle.std.proofs.Common.{◌≡◌, ◌∙◌, ◌+◌, ◌*◌, ℕ, true, false, List, ◌∷◌, Some, None, Result, Ok, Err, length, drop, sym, ap, ap₂, refl, slice_index}
 use Rattle.std.specs.Prelude.{is_err, option_and_then, nat_lt, map, if◌then◌else◌}
 use Rattle.std.specs.List.{range_with_len}
 use Rattle.std.specs.Option.{option_map_or}

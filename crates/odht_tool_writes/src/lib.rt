@@ -3,8 +3,8 @@
 
 pub mod commands;
 mod dynamic;
+mod generated;
 mod inserts;
 mod reports;
-mod shapes;
 mod starts;
 mod warnings;

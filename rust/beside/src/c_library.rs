@@ -47,7 +47,7 @@ pub trait Calls: Config {
     ) -> u32;
 }
 
-include!("../../../bindings/rust/src/shapes.rs");
+include!("../../../bindings/rust/src/generated/shapes.rs");
 
 // The type that a single key or value is passed as, and what is passed for a reference to one.
 macro_rules! passed {

@@ -237,7 +237,7 @@ mod with_the_library {
         }
     }
 
-    include!("../../../bindings/rust/src/shapes.rs");
+    include!("../../../bindings/rust/src/generated/shapes.rs");
 
     macro_rules! test {
         ($(

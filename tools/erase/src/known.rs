@@ -71,12 +71,12 @@ pub const NUMBERS: [&str; 6] = ["u8", "u16", "u32", "u64", "u128", "usize"];
 pub const SAME_METHODS: &str = "all as_mut_slice as_slice checked_add checked_mul copy_from_slice div_ceil fill \
     first_chunk first_chunk_mut get is_none is_ok is_power_of_two is_some iter last_chunk len max min next \
     next_power_of_two partition_point push rotate_left saturating_add saturating_mul saturating_sub simd_eq simd_ge \
-    sort_unstable split_at split_at_mut split_first_chunk to_bitmask to_le_bytes trailing_zeros unwrap_or wrapping_add \
-    wrapping_mul wrapping_sub";
+    sort_unstable split_at split_at_mut split_first_chunk then_some to_bitmask to_le_bytes trailing_zeros unwrap_or \
+    wrapping_add wrapping_mul wrapping_sub";
 
 /// The same, which programs alone call. Those of the system, its files and its clock are the host's.
 pub const METHODS_OF_PROGRAMS: &str =
-    "alloc and as_ref as_secs as_str checked_sub consume copied create_new dev duration_since fill_buf flush gid ino \
+    "alloc and as_ref as_secs as_str buffer checked_sub consume copied create_new dev duration_since fill_buf flush gid ino \
     into_inner into_iter into_string is_ascii_alphabetic is_ascii_hexdigit is_err is_file is_symlink is_terminal kind \
     map map_err metadata mode nlink ok ok_or or pop read_at read_exact read_link read_to_end remove rsplit_once set_permissions \
     simd_gt simd_lt skip split_once starts_with stderr stdin stdout strip_prefix swap_bytes sync_all take uid unwrap \

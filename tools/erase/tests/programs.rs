@@ -15,14 +15,8 @@ fn all_leave(pairs: &[(&str, &str)]) {
     }
 }
 
-// Each is an error on line 2.
 fn all_are_refused(sources: &[&str]) {
-    for source in sources {
-        match text_of_program("tool/main", &format!("// the first line\n{source}")) {
-            Ok(text) => panic!("{source}: not refused, but: {text}"),
-            Err(what) => assert!(what.starts_with("line 2: "), "{source}: {what}"),
-        }
-    }
+    common::all_are_refused(sources, |source| text_of_program("tool/main", source));
 }
 
 #[test]

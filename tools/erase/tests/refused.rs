@@ -4,14 +4,8 @@ mod common;
 
 use common::text;
 
-// Each is an error on line 2.
 fn all_are_refused(sources: &[&str]) {
-    for source in sources {
-        match text("high/lib", &format!("// the first line\n{source}")) {
-            Ok(text) => panic!("{source}: not refused, but: {text}"),
-            Err(what) => assert!(what.starts_with("line 2: "), "{source}: {what}"),
-        }
-    }
+    common::all_are_refused(sources, |source| text("high/lib", source));
 }
 
 #[test]

@@ -1,7 +1,7 @@
 """The cases of the program `odht` that are the same for each command: its help, and words that are not understood."""
 from command_list import MADE
 
-FILE = "tests/tool/commands.cases"
+FILE = "tests/tool/generated/commands.cases"
 HEAD = f"# What is the same for each command. {MADE}.\n"
 
 

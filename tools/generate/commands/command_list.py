@@ -12,7 +12,7 @@ USAGE_WIDTH = 73
 HELP = "--help"
 INDENT = "    "
 COMMAND = re.compile(
-    r"([a-z]+)( FILE(?:\.\.)?(?: [A-Z]+(?:\.\.)?)*)"
+    r"([a-z]+)( FILE(?:\.\.)?(?: [A-Z]+(?:\.\.)?)*)((?: \[[A-Z ]+\]\.\.)?)"
     r"((?: --[a-z-]+ [A-Z]+| \[--[a-z-]+(?: [^] ]+)?\])*)"
 )
 OPTION = re.compile(r"(--[a-z-]+)(?: +(\S.*))?")
@@ -32,9 +32,11 @@ class Option:
 
 @dataclasses.dataclass(frozen=True)
 class Command:
-    """A command: the words after its name, the options behind these as they are written, what it does, and its help."""
+    """A command: the words after its name, those that may be left out, the options behind these as they are written, what
+    it does, and its help."""
     name: str
     words: list[str]
+    optional: str
     written: list[str]
     options: list[Option]
     summary: str
@@ -58,7 +60,7 @@ class Command:
     @property
     def usage(self):
         """The lines of its words and options, as long as they may be."""
-        lines = [" ".join(["odht", self.name, *self.words])]
+        lines = [" ".join(["odht", self.name, *self.words]) + self.optional]
         indent = " " * len(f"{lines[0]} ")
         for it in self.written:
             if len(f"{lines[-1]} {it}") > USAGE_WIDTH:
@@ -70,12 +72,12 @@ class Command:
     @property
     def takes_words(self):
         """Whether words may come after the file."""
-        return self.words != ["FILE"]
+        return self.words != ["FILE"] or self.optional != ""
 
     @property
     def is_of_files(self):
         """Whether all its words are files."""
-        return self.words in (["FILE"], ["FILE.."])
+        return self.words in (["FILE"], ["FILE.."]) and not self.optional
 
     @property
     def is_reading(self):
@@ -117,7 +119,7 @@ def read_options(lines):
 def read_command(lines, options):
     """A command of its lines: its words and options, what it does, and its help."""
     found = COMMAND.fullmatch(lines[0]) or fail(f"this is no command: {lines[0]}")
-    name, words, rest = found.groups()
+    name, words, optional, rest = found.groups()
     if len(lines) < 3 or lines[1].startswith(INDENT) or not all(it.startswith(INDENT) for it in lines[2:]):
         fail(f"{name}: a line that says what it does is wanted, and then its help, indented by four spaces")
     if any(it in line for line in lines for it in '"\\'):
@@ -127,7 +129,7 @@ def read_command(lines, options):
     if unknown:
         fail(f"{name}: {unknown[0]} is not among the options")
     written = re.findall(r"\[[^]]*\]|--[a-z-]+ [A-Z]+", rest)
-    return Command(name, words.split(), written, [options[it] for it in names], lines[1], lines[2:])
+    return Command(name, words.split(), optional, written, [options[it] for it in names], lines[1], lines[2:])
 
 
 def read():

@@ -13,4 +13,4 @@ def row(command):
 def files(commands, _):
     """The text by path."""
     table = "| command | what it does | options |\n|---|---|---|\n" + "".join(map(row, commands))
-    return {TOOL: filled(TOOL, {"commands": f"\n{table}\n"}, FILE)}
+    return {TOOL: filled(TOOL, {"commands": table}, FILE)}

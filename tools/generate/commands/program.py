@@ -21,11 +21,12 @@ FIELDS = {
     "--check": ("is_checked", "bool", "is_checked: self.is_checking()"),
     "KEY..": ("keys", "Keys", "keys"),
     "--slots": ("is_slots", "bool", "is_slots: self.is_slots"),
+    "--values": ("is_values", "bool", "is_values: self.is_values"),
     "--json": ("is_json", "bool", "is_json: self.is_json"),
 }
-# these become none: where there is --help nothing is run, the offset is that of each such command, and what is said of
-# values stands with what is said of keys
-NO_FIELDS = [command_list.HELP, "--at", "--value"]
+# these become none: where there is --help nothing is run, the offset is that of each such command, how lines end is known
+# to the streams, and what is said of values stands with what is said of keys
+NO_FIELDS = [command_list.HELP, "--null", "--at", "--value"]
 
 
 def line(indent, text):
@@ -104,7 +105,7 @@ def definitions(commands, options):
     imported = [it.variant if it.variant == name else f"{it.variant} as {name}" for it, name in settings.items()]
     of_topics = [(it.variant, it) for it in commands]
     of_settings = [(name, it) for it, name in settings.items()]
-    declared = "Rattle.odht_tool_core.specs.declared.arguments.topics"
+    declared = "Rattle.odht_tool_core.specs.declared.generated.topics"
     parts = [
         definition("command_name", "Topic → List ℕ", of_topics, lambda it: f'codes "{it.name}"'),
         f"abbrev pub commands : List Topic\ncommands = {spec_list(it.variant for it in commands)}\n",
@@ -141,12 +142,27 @@ def help_text(command):
     return f'const {command.constant}: &str = "\\\n{lines}";\n'
 
 
-def help_regions(commands):
-    return {
-        "summaries": "".join(map(summary, commands)),
-        "names": "".join(line(8, f"Topic::{it.variant} => {it.constant},") for it in commands),
-        "texts": "\n".join(map(help_text, commands)),
-    }
+def helps(commands):
+    """The texts of the help, by command."""
+    summaries = "".join(map(summary, commands))
+    names = "".join(line(8, f"Topic::{it.variant} => {it.constant},") for it in commands)
+    texts = "\n".join(map(help_text, commands))
+    return f"""//! The help of each command. {MADE}.
+use crate::arguments::Topic;
+
+/// The lines of a command in the help of all commands.
+pub(crate) fn summary_of(topic: Topic) -> &'static str {{
+    match topic {{
+{summaries}    }}
+}}
+
+/// The help of a command.
+pub(crate) fn text_of(topic: Topic) -> &'static str {{
+    match topic {{
+{names}    }}
+}}
+
+{texts}"""
 
 
 def fields(command):
@@ -185,11 +201,11 @@ def files(commands, options):
     # `get` is made elsewhere, since its words are no files
     of_files = [it for it in readings if it.is_of_files]
     source = f"{CORE}/src"
-    arguments, draft, helps = f"{source}/arguments.rt", f"{source}/arguments/draft.rt", f"{source}/help.rt"
+    arguments, draft = f"{source}/arguments.rt", f"{source}/arguments/draft.rt"
     return {
-        f"{source}/arguments/topics.rt": topics(commands, options),
-        f"{CORE}/specs/Commands.antt": definitions(commands, options),
+        f"{source}/generated/topics.rt": topics(commands, options),
+        f"{source}/generated/help.rt": helps(commands),
+        f"{CORE}/specs/generated/Commands.antt": definitions(commands, options),
         arguments: filled(arguments, {"readings": "".join(map(variant, readings))}, FILE),
         draft: filled(draft, {"readings": arms_of_readings(of_files)}, FILE),
-        helps: filled(helps, help_regions(commands), FILE),
     }

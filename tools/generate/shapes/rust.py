@@ -2,7 +2,7 @@
 import shape_list
 from c import HASHES, is_bytes, spaced
 
-FOLDERS = []
+FOLDERS = ["rust/src/configs/generated", "bindings/rust/src/generated", "tests/c/generated"]
 HEAD = "Generated from lists/shapes.txt by make generate."
 
 
@@ -71,7 +71,7 @@ def files(shapes):
     ready = "Hands each configuration to a macro: its name, key, value, their lengths, hash function, and text."
     meaning = "Hands each shape to a macro: its calls, its type, its configuration, its key, its value, and its text."
     return {
-        "rust/src/configs/list.rs": macro("each_configuration", ready, map(configuration, shapes)),
-        "bindings/rust/src/shapes.rs": macro("each_shape", meaning, map(over_calls, with_calls)),
-        "tests/c/shape_list.h": tests_in_c(with_calls),
+        "rust/src/configs/generated/list.rs": macro("each_configuration", ready, map(configuration, shapes)),
+        "bindings/rust/src/generated/shapes.rs": macro("each_shape", meaning, map(over_calls, with_calls)),
+        "tests/c/generated/shape_list.h": tests_in_c(with_calls),
     }

@@ -60,7 +60,7 @@ def method(shapes, words, name, result, definition, value):
 
 
 def code(shapes):
-    """The shapes, with what each has."""
+    """The shapes, with what each has, and their lines in the help of `build`."""
     variants = "".join(f"    /// {it.words[0].upper()}{it.words[1:]}.\n    {it.configuration},\n" for it in shapes)
     listed = "".join(f"    Shape::{it.configuration},\n" for it in shapes)
     methods = "\n".join([
@@ -70,7 +70,7 @@ def code(shapes):
     ])
     return f"""//! The ready shapes. {MADE}.
 ghost use Rattle.std.specs.Prelude.{{◌≡◌}};
-ghost use Rattle.odht_tool_core.specs.ShapeList.{{key_part, value_part, shape_hash}};
+ghost use Rattle.odht_tool_core.specs.generated.ShapeList.{{key_part, value_part, shape_hash}};
 
 use crate::shapes::{{Hash, Part}};
 
@@ -85,7 +85,17 @@ pub(crate) const SHAPES: [Shape; {len(shapes)}] = [
 
 impl Shape {{
 {methods}}}
+
+/// The lines of the ready shapes in the help of `build`.
+pub(crate) const READY: &str = "\\
+ready shapes, by --key, --value and --hash; the first that fits is taken:
+{help_lines(shapes)}\";
 """
+
+
+def help_lines(shapes):
+    """A line of the help for each shape."""
+    return "".join(f"    {word(it.key):<7}{word(it.value):<7}{it.hash}\n" for it in shapes)
 
 
 def definition(shapes, name, result, value):
@@ -97,6 +107,7 @@ def definition(shapes, name, result, value):
 def definitions(shapes):
     names = ", ".join(it.configuration for it in shapes)
     declared = "Rattle.odht_tool_core.specs.declared.shapes"
+    shape = "Rattle.odht_tool_core.specs.declared.generated.shapes.Shape"
     listed = "".join(f"    {'∷ ' if at else ''}{it.configuration}\n" for at, it in enumerate(shapes))
     parts = [
         definition(shapes, "key_part", "Part", lambda it: spec_part(it.key)),
@@ -114,22 +125,10 @@ use {declared}.Hash.{{Hash}}
 use {declared}.Hash.TheVariants.{{Fx, Unhash}}
 use {declared}.Part.{{Part}}
 use {declared}.Part.TheVariants.{{Nothing, U32, U64, Bytes}}
-use {declared}.ready.Shape.{{Shape}}
-use {declared}.ready.Shape.TheVariants.{{{names}}}
+use {shape}.{{Shape}}
+use {shape}.TheVariants.{{{names}}}
 
 """ + "\n".join(parts)
-
-
-def help_lines(shapes):
-    """The lines of the shapes in the help of `build`."""
-    rows = "".join(f"    {word(it.key):<7}{word(it.value):<7}{it.hash}\n" for it in shapes)
-    return f"""//! The shapes in the help of `build`. {MADE}.
-
-/// A line for each ready shape.
-pub(super) const READY: &str = "\\
-ready shapes, by --key, --value and --hash; the first that fits is taken:
-{rows}\";
-"""
 
 
 def version():
@@ -137,7 +136,7 @@ def version():
     return f"""//! The version. Generated from packaging/VERSION by make generate.
 
 /// The version of the program, which is that of the library.
-pub(super) const VERSION: &str = "{text}";
+pub(crate) const VERSION: &str = "{text}";
 """
 
 
@@ -175,13 +174,12 @@ def answers(shapes, crate, dispatcher, called):
 def files(shapes):
     """The texts by path."""
     texts = {
-        f"{CORE}/src/shapes/ready.rt": code(shapes),
-        f"{CORE}/src/help/ready.rt": help_lines(shapes),
-        f"{CORE}/src/help/version.rt": version(),
-        f"{CORE}/specs/ShapeList.antt": definitions(shapes),
+        f"{CORE}/src/generated/shapes.rt": code(shapes),
+        f"{CORE}/src/generated/version.rt": version(),
+        f"{CORE}/specs/generated/ShapeList.antt": definitions(shapes),
     }
     for crate, (kind, what) in OVER_SHAPES.items():
-        texts[f"crates/{crate}/src/shapes.rt"] = macro(shapes, kind, what)
+        texts[f"crates/{crate}/src/generated/shapes.rt"] = macro(shapes, kind, what)
     crate, dispatcher, called = DISPATCHER
     texts[f"crates/{crate}/proofs/{dispatcher}/Answers.antt"] = answers(shapes, crate, dispatcher, called)
     return texts

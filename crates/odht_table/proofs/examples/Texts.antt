@@ -2,7 +2,8 @@
 use Rattle.std.proofs.Common.{◌≡◌, refl, [], ◌∷◌, Some, None}
 use Rattle.std.specs.Prelude.{codes}
 use Rattle.std.specs.Fmt.{digits}
-use Rattle.odht_table.specs.Answers.{line_of, hex_digits, hex_text, value_text, former_text, pair_line, walk_text, new_text}
+use Rattle.odht_table.specs.Answers.{line_of, value_text, former_text, pair_line, walk_text, new_text}
+use Rattle.odht_tool_core.specs.Texts.{hex_digits, hex_text}
 use Rattle.odht_table.specs.Messages.{fault_text, refusal_text}
 use Rattle.odht_table.specs.declared.script.Fault.TheVariants.{Read, Write, Memory as no_memory}
 use Rattle.odht_table.specs.declared.script.Refusal.TheVariants.{BadPercent, Capacity, Memory}

@@ -102,7 +102,6 @@ fn parse_word(word: &[u8]) -> Option<Request>
     }
 }
 
-// The two numbers of two words.
 fn parse_two_numbers(words: &[u8]) -> Option<(u64, u64)>
     ensures reads { IfSome result (λ pair. IsPairText words.now pair.0 pair.1) }
     ensures misses_none { (m n : ℕ) → IsPairText words.now m n → result ≡ Some (m, n) }

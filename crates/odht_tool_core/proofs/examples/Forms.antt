@@ -20,7 +20,7 @@ use Rattle.odht_tool_core.specs.declared.forms.Kinds.{Kinds}
 use Rattle.odht_tool_core.specs.declared.shapes.Hash.TheVariants.{Unhash}
 use Rattle.odht_tool_core.specs.declared.shapes.Part.{Part}
 use Rattle.odht_tool_core.specs.declared.shapes.Part.TheVariants.{Nothing, U32, U64, Bytes}
-use Rattle.odht_tool_core.specs.declared.shapes.ready.Shape.TheVariants.{DirectU32ToU32}
+use Rattle.odht_tool_core.specs.declared.generated.shapes.Shape.TheVariants.{DirectU32ToU32}
 use Rattle.odht_tool_core.proofs.examples.Shapes.{one_bytes}
 
 abbrev pub kind : Part → Form → Kind

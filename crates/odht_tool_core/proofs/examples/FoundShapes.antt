@@ -14,7 +14,7 @@ use Rattle.odht_tool_core.specs.declared.forms.Form.TheVariants.{Own, Signed, Pl
 use Rattle.odht_tool_core.specs.declared.shapes.Hash.{Hash}
 use Rattle.odht_tool_core.specs.declared.shapes.Hash.TheVariants.{Fx, Unhash, Xxh64}
 use Rattle.odht_tool_core.specs.declared.shapes.Part.TheVariants.{Nothing, U32, U64, Bytes}
-use Rattle.odht_tool_core.specs.declared.shapes.ready.Shape.TheVariants.{U32ToU32, DirectU32ToU32, U64ToU32}
+use Rattle.odht_tool_core.specs.declared.generated.shapes.Shape.TheVariants.{U32ToU32, DirectU32ToU32, U64ToU32}
 use Rattle.odht_tool_core.proofs.examples.Forms.{kind}
 use Rattle.odht_tool_core.proofs.examples.Shapes.{one_bytes}
 

@@ -9,7 +9,7 @@ use Rattle.odht_tool_core.specs.Finds.{table_report}
 use Rattle.odht_tool_core.specs.InfoNumbers.{tallies}
 use Rattle.odht_tool_core.specs.InfoReports.{hash_said, hit_said}
 use Rattle.odht_tool_core.specs.InfoTexts.{counts_array}
-use Rattle.odht_tool_core.specs.Json.{is_simple, json_object, json_string, number_field, pair_object, string_field, text_field, truth}
+use Rattle.odht_tool_core.specs.Json.{is_simple, json_object, json_string, number_field, pair_object, string_field, text_field, text_object, truth}
 use Rattle.odht_tool_core.specs.JsonAnswers.{absent_object, answer_in}
 use Rattle.odht_tool_core.specs.JsonSlots.{slot_object}
 use Rattle.odht_tool_core.specs.Reports.{report_among, value_json}
@@ -34,6 +34,11 @@ objects = (refl, refl)
 pub texts : (text_field (codes "key") (195 ∷ 169 ∷ []) ≡ string_field (codes "key") (195 ∷ 169 ∷ [])) × (text_field (codes "key") (233 ∷ []) ≡ string_field (codes "key_hex") (codes "e9"))
 unfolding chars is_utf8 encode_utf8
 texts = (refl, refl)
+
+-- one side of a pair, and where it is no UTF-8
+pub sides : (text_object (codes "key") (codes "a\"") ≡ codes "{\"key\":\"a\\\"\"}\n") × (text_object (codes "value") (233 ∷ []) ≡ codes "{\"value_hex\":\"e9\"}\n")
+unfolding chars is_utf8 encode_utf8 text_object
+sides = (refl, refl)
 
 -- a pair, and that of a slot
 pub pairs : (pair_object hex_text hex_text (65 ∷ [], 66 ∷ []) ≡ codes "{\"key\":\"41\",\"value\":\"42\"}\n")

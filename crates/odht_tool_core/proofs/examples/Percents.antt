@@ -11,7 +11,7 @@ use Rattle.odht_header.proofs.examples.Opened.{opened}
 use Rattle.odht_tool_core.specs.JsonAnswers.{no_key_line}
 use Rattle.odht_tool_core.specs.Percents.{kept_percent, new_percent}
 use Rattle.odht_tool_core.specs.Statuses.{failure_status}
-use Rattle.odht_tool_core.specs.declared.arguments.topics.Topic.TheVariants.{Info, Get, Delete, Diff, Build}
+use Rattle.odht_tool_core.specs.declared.generated.topics.Topic.TheVariants.{Info, Get, Delete, Diff, Build}
 use Rattle.odht_tool_core.specs.declared.status.Status.TheVariants.{NotDone, Trouble}
 use Rattle.odht_tool_core.proofs.examples.Shapes.{one_bytes}
 

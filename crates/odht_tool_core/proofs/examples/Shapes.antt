@@ -8,11 +8,11 @@ use Rattle.odht_base.specs.Image.{image}
 use Rattle.odht_base.specs.Load.{factor_of}
 use Rattle.odht_base.specs.Table.{Table}
 use Rattle.odht_tool_core.specs.ReadyShapes.{typed_len, typed_bytes, typed_of, typed_text, shape_format, shape_of_parts, shape_of_sizes}
-use Rattle.odht_tool_core.specs.ShapeList.{key_part, value_part, shape_hash, ready_shapes}
+use Rattle.odht_tool_core.specs.generated.ShapeList.{key_part, value_part, shape_hash, ready_shapes}
 use Rattle.odht_tool_core.specs.declared.forms.Form.TheVariants.{Own}
 use Rattle.odht_tool_core.specs.declared.shapes.Hash.TheVariants.{Fx, Unhash}
 use Rattle.odht_tool_core.specs.declared.shapes.Part.TheVariants.{Nothing, U32, U64, Bytes}
-use Rattle.odht_tool_core.specs.declared.shapes.ready.Shape.TheVariants.{U32ToU32, DirectU32ToU32, U64ToU32, Bytes16Set, Bytes32Set}
+use Rattle.odht_tool_core.specs.declared.generated.shapes.Shape.TheVariants.{U32ToU32, DirectU32ToU32, U64ToU32, Bytes16Set, Bytes32Set}
 
 abbrev pub one_item : Table
 one_item = record { factor = factor_of 7; cells = set (replicate 16 None) 5 (Some (pair32 5 7)) }

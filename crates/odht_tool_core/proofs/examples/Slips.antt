@@ -2,11 +2,11 @@
 use Rattle.std.proofs.Common.{◌≡◌, true, false, [], refl}
 use Rattle.std.specs.Prelude.{Some, None, codes, find, bytes_eq}
 use Rattle.odht_tool_core.specs.Asking.{asking_name, asking_words, meant}
-use Rattle.odht_tool_core.specs.Commands.{command_name, commands, option_name, options_of}
+use Rattle.odht_tool_core.specs.generated.Commands.{command_name, commands, option_name, options_of}
 use Rattle.odht_tool_core.specs.Near.{is_near, is_without, is_replaced, is_swapped}
 use Rattle.odht_tool_core.specs.declared.arguments.asking.Asking.TheVariants.{Help, Version}
-use Rattle.odht_tool_core.specs.declared.arguments.topics.Setting.TheVariants.{Slots, Hash}
-use Rattle.odht_tool_core.specs.declared.arguments.topics.Topic.TheVariants.{Check, Dump, Find, Info}
+use Rattle.odht_tool_core.specs.declared.generated.topics.Setting.TheVariants.{Slots, Hash}
+use Rattle.odht_tool_core.specs.declared.generated.topics.Topic.TheVariants.{Check, Dump, Find, Info}
 
 -- a byte left out, at the end and in the midst, and one too many
 pub left_out : (is_near (codes "inf") (codes "info") ≡ true) × (is_near (codes "dmp") (codes "dump") ≡ true) × (is_near (codes "gett") (codes "get") ≡ true)

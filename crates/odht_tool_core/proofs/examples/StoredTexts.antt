@@ -9,7 +9,7 @@ use Rattle.odht_tool_core.specs.declared.any.AnyShape.TheVariants.{Ready, Other}
 use Rattle.odht_tool_core.specs.declared.forms.Form.TheVariants.{Own, Signed, BigEndian, Plain}
 use Rattle.odht_tool_core.specs.declared.shapes.Hash.TheVariants.{Fx}
 use Rattle.odht_tool_core.specs.declared.shapes.Part.TheVariants.{Nothing, U32, U64, Bytes}
-use Rattle.odht_tool_core.specs.declared.shapes.ready.Shape.TheVariants.{U64ToU32}
+use Rattle.odht_tool_core.specs.declared.generated.shapes.Shape.TheVariants.{U64ToU32}
 use Rattle.odht_tool_core.specs.declared.typed.Texts.{Texts}
 
 -- a number is written by its form, bytes are digits or plain, and nothing has no text

@@ -1,7 +1,7 @@
 //! Why the arguments cannot be parsed.
 use super::asking::Asking;
 use super::draft::name_and_value;
-use super::topics::{Setting, TOPICS, Topic};
+use crate::generated::topics::{Setting, TOPICS, Topic};
 use crate::status::Status;
 use std::fmt;
 
@@ -33,12 +33,18 @@ pub enum CommandMisuse {
     Missing(&'static str),
     /// There is a word too many.
     ExtraWord(String),
+    /// A word of `put` has a byte that ends a key or a line.
+    NotInLine(String),
+    /// There is no value behind the last key.
+    KeyAlone(String),
     /// The table and the keys are both to be read from standard input.
     BothInput,
     /// More than one file is to be read from standard input.
     TwiceInput,
     /// The file that is to be replaced would be a stream.
     Replaced,
+    /// `--slots` and `--values` are given.
+    Apart,
     /// No shape is ready with these keys, values and hash function.
     NoShape,
     /// An allocation failed.
@@ -64,11 +70,21 @@ impl CommandMisuse {
             }
             CommandMisuse::Missing(what) => write!(f, "{what} is missing"),
             CommandMisuse::ExtraWord(word) => write!(f, "{word:?} is one word too many"),
+            CommandMisuse::NotInLine(word) => {
+                write!(
+                    f,
+                    "{word:?} has a tab or a line end, so it is no key and no value"
+                )
+            }
+            CommandMisuse::KeyAlone(word) => {
+                write!(f, "a value is wanted behind the key {word:?}")
+            }
             CommandMisuse::BothInput => {
                 write!(f, "FILE and the keys cannot both be standard input")
             }
             CommandMisuse::TwiceInput => write!(f, "only one FILE can be standard input"),
             CommandMisuse::Replaced => write!(f, "FILE is replaced, and so cannot be -"),
+            CommandMisuse::Apart => write!(f, "--slots and --values exclude each other"),
             CommandMisuse::NoShape => write!(f, "these keys are too short for this hash function"),
             CommandMisuse::Memory => write!(f, "out of memory"),
         }

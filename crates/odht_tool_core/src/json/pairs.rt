@@ -1,15 +1,17 @@
-//! Pairs as objects of JSON, each on a line.
+//! Pairs, and sides of pairs, as objects of JSON, each on a line.
 ghost use Rattle.std.specs.Prelude.{◌≡◌, OnOk, length};
 ghost use Rattle.std.specs.Io.KnownBytes.{Appends};
-ghost use Rattle.odht_tool_core.specs.Json.{json_field, pair_fields_text, pair_object, text_field};
+ghost use Rattle.odht_tool_core.specs.Json.{json_field, pair_fields_text, pair_object};
+ghost use Rattle.odht_tool_core.specs.Json.{text_field, text_object};
 ghost use Rattle.odht_tool_core.specs.ReadyShapes.{typed_len};
-ghost use Rattle.odht_tool_core.specs.StoredTexts.{key_text, stored_text, value_text};
+ghost use Rattle.odht_tool_core.specs.StoredTexts.{key_text, side_name, stored_text, value_text};
 
 use crate::forms::Form;
 use crate::json::write_string;
 use crate::shapes::Part;
 use crate::text::write_bytes;
-use crate::typed::{Texts, plain_bytes, write_stored};
+use crate::typed::stored::Typed;
+use crate::typed::{Side, Texts, plain_bytes, write_stored};
 use std::io::{self, Write};
 use std::str::from_utf8;
 
@@ -45,6 +47,23 @@ pub(crate) fn write_pair_fields<O: Write>(
     write_stored_field("key", texts.key, texts.forms.key, key, output)?;
     output.write_all(b",")?;
     write_stored_field("value", texts.value, texts.forms.value, value, output)?;
+    output.write_all(b"}\n")
+}
+
+/// Writes the object of one side of a pair, which is of this type and stored as these bytes, on a
+/// line.
+pub fn write_side_object<O: Write>(
+    side: Side,
+    typed: Typed,
+    bytes: &[u8],
+    output: &mut O,
+) -> io::Result<()>
+    requires { length bytes.now ≡ typed_len typed.part }
+    ensures { OnOk result (Appends (O.contents output.old) (O.contents output.new)
+        (text_object (side_name side) (stored_text typed.form typed.part bytes.now))) }
+{
+    output.write_all(b"{")?;
+    write_stored_field(side.name(), typed.part, typed.form, bytes, output)?;
     output.write_all(b"}\n")
 }
 

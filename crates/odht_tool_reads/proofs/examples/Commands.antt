@@ -8,7 +8,7 @@ use Rattle.odht_header.specs.declared.error.Error.TheVariants.{TooShort}
 use Rattle.odht_header.proofs.examples.Apart.{unequal_lists}
 use Rattle.odht_header.proofs.examples.Opened.{opened}
 use Rattle.odht_tool_core.specs.GroupNumbers.{groups_to}
-use Rattle.odht_tool_reads.specs.Listings.{keys_outcome}
+use Rattle.odht_tool_reads.specs.Listings.{list_outcome}
 use Rattle.odht_tool_reads.specs.Outcomes.{check_outcome, check_word, dump_outcome, hint_of, hint_text}
 use Rattle.odht_tool_core.specs.Endings.{IsDone}
 use Rattle.odht_tool_core.specs.Endings.Outcome.{writes, fails}
@@ -17,8 +17,9 @@ use Rattle.odht_tool_core.specs.declared.failure.Failure.TheVariants.{Refused, N
 use Rattle.odht_tool_core.specs.declared.forms.Form.TheVariants.{Own, Signed, BigEndian}
 use Rattle.odht_tool_core.specs.declared.shapes.Hash.TheVariants.{Fx, Unhash}
 use Rattle.odht_tool_core.specs.declared.shapes.Part.TheVariants.{U32, U64, Bytes}
-use Rattle.odht_tool_core.specs.declared.shapes.ready.Shape.TheVariants.{DirectU32ToU32}
+use Rattle.odht_tool_core.specs.declared.generated.shapes.Shape.TheVariants.{DirectU32ToU32}
 use Rattle.odht_tool_core.specs.declared.status.Status.TheVariants.{Done, NotDone}
+use Rattle.odht_tool_core.specs.declared.typed.Side.TheVariants.{Key, Value}
 use Rattle.odht_tool_core.proofs.examples.Forms.{kind, said, unsaid}
 use Rattle.odht_tool_core.proofs.examples.FoundShapes.{other_bytes}
 use Rattle.odht_tool_core.proofs.examples.Shapes.{one_bytes}
@@ -78,7 +79,7 @@ slots = refl
 pub hexadecimal : (dump_outcome other_bytes None unsaid false false ≡ writes (codes "050000000700\t0000\n") Done)
     × (dump_outcome other_bytes None (said (kind (Bytes 6) Own) (kind (Bytes 2) Own)) true false ≡ writes (codes "5\t0\t1\t050000000700\t0000\n") Done)
     × (dump_outcome other_bytes None (said (kind (Bytes 6) Own) (kind U32 Own)) true false ≡ fails (OtherValue (Bytes 2)))
-    × (keys_outcome other_bytes None unsaid ≡ writes (codes "050000000700\n") Done)
+    × (list_outcome Key other_bytes None unsaid false ≡ writes (codes "050000000700\n") Done)
 unfolding opened digits groups_to
 hexadecimal = (refl, refl, refl, refl)
 
@@ -88,11 +89,13 @@ pub formed : (dump_outcome one_bytes (Some Unhash) (said (kind U32 BigEndian) (k
 unfolding opened digits
 formed = (refl, refl)
 
--- ---- keys
-pub keys : (keys_outcome one_bytes (Some Unhash) unsaid ≡ writes (codes "5\n") Done)
-    × (keys_outcome one_bytes (Some Unhash) (said (kind U32 BigEndian) (kind U32 Own)) ≡ writes (codes "83886080\n") Done)
+-- ---- keys, and values
+pub sides : (list_outcome Key one_bytes (Some Unhash) unsaid false ≡ writes (codes "5\n") Done)
+    × (list_outcome Key one_bytes (Some Unhash) (said (kind U32 BigEndian) (kind U32 Own)) false ≡ writes (codes "83886080\n") Done)
+    × (list_outcome Value one_bytes (Some Unhash) unsaid false ≡ writes (codes "7\n") Done)
+    × (list_outcome Value other_bytes None unsaid false ≡ writes (codes "0000\n") Done)
 unfolding opened digits
-keys = (refl, refl)
+sides = (refl, refl, refl, refl)
 
 -- the hash function is found, where none is named; with another control byte none fits
 pub found : (dump_outcome one_bytes None unsaid false false ≡ writes (codes "5\t7\n") Done) × (dump_outcome (overwritten_at one_bytes 165 (1 ∷ [])) None unsaid false false ≡ fails (NoHash 4 4))

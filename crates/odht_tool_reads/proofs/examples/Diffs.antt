@@ -13,7 +13,7 @@ use Rattle.odht_tool_reads.specs.declared.dynamic.diffs.Side.TheVariants.{First,
 use Rattle.odht_tool_core.specs.Endings.Outcome.{writes}
 use Rattle.odht_tool_core.specs.declared.any.AnyShape.TheVariants.{Ready}
 use Rattle.odht_tool_core.specs.declared.forms.Form.TheVariants.{Own}
-use Rattle.odht_tool_core.specs.declared.shapes.ready.Shape.TheVariants.{DirectU32ToU32}
+use Rattle.odht_tool_core.specs.declared.generated.shapes.Shape.TheVariants.{DirectU32ToU32}
 use Rattle.odht_tool_core.specs.declared.status.Status.TheVariants.{Done, NotDone}
 use Rattle.odht_tool_core.proofs.examples.Shapes.{one_bytes}
 

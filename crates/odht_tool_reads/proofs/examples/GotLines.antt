@@ -31,7 +31,7 @@ use Rattle.odht_tool_core.specs.declared.failure.Failure.TheVariants.{Refused, S
 use Rattle.odht_tool_core.specs.declared.failure.LineFault.TheVariants.{Key}
 use Rattle.odht_tool_core.specs.declared.shapes.Hash.TheVariants.{Unhash}
 use Rattle.odht_tool_core.specs.declared.shapes.Part.TheVariants.{U32}
-use Rattle.odht_tool_core.specs.declared.shapes.ready.Shape.TheVariants.{DirectU32ToU32}
+use Rattle.odht_tool_core.specs.declared.generated.shapes.Shape.TheVariants.{DirectU32ToU32}
 use Rattle.odht_tool_core.specs.declared.status.Status.{Status}
 use Rattle.odht_tool_core.specs.declared.status.Status.TheVariants.{Done, NotDone}
 use Rattle.odht_tool_reads.proofs.AnswerLists.{are_answers_append}
@@ -96,11 +96,11 @@ both_answered = record {
   status = refl;
 }
 
-pub both : lines_of_shape (Own, Own) false one_bytes (Some (codes "5\n6\n")) (Some (codes "a")) (Some (codes "a5\t7\n6\n")) (Ok NotDone) DirectU32ToU32
+pub both : lines_of_shape (Own, Own) false false one_bytes (Some (codes "5\n6\n")) (Some (codes "a")) (Some (codes "a5\t7\n6\n")) (Ok NotDone) DirectU32ToU32
 both = (no_refusal, record { words = codes "5" ∷ codes "6" ∷ []; place = inl refl; answered = both_answered })
 
 -- as objects one for each key; the value of the second, which is absent, is null
-pub objects : lines_of_shape (Own, Own) true one_bytes (Some (codes "5\n6\n")) (Some (codes "a")) (Some (codes "a{\"key\":\"5\",\"value\":\"7\"}\n{\"key\":\"6\",\"value\":null}\n")) (Ok NotDone) DirectU32ToU32
+pub objects : lines_of_shape (Own, Own) true false one_bytes (Some (codes "5\n6\n")) (Some (codes "a")) (Some (codes "a{\"key\":\"5\",\"value\":\"7\"}\n{\"key\":\"6\",\"value\":null}\n")) (Ok NotDone) DirectU32ToU32
 unfolding digits chars is_utf8 encode_utf8 pair_object absent_object
 objects = (
   no_refusal,
@@ -157,17 +157,17 @@ all_both old new status h = only_both old new status (go h.words h.place h.answe
     go ws (inr e) a = absurd (none_empty ws e.0)
 
 -- the other status; an answer left out; one written twice
-pub other_status : (new : Option (List ℕ)) → lines_of_shape (Own, Own) false one_bytes (Some (codes "5\n6\n")) (Some []) new (Ok Done) DirectU32ToU32 → ⊥
+pub other_status : (new : Option (List ℕ)) → lines_of_shape (Own, Own) false false one_bytes (Some (codes "5\n6\n")) (Some []) new (Ok Done) DirectU32ToU32 → ⊥
 other_status new h = let other = (all_both (Some []) new Done h.1).0 in cc
 
-pub left_out : lines_of_shape (Own, Own) false one_bytes (Some (codes "5\n6\n")) (Some (codes "a")) (Some (codes "a5\t7\n")) (Ok NotDone) DirectU32ToU32 → ⊥
+pub left_out : lines_of_shape (Own, Own) false false one_bytes (Some (codes "5\n6\n")) (Some (codes "a")) (Some (codes "a5\t7\n")) (Ok NotDone) DirectU32ToU32 → ⊥
 left_out h = unequal_lists (codes "a5\t7\n") (codes "a5\t7\n6\n") refl (all_both (Some (codes "a")) (Some (codes "a5\t7\n")) NotDone h.1).1
 
-pub twice : lines_of_shape (Own, Own) false one_bytes (Some (codes "5\n6\n")) (Some []) (Some (codes "5\t7\n5\t7\n6\n")) (Ok NotDone) DirectU32ToU32 → ⊥
+pub twice : lines_of_shape (Own, Own) false false one_bytes (Some (codes "5\n6\n")) (Some []) (Some (codes "5\t7\n5\t7\n6\n")) (Ok NotDone) DirectU32ToU32 → ⊥
 twice h = unequal_lists (codes "5\t7\n5\t7\n6\n") (codes "5\t7\n6\n") refl (all_both (Some []) (Some (codes "5\t7\n5\t7\n6\n")) NotDone h.1).1
 
 -- a status where a line is no key
-pub done_at_fault : (old new : Option (List ℕ)) (status : Status) → lines_of_shape (Own, Own) false one_bytes (Some (codes "x\n")) old new (Ok status) DirectU32ToU32 → ⊥
+pub done_at_fault : (old new : Option (List ℕ)) (status : Status) → lines_of_shape (Own, Own) false false one_bytes (Some (codes "x\n")) old new (Ok status) DirectU32ToU32 → ⊥
 done_at_fault old new status h = whole h.1.words h.1.place h.1.answered
   where
     none : (ws : List (List ℕ)) → codes "x" ∷ [] ≡ ws ++ ([] ∷ []) → ⊥
@@ -184,7 +184,7 @@ done_at_fault old new status h = whole h.1.words h.1.place h.1.answered
     whole ws (inr e) a = none ws e.0
 
 -- an empty last line is left out
-pub empty_last : lines_of_shape (Own, Own) false one_bytes (Some (codes "5\n\n")) (Some (codes "a")) (Some (codes "a5\t7\n")) (Ok Done) DirectU32ToU32
+pub empty_last : lines_of_shape (Own, Own) false false one_bytes (Some (codes "5\n\n")) (Some (codes "a")) (Some (codes "a5\t7\n")) (Ok Done) DirectU32ToU32
 unfolding digits
 empty_last = (
   no_refusal,
@@ -206,12 +206,12 @@ empty_last_told old new text h = go h.before h.after h.place h.more
     go (a ∷ b ∷ before) after place more = cc
 
 -- nothing is said where the bytes of the input are not known
-pub unknown : lines_of_shape (Own, Own) false one_bytes None (Some []) (Some (codes "b")) (Ok Done) DirectU32ToU32
+pub unknown : lines_of_shape (Own, Own) false false one_bytes None (Some []) (Some (codes "b")) (Ok Done) DirectU32ToU32
 unknown = (no_refusal, tt)
 
 -- ---- a line that is no key
 -- the second
-pub second : (message : _) → string_bytes message ≡ second_text → lines_of_shape (Own, Own) false one_bytes (Some (codes "5\nx\n6")) (Some (codes "a")) (Some (codes "a5\t7\n")) (Err (Misread message)) DirectU32ToU32
+pub second : (message : _) → string_bytes message ≡ second_text → lines_of_shape (Own, Own) false false one_bytes (Some (codes "5\nx\n6")) (Some (codes "a")) (Some (codes "a5\t7\n")) (Err (Misread message)) DirectU32ToU32
 unfolding digits
 second message misread = (
   no_refusal,
@@ -255,28 +255,28 @@ only_second old new text h = go h.before h.place h.misread h.answered
         second_key (k ∷ l ∷ ks) t = no_key l t.1.0
 
 -- counted from 0; the answer before it not written; another fault; another text
-message_else : (message : _) (new : Option (List ℕ)) (text : List ℕ) → string_bytes message ≡ text → lines_of_shape (Own, Own) false one_bytes (Some (codes "5\nx\n6")) (Some []) new (Err (Misread message)) DirectU32ToU32
+message_else : (message : _) (new : Option (List ℕ)) (text : List ℕ) → string_bytes message ≡ text → lines_of_shape (Own, Own) false false one_bytes (Some (codes "5\nx\n6")) (Some []) new (Err (Misread message)) DirectU32ToU32
     → text ≡ second_text
 message_else message new text e h = sym e ∙ (only_second (Some []) new (string_bytes message) h.1).0
 
 pub from_zero : (message : _) (new : Option (List ℕ)) → string_bytes message ≡ codes "standard input, line 1: the key \"x\" is not a number below 2^32"
-    → lines_of_shape (Own, Own) false one_bytes (Some (codes "5\nx\n6")) (Some []) new (Err (Misread message)) DirectU32ToU32 → ⊥
+    → lines_of_shape (Own, Own) false false one_bytes (Some (codes "5\nx\n6")) (Some []) new (Err (Misread message)) DirectU32ToU32 → ⊥
 from_zero message new e h = unequal_lists (codes "standard input, line 1: the key \"x\" is not a number below 2^32") second_text refl (message_else message new _ e h)
 
-pub unwritten : (message : _) → lines_of_shape (Own, Own) false one_bytes (Some (codes "5\nx\n6")) (Some []) (Some []) (Err (Misread message)) DirectU32ToU32 → ⊥
+pub unwritten : (message : _) → lines_of_shape (Own, Own) false false one_bytes (Some (codes "5\nx\n6")) (Some []) (Some []) (Err (Misread message)) DirectU32ToU32 → ⊥
 unwritten message h = unequal_lists [] (codes "5\t7\n") refl (only_second (Some []) (Some []) (string_bytes message) h.1).1
 
 pub no_tab : (message : _) (new : Option (List ℕ)) → string_bytes message ≡ codes "standard input, line 2: \"x\" has no tab between key and value"
-    → lines_of_shape (Own, Own) false one_bytes (Some (codes "5\nx\n6")) (Some []) new (Err (Misread message)) DirectU32ToU32 → ⊥
+    → lines_of_shape (Own, Own) false false one_bytes (Some (codes "5\nx\n6")) (Some []) new (Err (Misread message)) DirectU32ToU32 → ⊥
 no_tab message new e h = unequal_lists (codes "standard input, line 2: \"x\" has no tab between key and value") second_text refl (message_else message new _ e h)
 
 pub other_text : (message : _) (new : Option (List ℕ)) → string_bytes message ≡ codes "standard input, line 2: the key \"6\" is not a number below 2^32"
-    → lines_of_shape (Own, Own) false one_bytes (Some (codes "5\nx\n6")) (Some []) new (Err (Misread message)) DirectU32ToU32 → ⊥
+    → lines_of_shape (Own, Own) false false one_bytes (Some (codes "5\nx\n6")) (Some []) new (Err (Misread message)) DirectU32ToU32 → ⊥
 other_text message new e h = unequal_lists (codes "standard input, line 2: the key \"6\" is not a number below 2^32") second_text refl (message_else message new _ e h)
 
 -- ---- other failures
 -- without memory, or where the input cannot be read, what is written are the answers to whole batches: here to none
-pub no_memory : lines_of_shape (Own, Own) false one_bytes (Some (codes "5\n")) (Some (codes "a")) (Some (codes "a")) (Err Memory) DirectU32ToU32
+pub no_memory : lines_of_shape (Own, Own) false false one_bytes (Some (codes "5\n")) (Some (codes "a")) (Some (codes "a")) (Err Memory) DirectU32ToU32
 no_memory = (
   no_refusal,
   record {
@@ -284,15 +284,15 @@ no_memory = (
     after = codes "5" ∷ [];
     place = refl;
     batches = 0;
-    counted = refl;
+    counted = λ _. refl;
     status = Done;
     answered = record { keys = []; texts = tt; values = []; answers = no_answers C one_bytes; written = refl; status = refl };
   },
 )
 
-none_first : (old new : Option (List ℕ)) → AreFirstAnswered C line R one_bytes (codes "5" ∷ []) old new → Appends old new []
+none_first : (old new : Option (List ℕ)) → AreFirstAnswered C line R one_bytes false (codes "5" ∷ []) old new → Appends old new []
 unfolding opened
-none_first old new h = go h.before (ap length h.place ∙ length-append h.before h.after) h.counted h.answered
+none_first old new h = go h.before (ap length h.place ∙ length-append h.before h.after) (h.counted refl) h.answered
   where
     go : (before : List (List ℕ)) → 1 ≡ length before + length h.after → length before ≡ h.batches * 1024 → IsAnswered C line R one_bytes before old new h.status → Appends old new []
     go [] place counted answered = none answered.keys answered.texts answered.written
@@ -302,14 +302,30 @@ none_first old new h = go h.before (ap length h.place ∙ length-append h.before
         none (k ∷ ks) t w = absurd t
     go (a ∷ rest) place counted answered = absurd (omega (arith, place, counted))
 
-pub half_a_batch : lines_of_shape (Own, Own) false one_bytes (Some (codes "5\n")) (Some (codes "a")) (Some (codes "a5\t7\n")) (Err Memory) DirectU32ToU32 → ⊥
+pub half_a_batch : lines_of_shape (Own, Own) false false one_bytes (Some (codes "5\n")) (Some (codes "a")) (Some (codes "a5\t7\n")) (Err Memory) DirectU32ToU32 → ⊥
 half_a_batch h = unequal_lists (codes "a5\t7\n") (codes "a") refl (none_first (Some (codes "a")) (Some (codes "a5\t7\n")) h.1)
 
-pub half_read : (error : _) → lines_of_shape (Own, Own) false one_bytes (Some (codes "5\n")) (Some (codes "a")) (Some (codes "a5\t7\n")) (Err (Input error)) DirectU32ToU32 → ⊥
+pub half_read : (error : _) → lines_of_shape (Own, Own) false false one_bytes (Some (codes "5\n")) (Some (codes "a")) (Some (codes "a5\t7\n")) (Err (Input error)) DirectU32ToU32 → ⊥
 half_read error h = unequal_lists (codes "a5\t7\n") (codes "a") refl (none_first (Some (codes "a")) (Some (codes "a5\t7\n")) h.1)
 
+-- where lines are answered as they come, that may be a part of a batch
+pub live_part : lines_of_shape (Own, Own) false true one_bytes (Some (codes "5\n6\n")) (Some (codes "a")) (Some (codes "a5\t7\n")) (Err Memory) DirectU32ToU32
+unfolding digits
+live_part = (
+  no_refusal,
+  record {
+    before = codes "5" ∷ [];
+    after = codes "6" ∷ [];
+    place = refl;
+    batches = 0;
+    counted = λ e. cc;
+    status = Done;
+    answered = record { keys = 5 ∷ []; texts = (five, tt); values = Some 7 ∷ []; answers = five_answered; written = refl; status = refl };
+  },
+)
+
 -- the writer fails where an answer is to be written; not where there is no line, nor where the first one is no key
-pub asked : (old new : Option (List ℕ)) (error : _) → lines_of_shape (Own, Own) false one_bytes (Some (codes "5\n")) old new (Err (Output error)) DirectU32ToU32
+pub asked : (old new : Option (List ℕ)) (error : _) → lines_of_shape (Own, Own) false false one_bytes (Some (codes "5\n")) old new (Err (Output error)) DirectU32ToU32
 asked old new error = (
   no_refusal,
   record {
@@ -318,20 +334,20 @@ asked old new error = (
     after = [];
     place = refl;
     batches = 0;
-    counted = refl;
+    counted = λ _. refl;
     some = lit< tt;
     most = lit≤ tt;
     keys = 5 ∷ [];
     texts = (five, tt);
-    ended = λ few. tt;
+    ended = λ e few. tt;
   },
 )
 
-pub none_asked : (old new : Option (List ℕ)) (error : _) → lines_of_shape (Own, Own) false one_bytes (Some []) old new (Err (Output error)) DirectU32ToU32 → ⊥
+pub none_asked : (old new : Option (List ℕ)) (error : _) → lines_of_shape (Own, Own) false false one_bytes (Some []) old new (Err (Output error)) DirectU32ToU32 → ⊥
 none_asked old new error h =
     omega (arith, ap length h.1.place ∙ length-append h.1.before (h.1.asked ++ h.1.after), length-append h.1.asked h.1.after, h.1.some)
 
-pub no_key_asked : (old new : Option (List ℕ)) (error : _) → lines_of_shape (Own, Own) false one_bytes (Some (codes "x\n")) old new (Err (Output error)) DirectU32ToU32 → ⊥
+pub no_key_asked : (old new : Option (List ℕ)) (error : _) → lines_of_shape (Own, Own) false false one_bytes (Some (codes "x\n")) old new (Err (Output error)) DirectU32ToU32 → ⊥
 no_key_asked old new error h = go h.1.before h.1.asked h.1.place h.1.some h.1.keys h.1.texts
   where
     first : (w : List ℕ) (ws : List (List ℕ)) (ks : List ℕ) → codes "x" ≡ w → AllZip R (w ∷ ws) ks → ⊥
@@ -344,27 +360,27 @@ no_key_asked old new error h = go h.1.before h.1.asked h.1.place h.1.some h.1.ke
     go (w ∷ before) asked place some ks t = let e : codes "x" ≡ w = cc in first w (before ++ asked) ks e t
 
 -- the writer fails only once the bytes are opened
-pub unopened : (input old new : Option (List ℕ)) (error : _) → lines_of_shape (Own, Own) false (79 ∷ 68 ∷ []) input old new (Err (Output error)) DirectU32ToU32 → ⊥
+pub unopened : (input old new : Option (List ℕ)) (error : _) → lines_of_shape (Own, Own) false false (79 ∷ 68 ∷ []) input old new (Err (Output error)) DirectU32ToU32 → ⊥
 unfolding opened
 unopened input old new error h = let opens = h.0 in cc
 
 -- of bytes that do not open the error is returned, and nothing is written
-pub refused : (input : Option (List ℕ)) → lines_of_shape (Own, Own) false (79 ∷ 68 ∷ []) input (Some (codes "a")) (Some (codes "a")) (Err (Refused (TooShort 2))) DirectU32ToU32
+pub refused : (input : Option (List ℕ)) → lines_of_shape (Own, Own) false false (79 ∷ 68 ∷ []) input (Some (codes "a")) (Some (codes "a")) (Err (Refused (TooShort 2))) DirectU32ToU32
 unfolding opened
 refused input = (refl, refl)
 
-pub refused_late : (input : Option (List ℕ)) → lines_of_shape (Own, Own) false (79 ∷ 68 ∷ []) input (Some (codes "a")) (Some (codes "ab")) (Err (Refused (TooShort 2))) DirectU32ToU32 → ⊥
+pub refused_late : (input : Option (List ℕ)) → lines_of_shape (Own, Own) false false (79 ∷ 68 ∷ []) input (Some (codes "a")) (Some (codes "ab")) (Err (Refused (TooShort 2))) DirectU32ToU32 → ⊥
 refused_late input h = unequal_lists (codes "ab") (codes "a") refl h.1
 
-pub not_refused : (input old new : Option (List ℕ)) → lines_of_shape (Own, Own) false one_bytes input old new (Err (Refused (TooShort 2))) DirectU32ToU32 → ⊥
+pub not_refused : (input old new : Option (List ℕ)) → lines_of_shape (Own, Own) false false one_bytes input old new (Err (Refused (TooShort 2))) DirectU32ToU32 → ⊥
 not_refused input old new h = let no = no_refusal in cc
 
 -- of bytes with no shape nothing is read
-pub no_shape : (input : Option (List ℕ)) → AreFileLinesGot (overwritten_at one_bytes 5 (3 ∷ [])) (Some Unhash) unsaid false input (Some (codes "a")) (Some (codes "a")) (Err (ShortKeys 3))
+pub no_shape : (input : Option (List ℕ)) → AreFileLinesGot (overwritten_at one_bytes 5 (3 ∷ [])) (Some Unhash) unsaid false false input (Some (codes "a")) (Some (codes "a")) (Err (ShortKeys 3))
 unfolding opened
 no_shape input = (refl, refl)
 
-pub shape_missed : (input old new : Option (List ℕ)) → AreFileLinesGot one_bytes (Some Unhash) unsaid false input old new (Err (ShortKeys 4)) → ⊥
+pub shape_missed : (input old new : Option (List ℕ)) → AreFileLinesGot one_bytes (Some Unhash) unsaid false false input old new (Err (ShortKeys 4)) → ⊥
 unfolding opened
 shape_missed input old new h = h.1
 
@@ -385,11 +401,11 @@ faulty message misread = record {
 
 -- ---- a batch
 -- one key is none, so it is not answered yet; and a batch is answered
-pub few : IsFlushed C line one_bytes (5 ∷ []) (5 ∷ []) (Some (codes "a")) (Some (codes "a")) true true
-few = nothing_flushed C line one_bytes (5 ∷ []) (Some (codes "a")) true (lit< tt)
+pub few : IsFlushed C line one_bytes false (5 ∷ []) (5 ∷ []) (Some (codes "a")) (Some (codes "a")) true true
+few = nothing_flushed C line one_bytes false (5 ∷ []) (Some (codes "a")) true (lit< tt)
 
-pub early : (old new : Option (List ℕ)) (was all : Bool) → IsFlushed C line one_bytes (5 ∷ []) [] old new was all → ⊥
-early old new was all h = let none = h.few (lit< tt) in let left = h.left in absurd (omega (arith, ap length left ∙ length-append h.done [], ap length none))
+pub early : (old new : Option (List ℕ)) (was all : Bool) → IsFlushed C line one_bytes false (5 ∷ []) [] old new was all → ⊥
+early old new was all h = let none = h.few refl (lit< tt) in let left = h.left in absurd (omega (arith, ap length left ∙ length-append h.done [], ap length none))
 
-pub late : (keys : List ℕ) (old new : Option (List ℕ)) (was all : Bool) → 1024 ≤ length keys → IsFlushed C line one_bytes keys keys old new was all → ⊥
-late keys old new was all many h = omega (arith, many, ap length (h.full many))
+pub late : (due : Bool) (keys : List ℕ) (old new : Option (List ℕ)) (was all : Bool) → 1024 ≤ length keys → IsFlushed C line one_bytes due keys keys old new was all → ⊥
+late due keys old new was all many h = omega (arith, many, ap length (h.full many))

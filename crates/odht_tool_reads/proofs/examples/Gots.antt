@@ -12,7 +12,7 @@ use Rattle.odht_tool_core.specs.declared.any.AnyShape.TheVariants.{Ready, Other}
 use Rattle.odht_tool_core.specs.declared.forms.Form.TheVariants.{Own}
 use Rattle.odht_tool_core.specs.declared.failure.Failure.TheVariants.{Memory}
 use Rattle.odht_tool_core.specs.declared.shapes.Hash.TheVariants.{Unhash}
-use Rattle.odht_tool_core.specs.declared.shapes.ready.Shape.TheVariants.{DirectU32ToU32}
+use Rattle.odht_tool_core.specs.declared.generated.shapes.Shape.TheVariants.{DirectU32ToU32}
 use Rattle.odht_tool_core.specs.declared.status.Status.TheVariants.{Done, NotDone}
 use Rattle.odht_tool_core.proofs.examples.FoundShapes.{other, other_bytes}
 use Rattle.odht_tool_core.proofs.examples.Shapes.{one_bytes}
@@ -43,8 +43,8 @@ other_opens = refl
 
 -- so without memory nothing is written, for words as for lines
 pub other_without_memory : words_of_types (Own, Own) false other_bytes (codes "5" ∷ []) (Some (codes "a")) (Some (codes "a")) (Err Memory) (other 6 2 Unhash)
-    × lines_of_other (Own, Own) false other_bytes None (Some (codes "a")) (Some (codes "a")) (Err Memory) (other 6 2 Unhash)
-    × lines_of_any (Own, Own) false other_bytes None (Some (codes "a")) (Some (codes "a")) (Err Memory) (Other (other 6 2 Unhash))
+    × lines_of_other (Own, Own) false false other_bytes None (Some (codes "a")) (Some (codes "a")) (Err Memory) (other 6 2 Unhash)
+    × lines_of_any (Own, Own) false false other_bytes None (Some (codes "a")) (Some (codes "a")) (Err Memory) (Other (other 6 2 Unhash))
 other_without_memory = ((other_opens, refl), (other_opens, tt), (other_opens, tt))
 
 pub other_written_without_memory : words_of_types (Own, Own) false other_bytes (codes "5" ∷ []) (Some (codes "a")) (Some (codes "ab")) (Err Memory) (other 6 2 Unhash) → ⊥

@@ -1,4 +1,4 @@
--- Worked examples: what `check`, `dump` and `find` write with --json.
+-- Worked examples: what `check`, `dump`, `keys` and `find` write with --json.
 use Rattle.std.proofs.Common.{◌≡◌, true, false, refl, [], ◌∷◌, Some, None}
 use Rattle.std.specs.Prelude.{codes}
 use Rattle.std.specs.Char.{encode_utf8}
@@ -10,13 +10,15 @@ use Rattle.odht_header.specs.declared.error.Error.TheVariants.{TooShort}
 use Rattle.odht_header.proofs.examples.Opened.{opened}
 use Rattle.odht_tool_core.specs.Endings.Outcome.{writes, fails}
 use Rattle.odht_tool_core.specs.GroupNumbers.{groups_to}
-use Rattle.odht_tool_core.specs.Json.{pair_object}
+use Rattle.odht_tool_core.specs.Json.{pair_object, text_object}
 use Rattle.odht_tool_core.specs.JsonSlots.{slot_object}
 use Rattle.odht_tool_reads.specs.FindLines.{found_text}
+use Rattle.odht_tool_reads.specs.Listings.{list_outcome}
 use Rattle.odht_tool_reads.specs.Outcomes.{check_outcome, dump_outcome}
 use Rattle.odht_tool_core.specs.declared.failure.Failure.TheVariants.{Refused, NoHash, ShortKeys}
 use Rattle.odht_tool_core.specs.declared.shapes.Hash.TheVariants.{Unhash}
 use Rattle.odht_tool_core.specs.declared.status.Status.TheVariants.{Done, NotDone}
+use Rattle.odht_tool_core.specs.declared.typed.Side.TheVariants.{Key, Value}
 use Rattle.odht_tool_core.proofs.examples.Forms.{unsaid}
 use Rattle.odht_tool_core.proofs.examples.FoundShapes.{other_bytes}
 use Rattle.odht_tool_core.proofs.examples.Shapes.{one_bytes}
@@ -48,6 +50,13 @@ pub refused : (dump_outcome (79 ∷ 68 ∷ []) None unsaid false true ≡ fails 
     × (dump_outcome (overwritten_at one_bytes 165 (1 ∷ [])) None unsaid false true ≡ fails (NoHash 4 4))
 unfolding opened
 refused = (refl, refl)
+
+-- ---- keys, and values
+pub sides : (list_outcome Key one_bytes (Some Unhash) unsaid true ≡ writes (codes "{\"key\":\"5\"}\n") Done)
+    × (list_outcome Value one_bytes (Some Unhash) unsaid true ≡ writes (codes "{\"value\":\"7\"}\n") Done)
+    × (list_outcome Key (79 ∷ 68 ∷ []) None unsaid true ≡ fails (Refused (TooShort 2)))
+unfolding opened digits chars is_utf8 encode_utf8 text_object
+sides = (refl, refl, refl)
 
 -- ---- find
 -- no table, and one at the byte 0; and its line

@@ -16,7 +16,7 @@ use Rattle.odht_tool_core.specs.declared.failure.Failure.TheVariants.{Refused, M
 use Rattle.odht_tool_core.specs.declared.forms.Form.TheVariants.{Own}
 use Rattle.odht_tool_core.specs.declared.forms.GivenForms.{GivenForms}
 use Rattle.odht_tool_core.specs.declared.shapes.Hash.TheVariants.{Unhash}
-use Rattle.odht_tool_core.specs.declared.shapes.ready.Shape.TheVariants.{DirectU32ToU32}
+use Rattle.odht_tool_core.specs.declared.generated.shapes.Shape.TheVariants.{DirectU32ToU32}
 use Rattle.odht_tool_core.proofs.examples.Forms.{unsaid}
 use Rattle.odht_tool_core.proofs.examples.FoundShapes.{other, other_bytes}
 use Rattle.odht_tool_core.proofs.examples.Shapes.{one_bytes}

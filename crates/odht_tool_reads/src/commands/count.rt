@@ -63,7 +63,8 @@ fn count_any(shape: AnyShape, bytes: &[u8], bound: Option<usize>) -> Result<usiz
     }
 }
 
-fn write_count<O: Write>(label: &str, count: usize, output: &mut O) -> io::Result<()>
+/// Writes a label, and a count.
+pub(crate) fn write_count<O: Write>(label: &str, count: usize, output: &mut O) -> io::Result<()>
     ensures { OnOk result (Appends (O.contents output.old) (O.contents output.new)
         (count_line label.now count)) }
 {

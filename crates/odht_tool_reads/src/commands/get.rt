@@ -8,14 +8,16 @@ ghost use Rattle.odht_tool_reads.specs.Gets.{AreFileWordsGot};
 ghost use Rattle.odht_tool_tables.specs.Openings.{IsOpenFailure};
 
 use crate::dynamic::gets::{get_lines_dynamic, get_words_dynamic};
-use crate::lookups::answer_lines;
-use crate::shapes::for_shape;
+use crate::generated::shapes::for_shape;
+use crate::lookups::arriving::Arriving;
+use crate::lookups::{LineStyle, answer_lines};
 use odht::HashTable;
 use odht::bytes::Borrowed;
 use odht::config::{Coded, Config};
 use odht_tool_core::any::{AnyShape, read_any};
 use odht_tool_core::failure::Failure;
 use odht_tool_core::forms::{Forms, GivenForms, Kinds, OwnForms};
+use odht_tool_core::job::Job;
 use odht_tool_core::json::answers::AnswerStyle;
 use odht_tool_core::shapes::{Hash, Shape};
 use odht_tool_core::status::Status;
@@ -26,102 +28,113 @@ use std::io::{BufRead, Write};
 /// `odht get` of the bytes of a file, for the words of the command line: writes a line for each
 /// key, with a tab and its value, or the key alone; or an object of JSON of both.
 pub fn get_file_words<O: Write>(
-    alloc: Global,
-    bytes: &[u8],
+    job: &Job<'_>,
     hash: Option<Hash>,
     kinds: Kinds,
-    is_json: bool,
     words: &[String],
     output: &mut O,
 ) -> Result<Status, Failure>
-    ensures { AreFileWordsGot bytes.now hash kinds is_json (map string_bytes words.now)
+    ensures { let j = job.now
+        in AreFileWordsGot j.bytes.now hash kinds j.is_json (map string_bytes words.now)
         (O.contents output.old) (O.contents output.new) result }
 {
-    let found = read_any(bytes, hash, kinds)?;
+    let found = read_any(job.bytes, hash, kinds)?;
     let (shape, forms) = found;
-    get_words_dynamic(alloc, shape.types(), forms, is_json, bytes, words, output)
+    get_words_dynamic(job, shape.types(), forms, words, output)
 }
 
-/// `odht get` of the bytes of a file, for the lines of an input.
-pub fn get_file_lines<I: BufRead, O: Write>(
-    alloc: Global,
-    bytes: &[u8],
+/// `odht get` of the bytes of a file, for the lines of an input, which are answered as they come
+/// where `is_live` holds.
+pub fn get_file_lines<I: BufRead + Arriving, O: Write>(
+    job: &Job<'_>,
     hash: Option<Hash>,
     kinds: Kinds,
-    is_json: bool,
+    is_live: bool,
     input: &mut I,
     output: &mut O,
 ) -> Result<Status, Failure>
-    ensures { AreFileLinesGot bytes.now hash kinds is_json (I.remaining input.old)
+    ensures { let j = job.now
+        in AreFileLinesGot j.bytes.now hash kinds j.is_json is_live (I.remaining input.old)
         (O.contents output.old) (O.contents output.new) result }
 {
-    let found = read_any(bytes, hash, kinds)?;
+    let found = read_any(job.bytes, hash, kinds)?;
     let (shape, forms) = found;
     match shape {
-        AnyShape::Ready(shape) => get_lines_ready(
-            alloc, shape, forms, is_json, bytes, input, output,
-        ),
-        AnyShape::Other(shape) => get_lines_dynamic(
-            alloc, shape, forms, is_json, bytes, input, output,
-        ),
+        AnyShape::Ready(shape) => get_lines_ready(job, shape, forms, is_live, input, output),
+        AnyShape::Other(shape) => get_lines_dynamic(job, shape, forms, is_live, input, output),
     }
 }
 
 // The same of a ready shape, in these forms.
-fn get_lines_ready<I: BufRead, O: Write>(
-    alloc: Global,
+fn get_lines_ready<I: BufRead + Arriving, O: Write>(
+    job: &Job<'_>,
     shape: Shape,
     forms: GivenForms,
-    is_json: bool,
-    bytes: &[u8],
+    is_live: bool,
     input: &mut I,
     output: &mut O,
 ) -> Result<Status, Failure>
-    ensures { lines_of_shape (forms.key, forms.value) is_json bytes.now (I.remaining input.old)
-        (O.contents output.old) (O.contents output.new) result shape }
+    ensures { let j = job.now
+        in lines_of_shape (forms.key, forms.value) j.is_json is_live j.bytes.now
+        (I.remaining input.old) (O.contents output.old) (O.contents output.new) result shape }
 {
+    let is_json = job.is_json;
     if forms.are_own() {
-        let own = AnswerStyle {
+        let answers = AnswerStyle {
             forms: OwnForms,
             is_json,
         };
-        get_lines_of(alloc, shape, own, bytes, input, output)
+        get_lines_of(
+            job.alloc,
+            job.bytes,
+            shape,
+            LineStyle { answers, is_live },
+            input,
+            output,
+        )
     } else {
-        let style = AnswerStyle { forms, is_json };
-        get_lines_of(alloc, shape, style, bytes, input, output)
+        let answers = AnswerStyle { forms, is_json };
+        get_lines_of(
+            job.alloc,
+            job.bytes,
+            shape,
+            LineStyle { answers, is_live },
+            input,
+            output,
+        )
     }
 }
 
-fn get_lines_of<F: Forms, I: BufRead, O: Write>(
+fn get_lines_of<F: Forms, I: BufRead + Arriving, O: Write>(
     alloc: Global,
-    shape: Shape,
-    style: AnswerStyle<F>,
     bytes: &[u8],
+    shape: Shape,
+    style: LineStyle<F>,
     input: &mut I,
     output: &mut O,
 ) -> Result<Status, Failure>
-    ensures { lines_of_shape (F.pair style.forms) style.is_json bytes.now (I.remaining input.old)
-        (O.contents output.old) (O.contents output.new) result shape }
+    ensures { lines_of_shape (F.pair style.answers.forms) style.answers.is_json style.is_live
+        bytes.now (I.remaining input.old) (O.contents output.old) (O.contents output.new) result
+        shape }
 {
     for_shape!(shape, get_lines[F, I, O](alloc, bytes, style, input, output))
 }
 
 // Looks up the keys of the lines, a batch at a time.
-fn get_lines<C: Config, F: Forms, I: BufRead, O: Write>(
+fn get_lines<C: Config, F: Forms, I: BufRead + Arriving, O: Write>(
     alloc: Global,
     bytes: &[u8],
-    style: AnswerStyle<F>,
+    style: LineStyle<F>,
     input: &mut I,
     output: &mut O,
 ) -> Result<Status, Failure>
 where
     C::Key: Text,
     C::Value: Text,
-    ensures { AreLinesGot ⟦<C as Coded>⟧.coding
-        (answer_in style.is_json (C.Key.text (F.pair style.forms).0)
-        (C.Value.text (F.pair style.forms).1))
-        (IsReadAs (C.Key.is_word (F.pair style.forms).0) (C.Key.stands_for (F.pair style.forms).0))
-        (C.Key.wants (F.pair style.forms).0) bytes.now (I.remaining input.old)
+    ensures { let forms = F.pair style.answers.forms in AreLinesGot ⟦<C as Coded>⟧.coding
+        (answer_in style.answers.is_json (C.Key.text forms.0) (C.Value.text forms.1))
+        (IsReadAs (C.Key.is_word forms.0) (C.Key.stands_for forms.0))
+        (C.Key.wants forms.0) bytes.now style.is_live (I.remaining input.old)
         (O.contents output.old) (O.contents output.new) result }
 {
     let table = open::<C>(bytes)?;

@@ -12,7 +12,7 @@ use Rattle.odht_tool_core.specs.ReadyShapes.{shape_format}
 use Rattle.odht_tool_core.specs.declared.forms.Form.TheVariants.{Own}
 use Rattle.odht_tool_core.specs.declared.shapes.Part.{Part}
 use Rattle.odht_tool_core.specs.declared.shapes.Part.TheVariants.{U32, U64}
-use Rattle.odht_tool_core.specs.declared.shapes.ready.Shape.TheVariants.{U64ToU32}
+use Rattle.odht_tool_core.specs.declared.generated.shapes.Shape.TheVariants.{U64ToU32}
 use Rattle.odht_tool_core.specs.declared.typed.Texts.{Texts}
 use Rattle.odht_tool_tables.specs.Openings.{FitTexts}
 

@@ -10,7 +10,7 @@ use Rattle.odht_tool_core.specs.declared.failure.Failure.TheVariants.{Refused, O
 use Rattle.odht_tool_core.specs.declared.forms.Form.TheVariants.{Own, Signed}
 use Rattle.odht_tool_core.specs.declared.shapes.Hash.TheVariants.{Fx, Unhash}
 use Rattle.odht_tool_core.specs.declared.shapes.Part.TheVariants.{U32, U64, Bytes}
-use Rattle.odht_tool_core.specs.declared.shapes.ready.Shape.TheVariants.{U32ToU32, DirectU32ToU32, U64ToU32, U64ToU64}
+use Rattle.odht_tool_core.specs.declared.generated.shapes.Shape.TheVariants.{U32ToU32, DirectU32ToU32, U64ToU32, U64ToU64}
 use Rattle.odht_tool_core.proofs.examples.Forms.{kind, said, unsaid}
 use Rattle.odht_tool_core.proofs.examples.Shapes.{one_bytes}
 use Rattle.odht_tool_tables.specs.Wholes.{have_same_sizes, sizes_of, sizes_text, whole_any}

@@ -6,7 +6,7 @@ use Rattle.odht_tool_writes.specs.DeleteLines.{are_lines_keys, is_line_fault}
 use Rattle.odht_tool_core.specs.declared.any.AnyShape.TheVariants.{Ready}
 use Rattle.odht_tool_core.specs.declared.failure.Failure.TheVariants.{Misread, Refused}
 use Rattle.odht_tool_core.specs.declared.forms.Form.TheVariants.{Own}
-use Rattle.odht_tool_core.specs.declared.shapes.ready.Shape.TheVariants.{DirectU32ToU32}
+use Rattle.odht_tool_core.specs.declared.generated.shapes.Shape.TheVariants.{DirectU32ToU32}
 use Rattle.odht_tool_tables.proofs.examples.KeyTexts.{five, second_text, six}
 
 -- the bytes of the keys; an empty last line is left out

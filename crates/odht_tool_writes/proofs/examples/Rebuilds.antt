@@ -16,7 +16,7 @@ use Rattle.odht_tool_core.specs.ReadyShapes.{shape_format}
 use Rattle.odht_tool_core.specs.declared.any.AnyShape.TheVariants.{Ready}
 use Rattle.odht_tool_core.specs.declared.failure.Failure.TheVariants.{Refused, NoHash, ShortKeys}
 use Rattle.odht_tool_core.specs.declared.shapes.Hash.TheVariants.{Fx, Unhash}
-use Rattle.odht_tool_core.specs.declared.shapes.ready.Shape.TheVariants.{U32ToU32, DirectU32ToU32}
+use Rattle.odht_tool_core.specs.declared.generated.shapes.Shape.TheVariants.{U32ToU32, DirectU32ToU32}
 use Rattle.odht_tool_core.proofs.examples.Shapes.{one_bytes}
 use Rattle.odht_tool_tables.proofs.examples.Openings.{made, start}
 

@@ -2,11 +2,11 @@
 ghost use Rattle.std.specs.Prelude.{◌≡◌};
 ghost use Rattle.odht_tool_core.specs.DynTexts.{dynamic_forms};
 
+use crate::generated::shapes::for_shape;
 use crate::inserts::lines::{
     Place, Streams, check_lines, insert_lines, left, makes_no_table, place_of,
 };
 use crate::inserts::{Inserts, LineJob};
-use crate::shapes::for_shape;
 use odht::dynamic::{DynTableOwned, Layout};
 use odht::{FxHashFn, HashTableOwned, UnHashFn, Xxh64HashFn, configs};
 use odht_tool_core::any::{AnyShape, OtherShape, read_any};

@@ -19,6 +19,7 @@ pub mod find;
 pub mod forms;
 pub mod found;
 pub mod front;
+mod generated;
 mod groups;
 pub mod help;
 pub mod hexadecimal;

@@ -5,6 +5,6 @@ use crate::host::prelude::*;
 
 pub mod commands;
 mod dynamic;
-mod lookups;
+mod generated;
+pub mod lookups;
 pub mod positions;
-mod shapes;

@@ -6,12 +6,17 @@
 use crate::host::prelude::*;
 
 mod commands;
+mod pairs;
+mod streams;
 
+use crate::generated::core::arguments::parse;
 use crate::generated::core::status::Status;
 use crate::host::env;
 use crate::host::io::{self, BufReader, BufWriter, ErrorKind};
 use crate::shim::Global;
+use pairs::lines_of_words;
 use std::process::ExitCode;
+use streams::{Sink, Source};
 
 /// How many bytes are read and written at once.
 const BUFFER_SIZE: usize = 1 << 16;
@@ -37,8 +42,21 @@ pub fn main(rt: HostRuntime) -> ExitCode {
 fn run(rt: &HostRuntime) -> io::Result<Status> {
     let alloc: Global = rt.alloc();
     let words: Vec<String> = env::args(rt)?.skip(1).try_collect(alloc)?;
-    let mut input = BufReader::with_capacity(alloc, BUFFER_SIZE, rt.stdin())?;
-    let mut output = BufWriter::with_capacity(alloc, BUFFER_SIZE, rt.stdout())?;
+    let request = parse(alloc, words);
+    let lines = lines_of_words(alloc, &request)?;
+    let (reads_null, writes_null) = match &request {
+        Ok(request) => (request.reads_null(), request.writes_null()),
+        Err(_) => (false, false),
+    };
+    let source = Source {
+        reader: rt.stdin(),
+        given: lines.as_slice(),
+        is_given: !lines.is_empty(),
+        has_null: reads_null,
+    };
+    let sink = Sink { writer: rt.stdout(), has_null: writes_null };
+    let mut input = BufReader::with_capacity(alloc, BUFFER_SIZE, source)?;
+    let mut output = BufWriter::with_capacity(alloc, BUFFER_SIZE, sink)?;
     let mut errors = rt.stderr();
-    Ok(commands::run(rt, words, &mut input, &mut output, &mut errors))
+    Ok(commands::run(rt, request, &mut input, &mut output, &mut errors))
 }

@@ -5,8 +5,8 @@ use crate::host::prelude::*;
 
 pub mod commands;
 mod dynamic;
+mod generated;
 mod inserts;
 mod reports;
-mod shapes;
 mod starts;
 mod warnings;

@@ -74,6 +74,11 @@ impl<R: Read> BufReader<R> {
     pub fn with_capacity(alloc: Global, len: usize, inner: R) -> Result<BufReader<R>> {
         Ok(BufReader { inner, bytes: zeroed_bytes(alloc, len)?, at: 0, end: 0 })
     }
+
+    /// What was read, and not yet consumed.
+    pub fn buffer(&self) -> &[u8] {
+        &self.bytes[self.at..self.end]
+    }
 }
 
 impl<R: Read> Read for BufReader<R> {

@@ -51,6 +51,17 @@ pub fn text_of_program(path: &str, source: &str) -> Result<String, String> {
     Ok(without_layout(&erased.text))
 }
 
+/// Each source, after a first line, is an error on line 2.
+#[allow(dead_code)]
+pub fn all_are_refused(sources: &[&str], left: impl Fn(&str) -> Result<String, String>) {
+    for source in sources {
+        match left(&format!("// the first line\n{source}")) {
+            Ok(text) => panic!("{source}: not refused, but: {text}"),
+            Err(what) => assert!(what.starts_with("line 2: "), "{source}: {what}"),
+        }
+    }
+}
+
 #[allow(dead_code)]
 fn without_layout(text: &str) -> String {
     text.split_whitespace().collect::<Vec<_>>().join(" ")

@@ -2,7 +2,7 @@ use Rattle.std.proofs.Common.{◌∙◌, Ok, sym, ap, if◌then◌else◌, slice
 use Rattle.odht_tool_core.specs.AnyShapes.{any_of_sizes}
 use Rattle.odht_tool_core.specs.declared.any.AnyShape.TheVariants.{Ready}
 use Rattle.odht_tool_core.specs.declared.shapes.Part.TheVariants.{Bytes}
-use Rattle.odht_tool_core.specs.declared.shapes.ready.Shape.TheVariants.{U64ToU32}
+use Rattle.odht_tool_core.specs.declared.generated.shapes.Shape.TheVariants.{U64ToU32}
 use Rattle.odht_tool_core.proofs.any.named_any.Goals as goal
 
 pub returns-then-has_early_refusal-clause-shape : goal.returns-then-has_early_refusal-clause-shape

@@ -6,6 +6,7 @@ use crate::arguments::{
     PutOptions, Reading, RebuildOptions, is_stream,
 };
 use crate::forms::GivenForms;
+use crate::plain::is_plain;
 use crate::progress::Watch;
 use odht_base::load::Percent;
 
@@ -25,17 +26,36 @@ impl Draft {
         }))
     }
 
-    /// The options of `put`.
-    pub(super) fn putting(&self) -> PutOptions {
-        PutOptions {
+    /// `put`, of which the words are keys and values by turns. None has a byte that ends a key or a
+    /// line, so they are the lines of an input.
+    pub(super) fn put(mut self) -> Result<Command, CommandMisuse> {
+        for at in 0..self.words.len() {
+            if !is_in_line(self.words[at].as_str()) {
+                return Err(CommandMisuse::NotInLine(self.words.remove(at)));
+            }
+        }
+        if self.words.len() % 2 == 1 {
+            let last = self.words.len() - 1;
+            return Err(CommandMisuse::KeyAlone(self.words.remove(last)));
+        }
+        let delimiter = if self.words.is_empty() {
+            self.delimiter
+        } else {
+            b'\t'
+        };
+        let options = PutOptions {
             hash: self.hash,
             kinds: self.kinds,
             duplicates: self.duplicates,
-            delimiter: self.delimiter,
+            delimiter,
             bound: bound_of(self.is_whole),
             breaks_links: self.allowed.breaks_links,
             watch: Watch::of(self.has_progress),
-        }
+        };
+        Ok(Command::Put {
+            options,
+            words: self.words,
+        })
     }
 
     /// The options of `rebuild`.
@@ -139,4 +159,9 @@ impl Draft {
             watch: Watch::of(self.has_progress),
         }))
     }
+}
+
+// Whether a word has no byte that ends a key or a line.
+fn is_in_line(word: &str) -> bool {
+    word.as_bytes().iter().all(|byte| is_plain(*byte))
 }

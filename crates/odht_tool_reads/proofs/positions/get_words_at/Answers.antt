@@ -1,19 +1,12 @@
-use Rattle.std.proofs.Common.{arith, ◌≡◌, ◌∙◌, ℕ, List, length, map, sym, ap, subst}
-use Rattle.std.specs.Prelude.{string_bytes, unwrap_or}
+use Rattle.std.proofs.Common.{◌∙◌, ℕ, List, sym, ap}
 use Rattle.odht_base.specs.Bytes.{bytes_at}
-use Rattle.odht_tool_reads.specs.Gets.{AreFileWordsGot}
-use Rattle.odht_tool_reads.specs.Positions.{ByPosition, IsTableIn, len_by}
 use Rattle.odht_tool_reads.proofs.positions.get_words_at.Goals as goal
 
-pub returns-clause-valid : goal.returns-clause-valid
-returns-clause-valid g c B h all s table =
-    let start = c.in-Some.start in
-    let old = g.O.Write.contents c.args.output.now in
-    let new = g.O.Write.contents c.get_table_words.new.output in
-    let begun = c.in-Some.ensures.given B h (omega (arith, all)) in
-    let head : start.header ≡ bytes_at B (unwrap_or c.args.offset 0) 32 = begun.header ∙ ap (λ a. bytes_at B a 32) c.in-Some.ensures.at in
-    let long : start.len ≡ len_by c.args.offset (length B) (bytes_at B (unwrap_or c.args.offset 0) 32) =
-    c.in-Some.ensures.len ∙ (λ j. len_by c.args.offset (sym all j) (head j)) in
-    subst (λ (T : List ℕ). IsTableIn T s → ByPosition old new (AreFileWordsGot T c.args.hash c.args.kinds c.args.is_json (map string_bytes c.args.words.now) old new) c.get_table_words.result)
-    (λ j. bytes_at B (c.in-Some.ensures.at j) (long j))
-    (λ t. c.get_table_words.ensures.valid B h begun s t) table
+-- what is remembered is what the source gives
+pub returns : goal.returns
+returns g c =
+    let same = λ (B : List ℕ) (h : g.S.ReadAt.gives c.args.source B). c.in-Ok.ensures.given B h ∙ ap (bytes_at B c.unwrap_or-at.result) (sym c.read_exact_at.auto.out) in
+    record {
+      named = λ B h all. c.get_words_in.ensures.named B (h, same B h) all;
+      valid = λ B h all. c.get_words_in.ensures.valid B (h, same B h) all;
+    }

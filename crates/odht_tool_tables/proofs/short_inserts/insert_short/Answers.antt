@@ -1,4 +1,4 @@
-use Rattle.std.proofs.Common.{rules, arith, ◌≡◌, ◌∙◌, ◌%◌, ◌≤◌, ℕ, false, true, List, [], ◌∷◌, Option, Some, Ok, All, sym, ap, refl, subst, length}
+use Rattle.std.proofs.Common.{rules, arith, ◌≡◌, ◌∙◌, ◌%◌, false, true, [], Some, All, sym, ap, refl, subst}
 use Rattle.std.specs.Prelude.{OnOk, is_err, nat_lt}
 use Rattle.std.proofs.lemmas.List.Elements.{All-head, All-tail}
 use Rattle.odht_base.specs.Format.{Format}

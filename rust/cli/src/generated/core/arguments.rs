@@ -16,12 +16,11 @@ mod delimiters;
 mod draft;
 mod duplicates;
 mod misuse;
-pub(crate) mod topics;
 
+pub use crate::generated::core::generated::topics::{Setting, Topic};
 use draft::Draft;
 pub use duplicates::Duplicates;
 pub use misuse::{CommandMisuse, Misuse};
-pub use topics::{Setting, Topic};
 
 /// The options of `build`.
 #[derive(Clone, Copy)]
@@ -145,7 +144,11 @@ pub enum Command {
         reading: Reading,
     },
     Build(BuildOptions),
-    Put(PutOptions),
+    /// The words are keys and values by turns; without words, the pairs are lines.
+    Put {
+        options: PutOptions,
+        words: Vec<String>,
+    },
     Delete(DeleteOptions),
     Rebuild(RebuildOptions),
     Diff(DiffOptions),
@@ -153,6 +156,24 @@ pub enum Command {
 }
 
 impl Command {
+    // Whether it reads lines of standard input.
+    fn reads_lines(&self) -> bool {
+        match self {
+            Command::Build(_) | Command::Put { .. } => true,
+            Command::Delete(options) => options.keys.are_lines(),
+            Command::Read { reading: Reading::Get { keys, .. }, .. } => keys.are_lines(),
+            _ => false,
+        }
+    }
+
+    // Whether it writes lines to standard output, and no bytes of a table.
+    fn writes_lines(&self) -> bool {
+        match self {
+            Command::Read { .. } => true,
+            _ => false,
+        }
+    }
+
     /// How the run ends if the command fails.
     pub fn failed(&self) -> Status {
         match self {
@@ -172,8 +193,8 @@ pub enum Reading {
     Check { hash: Option<Hash>, bound: Option<usize>, is_json: bool },
     Count { hash: Option<Hash>, bound: Option<usize>, is_checked: bool },
     Get { hash: Option<Hash>, kinds: Kinds, keys: Keys, is_json: bool },
-    Dump { hash: Option<Hash>, kinds: Kinds, is_slots: bool, is_json: bool },
-    Keys { hash: Option<Hash>, kinds: Kinds },
+    Dump { hash: Option<Hash>, kinds: Kinds, is_slots: bool, is_values: bool, is_json: bool },
+    Keys { hash: Option<Hash>, kinds: Kinds, is_json: bool },
     Find { bound: Option<usize>, is_json: bool },
     Order { hash: Option<Hash>, kinds: Kinds, bound: Option<usize> },
     // end readings
@@ -204,7 +225,30 @@ pub enum Request {
     /// The version of the program.
     Version,
     /// A command to run on a file.
-    Run { file: String, command: Command },
+    Run {
+        file: String,
+        command: Command,
+        /// Whether lines end in NUL.
+        is_null: bool,
+    },
+}
+
+impl Request {
+    /// Whether lines that are read end in NUL.
+    pub fn reads_null(&self) -> bool {
+        match self {
+            Request::Run { command, is_null, .. } => *is_null && command.reads_lines(),
+            _ => false,
+        }
+    }
+
+    /// Whether lines that are written end in NUL.
+    pub fn writes_null(&self) -> bool {
+        match self {
+            Request::Run { command, is_null, .. } => *is_null && command.writes_lines(),
+            _ => false,
+        }
+    }
 }
 
 /// Whether the name of a file stands for standard input, or of one that is made for standard

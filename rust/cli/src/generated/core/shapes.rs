@@ -3,12 +3,10 @@
 //! hash function.
 
 use crate::host::prelude::*;
+
+pub use crate::generated::core::generated::shapes::Shape;
+pub(crate) use crate::generated::core::generated::shapes::SHAPES;
 use std::fmt;
-
-mod ready;
-
-pub use ready::Shape;
-pub(crate) use ready::SHAPES;
 
 /// A hash function of keys.
 #[derive(Clone, Copy)]

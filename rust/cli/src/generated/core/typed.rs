@@ -13,6 +13,35 @@ use crate::generated::core::plain::{plain_of, write_plain};
 use crate::generated::core::shapes::Part;
 use crate::generated::core::text::{write_bytes, Text};
 use std::io::{self, Write};
+use stored::Typed;
+
+/// One side of a pair.
+#[derive(Clone, Copy)]
+pub enum Side {
+    /// Its key.
+    Key,
+    /// Its value.
+    Value,
+}
+
+impl Side {
+    /// The bytes of this side of a pair.
+    #[inline(always)]
+    pub fn of<'a>(self, key: &'a [u8], value: &'a [u8]) -> &'a [u8] {
+        match self {
+            Side::Key => key,
+            Side::Value => value,
+        }
+    }
+
+    /// Its name in objects of JSON.
+    pub(crate) fn name(self) -> &'static str {
+        match self {
+            Side::Key => "key",
+            Side::Value => "value",
+        }
+    }
+}
 
 /// In which texts the keys and the values of a table are written.
 #[derive(Clone, Copy)]
@@ -29,6 +58,15 @@ impl Texts {
     /// Those of a shape, in these forms.
     pub fn of(shape: AnyShape, forms: GivenForms) -> Texts {
         Texts { key: shape.key(), value: shape.value(), forms }
+    }
+
+    /// The type and the form of this side of pairs.
+    pub fn of_side(self, side: Side) -> Typed {
+        let (part, form) = match side {
+            Side::Key => (self.key, self.forms.key),
+            Side::Value => (self.value, self.forms.value),
+        };
+        Typed { part, form }
     }
 
     /// Writes the text of the key that is stored as these bytes.

@@ -14,11 +14,24 @@ use crate::host::prelude::*;
 use crate::shim::{AllocError, Global};
 use std::io::{self, BufRead, Write};
 
+pub mod arriving;
 mod tables;
 pub mod words;
 
+use arriving::Arriving;
+
 /// How many keys are looked up at once.
 const BATCH: usize = 1024;
+
+/// How the keys of lines are answered.
+#[derive(Clone, Copy)]
+pub struct LineStyle<F: Forms> {
+    /// How they and their values are written.
+    pub answers: AnswerStyle<F>,
+    /// Whether the answers to the lines that have come are written out before the next line is
+    /// waited for.
+    pub is_live: bool,
+}
 
 /// A table in which keys are looked up that have texts, as its values have.
 pub trait Lookups {
@@ -36,29 +49,41 @@ pub trait Lookups {
     ) -> Result<Vec<Option<Self::Value>>, AllocError>;
 }
 
-/// Looks up the keys of the lines, a batch at a time, and writes a line for each.
-pub fn answer_lines<T: Lookups, F: Forms, I: BufRead, O: Write>(
+/// Looks up the keys of the lines, a batch at a time, and writes a line for each. Where that is asked
+/// for, the lines that have come are answered before the next one is waited for.
+pub fn answer_lines<T: Lookups, F: Forms, I: BufRead + Arriving, O: Write>(
     alloc: Global,
     table: &T,
-    style: AnswerStyle<F>,
+    style: LineStyle<F>,
     input: &mut I,
     output: &mut O,
 ) -> Result<Status, Failure> {
+    let answers = style.answers;
     let mut keys = crate::host::lists::empty(alloc);
     let mut line = crate::host::lists::empty(alloc);
     let mut is_all_found = true;
     for number in 1..u64::MAX {
-        let read =
-            read_key(alloc, table, number, input, &mut line, keys.as_slice(), style, output)?;
+        let taken = keys.as_slice();
+        let read = read_key(alloc, table, number, input, &mut line, taken, answers, output)?;
         match read {
             Some(key) => {
-                is_all_found = take_key(alloc, table, &mut keys, key, is_all_found, style, output)?;
+                push_key(&mut keys, key)?;
+                let is_live = is_due(style.is_live, input);
+                let due = LineStyle { answers, is_live };
+                is_all_found = answer_batch(alloc, table, &mut keys, is_all_found, due, output)?;
+                write_out(is_live, output)?;
             }
             None => break,
         }
     }
-    let is_last_found = answer_keys(alloc, table, keys.as_slice(), style, output)?;
+    let is_last_found = answer_keys(alloc, table, keys.as_slice(), answers, output)?;
     Ok(Status::of(is_last_found && is_all_found))
+}
+
+// Whether the lines that have come are to be answered.
+#[inline(always)]
+fn is_due<I: Arriving>(is_live: bool, input: &I) -> bool {
+    is_live && input.is_waiting()
 }
 
 // Reads the key of the line of this number, if there is such a line. Where it is no key, the keys
@@ -111,37 +136,37 @@ fn wrong_line<K: Text, F: Forms>(
     misread.message(alloc)
 }
 
-// Adds a key, and answers all where they are a batch. Returns whether each was found, and those
-// before.
-fn take_key<T: Lookups, F: Forms, O: Write>(
-    alloc: Global,
-    table: &T,
-    keys: &mut Vec<T::Key>,
-    key: T::Key,
-    is_all_found: bool,
-    style: AnswerStyle<F>,
-    output: &mut O,
-) -> Result<bool, Failure> {
-    push_key(keys, key)?;
-    answer_batch(alloc, table, keys, is_all_found, style, output)
-}
-
-// Answers the keys where they are a batch, and drops them. Returns whether each was found, and
-// those before.
+// Answers the keys where they are a batch, and drops them; where `is_live` holds, fewer too. Returns
+// whether each was found, and those before.
 fn answer_batch<T: Lookups, F: Forms, O: Write>(
     alloc: Global,
     table: &T,
     keys: &mut Vec<T::Key>,
     is_all_found: bool,
-    style: AnswerStyle<F>,
+    style: LineStyle<F>,
     output: &mut O,
 ) -> Result<bool, Failure> {
-    if keys.len() < BATCH {
+    if is_few(keys.len(), style.is_live) {
         return Ok(is_all_found);
     }
-    let is_found = answer_keys(alloc, table, keys.as_slice(), style, output)?;
+    let is_found = answer_keys(alloc, table, keys.as_slice(), style.answers, output)?;
     keys.clear();
     Ok(is_found && is_all_found)
+}
+
+// Whether that many keys wait for more of a batch.
+#[inline(always)]
+fn is_few(count: usize, is_live: bool) -> bool {
+    count < BATCH && !is_live
+}
+
+// Writes out what the buffer of the output has, where that is due.
+#[inline(always)]
+fn write_out<O: Write>(is_due: bool, output: &mut O) -> Result<(), Failure> {
+    if is_due {
+        output.flush().map_err(Failure::Output)?;
+    }
+    Ok(())
 }
 
 // Looks the keys up, and writes a line for each. Returns whether each was found.

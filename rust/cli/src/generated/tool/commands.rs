@@ -1,14 +1,17 @@
 // Generated from crates/odht_tool/src/commands.rt by make generate.
 //! Runs the commands, each from its parsed words to the status of the program.
-use crate::generated::core::arguments::{parse, Command, Keys, Misuse, Reading, Request};
+use crate::generated::core::arguments::{Command, Keys, Misuse, Reading, Request};
 use crate::generated::core::failure::Failure;
+use crate::generated::core::files::input_len;
 use crate::generated::core::front::table_at;
 use crate::generated::core::help::{write_help, write_version};
 use crate::generated::core::inside::{first_inside, is_followed, write_inside};
 use crate::generated::core::job::Job;
 use crate::generated::core::status::{of_output, Status};
 use crate::generated::reads::commands::diff;
+use crate::generated::reads::lookups::arriving::Arriving;
 use crate::generated::reads::positions;
+use crate::generated::tool::pairs::of_words;
 use crate::generated::tool_tables::files::{finish, finish_as, read_bytes, read_table_bytes};
 use crate::generated::writes::commands::{build, delete, merge, rebuild};
 use crate::host::io::{BufRead, IsTerminal, Write};
@@ -20,14 +23,14 @@ use std::os::unix::fs::FileExt;
 
 mod readings;
 
-use readings::run_reading;
+use readings::{count_label, run_reading};
 
 /// Does what the words ask for. Each failure is reported by a line on `errors`; where that cannot
 /// be written either, only the status reports it. Where nobody reads `output` any more, nothing
 /// is reported.
-pub fn run<R: Files + AllocGlobal + Clock, I: BufRead, O: Write, E: Write + IsTerminal>(
+pub fn run<R: Files + AllocGlobal + Clock, I: BufRead + Arriving, O: Write, E: Write + IsTerminal>(
     rt: &R,
-    words: Vec<String>,
+    request: Result<Request, Misuse>,
     input: &mut I,
     output: &mut O,
     errors: &mut E,
@@ -35,8 +38,7 @@ pub fn run<R: Files + AllocGlobal + Clock, I: BufRead, O: Write, E: Write + IsTe
 where
     R::File: AsFd + FileExt,
 {
-    let alloc: Global = rt.alloc();
-    match parse(alloc, words) {
+    match request {
         Ok(Request::Help(topic)) => {
             let done = of_output(write_help(topic, output));
             finish("help", flushed(done, output), errors)
@@ -45,7 +47,7 @@ where
             let done = of_output(write_version(output));
             finish("version", flushed(done, output), errors)
         }
-        Ok(Request::Run { file, command }) => {
+        Ok(Request::Run { file, command, .. }) => {
             let file = file.as_str();
             let failed = command.failed();
             let done = run_command(rt, file, command, input, output, errors);
@@ -75,7 +77,12 @@ fn flushed<O: Write>(done: Result<Status, Failure>, output: &mut O) -> Result<St
     }
 }
 
-fn run_command<R: Files + AllocGlobal + Clock, I: BufRead, O: Write, E: Write + IsTerminal>(
+fn run_command<
+    R: Files + AllocGlobal + Clock,
+    I: BufRead + Arriving,
+    O: Write,
+    E: Write + IsTerminal,
+>(
     rt: &R,
     file: &str,
     command: Command,
@@ -99,7 +106,11 @@ where
         Command::Rebuild(options) => rebuild::rebuild(rt, file, options, errors),
         Command::Diff(options) => diff::diff(rt, file, options, input, output, errors),
         Command::Merge(options) => merge::merge(rt, file, options, input, output, errors),
-        Command::Put(mut options) => {
+        Command::Put { options, words } if !words.is_empty() => {
+            build::put(rt, file, options, input, output, errors)
+                .map_err(|failure| of_words(rt.alloc(), failure))
+        }
+        Command::Put { mut options, .. } => {
             options.watch = options.watch.with_bar(rt, errors);
             build::put(rt, file, options, input, output, errors)
         }
@@ -109,7 +120,7 @@ where
 // Runs a command that only reads its file, on this file and on others. Where there are others,
 // each failure is reported, and the next one is read; but where the output cannot be written, no
 // more is.
-fn read_files<R: Files + AllocGlobal, I: BufRead, O: Write, E: Write>(
+fn read_files<R: Files + AllocGlobal, I: BufRead + Arriving, O: Write, E: Write>(
     rt: &R,
     file: &str,
     others: &[String],
@@ -156,7 +167,7 @@ fn is_read<O: Write, E: Write>(
     }
 }
 
-fn read_one<R: Files + AllocGlobal, I: BufRead, O: Write, E: Write>(
+fn read_one<R: Files + AllocGlobal, I: BufRead + Arriving, O: Write, E: Write>(
     rt: &R,
     file: &str,
     is_one: bool,
@@ -169,7 +180,7 @@ fn read_one<R: Files + AllocGlobal, I: BufRead, O: Write, E: Write>(
 where
     R::File: FileExt,
 {
-    if let Some(status) = read_by_position(rt, file, at, reading, output)? {
+    if let Some(status) = read_by_position(rt, file, is_one, at, reading, output)? {
         return Ok(status);
     }
     let offset = at.unwrap_or(0);
@@ -184,7 +195,7 @@ where
     };
     let job =
         Job { alloc: rt.alloc(), file, is_one, at, bytes: table, bound: None, is_json: false };
-    let done = run_reading(job, reading, input, output, errors);
+    let done = run_reading(job, reading, is_live(rt, reading), input, output, errors);
     if reading.is_search() {
         done
     } else {
@@ -193,10 +204,20 @@ where
     }
 }
 
-// Looks the keys of words up without reading all of the file. None where that does not do.
+// Whether lines are answered as they come: where they are keys, and standard input is no file.
+fn is_live<R: Files>(rt: &R, reading: &Reading) -> bool {
+    match reading {
+        Reading::Get { keys: Keys::Lines, .. } => input_len(rt).is_none(),
+        _ => false,
+    }
+}
+
+// Looks the keys of words up, or counts the items, without reading all of the file. None where that
+// does not do.
 fn read_by_position<R: Files + AllocGlobal, O: Write>(
     rt: &R,
     file: &str,
+    is_one: bool,
     at: Option<usize>,
     reading: &Reading,
     output: &mut O,
@@ -220,6 +241,13 @@ where
                 words.as_slice(),
                 output,
             )
+        }
+        Reading::Count { is_checked: false, .. } => {
+            let Some((source, len)) = positions::open_regular(rt, file) else {
+                return Ok(None);
+            };
+            let label = count_label(rt.alloc(), file, is_one)?;
+            positions::count_at(source, len, at, label.as_str(), output)
         }
         _ => Ok(None),
     }

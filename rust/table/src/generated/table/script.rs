@@ -206,7 +206,6 @@ fn write_value<W: Write>(value: Option<u32>, output: &mut W) -> io::Result<()> {
     }
 }
 
-// The number on a line.
 fn write_number_line<W: Write>(number: u64, output: &mut W) -> io::Result<()> {
     number.write(Form::Own, output)?;
     output.write_all(b"\n")

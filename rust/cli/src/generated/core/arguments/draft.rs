@@ -1,11 +1,11 @@
 // Generated from crates/odht_tool_core/src/arguments/draft.rt by make generate.
 //! A command of which some words are parsed.
 use super::delimiters::delimiter_named;
-use super::topics::{Setting, Topic};
 use super::{is_stream, Command, CommandMisuse, Duplicates, Misuse, Reading, Request};
 use crate::generated::base::load::Percent;
 use crate::generated::core::digits::parse_number;
 use crate::generated::core::forms::{Kind, Kinds};
+use crate::generated::core::generated::topics::{Setting, Topic};
 use crate::generated::core::shapes::Hash;
 use crate::generated::core::targets::Allowed;
 use crate::generated::raw::memory_layout::DEFAULT_GROUPS;
@@ -34,7 +34,9 @@ pub(super) struct Draft {
     is_checked: bool,
     is_help: bool,
     is_slots: bool,
+    is_values: bool,
     is_json: bool,
+    is_null: bool,
     is_whole: bool,
     is_check: bool,
     allowed: Allowed,
@@ -59,7 +61,9 @@ impl Draft {
             is_checked: false,
             is_help: false,
             is_slots: false,
+            is_values: false,
             is_json: false,
+            is_null: false,
             is_whole: false,
             is_check: false,
             allowed: Allowed::new(),
@@ -72,6 +76,10 @@ impl Draft {
         if let Some(setting) = self.waiting {
             self.waiting = None;
             return self.set(setting, word.as_str());
+        }
+        if !self.is_ended && self.is_null_option(word.as_str()) {
+            self.is_null = true;
+            return Ok(());
         }
         if self.is_ended || !is_option(word.as_str()) {
             return self.words.try_push(word).or(Err(CommandMisuse::Memory));
@@ -87,6 +95,11 @@ impl Draft {
             }
             _ => self.read_option(word),
         }
+    }
+
+    // Whether the word is the short name of `--null`, which the command has.
+    fn is_null_option(&self, word: &str) -> bool {
+        word == "-0" && Setting::named(self.topic, "--null").is_some()
     }
 
     // Parses an option, with its value where that is in the same word.
@@ -109,7 +122,9 @@ impl Draft {
         match setting {
             Setting::Help => self.is_help = true,
             Setting::Slots => self.is_slots = true,
+            Setting::Values => self.is_values = true,
             Setting::Json => self.is_json = true,
+            Setting::Null => self.is_null = true,
             Setting::Whole => self.is_whole = true,
             Setting::Check => self.is_checked = true,
             Setting::CheckOnly => self.is_check = true,
@@ -178,8 +193,9 @@ impl Draft {
         if !self.topic.takes_words() && !self.words.is_empty() {
             return Err(CommandMisuse::ExtraWord(self.words.remove(0)));
         }
+        let is_null = self.is_null;
         let command = self.command(is_stream(file.as_str()))?;
-        Ok(Request::Run { file, command })
+        Ok(Request::Run { file, command, is_null })
     }
 
     // The command, of a file that is standard input or output, or is not.
@@ -191,10 +207,11 @@ impl Draft {
             }
             Topic::Delete => self.delete(),
             Topic::Rebuild => Ok(Command::Rebuild(self.rebuilding())),
-            Topic::Put => Ok(Command::Put(self.putting())),
+            Topic::Put => self.put(),
             Topic::Get => self.get(is_stream),
             Topic::Diff => self.diff(is_stream),
             Topic::Merge => self.merge(),
+            Topic::Dump if self.is_slots && self.is_values => Err(CommandMisuse::Apart),
             _ if self.has_second_stream(is_stream) => Err(CommandMisuse::TwiceInput),
             _ => {
                 let reading = self.reading();
@@ -230,10 +247,14 @@ impl Draft {
             Topic::Info => Reading::Info { bound, is_json: self.is_json },
             Topic::Check => Reading::Check { hash, bound, is_json: self.is_json },
             Topic::Count => Reading::Count { hash, bound, is_checked: self.is_checking() },
-            Topic::Dump => {
-                Reading::Dump { hash, kinds, is_slots: self.is_slots, is_json: self.is_json }
-            }
-            Topic::Keys => Reading::Keys { hash, kinds },
+            Topic::Dump => Reading::Dump {
+                hash,
+                kinds,
+                is_slots: self.is_slots,
+                is_values: self.is_values,
+                is_json: self.is_json,
+            },
+            Topic::Keys => Reading::Keys { hash, kinds, is_json: self.is_json },
             Topic::Find => Reading::Find { bound, is_json: self.is_json },
             _ => Reading::Order { hash, kinds, bound },
             // end readings

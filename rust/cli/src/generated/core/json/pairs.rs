@@ -1,11 +1,12 @@
 // Generated from crates/odht_tool_core/src/json/pairs.rt by make generate.
-//! Pairs as objects of JSON, each on a line.
+//! Pairs, and sides of pairs, as objects of JSON, each on a line.
 
 use crate::generated::core::forms::Form;
 use crate::generated::core::json::write_string;
 use crate::generated::core::shapes::Part;
 use crate::generated::core::text::write_bytes;
-use crate::generated::core::typed::{plain_bytes, write_stored, Texts};
+use crate::generated::core::typed::stored::Typed;
+use crate::generated::core::typed::{plain_bytes, write_stored, Side, Texts};
 use crate::host::prelude::*;
 use std::io::{self, Write};
 use std::str::from_utf8;
@@ -32,6 +33,19 @@ pub(crate) fn write_pair_fields<O: Write>(
     write_stored_field("key", texts.key, texts.forms.key, key, output)?;
     output.write_all(b",")?;
     write_stored_field("value", texts.value, texts.forms.value, value, output)?;
+    output.write_all(b"}\n")
+}
+
+/// Writes the object of one side of a pair, which is of this type and stored as these bytes, on a
+/// line.
+pub fn write_side_object<O: Write>(
+    side: Side,
+    typed: Typed,
+    bytes: &[u8],
+    output: &mut O,
+) -> io::Result<()> {
+    output.write_all(b"{")?;
+    write_stored_field(side.name(), typed.part, typed.form, bytes, output)?;
     output.write_all(b"}\n")
 }
 

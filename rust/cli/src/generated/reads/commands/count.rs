@@ -49,6 +49,7 @@ fn count_any(shape: AnyShape, bytes: &[u8], bound: Option<usize>) -> Result<usiz
     }
 }
 
-fn write_count<O: Write>(label: &str, count: usize, output: &mut O) -> io::Result<()> {
+/// Writes a label, and a count.
+pub(crate) fn write_count<O: Write>(label: &str, count: usize, output: &mut O) -> io::Result<()> {
     writeln!(output, "{label}{count}")
 }

@@ -4,13 +4,15 @@
 use crate::generated::core::any::{read_any, AnyShape};
 use crate::generated::core::failure::Failure;
 use crate::generated::core::forms::{Forms, GivenForms, Kinds, OwnForms};
+use crate::generated::core::job::Job;
 use crate::generated::core::json::answers::AnswerStyle;
 use crate::generated::core::shapes::{Hash, Shape};
 use crate::generated::core::status::Status;
 use crate::generated::core::text::Text;
 use crate::generated::reads::dynamic::gets::{get_lines_dynamic, get_words_dynamic};
-use crate::generated::reads::lookups::answer_lines;
-use crate::generated::reads::shapes::for_shape;
+use crate::generated::reads::generated::shapes::for_shape;
+use crate::generated::reads::lookups::arriving::Arriving;
+use crate::generated::reads::lookups::{answer_lines, LineStyle};
 use crate::generated::tables::bytes::Borrowed;
 use crate::generated::tables::config::Config;
 use crate::generated::tables::HashTable;
@@ -21,65 +23,59 @@ use std::io::{BufRead, Write};
 /// `odht get` of the bytes of a file, for the words of the command line: writes a line for each
 /// key, with a tab and its value, or the key alone; or an object of JSON of both.
 pub fn get_file_words<O: Write>(
-    alloc: Global,
-    bytes: &[u8],
+    job: &Job<'_>,
     hash: Option<Hash>,
     kinds: Kinds,
-    is_json: bool,
     words: &[String],
     output: &mut O,
 ) -> Result<Status, Failure> {
-    let found = read_any(bytes, hash, kinds)?;
+    let found = read_any(job.bytes, hash, kinds)?;
     let (shape, forms) = found;
-    get_words_dynamic(alloc, shape.types(), forms, is_json, bytes, words, output)
+    get_words_dynamic(job, shape.types(), forms, words, output)
 }
 
-/// `odht get` of the bytes of a file, for the lines of an input.
-pub fn get_file_lines<I: BufRead, O: Write>(
-    alloc: Global,
-    bytes: &[u8],
+/// `odht get` of the bytes of a file, for the lines of an input, which are answered as they come
+/// where `is_live` holds.
+pub fn get_file_lines<I: BufRead + Arriving, O: Write>(
+    job: &Job<'_>,
     hash: Option<Hash>,
     kinds: Kinds,
-    is_json: bool,
+    is_live: bool,
     input: &mut I,
     output: &mut O,
 ) -> Result<Status, Failure> {
-    let found = read_any(bytes, hash, kinds)?;
+    let found = read_any(job.bytes, hash, kinds)?;
     let (shape, forms) = found;
     match shape {
-        AnyShape::Ready(shape) => {
-            get_lines_ready(alloc, shape, forms, is_json, bytes, input, output)
-        }
-        AnyShape::Other(shape) => {
-            get_lines_dynamic(alloc, shape, forms, is_json, bytes, input, output)
-        }
+        AnyShape::Ready(shape) => get_lines_ready(job, shape, forms, is_live, input, output),
+        AnyShape::Other(shape) => get_lines_dynamic(job, shape, forms, is_live, input, output),
     }
 }
 
 // The same of a ready shape, in these forms.
-fn get_lines_ready<I: BufRead, O: Write>(
-    alloc: Global,
+fn get_lines_ready<I: BufRead + Arriving, O: Write>(
+    job: &Job<'_>,
     shape: Shape,
     forms: GivenForms,
-    is_json: bool,
-    bytes: &[u8],
+    is_live: bool,
     input: &mut I,
     output: &mut O,
 ) -> Result<Status, Failure> {
+    let is_json = job.is_json;
     if forms.are_own() {
-        let own = AnswerStyle { forms: OwnForms, is_json };
-        get_lines_of(alloc, shape, own, bytes, input, output)
+        let answers = AnswerStyle { forms: OwnForms, is_json };
+        get_lines_of(job.alloc, job.bytes, shape, LineStyle { answers, is_live }, input, output)
     } else {
-        let style = AnswerStyle { forms, is_json };
-        get_lines_of(alloc, shape, style, bytes, input, output)
+        let answers = AnswerStyle { forms, is_json };
+        get_lines_of(job.alloc, job.bytes, shape, LineStyle { answers, is_live }, input, output)
     }
 }
 
-fn get_lines_of<F: Forms, I: BufRead, O: Write>(
+fn get_lines_of<F: Forms, I: BufRead + Arriving, O: Write>(
     alloc: Global,
-    shape: Shape,
-    style: AnswerStyle<F>,
     bytes: &[u8],
+    shape: Shape,
+    style: LineStyle<F>,
     input: &mut I,
     output: &mut O,
 ) -> Result<Status, Failure> {
@@ -87,10 +83,10 @@ fn get_lines_of<F: Forms, I: BufRead, O: Write>(
 }
 
 // Looks up the keys of the lines, a batch at a time.
-fn get_lines<C: Config, F: Forms, I: BufRead, O: Write>(
+fn get_lines<C: Config, F: Forms, I: BufRead + Arriving, O: Write>(
     alloc: Global,
     bytes: &[u8],
-    style: AnswerStyle<F>,
+    style: LineStyle<F>,
     input: &mut I,
     output: &mut O,
 ) -> Result<Status, Failure>

@@ -7,16 +7,20 @@ use crate::generated::core::info::info_file;
 use crate::generated::core::job::Job;
 use crate::generated::core::shapes::Hash;
 use crate::generated::core::status::Status;
+use crate::generated::core::typed::Side;
 use crate::generated::reads::commands::{check, count, dump, find, get, keys, order};
+use crate::generated::reads::lookups::arriving::Arriving;
 use crate::generated::tool_tables::trials::advice_of;
 use crate::host::prelude::*;
 use crate::shim::Global;
 use std::io::{BufRead, Write};
 
-/// Runs a command that only reads its file.
-pub fn run_reading<I: BufRead, O: Write, E: Write>(
+/// Runs a command that only reads its file. Where `is_live` holds, lines that it reads are answered
+/// as they come.
+pub fn run_reading<I: BufRead + Arriving, O: Write, E: Write>(
     job: Job<'_>,
     reading: &Reading,
+    is_live: bool,
     input: &mut I,
     output: &mut O,
     errors: &mut E,
@@ -34,23 +38,30 @@ pub fn run_reading<I: BufRead, O: Write, E: Write>(
         }
         Reading::Count { hash, bound, is_checked } => {
             let checked = if *is_checked { Some((*hash, *bound)) } else { None };
-            count_one(alloc, file, is_one, bytes, checked, output)
+            let label = count_label(alloc, file, is_one)?;
+            count::count_file(label.as_str(), bytes, checked, output)
         }
         Reading::Get { hash, kinds, keys: Keys::Words(words), is_json } => {
-            let words = words.as_slice();
-            get::get_file_words(alloc, bytes, *hash, *kinds, *is_json, words, output)
+            let job = Job { is_json: *is_json, ..job };
+            get::get_file_words(&job, *hash, *kinds, words.as_slice(), output)
         }
         Reading::Get { hash, kinds, keys: Keys::Lines, is_json } => {
-            get::get_file_lines(alloc, bytes, *hash, *kinds, *is_json, input, output)
+            let job = Job { is_json: *is_json, ..job };
+            get::get_file_lines(&job, *hash, *kinds, is_live, input, output)
         }
         Reading::Find { bound, is_json } => {
             let job = Job { bound: *bound, is_json: *is_json, ..job };
             find_in(&job, output, errors)
         }
-        Reading::Dump { hash, kinds, is_slots, is_json } => {
+        Reading::Dump { hash, kinds, is_values: true, is_json, .. } => {
+            keys::list_file(Side::Value, bytes, *hash, *kinds, *is_json, output)
+        }
+        Reading::Dump { hash, kinds, is_slots, is_json, .. } => {
             dump::dump_file(bytes, *hash, *kinds, *is_slots, *is_json, output)
         }
-        Reading::Keys { hash, kinds } => keys::keys_file(bytes, *hash, *kinds, output),
+        Reading::Keys { hash, kinds, is_json } => {
+            keys::list_file(Side::Key, bytes, *hash, *kinds, *is_json, output)
+        }
         Reading::Order { hash, kinds, bound } => {
             order_in(alloc, file, bytes, *hash, *kinds, *bound, output, errors)
         }
@@ -76,21 +87,14 @@ fn check_one<O: Write, E: Write>(
     Ok(status)
 }
 
-// Counts the items of a file, with its name where there are more files. It is checked before, if so
-// requested, by a hash function or none and a bound or none.
-fn count_one<O: Write>(
-    alloc: Global,
-    file: &str,
-    is_one: bool,
-    bytes: &[u8],
-    checked: Option<(Option<Hash>, Option<usize>)>,
-    output: &mut O,
-) -> Result<Status, Failure> {
-    if is_one {
-        return count::count_file("", bytes, checked, output);
-    }
-    let label = crate::host::texts::formatted(alloc, format_args!("{file}\t"))?;
-    count::count_file(label.as_str(), bytes, checked, output)
+/// What stands before the count of a file: its name and a tab where there are more files.
+pub fn count_label(alloc: Global, file: &str, is_one: bool) -> Result<String, Failure> {
+    let label = if is_one {
+        crate::host::texts::formatted(alloc, format_args!(""))?
+    } else {
+        crate::host::texts::formatted(alloc, format_args!("{file}\t"))?
+    };
+    Ok(label)
 }
 
 // Finds the tables in a file, whose name comes first where there are more files. Where there is no

@@ -14,11 +14,11 @@ use crate::generated::core::targets::Target;
 use crate::generated::tables::dynamic::{DynTableOwned, Layout};
 use crate::generated::tables::{configs, FxHashFn, HashTableOwned, UnHashFn, Xxh64HashFn};
 use crate::generated::tool_tables::dynamic::lengths_of;
+use crate::generated::writes::generated::shapes::for_shape;
 use crate::generated::writes::inserts::lines::{
     check_lines, insert_lines, left, makes_no_table, place_of, Place, Streams,
 };
 use crate::generated::writes::inserts::{Inserts, LineJob};
-use crate::generated::writes::shapes::for_shape;
 use crate::host::prelude::*;
 use crate::host::rt::{Clock, Files};
 use std::io::{BufRead, Write};

@@ -86,7 +86,6 @@ fn parse_word(word: &[u8]) -> Option<Request> {
     }
 }
 
-// The two numbers of two words.
 fn parse_two_numbers(words: &[u8]) -> Option<(u64, u64)> {
     let (first, second) = cut_at(words, b' ')?;
     let first = parse_numeral(first)?;

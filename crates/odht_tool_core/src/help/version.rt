@@ -1,4 +1,0 @@
-//! The version. Generated from packaging/VERSION by make generate.
-
-/// The version of the program, which is that of the library.
-pub(super) const VERSION: &str = "0.4.0";

@@ -1,0 +1,3 @@
+//! What is generated: the configuration of each shape.
+
+pub(crate) mod shapes;

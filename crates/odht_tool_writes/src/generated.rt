@@ -1,0 +1,3 @@
+//! What is generated: the owned table of each shape.
+
+pub(crate) mod shapes;

@@ -1,0 +1,62 @@
+#!/usr/bin/env python3
+"""Tests that the program `odht` counts the items of a table that is larger than memory: it reads only the header. The
+file is sparse: a header of 2^36 slots for keys of eight bytes and values of four, and no other byte written.
+
+  tests/large.py PROGRAM..
+
+The last line counts.
+"""
+import os
+import resource
+import subprocess
+import sys
+import tempfile
+
+SLOTS = 1 << 36
+LENGTH = 32 + SLOTS * (8 + 4) + SLOTS + 16
+ITEMS = 123_456_789
+# as docs/FORMAT.md has them: tag, lengths, item count, slot count, version, load factor, padding
+HEADER = (b"ODHT" + bytes([1, 8, 4, 32]) + ITEMS.to_bytes(8, "little") + SLOTS.to_bytes(8, "little") + bytes([0, 0, 0, 2])
+          + (57015).to_bytes(2, "little") + bytes(2))
+# bytes of memory that the program may have
+MEMORY = 1 << 28
+
+
+def limited():
+    resource.setrlimit(resource.RLIMIT_AS, (MEMORY, MEMORY))
+
+
+def counted(program, name, *words):
+    done = subprocess.run([program, "count", name, *words], capture_output=True, preexec_fn=limited, timeout=20)
+    return done.returncode, done.stdout.decode(), done.stderr.decode()
+
+
+def test(program, room):
+    name = f"{room}/large"
+    for before, words in ((b"", ()), (b"some bytes", ("--at", "10"))):
+        with open(name, "wb") as it:
+            it.write(before + HEADER)
+            it.truncate(len(before) + LENGTH)
+        found = counted(program, name, *words)
+        assert found == (0, f"{ITEMS}\n", ""), found
+    # a byte less is an error of the length
+    os.truncate(name, LENGTH - 1 + len(before))
+    status, output, _ = counted(program, name, *words)
+    assert status != 0 and output == "", (status, output)
+
+
+def main(*programs):
+    failed = 0
+    for program in map(os.path.abspath, programs):
+        with tempfile.TemporaryDirectory() as room:
+            try:
+                test(program, room)
+            except (AssertionError, subprocess.TimeoutExpired) as error:
+                failed += 1
+                print(f"FAILED large: {program}: {error}")
+    print(f"{len(programs) - failed} passed, {failed} failed")
+    return failed
+
+
+if __name__ == "__main__":
+    sys.exit(main(*sys.argv[1:]) != 0)
