@@ -64,11 +64,11 @@
  *
  * Rules for callers:
  *
- * - A pointer and the length after it are a slice. All of it must be readable, and also writable unless the pointer is
- *   to const. The length of an array counts items: keys, values, flags or slots. Items of N bytes follow each other
- *   without gaps, and the length counts these items, not their bytes. The lengths bytes_len and out_len count bytes.
- * - A slice or out-parameter that a call writes must not overlap another one of that call, nor its layout. Slices
- *   that are only read may overlap.
+ * - A pointer and the length after it are a slice. All of it must be readable, and writable unless the pointer is to
+ *   const. bytes_len and out_len count bytes. All other lengths count items: keys, values, flags or slots. Items of N
+ *   bytes follow each other in an array without gaps, and the length is still the number of items.
+ * - A slice or out-parameter that a call writes must not overlap another slice or out-parameter of that call, nor its
+ *   layout. Slices that are only read may overlap.
  * - While a call reads the bytes of a table, nothing may write them. While a call writes them, nothing else may read or
  *   write them. The library keeps nothing between calls, so any number of threads may read one table.
  * - Every call returns a uint32_t with a number of enum odht_status, except odht_*_view_len, odht_version and
@@ -78,12 +78,12 @@
  *   size_t has 64 bits.
  * - With GCC and Clang for ELF, ODHT_TAKES_NULL is 1. Then you may pass NULL for a slice of length 0. You may also
  *   pass NULL for an out-parameter of a single number or value that you do not need: former, value, accepted, count,
- *   len, slot, and the three of odht_*_sizes. Never pass NULL for a key of a shape, a view, a layout or cursor.
+ *   len, slot, and those of odht_*_sizes. Never pass NULL for a key of a shape, a view, a layout or cursor.
  * - With other compilers ODHT_TAKES_NULL is 0. Then never pass NULL, not even with length 0. The calls of a set that
  *   take keys do not exist there.
  *
- * The comments on results are true for valid bytes: those that these calls made, and all others that odht_*_check
- * accepts. odht_*_check reads every byte. odht_*_open reads only ten slots, so it can accept bytes that are not valid.
+ * The comments on results are true for valid bytes: bytes that these calls made, and others that odht_*_check accepts.
+ * odht_*_check reads every byte. odht_*_open reads only ten slots, so it can accept bytes that are not valid.
  *
  * If damaged or forged bytes have one of the errors 1 to 7, a call returns it. Otherwise a call still reads and
  * writes only the slices and out-parameters that you pass, but its results may be wrong:
@@ -92,9 +92,8 @@
  *   the value stored there.
  * - len returns the item count in the header.
  * - An insert changes one value that is stored with an equal key, or adds one entry if the item count is below the
- *   maximum. It returns FULL only under two conditions. A search slot by slot can miss the key. And the item count is
- *   at or above the maximum, or no slot is free. Here a slot is free if its control byte is above 127, and its mirror
- *   byte, too, if there is one.
+ *   maximum, or returns FULL. FULL has two conditions. First, a search slot by slot can miss the key. Second, the item
+ *   count is at or above the maximum, or no slot is free: its control byte, and its mirror byte if any, above 127.
  * - grow writes bytes without the errors 1 to 7. They have the same item count and load factor; their pairs are
  *   unspecified.
  *
@@ -143,8 +142,8 @@
 
 /*
  * How the calls below are declared. With GCC and Clang for ELF, each call is a small inline function around the symbol
- * of the library. Where you may pass NULL, it passes a pointer to a variable instead. In C the two share one name, so
- * the inline function has a different name in the object file.
+ * of the library. Where you may pass NULL, it passes a pointer to a variable instead. In object files the symbol is
+ * odht_NAME, and the inline function odht_inline_NAME.
  *
  * Other compilers call the symbols directly. So do users of dlsym, bindings for other languages, and tools that define
  * ODHT_PLAIN before they read this header. The symbols do not accept NULL.
@@ -279,12 +278,13 @@ static inline const char *odht_status_name(uint32_t status)
  *
  * Otherwise a lookup has undefined behaviour, as with any wrong pointer in C.
  *
- * Which writes end a view:
+ * What a write to the bytes does to a view:
  *
- * - odht_*_insert, odht_*_insert_all and odht_*_init do not, whatever they return. The view finds what they inserted.
- * - odht_*_build, odht_*_build_growing and odht_*_grow do, if these bytes are their out. So does another program that
- *   writes a mapped file.
- * - Anything else that writes only slots does not, but then results are as for bytes that are not valid.
+ * - After odht_*_insert, odht_*_insert_all and odht_*_init, whatever they return, you can still use the view. It finds
+ *   what they inserted.
+ * - After odht_*_build, odht_*_build_growing or odht_*_grow into these bytes, you must not use it. The same is true if
+ *   another program writes the mapped file.
+ * - After any other write to slots only, you can use it, but results are as for bytes that are not valid.
  *
  * odht_*_open_view writes its view and does not read it. Still, if ODHT_TAKES_NULL is 0, you must initialize the view
  * first: with ODHT_NO_VIEW, or with a view whose bytes are still there.
@@ -339,7 +339,7 @@ typedef struct odht_view {
  *
  * S is the name of a shape, such as u64_u32. A number, as a key or value, is passed by value. A key or value of N bytes
  * is passed as a pointer to its bytes. *value and *former are a number or N bytes. A call writes an out-parameter only
- * with the statuses that name it below.
+ * if it returns a status whose text below names it.
  *
  * The prototypes of odht_u64_u32_*, as they are with ODHT_PLAIN defined:
  *
@@ -430,7 +430,7 @@ typedef struct odht_view {
  *
  * odht_S_check_within_at(bytes, bytes_len, groups, *slot)
  *     Works like odht_S_check_within, and writes the slot of the first error, as odht_S_check_at does.
- *     SEARCH_TOO_LONG: *slot is the slot where such searches begin.
+ *     SEARCH_TOO_LONG: *slot is the first slot from which a search may be too long.
  *
  * odht_S_len(bytes, bytes_len, *count)
  *     Reads the number of items from the header. It may be wrong unless odht_S_check has accepted the bytes, so compare
@@ -483,8 +483,8 @@ typedef struct odht_view {
  *             use the first count pairs
  *         } while (status == ODHT_TOO_SMALL);
  *
- *     OK: these *count pairs are the last, and *cursor is the slot count. There are none if *cursor was the slot count
- *     or above. TOO_SMALL: the arrays are full, and there are more pairs. BAD_LENGTHS: keys_len is not values_len. An
+ *     OK: these *count pairs are the last, and *cursor is the slot count. *count is 0 if *cursor was the slot count or
+ *     above. TOO_SMALL: the arrays are full, and there are more pairs. BAD_LENGTHS: keys_len is not values_len. An
  *     error, 1 to 7. After BAD_LENGTHS and the errors the arrays, *cursor and *count are unchanged. A call writes
  *     only the first *count items of each array.
  *     A walk does not use the header's item count. For any bytes without the errors 1 to 7 it writes at most one pair
@@ -499,11 +499,11 @@ typedef struct odht_view {
  *     inserts makes the table, with growths or without, and the content of slots is unspecified. An error of the whole
  *     check, 1 to 16. BAD_LENGTHS: the bytes are valid, and slots_len is not the number of items.
  *     Cost: the whole check, then passes over the items that are not in the order yet. Each pass ends with a sort of
- *     those that are left. The call allocates nothing.
- *     - The number of passes is at most one more than the number of items that wait for an item in a later slot.
+ *     the items that are left. The call allocates nothing.
+ *     - Without items that must follow an item of a later slot there is one pass. Each such item adds at most one.
  *     - In a pass, an item takes one step if its slot is in the first group of its probe order and not before its home.
- *     - Each other item takes one or two binary searches for each group up to its own, among the items that are left.
- *       For 64 homes the call remembers which groups it has searched, and does not search these again.
+ *     - Any other item takes one or two binary searches among the items that are left, for each group up to its own.
+ *       For 64 homes the call remembers the groups that it has searched, and does not search them again.
  *     For untrusted tables use odht_any_insert_order with scratch memory.
  *
  * odht_S_grow(bytes, bytes_len, out, out_len, *len)

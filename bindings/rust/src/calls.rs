@@ -64,7 +64,7 @@ pub trait Calls {
     unsafe fn view_len(view: &View) -> usize;
 }
 
-include!("shapes.rs");
+include!("generated/shapes.rs");
 
 // How a key or value is passed to the archive, from a reference to it.
 macro_rules! by {

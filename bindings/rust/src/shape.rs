@@ -25,7 +25,7 @@ mod sealed {
     pub trait Sealed {}
 }
 
-include!("shapes.rs");
+include!("generated/shapes.rs");
 
 macro_rules! declare {
     ($(

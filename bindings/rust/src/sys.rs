@@ -53,7 +53,7 @@ pub struct Layout {
 
 pub mod any;
 
-include!("shapes.rs");
+include!("generated/shapes.rs");
 
 // The type of the parameter for a single key or value.
 macro_rules! passed {

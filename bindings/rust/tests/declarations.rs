@@ -89,10 +89,11 @@ fn calls_of_shape(template: &str, line: &str) -> BTreeMap<String, Kinds> {
 }
 
 /// The symbols that src/sys/any.rs declares in the same way for dynamic tables, and src/sys.rs for the shapes of
-/// src/shapes.rs, and the number of shapes.
+/// src/generated/shapes.rs, and the number of shapes.
 fn declared_in_rust() -> (usize, BTreeMap<String, Kinds>) {
     let template = include_str!("../src/sys.rs").split_once("macro_rules! declare").unwrap().1;
-    let lines: Vec<&str> = include_str!("../src/shapes.rs").lines().filter(|line| line.ends_with("\";")).collect();
+    let lines: Vec<&str> =
+        include_str!("../src/generated/shapes.rs").lines().filter(|line| line.ends_with("\";")).collect();
     let mut declared = calls_in(include_str!("../src/sys/any.rs"), "any");
     declared.extend(lines.iter().flat_map(|line| calls_of_shape(template, line)));
     (lines.len(), declared)

@@ -201,7 +201,7 @@ where
     }
 }
 
-include!("../src/shapes.rs");
+include!("../src/generated/shapes.rs");
 
 macro_rules! test {
     ($(

@@ -170,7 +170,7 @@ where
     }
 }
 
-include!("../src/shapes.rs");
+include!("../src/generated/shapes.rs");
 
 macro_rules! test {
     ($(

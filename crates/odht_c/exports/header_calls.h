@@ -2,7 +2,7 @@
  *
  * S is the name of a shape, such as u64_u32. A number, as a key or value, is passed by value. A key or value of N bytes
  * is passed as a pointer to its bytes. *value and *former are a number or N bytes. A call writes an out-parameter only
- * with the statuses that name it below.
+ * if it returns a status whose text below names it.
  *
  * The prototypes of odht_u64_u32_*, as they are with ODHT_PLAIN defined:
  *
@@ -93,7 +93,7 @@
  *
  * odht_S_check_within_at(bytes, bytes_len, groups, *slot)
  *     Works like odht_S_check_within, and writes the slot of the first error, as odht_S_check_at does.
- *     SEARCH_TOO_LONG: *slot is the slot where such searches begin.
+ *     SEARCH_TOO_LONG: *slot is the first slot from which a search may be too long.
  *
  * odht_S_len(bytes, bytes_len, *count)
  *     Reads the number of items from the header. It may be wrong unless odht_S_check has accepted the bytes, so compare
@@ -146,8 +146,8 @@
  *             use the first count pairs
  *         } while (status == ODHT_TOO_SMALL);
  *
- *     OK: these *count pairs are the last, and *cursor is the slot count. There are none if *cursor was the slot count
- *     or above. TOO_SMALL: the arrays are full, and there are more pairs. BAD_LENGTHS: keys_len is not values_len. An
+ *     OK: these *count pairs are the last, and *cursor is the slot count. *count is 0 if *cursor was the slot count or
+ *     above. TOO_SMALL: the arrays are full, and there are more pairs. BAD_LENGTHS: keys_len is not values_len. An
  *     error, @HEADER@. After BAD_LENGTHS and the errors the arrays, *cursor and *count are unchanged. A call writes
  *     only the first *count items of each array.
  *     A walk does not use the header's item count. For any bytes without the errors @HEADER@ it writes at most one pair
@@ -162,11 +162,11 @@
  *     inserts makes the table, with growths or without, and the content of slots is unspecified. An error of the whole
  *     check, @CHECK@. BAD_LENGTHS: the bytes are valid, and slots_len is not the number of items.
  *     Cost: the whole check, then passes over the items that are not in the order yet. Each pass ends with a sort of
- *     those that are left. The call allocates nothing.
- *     - The number of passes is at most one more than the number of items that wait for an item in a later slot.
+ *     the items that are left. The call allocates nothing.
+ *     - Without items that must follow an item of a later slot there is one pass. Each such item adds at most one.
  *     - In a pass, an item takes one step if its slot is in the first group of its probe order and not before its home.
- *     - Each other item takes one or two binary searches for each group up to its own, among the items that are left.
- *       For 64 homes the call remembers which groups it has searched, and does not search these again.
+ *     - Any other item takes one or two binary searches among the items that are left, for each group up to its own.
+ *       For 64 homes the call remembers the groups that it has searched, and does not search them again.
  *     For untrusted tables use odht_any_insert_order with scratch memory.
  *
  * odht_S_grow(bytes, bytes_len, out, out_len, *len)

@@ -20,8 +20,42 @@ ghost use Rattle.odht_calls.specs.Reads.{GetAnswers, LenAnswers, SizesAnswers};
 ghost use Rattle.odht_calls.specs.Writes.{BytesNeededAnswers, InitAnswers, InsertAnswers};
 ghost use Rattle.odht_calls.specs.Grows.{GrowAnswers};
 
-use odht_calls::any::{AnyLayout, build, lists, order, places, read, walk, write};
+use odht::hash::HashFn;
+use odht::layout::Layout;
+use odht_calls::any::build::{build, build_growing};
+use odht_calls::any::lists::{get_all, insert_all};
+use odht_calls::any::read::{contains, get, layout_of};
+use odht_calls::any::walk::walk;
+use odht_calls::any::write::{grow, insert};
+use odht_calls::any::{AnyLayout, FX, UNHASH, XXH64, has_hash};
+use odht_calls::order::insert_order;
+use odht_calls::places::{check_at, open_at};
+use odht_calls::read::{check, len, open, sizes, table_len};
+use odht_calls::status::BAD_LAYOUT;
+use odht_calls::write::{bytes_needed, init};
 use std::alloc::Global;
+
+/// Calls a function for the hash function of a layout, which is its last type parameter, with the
+/// lengths of the layout in front of these arguments. BAD_LAYOUT where there is no such hash
+/// function, or it needs longer keys.
+macro_rules! with_hash {
+    ($layout:expr, $function:ident $(::<$lengths:ident>)? ($($argument:expr),* $(,)?)) => {{
+        let layout = $layout;
+        let lengths = odht::dynamic::Layout {
+            key_len: layout.key_len,
+            value_len: layout.value_len,
+        };
+        if has_hash(layout, FX, odht::FxHashFn::MIN_LEN) {
+            $function::<$($lengths,)? odht::FxHashFn>(lengths, $($argument),*)
+        } else if has_hash(layout, UNHASH, odht::UnHashFn::MIN_LEN) {
+            $function::<$($lengths,)? odht::UnHashFn>(lengths, $($argument),*)
+        } else if has_hash(layout, XXH64, odht::Xxh64HashFn::MIN_LEN) {
+            $function::<$($lengths,)? odht::Xxh64HashFn>(lengths, $($argument),*)
+        } else {
+            BAD_LAYOUT
+        }
+    }};
+}
 
 pub(crate) mod views;
 
@@ -37,7 +71,10 @@ pub extern "C" fn odht_any_bytes_needed(
     ensures { AnyAnswers layout.now result (len.new ≡ len.old)
         (λ c. BytesNeededAnswers c max_item_count max_load_factor_percent len.old result len.new) }
 {
-    write::bytes_needed(*layout, max_item_count, max_load_factor_percent, len)
+    with_hash!(
+        *layout,
+        bytes_needed::<Layout>(max_item_count, max_load_factor_percent, len)
+    )
 }
 
 /// Makes an empty table for that number of items in the bytes, and returns 0. The former content
@@ -53,7 +90,10 @@ pub extern "C" fn odht_any_init(
     ensures { AnyAnswers layout.now result (bytes.new ≡ bytes.old)
         (λ c. InitAnswers c max_item_count max_load_factor_percent bytes.old result bytes.new) }
 {
-    write::init(*layout, bytes, max_item_count, max_load_factor_percent)
+    with_hash!(
+        *layout,
+        init::<Layout>(bytes, max_item_count, max_load_factor_percent)
+    )
 }
 
 /// Returns 0 if the bytes can be opened. Otherwise returns the number of the first error: too few
@@ -63,7 +103,7 @@ pub extern "C" fn odht_any_open(layout: &AnyLayout, bytes: &[u8]) -> u32
     ensures { AnyAnswers layout.now result (Unit {0})
         (λ c. result ≡ status_or_ok (view_refusal c.format bytes.now)) }
 {
-    read::open(*layout, bytes)
+    with_hash!(*layout, open::<Layout>(bytes))
 }
 
 /// Returns 0 exactly if the bytes are valid. Otherwise returns the number of the first error of
@@ -74,7 +114,7 @@ pub extern "C" fn odht_any_check(layout: &AnyLayout, bytes: &[u8]) -> u32
     ensures { AnyAnswers layout.now result (Unit {0})
         (λ c. result ≡ status_or_ok (check_refusal c.format bytes.now)) }
 {
-    read::check(*layout, bytes)
+    with_hash!(*layout, check::<Layout>(bytes, None))
 }
 
 /// Works like `check`, with a bound for searches. Returns 0 exactly if the bytes are valid and
@@ -87,7 +127,7 @@ pub extern "C" fn odht_any_check_within(layout: &AnyLayout, bytes: &[u8], groups
     ensures { AnyAnswers layout.now result (Unit {0})
         (λ c. result ≡ status_or_ok (check_refusal_by c.format (Some groups) bytes.now)) }
 {
-    read::check_within(*layout, bytes, groups)
+    with_hash!(*layout, check::<Layout>(bytes, Some(groups)))
 }
 
 /// Works like `open`, and writes the slot of the first error to `slot`. With an error of the
@@ -98,7 +138,7 @@ pub extern "C" fn odht_any_open_at(layout: &AnyLayout, bytes: &[u8], slot: &mut 
     ensures { AnyAnswers layout.now result (slot.new ≡ slot.old)
         (λ c. PlaceAnswers (view_refusal c.format bytes.now) result slot.new) }
 {
-    places::open_at(*layout, bytes, slot)
+    with_hash!(*layout, open_at::<Layout>(bytes, slot))
 }
 
 /// Works like `check`, and writes the slot of the first error to `slot`: that of an entry, of a
@@ -110,7 +150,7 @@ pub extern "C" fn odht_any_check_at(layout: &AnyLayout, bytes: &[u8], slot: &mut
     ensures { AnyAnswers layout.now result (slot.new ≡ slot.old)
         (λ c. PlaceAnswers (check_refusal c.format bytes.now) result slot.new) }
 {
-    places::check_at(*layout, bytes, slot)
+    with_hash!(*layout, check_at::<Layout>(bytes, None, slot))
 }
 
 /// Works like `check_within`, and writes the slot of the first error to `slot`, as `check_at`
@@ -125,7 +165,7 @@ pub extern "C" fn odht_any_check_within_at(
     ensures { AnyAnswers layout.now result (slot.new ≡ slot.old)
         (λ c. PlaceAnswers (check_refusal_by c.format (Some groups) bytes.now) result slot.new) }
 {
-    places::check_within_at(*layout, bytes, groups, slot)
+    with_hash!(*layout, check_at::<Layout>(bytes, Some(groups), slot))
 }
 
 /// Writes the header's item count to `item_count`, and returns 0. With an error of the header or
@@ -135,7 +175,7 @@ pub extern "C" fn odht_any_len(layout: &AnyLayout, bytes: &[u8], item_count: &mu
     ensures { AnyAnswers layout.now result (item_count.new ≡ item_count.old)
         (λ c. LenAnswers c bytes.now item_count.old result item_count.new) }
 {
-    read::len(*layout, bytes, item_count)
+    with_hash!(*layout, len::<Layout>(bytes, item_count))
 }
 
 /// Writes the header's slot count, the maximum number of items for it, and the header's load factor
@@ -155,12 +195,9 @@ pub extern "C" fn odht_any_sizes(
         slot_count.old max_item_count.old max_load_factor_percent.old result
         slot_count.new max_item_count.new max_load_factor_percent.new) }
 {
-    read::sizes(
+    with_hash!(
         *layout,
-        bytes,
-        slot_count,
-        max_item_count,
-        max_load_factor_percent,
+        sizes::<Layout>(bytes, slot_count, max_item_count, max_load_factor_percent)
     )
 }
 
@@ -173,7 +210,7 @@ pub extern "C" fn odht_any_table_len(layout: &AnyLayout, bytes: &[u8], len: &mut
     ensures { AnyAnswers layout.now result (len.new ≡ len.old)
         (λ c. TableLenAnswers c.format bytes.now len.old result len.new) }
 {
-    read::table_len(*layout, bytes, len)
+    with_hash!(*layout, table_len::<Layout>(bytes, len))
 }
 
 /// Writes the lengths of keys and values in the header to `layout`, and returns 0. The number of
@@ -182,7 +219,7 @@ pub extern "C" fn odht_any_table_len(layout: &AnyLayout, bytes: &[u8], len: &mut
 pub extern "C" fn odht_any_layout_of(bytes: &[u8], layout: &mut AnyLayout) -> u32
     ensures { LayoutAnswers bytes.now layout.old result layout.new }
 {
-    read::layout_of(bytes, layout)
+    layout_of(bytes, layout)
 }
 
 /// Writes the value of a key to `value`, and returns 0. Returns `ABSENT` if the key is absent,
@@ -201,7 +238,7 @@ pub extern "C" fn odht_any_get(
         (λ c. DynAnswers Long result (value.new ≡ value.old)
         (GetAnswers c bytes.now key.now value.old result value.new)) }
 {
-    read::get(*layout, bytes, key, value)
+    with_hash!(*layout, get(bytes, key, value))
 }
 
 /// Returns 0 if the key is present, and `ABSENT` if it is absent. Returns `BAD_LENGTHS` if the key
@@ -212,7 +249,7 @@ pub extern "C" fn odht_any_contains(layout: &AnyLayout, bytes: &[u8], key: &[u8]
         (λ c. DynAnswers (length key.now ≡ layout.now.key_len) result (Unit {0})
         (ContainsAnswers c bytes.now key.now result)) }
 {
-    read::contains(*layout, bytes, key)
+    with_hash!(*layout, contains(bytes, key))
 }
 
 /// Looks up `count` keys, and returns 0. If the key at an index is present, writes 1 to `found` and
@@ -231,7 +268,7 @@ pub extern "C" fn odht_any_get_all(
     ensures { AnyGetAllAnswers layout.now bytes.now
         count keys.now values.old found.old result values.new found.new }
 {
-    lists::get_all(*layout, bytes, count, keys, values, found)
+    with_hash!(*layout, get_all(bytes, count, keys, values, found))
 }
 
 /// Writes keys and values to the arrays, in slot order from the slot `cursor` on, until `room`
@@ -254,7 +291,7 @@ pub extern "C" fn odht_any_walk(
         cursor.old room keys.old values.old item_count.old result cursor.new keys.new values.new
         item_count.new }
 {
-    walk::walk(*layout, bytes, cursor, room, keys, values, item_count)
+    with_hash!(*layout, walk(bytes, cursor, room, keys, values, item_count))
 }
 
 /// Writes the occupied slots to `out`, in an order in which inserts make the table, and returns 0.
@@ -278,7 +315,7 @@ pub extern "C" fn odht_any_insert_order(
     ensures { AnyAnswers layout.now result ((out.new ≡ out.old) × (scratch.new ≡ scratch.old))
         (λ c. ScratchAnswers c bytes.now out.old scratch.old result out.new scratch.new) }
 {
-    order::insert_order(*layout, bytes, out, scratch)
+    with_hash!(*layout, insert_order::<Layout>(bytes, out, scratch))
 }
 
 /// Inserts a key with its value. Returns 0 if the key was new. If the key was present, replaces its
@@ -303,7 +340,7 @@ pub extern "C" fn odht_any_insert(
     ensures accepted { let F = (any_coding layout.now).format
         in IsAccepted F bytes.old → IsAccepted F bytes.new }
 {
-    write::insert(*layout, bytes, key, value, former)
+    with_hash!(*layout, insert(bytes, key, value, former))
 }
 
 /// Inserts `count` pairs in order, up to the first `FULL`. Writes the number of inserted pairs to
@@ -326,7 +363,7 @@ pub extern "C" fn odht_any_insert_all(
     ensures accepted { let F = (any_coding layout.now).format
         in IsAccepted F bytes.old → IsAccepted F bytes.new }
 {
-    lists::insert_all(*layout, bytes, count, keys, values, accepted)
+    with_hash!(*layout, insert_all(bytes, count, keys, values, accepted))
 }
 
 /// Writes a larger copy of the table to the start of `out`, its length in bytes to `len`, and
@@ -344,7 +381,7 @@ pub extern "C" fn odht_any_grow(
     ensures { AnyAnswers layout.now result ((out.new ≡ out.old) × (len.new ≡ len.old))
         (λ c. GrowAnswers c bytes.now out.old len.old result out.new len.new) }
 {
-    write::grow(*layout, bytes, out, len)
+    with_hash!(*layout, grow(bytes, out, len))
 }
 
 /// Makes a table for `count` items at the start of `out`, inserts the pairs in order, writes the
@@ -366,15 +403,8 @@ pub extern "C" fn odht_any_build(
     ensures { AnyBuildAnswers layout.now count keys.now values.now max_load_factor_percent
         out.old len.old result out.new len.new }
 {
-    build::build(
-        *layout,
-        count,
-        keys,
-        values,
-        max_load_factor_percent,
-        out,
-        len,
-    )
+    let percent = max_load_factor_percent;
+    with_hash!(*layout, build(count, keys, values, percent, out, len))
 }
 
 /// Inserts `count` pairs, in order, into a table in allocated memory, which starts with sixteen
@@ -398,5 +428,5 @@ pub extern "C" fn odht_any_build_growing(
     ensures { AnyBuildGrowingAnswers layout.now count keys.now values.now out.old len.old result
         out.new len.new }
 {
-    build::build_growing(alloc, *layout, count, keys, values, out, len)
+    with_hash!(*layout, build_growing(alloc, count, keys, values, out, len))
 }

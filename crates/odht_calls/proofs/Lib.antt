@@ -1,4 +1,4 @@
 -- laws that several proofs use
-mod lemmas
+pub mod lemmas
 -- worked examples of the definitions that contracts use
 mod examples

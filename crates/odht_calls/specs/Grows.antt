@@ -3,7 +3,8 @@
 --     growth_refusal F B   the error of a growth of the bytes B: that of their header or length, then of a load factor
 --                          below 1 percent, then that no slot count is enough or the length does not fit 64 bits
 --     IsGrownInto F B n out out'   the first n bytes of out' are grown from B, and those after them are as in out
---     GrowAnswers c B out len s out' len'   the call, in bytes B that the coding c reads
+--     GrowAnswers c B out len s out' len'   the call, in bytes B that the coding c reads; GrowAnswersOf F the same, by
+--                          the format F
 use Rattle.std.specs.Prelude.{◌≡◌, ◌≤◌, ◌<◌, ℕ, List, [], ◌∷◌, length, take, drop, Option, Some, None, is_none}
 use Rattle.odht_base.specs.Format.{Format}
 use Rattle.odht_header.specs.Coding.{Coding}
@@ -21,10 +22,12 @@ pub record IsGrownInto (F : Format) (B : List ℕ) (n : ℕ) (out out' : List �
   pub table : IsGrownFrom F B (take n out')
   pub rest : drop n out' ≡ drop n out
 
-pub record GrowAnswers {K V : Type 0} (c : Coding K V) (B out : List ℕ) (len s : ℕ)
-    (out' : List ℕ) (len' : ℕ) : Type 0 where
-  pub refused : (e : Error) → growth_refusal c.format B ≡ Some e → (s ≡ status_of e) × (out' ≡ out) × (len' ≡ len)
-  pub short : (n : ℕ) → growth_refusal c.format B ≡ None → grown_len c.format B ≡ Some n → length out < n
+pub record GrowAnswersOf (F : Format) (B out : List ℕ) (len s : ℕ) (out' : List ℕ) (len' : ℕ) : Type 0 where
+  pub refused : (e : Error) → growth_refusal F B ≡ Some e → (s ≡ status_of e) × (out' ≡ out) × (len' ≡ len)
+  pub short : (n : ℕ) → growth_refusal F B ≡ None → grown_len F B ≡ Some n → length out < n
       → (s ≡ too_small) × (out' ≡ out) × (len' ≡ n)
-  pub grown : (n : ℕ) → growth_refusal c.format B ≡ None → grown_len c.format B ≡ Some n → n ≤ length out
-      → (s ≡ done) × IsGrownInto c.format B n out out' × (len' ≡ n)
+  pub grown : (n : ℕ) → growth_refusal F B ≡ None → grown_len F B ≡ Some n → n ≤ length out
+      → (s ≡ done) × IsGrownInto F B n out out' × (len' ≡ n)
+
+abbrev pub GrowAnswers : {K V : Type 0} → Coding K V → List ℕ → List ℕ → ℕ → ℕ → List ℕ → ℕ → Type 0
+GrowAnswers c = GrowAnswersOf c.format

@@ -5,7 +5,7 @@
 --     Each of the calls in bytes B, which the coding c reads:
 --     GetAnswers c B k old s new              the value of the key k
 --     GetAllAnswers c B keys vs fs s vs' fs'  the values of keys, and which of them were found
---     LenAnswers c B old s new                the header's item count
+--     LenAnswers c B old s new                the header's item count; LenAnswersOf F the same, by the format F
 --     SizesAnswers F B n m p s n' m' p'       the header's slot count, how many items these slots take at most, and the
 --                                             load factor in percent
 -- Where the header or length is rejected nothing is written, and neither where arrays are not equally long. A clause
@@ -48,11 +48,14 @@ pub record GetAllAnswers {K V : Type 0} (c : Coding K V) (B : List ℕ) (keys : 
       → IsAccepted c.format B → slice_get keys i ≡ Some k
       → (o : Option V) × IsGotAt o (slice_get vs i) (slice_get fs' i) (slice_get vs' i) × IfSome o (HasStored c B k)
 
-pub record LenAnswers {K V : Type 0} (c : Coding K V) (B : List ℕ) (old s new : ℕ) : Type 0 where
-  pub status : s ≡ status_or_ok (opening_refusal c.format B)
-  pub refused : (e : Error) → opening_refusal c.format B ≡ Some e → new ≡ old
-  pub by_header : IsAccepted c.format B → new ≡ header_count B
-  pub on_valid : (P : Table) → IsImage c.format P B → new ≡ count P
+pub record LenAnswersOf (F : Format) (B : List ℕ) (old s new : ℕ) : Type 0 where
+  pub status : s ≡ status_or_ok (opening_refusal F B)
+  pub refused : (e : Error) → opening_refusal F B ≡ Some e → new ≡ old
+  pub by_header : IsAccepted F B → new ≡ header_count B
+  pub on_valid : (P : Table) → IsImage F P B → new ≡ count P
+
+abbrev pub LenAnswers : {K V : Type 0} → Coding K V → List ℕ → ℕ → ℕ → ℕ → Type 0
+LenAnswers c = LenAnswersOf c.format
 
 pub record SizesAnswers (F : Format) (B : List ℕ) (slots maximum percent s slots' maximum' percent' : ℕ) : Type 0 where
   pub status : s ≡ status_or_ok (opening_refusal F B)

@@ -7,7 +7,7 @@
 --     ViewGetAnswers c B k old s new      the value of the key k
 --     ViewGetAllAnswers c B keys vs fs s vs' fs'   the values of keys, and which of them were found; where arrays are
 --                                         not equally long nothing is written
---     ViewLenAnswers c B n                the header's item count
+--     ViewLenAnswers c B n                the header's item count; ViewLenAnswersOf F the same, by the format F
 -- The coding c reads the bytes. A clause `on_valid` applies to the bytes of a valid table, and `on_any` to all that are
 -- accepted.
 use Rattle.std.specs.Prelude.{◌≡◌, ℕ, Option, Some, IfSome, List, length, slice_get}
@@ -43,6 +43,9 @@ pub record ViewGetAllAnswers {K V : Type 0} (c : Coding K V) (B : List ℕ) (key
   pub on_any : (i : ℕ) (k : K) → AreAsLong (length keys) (length vs) (length fs) → slice_get keys i ≡ Some k
       → (o : Option V) × IsGotAt o (slice_get vs i) (slice_get fs' i) (slice_get vs' i) × IfSome o (HasStored c B k)
 
-pub record ViewLenAnswers {K V : Type 0} (c : Coding K V) (B : List ℕ) (n : ℕ) : Type 0 where
+pub record ViewLenAnswersOf (F : Format) (B : List ℕ) (n : ℕ) : Type 0 where
   pub by_header : n ≡ header_count B
-  pub on_valid : (P : Table) → IsImage c.format P B → n ≡ count P
+  pub on_valid : (P : Table) → IsImage F P B → n ≡ count P
+
+abbrev pub ViewLenAnswers : {K V : Type 0} → Coding K V → List ℕ → ℕ → Type 0
+ViewLenAnswers c = ViewLenAnswersOf c.format

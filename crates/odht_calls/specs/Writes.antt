@@ -8,6 +8,7 @@
 --     Each of the calls, of bytes that the coding c reads:
 --     BytesNeededAnswers c m p old s new      how many bytes a new table for m items at p percent has
 --     InitAnswers c m p B s B'                an empty table for m items at p percent
+--     BytesNeededAnswersOf F, InitAnswersOf F the same two, by the format F
 --     InsertAnswers c B k v old s B' new      an insert of the key k with the value v, and the value that k had
 --     InsertAllAnswers c B keys values n s B' n'   inserts of pairs in order, up to the first that is answered with
 --                          Full, and how many were inserted
@@ -16,6 +17,7 @@
 use Rattle.std.specs.Prelude.{◌≡◌, ◌≤◌, ◌<◌, ◌^◌, ℕ, List, length, take}
 use Rattle.std.specs.Prelude.{Option, Some, None, MatchOption, Result, Ok, Err}
 use Rattle.std.specs.List.{zip}
+use Rattle.odht_base.specs.Format.{Format}
 use Rattle.odht_base.specs.Image.{image_len}
 use Rattle.odht_base.specs.Insert.{insert_view}
 use Rattle.odht_base.specs.Load.{factor_of, slots_for, IsPercent}
@@ -43,18 +45,24 @@ IsAfterInsert c P k v B' old s new =
     (IsImage c.format P B' × (s ≡ status_of Full) × (new ≡ old))
     (λ Q. IsImage c.format Q B' × IsFormer (value_for c P k) old s new)
 
-pub record BytesNeededAnswers {K V : Type 0} (c : Coding K V) (m p old s new : ℕ) : Type 0 where
+pub record BytesNeededAnswersOf (F : Format) (m p old s new : ℕ) : Type 0 where
   pub percent : (IsPercent p → ⊥) → (s ≡ bad_percent) × (new ≡ old)
   pub needed : (slots : ℕ) → IsPercent p → slots_for m (factor_of p) ≡ Some slots
-      → image_len c.format slots < 2 ^ 64 → (s ≡ done) × (new ≡ image_len c.format slots)
-  pub capacity : IsPercent p → IsTooLarge c.format m (factor_of p) → (s ≡ status_of Capacity) × (new ≡ old)
+      → image_len F slots < 2 ^ 64 → (s ≡ done) × (new ≡ image_len F slots)
+  pub capacity : IsPercent p → IsTooLarge F m (factor_of p) → (s ≡ status_of Capacity) × (new ≡ old)
 
-pub record InitAnswers {K V : Type 0} (c : Coding K V) (m p : ℕ) (B : List ℕ) (s : ℕ) (B' : List ℕ) : Type 0 where
+abbrev pub BytesNeededAnswers : {K V : Type 0} → Coding K V → ℕ → ℕ → ℕ → ℕ → ℕ → Type 0
+BytesNeededAnswers c = BytesNeededAnswersOf c.format
+
+pub record InitAnswersOf (F : Format) (m p : ℕ) (B : List ℕ) (s : ℕ) (B' : List ℕ) : Type 0 where
   pub percent : (IsPercent p → ⊥) → (s ≡ bad_percent) × (B' ≡ B)
-  pub refused : (e : Error) → IsPercent p → new_refusal c.format m (factor_of p) (length B) ≡ Some e
+  pub refused : (e : Error) → IsPercent p → new_refusal F m (factor_of p) (length B) ≡ Some e
       → (s ≡ status_of e) × (B' ≡ B)
-  pub made : IsPercent p → new_refusal c.format m (factor_of p) (length B) ≡ None
-      → (s ≡ done) × ((P : Table) × (fresh m p ≡ Some P) × IsImage c.format P B')
+  pub made : IsPercent p → new_refusal F m (factor_of p) (length B) ≡ None
+      → (s ≡ done) × ((P : Table) × (fresh m p ≡ Some P) × IsImage F P B')
+
+abbrev pub InitAnswers : {K V : Type 0} → Coding K V → ℕ → ℕ → List ℕ → ℕ → List ℕ → Type 0
+InitAnswers c = InitAnswersOf c.format
 
 pub record InsertAnswers {K V : Type 0} (c : Coding K V) (B : List ℕ) (k : K) (v old : V) (s : ℕ)
     (B' : List ℕ) (new : V) : Type 0 where

@@ -1,35 +1,11 @@
 //! The calls for dynamic tables: the caller names the lengths of keys and values, and the
 //! hash function, by a layout.
 ghost use Rattle.std.specs.Prelude.{◌≡◌, ◌≤◌, ◌↔◌, IsTrue};
-
-/// Calls a function for the hash function of a layout, which is its type parameter, with the
-/// lengths of the layout in front of these arguments. BAD_LAYOUT where there is no such hash
-/// function, or it needs longer keys.
-macro_rules! with_hash {
-    ($layout:ident, $function:ident($($argument:expr),*)) => {{
-        let lengths = odht::dynamic::Layout {
-            key_len: $layout.key_len,
-            value_len: $layout.value_len,
-        };
-        if crate::any::has_hash($layout, crate::any::FX, odht::FxHashFn::MIN_LEN) {
-            $function::<odht::FxHashFn>(lengths, $($argument),*)
-        } else if crate::any::has_hash($layout, crate::any::UNHASH, odht::UnHashFn::MIN_LEN) {
-            $function::<odht::UnHashFn>(lengths, $($argument),*)
-        } else if crate::any::has_hash($layout, crate::any::XXH64, odht::Xxh64HashFn::MIN_LEN) {
-            $function::<odht::Xxh64HashFn>(lengths, $($argument),*)
-        } else {
-            crate::status::BAD_LAYOUT
-        }
-    }};
-}
-
-pub(crate) use with_hash;
+ghost use Rattle.odht_raw.specs.PartLengths.{ArePairLengths};
 
 pub mod build;
 pub mod lists;
-pub mod order;
 mod pieces;
-pub mod places;
 pub mod read;
 pub mod view;
 pub mod walk;
@@ -59,9 +35,10 @@ pub const UNHASH: u8 = 1;
 /// seed 0.
 pub const XXH64: u8 = 2;
 
-// Whether a layout has this hash function, and keys that are long enough for it.
-pub(crate) fn has_hash(layout: AnyLayout, hash: u8, least: usize) -> bool
-    ensures { IsTrue result ↔ ((layout.hash ≡ hash) × (least ≤ layout.key_len)) }
+/// Whether a layout has this hash function, and keys that are long enough for it.
+pub fn has_hash(layout: AnyLayout, hash: u8, least: usize) -> bool
+    ensures has { IsTrue result ↔ ((layout.hash ≡ hash) × (least ≤ layout.key_len)) }
+    ensures pair { IsTrue result → ArePairLengths least layout.key_len layout.value_len }
 {
     layout.hash == hash && least <= layout.key_len as usize
 }

@@ -1,13 +1,17 @@
-//! The calls that open or check bytes and tell where the first error is, for every configuration.
+//! The calls that open or check bytes and tell where the first error is, for lengths that are types
+//! or numbers.
 ghost use Rattle.std.specs.Prelude.{◌≡◌, Some};
-ghost use Rattle.odht_header.specs.Refusals.{view_refusal, check_refusal, check_refusal_by};
+ghost use Rattle.odht_base.specs.Format.{format_of};
+ghost use Rattle.odht_header.specs.Refusals.{view_refusal, check_refusal_by};
+ghost use Rattle.odht_raw.specs.PartLengths.{ArePairLengths};
 ghost use Rattle.odht_calls.specs.Places.{slot_of, PlaceAnswers};
 
+use crate::read::whole;
 use crate::status::{OK, status_of};
-use odht::bytes::Borrowed;
-use odht::config::{Coded, Config};
 use odht::error::Error;
-use odht::{HashTable, memory_layout};
+use odht::hash::HashFn;
+use odht::layout::Lengths;
+use odht::memory_layout::check_opening_in;
 
 /// What is written for no slot: where there is no error, and where the error names none.
 pub const NO_SLOT: usize = usize::MAX;
@@ -31,7 +35,7 @@ fn slot_of(error: &Error) -> usize
 }
 
 // Writes to `slot` where an error is. Returns the error's number.
-pub(crate) fn refused_at(error: &Error, slot: &mut usize) -> u32
+fn refused_at(error: &Error, slot: &mut usize) -> u32
     ensures { PlaceAnswers (Some error.now) result slot.new }
 {
     *slot = slot_of(error);
@@ -41,30 +45,13 @@ pub(crate) fn refused_at(error: &Error, slot: &mut usize) -> u32
 /// OK where the header, the length and the first ten slots are accepted, else the number of the
 /// first error; and writes to `slot` where that is: the slot of `NonZeroEmpty` and
 /// `ControlMismatch`, and NO_SLOT of all other errors and with OK.
-#[inline]
-pub fn open_at<C: Config>(bytes: &[u8], slot: &mut usize) -> u32
-    ensures { PlaceAnswers (view_refusal ⟦<C as Coded>⟧.coding.format bytes.now) result slot.new }
+#[inline(always)]
+pub fn open_at<L: Lengths, H: HashFn>(lengths: L, bytes: &[u8], slot: &mut usize) -> u32
+    requires { ArePairLengths H.MIN_LEN (L.key_len lengths) (L.value_len lengths) }
+    ensures { let F = format_of (L.key_len lengths) (L.value_len lengths) H.hash
+        in PlaceAnswers (view_refusal F bytes.now) result slot.new }
 {
-    let opened: Result<HashTable<C, Borrowed<'_>>, Error> = HashTable::from_raw_bytes(Borrowed::new(
-        bytes,
-    ));
-    match opened {
-        Ok(_) => {
-            *slot = NO_SLOT;
-            OK
-        }
-        Err(refused) => refused_at(&refused, slot),
-    }
-}
-
-/// OK where the bytes are valid, else the number of the first error of the whole check; and writes
-/// to `slot` where that is: the slot that the error names, the index of the mirror's byte, or
-/// NO_SLOT of all other errors and with OK.
-#[inline]
-pub fn check_at<C: Config>(bytes: &[u8], slot: &mut usize) -> u32
-    ensures { PlaceAnswers (check_refusal ⟦<C as Coded>⟧.coding.format bytes.now) result slot.new }
-{
-    match memory_layout::check_all::<C>(bytes) {
+    match check_opening_in::<L, H>(bytes, lengths) {
         Ok(()) => {
             *slot = NO_SLOT;
             OK
@@ -73,16 +60,21 @@ pub fn check_at<C: Config>(bytes: &[u8], slot: &mut usize) -> u32
     }
 }
 
-/// OK where the bytes are valid and each home has a control byte that counts as free among the
-/// first `groups` groups of its probe order, so that no search reads more; else the number of the
-/// first error of the whole check with this bound. Writes to `slot` where that is, as `check_at`
-/// does, and of `SearchTooLong` the slot where the searches begin.
-#[inline]
-pub fn check_within_at<C: Config>(bytes: &[u8], groups: usize, slot: &mut usize) -> u32
-    ensures { let F = ⟦<C as Coded>⟧.coding.format
-        in PlaceAnswers (check_refusal_by F (Some groups) bytes.now) result slot.new }
+/// What [`check`](crate::read::check) returns; and writes to `slot` where the first error is: the
+/// slot that the error names, the index of the mirror's byte, of `SearchTooLong` the slot where the
+/// searches begin, or NO_SLOT of all other errors and with OK.
+#[inline(always)]
+pub fn check_at<L: Lengths, H: HashFn>(
+    lengths: L,
+    bytes: &[u8],
+    groups: Option<usize>,
+    slot: &mut usize,
+) -> u32
+    requires { ArePairLengths H.MIN_LEN (L.key_len lengths) (L.value_len lengths) }
+    ensures { let F = format_of (L.key_len lengths) (L.value_len lengths) H.hash
+        in PlaceAnswers (check_refusal_by F groups bytes.now) result slot.new }
 {
-    match memory_layout::check_all_within::<C>(bytes, groups) {
+    match whole::<L, H>(lengths, bytes, groups) {
         Ok(()) => {
             *slot = NO_SLOT;
             OK

@@ -1,20 +1,27 @@
-//! The calls that read the bytes of a table, for every configuration.
-ghost use Rattle.std.specs.Prelude.{◌≡◌, length, IfOk, Some};
+//! The calls that read the bytes of a table. Those that take no key are for lengths that are types
+//! or numbers, the others for every configuration.
+ghost use Rattle.std.specs.Prelude.{◌≡◌, length, IfOk};
 ghost use Rattle.std.specs.Result.{result_err};
-ghost use Rattle.odht_header.specs.Refusals.{opening_refusal, view_refusal, check_refusal};
-ghost use Rattle.odht_header.specs.Refusals.{check_refusal_by};
+ghost use Rattle.odht_base.specs.Format.{format_of};
+ghost use Rattle.odht_header.specs.Refusals.{opening_refusal, view_refusal, check_refusal_by};
+ghost use Rattle.odht_header.specs.Refusals.{checked};
+ghost use Rattle.odht_raw.specs.PartLengths.{ArePairLengths};
 ghost use Rattle.odht_calls.specs.Statuses.{status_or_ok};
-ghost use Rattle.odht_calls.specs.Reads.{GetAnswers, GetAllAnswers, LenAnswers, SizesAnswers};
+ghost use Rattle.odht_calls.specs.Reads.{GetAnswers, GetAllAnswers, LenAnswersOf, SizesAnswers};
 ghost use Rattle.odht_calls.specs.Prefixes.{TableLenAnswers};
 
 use crate::status::{OK, status_of};
 use crate::view;
+use odht::HashTable;
 use odht::bytes::Borrowed;
 use odht::config::{Coded, Config};
 use odht::error::Error;
+use odht::hash::HashFn;
+use odht::layout::{Layout, Lengths};
 use odht::load::max_item_count_for;
-use odht::memory_layout::{Header, is_accepted};
-use odht::{HashTable, memory_layout};
+use odht::memory_layout::{
+    Header, check_by_header, check_opening_in, check_parts, dynamic_table_len, is_accepted,
+};
 
 /// Opens the bytes by their header and length. Reads no slot.
 #[inline(always)]
@@ -34,62 +41,6 @@ pub(crate) fn refused<C: Config>(bytes: &[u8]) -> u32
 {
     match view::<C>(bytes) {
         Ok(_) => OK,
-        Err(refused) => status_of(&refused),
-    }
-}
-
-/// OK where the header, the length and the first ten slots are accepted, else the number of the
-/// first error.
-#[inline]
-pub fn open<C: Config>(bytes: &[u8]) -> u32
-    ensures { result ≡ status_or_ok (view_refusal ⟦<C as Coded>⟧.coding.format bytes.now) }
-{
-    let opened: Result<HashTable<C, Borrowed<'_>>, Error> = HashTable::from_raw_bytes(Borrowed::new(
-        bytes,
-    ));
-    match opened {
-        Ok(_) => OK,
-        Err(refused) => status_of(&refused),
-    }
-}
-
-/// Writes to `len` how many bytes the table at the front of the bytes has, by its header; what
-/// follows is not looked at, nor is any slot. An error leaves `len` unchanged: one of the header,
-/// or of fewer bytes than the table has.
-#[inline]
-pub fn table_len<C: Config>(bytes: &[u8], len: &mut usize) -> u32
-    ensures { TableLenAnswers ⟦<C as Coded>⟧.coding.format bytes.now len.old result len.new }
-{
-    match memory_layout::table_len::<C>(bytes) {
-        Ok(found) => {
-            *len = found;
-            OK
-        }
-        Err(refused) => status_of(&refused),
-    }
-}
-
-/// OK where the bytes are valid, else the number of the first error of the whole check.
-#[inline]
-pub fn check<C: Config>(bytes: &[u8]) -> u32
-    ensures { result ≡ status_or_ok (check_refusal ⟦<C as Coded>⟧.coding.format bytes.now) }
-{
-    match memory_layout::check_all::<C>(bytes) {
-        Ok(()) => OK,
-        Err(refused) => status_of(&refused),
-    }
-}
-
-/// OK where the bytes are valid and each home has a control byte that counts as free among the
-/// first `groups` groups of its probe order, so that no search reads more; else the number of the
-/// first error of the whole check with this bound.
-#[inline]
-pub fn check_within<C: Config>(bytes: &[u8], groups: usize) -> u32
-    ensures { let F = ⟦<C as Coded>⟧.coding.format
-        in result ≡ status_or_ok (check_refusal_by F (Some groups) bytes.now) }
-{
-    match memory_layout::check_all_within::<C>(bytes, groups) {
-        Ok(()) => OK,
         Err(refused) => status_of(&refused),
     }
 }
@@ -129,13 +80,77 @@ pub fn get_all<C: Config>(
     view::get_all(&table, keys, values, found)
 }
 
-/// Writes the header's item count to `item_count`. An error leaves it unchanged.
-pub fn len<C: Config>(bytes: &[u8], item_count: &mut usize) -> u32
-    ensures { LenAnswers ⟦<C as Coded>⟧.coding bytes.now item_count.old result item_count.new }
+/// The header of bytes whose header and length fit, or the first error. Reads no slot.
+#[inline(always)]
+pub(crate) fn header_of<L: Lengths, H: HashFn>(
+    lengths: L,
+    bytes: &[u8],
+) -> Result<Header<'_>, Error>
+    requires { ArePairLengths H.MIN_LEN (L.key_len lengths) (L.value_len lengths) }
+    ensures ok { IfOk result (λ header. header ≡ bytes.now) }
+    ensures err { let F = format_of (L.key_len lengths) (L.value_len lengths) H.hash
+        in result_err result ≡ opening_refusal F bytes.now }
 {
-    match view::<C>(bytes) {
-        Ok(table) => {
-            *item_count = table.len();
+    match check_by_header(bytes, Layout::of_lengths(lengths)) {
+        Ok(()) => Ok(Header::of(bytes)),
+        Err(refused) => Err(refused),
+    }
+}
+
+/// OK where the header, the length and the first ten slots are accepted, else the number of the
+/// first error.
+#[inline(always)]
+pub fn open<L: Lengths, H: HashFn>(lengths: L, bytes: &[u8]) -> u32
+    requires { ArePairLengths H.MIN_LEN (L.key_len lengths) (L.value_len lengths) }
+    ensures { let F = format_of (L.key_len lengths) (L.value_len lengths) H.hash
+        in result ≡ status_or_ok (view_refusal F bytes.now) }
+{
+    match check_opening_in::<L, H>(bytes, lengths) {
+        Ok(()) => OK,
+        Err(refused) => status_of(&refused),
+    }
+}
+
+/// The first error of the whole check, with a bound of searches where there is one.
+#[inline(always)]
+pub(crate) fn whole<L: Lengths, H: HashFn>(
+    lengths: L,
+    bytes: &[u8],
+    groups: Option<usize>,
+) -> Result<(), Error>
+    requires { ArePairLengths H.MIN_LEN (L.key_len lengths) (L.value_len lengths) }
+    ensures { let F = format_of (L.key_len lengths) (L.value_len lengths) H.hash
+        in result ≡ checked (check_refusal_by F groups bytes.now) }
+{
+    check_opening_in::<L, H>(bytes, lengths)?;
+    check_parts::<L, H>(bytes, lengths, groups)
+}
+
+/// OK where the bytes are valid and, if there is a bound, each home has a control byte that counts
+/// as free among the first `groups` groups of its probe order, so that no search reads more; else
+/// the number of the first error of the whole check with this bound.
+#[inline(always)]
+pub fn check<L: Lengths, H: HashFn>(lengths: L, bytes: &[u8], groups: Option<usize>) -> u32
+    requires { ArePairLengths H.MIN_LEN (L.key_len lengths) (L.value_len lengths) }
+    ensures { let F = format_of (L.key_len lengths) (L.value_len lengths) H.hash
+        in result ≡ status_or_ok (check_refusal_by F groups bytes.now) }
+{
+    match whole::<L, H>(lengths, bytes, groups) {
+        Ok(()) => OK,
+        Err(refused) => status_of(&refused),
+    }
+}
+
+/// Writes the header's item count to `item_count`. An error leaves it unchanged.
+#[inline]
+pub fn len<L: Lengths, H: HashFn>(lengths: L, bytes: &[u8], item_count: &mut usize) -> u32
+    requires { ArePairLengths H.MIN_LEN (L.key_len lengths) (L.value_len lengths) }
+    ensures { let F = format_of (L.key_len lengths) (L.value_len lengths) H.hash
+        in LenAnswersOf F bytes.now item_count.old result item_count.new }
+{
+    match header_of::<L, H>(lengths, bytes) {
+        Ok(header) => {
+            *item_count = header.item_count();
             OK
         }
         Err(refused) => status_of(&refused),
@@ -144,24 +159,45 @@ pub fn len<C: Config>(bytes: &[u8], item_count: &mut usize) -> u32
 
 /// Writes the slot count, the maximum item count and the load factor in percent of slots, rounded
 /// down, by the header. An error leaves all three unchanged.
-pub fn sizes<C: Config>(
+#[inline]
+pub fn sizes<L: Lengths, H: HashFn>(
+    lengths: L,
     bytes: &[u8],
     slot_count: &mut usize,
     max_item_count: &mut usize,
     max_load_factor_percent: &mut u8,
 ) -> u32
-    ensures { SizesAnswers ⟦<C as Coded>⟧.coding.format bytes.now
+    requires { ArePairLengths H.MIN_LEN (L.key_len lengths) (L.value_len lengths) }
+    ensures { SizesAnswers (format_of (L.key_len lengths) (L.value_len lengths) H.hash) bytes.now
         slot_count.old max_item_count.old max_load_factor_percent.old result
         slot_count.new max_item_count.new max_load_factor_percent.new }
 {
-    if let Err(refused) = view::<C>(bytes) {
-        return status_of(&refused);
-    }
-    let header = Header::of(bytes);
+    let header = match header_of::<L, H>(lengths, bytes) {
+        Ok(header) => header,
+        Err(refused) => return status_of(&refused),
+    };
     let slots = header.slot_count();
     let factor = header.max_load_factor();
     *slot_count = slots;
     *max_item_count = max_item_count_for(slots, factor);
     *max_load_factor_percent = factor.to_percent() as u8;
     OK
+}
+
+/// Writes to `len` how many bytes the table at the front of the bytes has, by its header; what
+/// follows is not looked at, nor is any slot. An error leaves `len` unchanged: one of the header,
+/// or of fewer bytes than the table has.
+#[inline]
+pub fn table_len<L: Lengths, H: HashFn>(lengths: L, bytes: &[u8], len: &mut usize) -> u32
+    requires { ArePairLengths H.MIN_LEN (L.key_len lengths) (L.value_len lengths) }
+    ensures { TableLenAnswers (format_of (L.key_len lengths) (L.value_len lengths) H.hash) bytes.now
+        len.old result len.new }
+{
+    match dynamic_table_len(bytes, Layout::of_lengths(lengths)) {
+        Ok(found) => {
+            *len = found;
+            OK
+        }
+        Err(refused) => status_of(&refused),
+    }
 }

@@ -1,14 +1,19 @@
-//! Opened tables as a caller in C keeps them, and lookups that skip the header, for every
-//! configuration.
-ghost use Rattle.std.specs.Prelude.{◌≡◌, length};
+//! Opened tables as a caller in C keeps them, and for every configuration lookups that skip the
+//! header.
+ghost use Rattle.std.specs.Prelude.{◌≡◌, ◌≤◌, length};
+ghost use Rattle.odht_base.specs.Format.{format_of};
 ghost use Rattle.odht_raw.specs.Frame.{IsAccepted};
+ghost use Rattle.odht_raw.specs.PartLengths.{ArePairLengths};
+ghost use Rattle.odht_calls.specs.Layouts.{AnyViewLenAnswers};
 ghost use Rattle.odht_calls.specs.Views.{OpenViewAnswers, ViewGetAnswers, ViewGetAllAnswers};
 
 use crate::lookups::Arrays;
 use crate::status::{ABSENT, OK, status_of};
 use odht::bytes::Borrowed;
 use odht::config::{Coded, Config};
-use odht::error::Error;
+use odht::hash::HashFn;
+use odht::layout::Lengths;
+use odht::memory_layout::{Header, check_opening_in};
 use odht::{HashTable, lookups};
 
 /// The bytes of an opened table, as C keeps them: a pointer and a length. The calls that read a
@@ -22,21 +27,28 @@ pub struct View<'a> {
 
 /// OK, and `view` is a view of the bytes; or the number of the first error, and `view` is
 /// unchanged. Reads the header, the length and the first ten slots.
-#[inline]
-pub fn open<'a, C: Config>(bytes: &'a [u8], view: &mut View<'a>) -> u32
-    ensures { OpenViewAnswers ⟦<C as Coded>⟧.coding.format bytes.entry view.old.bytes result
-        view.new.bytes }
+#[inline(always)]
+pub fn open<'a, L: Lengths, H: HashFn>(lengths: L, bytes: &'a [u8], view: &mut View<'a>) -> u32
+    requires { ArePairLengths H.MIN_LEN (L.key_len lengths) (L.value_len lengths) }
+    ensures { let F = format_of (L.key_len lengths) (L.value_len lengths) H.hash
+        in OpenViewAnswers F bytes.entry view.old.bytes result view.new.bytes }
 {
-    let opened: Result<HashTable<C, Borrowed<'_>>, Error> = HashTable::from_raw_bytes(Borrowed::new(
-        bytes,
-    ));
-    match opened {
-        Ok(_) => {
+    match check_opening_in::<L, H>(bytes, lengths) {
+        Ok(()) => {
             *view = View { bytes };
             OK
         }
         Err(refused) => status_of(&refused),
     }
+}
+
+/// The item count in the header of an opened table, whatever its lengths.
+#[inline]
+pub fn len(view: &View<'_>) -> usize
+    requires header { 32 ≤ length view.now.bytes.now }
+    ensures { AnyViewLenAnswers view.now.bytes.now result }
+{
+    Header::of(view.bytes).item_count()
 }
 
 /// The table of a view. Reads none of its bytes.

@@ -1,33 +1,41 @@
-//! The calls that write the bytes of a table, for every configuration.
+//! The calls that write the bytes of a table. Those that take no key are for lengths that are types
+//! or numbers, the others for every configuration.
 ghost use Rattle.std.specs.Prelude.{◌≡◌, length};
+ghost use Rattle.odht_base.specs.Format.{format_of};
 ghost use Rattle.odht_raw.specs.Frame.{IsAccepted};
-ghost use Rattle.odht_calls.specs.Writes.{BytesNeededAnswers, InitAnswers, InsertAnswers};
-ghost use Rattle.odht_calls.specs.Writes.{InsertAllAnswers};
+ghost use Rattle.odht_raw.specs.PartLengths.{ArePairLengths};
+ghost use Rattle.odht_calls.specs.Writes.{BytesNeededAnswersOf, InitAnswersOf};
+ghost use Rattle.odht_calls.specs.Writes.{InsertAnswers, InsertAllAnswers};
 
 use crate::read::{refused, view};
-use crate::status::{BAD_PERCENT, CAPACITY, OK, REPLACED, status_of};
+use crate::status::{BAD_PERCENT, CAPACITY, INIT_LENGTH, OK, REPLACED, status_of};
 use odht::HashTable;
 use odht::bytes::ByteStoreMut;
 use odht::config::{Coded, Config};
+use odht::hash::HashFn;
 use odht::items::Zipped;
-use odht::load::Percent;
-use odht::memory_layout::is_accepted;
+use odht::layout::{Layout, Lengths};
+use odht::load::{Factor, Percent};
+use odht::memory_layout::{init_parts, is_accepted};
 
 /// Writes to `len` how many bytes a new table for that many items has. BAD_PERCENT and CAPACITY
 /// leave `len` unchanged.
-pub fn bytes_needed<C: Config>(
+pub fn bytes_needed<L: Lengths, H: HashFn>(
+    lengths: L,
     max_item_count: usize,
     max_load_factor_percent: u8,
     len: &mut usize,
 ) -> u32
-    ensures { BytesNeededAnswers ⟦<C as Coded>⟧.coding max_item_count max_load_factor_percent
-        len.old result len.new }
+    requires { ArePairLengths H.MIN_LEN (L.key_len lengths) (L.value_len lengths) }
+    ensures { let F = format_of (L.key_len lengths) (L.value_len lengths) H.hash
+        in BytesNeededAnswersOf F max_item_count max_load_factor_percent len.old result len.new }
 {
     let Some(percent) = Percent::new(max_load_factor_percent) else {
         return BAD_PERCENT;
     };
-    match odht::bytes_needed::<C>(max_item_count, percent.value()) {
-        Some(needed) => {
+    let factor = Factor::from_percent(percent.value());
+    match Layout::of_lengths(lengths).table_for(max_item_count, factor) {
+        Some((_, needed)) => {
             *len = needed;
             OK
         }
@@ -35,24 +43,31 @@ pub fn bytes_needed<C: Config>(
     }
 }
 
-/// Makes an empty table for that many items in the store, whatever it holds. BAD_PERCENT, CAPACITY
-/// and INIT_LENGTH leave the store unchanged.
-pub fn init<C: Config, M: ByteStoreMut>(
-    store: &mut M,
+/// Makes an empty table for that many items in the bytes, whatever they hold. BAD_PERCENT, CAPACITY
+/// and INIT_LENGTH leave them unchanged.
+pub fn init<L: Lengths, H: HashFn>(
+    lengths: L,
+    bytes: &mut [u8],
     max_item_count: usize,
     max_load_factor_percent: u8,
 ) -> u32
-    ensures answer { InitAnswers ⟦<C as Coded>⟧.coding max_item_count max_load_factor_percent
-        (M.bytes store.old) result (M.bytes store.new) }
-    ensures same_store { store.new ≡ M.holding store.old (M.bytes store.new) }
+    requires { ArePairLengths H.MIN_LEN (L.key_len lengths) (L.value_len lengths) }
+    ensures { let F = format_of (L.key_len lengths) (L.value_len lengths) H.hash
+        in InitAnswersOf F max_item_count max_load_factor_percent bytes.old result bytes.new }
 {
     let Some(percent) = Percent::new(max_load_factor_percent) else {
         return BAD_PERCENT;
     };
-    match HashTable::<C, M>::init_store(store, max_item_count, percent.value()) {
-        Ok(()) => OK,
-        Err(refused) => status_of(&refused),
+    let factor = Factor::from_percent(percent.value());
+    let Some((slot_count, needed)) = Layout::of_lengths(lengths).table_for(max_item_count, factor)
+    else {
+        return CAPACITY;
+    };
+    if bytes.len() != needed {
+        return INIT_LENGTH;
     }
+    init_parts(bytes, lengths, slot_count, 0, factor);
+    OK
 }
 
 /// Gives the key this value. A value that it had before is written to `former`. An error leaves

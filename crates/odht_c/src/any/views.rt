@@ -10,8 +10,12 @@ ghost use Rattle.odht_calls.specs.Layouts.{AnyViewLenAnswers, IsLayout, any_codi
 ghost use Rattle.odht_calls.specs.Pieces.{AnyViewGetAllAnswers};
 ghost use Rattle.odht_calls.specs.Views.{OpenViewAnswers, ViewGetAnswers};
 
-use odht_calls::any::{AnyLayout, view};
-use odht_calls::view::View;
+use odht::hash::HashFn;
+use odht::layout::Layout;
+use odht_calls::any::view::{contains, get, get_all};
+use odht_calls::any::{AnyLayout, FX, UNHASH, XXH64, has_hash};
+use odht_calls::status::BAD_LAYOUT;
+use odht_calls::view::{View, len, open};
 
 /// Opens the bytes as `open` does, makes `view` a view of them, and returns 0. Otherwise returns
 /// an error of the header, the length or the first ten slots. Then `view` is unchanged.
@@ -24,7 +28,7 @@ pub extern "C" fn odht_any_open_view<'a>(
     ensures { AnyAnswers layout.now result (view.new.bytes ≡ view.old.bytes)
         (λ c. OpenViewAnswers c.format bytes.entry view.old.bytes result view.new.bytes) }
 {
-    view::open(*layout, bytes, view)
+    with_hash!(*layout, open::<Layout>(bytes, view))
 }
 
 /// Writes the value of a key in an opened table to `value`, and returns 0. Returns `ABSENT` if the
@@ -45,7 +49,7 @@ pub extern "C" fn odht_any_view_get(
         (λ c. DynAnswers Long result (value.new ≡ value.old)
         (ViewGetAnswers c view.now.bytes.now key.now value.old result value.new)) }
 {
-    view::get(*layout, view, key, value)
+    with_hash!(*layout, get(view.bytes, key, value))
 }
 
 /// Returns 0 if the key is present in an opened table, and `ABSENT` if it is absent. Returns
@@ -58,7 +62,7 @@ pub extern "C" fn odht_any_view_contains(layout: &AnyLayout, view: &View<'_>, ke
         (λ c. DynAnswers (length key.now ≡ layout.now.key_len) result (Unit {0})
         (ViewContainsAnswers c view.now.bytes.now key.now result)) }
 {
-    view::contains(*layout, view, key)
+    with_hash!(*layout, contains(view.bytes, key))
 }
 
 /// Looks up `count` keys in an opened table, and returns 0. If the key at an index is present,
@@ -79,7 +83,7 @@ pub extern "C" fn odht_any_view_get_all(
     ensures { AnyViewGetAllAnswers layout.now view.now.bytes.now
         count keys.now values.old found.old result values.new found.new }
 {
-    view::get_all(*layout, view, count, keys, values, found)
+    with_hash!(*layout, get_all(view.bytes, count, keys, values, found))
 }
 
 /// Returns the item count in the header of an opened table. If the bytes are valid, this is the
@@ -91,5 +95,5 @@ pub extern "C" fn odht_any_view_len(view: &View<'_>) -> usize
     requires header { 32 ≤ length view.now.bytes.now }
     ensures { AnyViewLenAnswers view.now.bytes.now result }
 {
-    view::len(view)
+    len(view)
 }

@@ -22,12 +22,18 @@ ghost use Rattle.odht_calls.specs.Grows.{GrowAnswers};
 ghost use Rattle.odht_calls.specs.Builds.{BuildAnswers, BuildGrowingAnswers};
 
 use odht::bytes::BorrowedMut;
-use odht::config::Coded;
+use odht::config::{Coded, Config};
 use odht::configs::Bytes8Set as Shape;
+use odht::layout::Fixed;
 use odht_calls::status::BAD_LENGTHS;
 use odht_calls::view::{self, View};
 use odht_calls::{build, grow, order, places, read, walk, write};
 use std::alloc::Global;
+
+// The lengths of keys and values, and the hash function.
+type Sizes = Fixed<<Shape as Config>::EncodedKey, <Shape as Config>::EncodedValue>;
+
+type Hash = <Shape as Config>::H;
 
 /// Writes the length in bytes of a new table for that number of items to `len`, and returns 0.
 /// Returns `BAD_PERCENT` if the load factor is not from 1 to 100 percent. Returns `CAPACITY` if no
@@ -41,7 +47,8 @@ pub extern "C" fn odht_b8_bytes_needed(
     ensures { BytesNeededAnswers ⟦<Shape as Coded>⟧.coding max_item_count max_load_factor_percent
         len.old result len.new }
 {
-    write::bytes_needed::<Shape>(max_item_count, max_load_factor_percent, len)
+    let sizes = Sizes::new();
+    write::bytes_needed::<Sizes, Hash>(sizes, max_item_count, max_load_factor_percent, len)
 }
 
 /// Makes an empty table for that number of items in the bytes, and returns 0. The former content
@@ -56,8 +63,8 @@ pub extern "C" fn odht_b8_init(
     ensures { InitAnswers ⟦<Shape as Coded>⟧.coding max_item_count max_load_factor_percent
         bytes.old result bytes.new }
 {
-    let mut store = BorrowedMut::new(bytes);
-    write::init::<Shape, BorrowedMut<'_>>(&mut store, max_item_count, max_load_factor_percent)
+    let sizes = Sizes::new();
+    write::init::<Sizes, Hash>(sizes, bytes, max_item_count, max_load_factor_percent)
 }
 
 /// Returns 0 if the bytes can be opened. Otherwise returns the number of the first error,
@@ -67,7 +74,7 @@ pub extern "C" fn odht_b8_init(
 pub extern "C" fn odht_b8_open(bytes: &[u8]) -> u32
     ensures { result ≡ status_or_ok (view_refusal ⟦<Shape as Coded>⟧.coding.format bytes.now) }
 {
-    read::open::<Shape>(bytes)
+    read::open::<Sizes, Hash>(Sizes::new(), bytes)
 }
 
 /// Returns 0 exactly if the bytes are valid. Otherwise returns the number of the first error of
@@ -77,7 +84,7 @@ pub extern "C" fn odht_b8_open(bytes: &[u8]) -> u32
 pub extern "C" fn odht_b8_check(bytes: &[u8]) -> u32
     ensures { result ≡ status_or_ok (check_refusal ⟦<Shape as Coded>⟧.coding.format bytes.now) }
 {
-    read::check::<Shape>(bytes)
+    read::check::<Sizes, Hash>(Sizes::new(), bytes, None)
 }
 
 /// Works like `check`, with a bound for searches. Returns 0 exactly if the bytes are valid and
@@ -90,7 +97,7 @@ pub extern "C" fn odht_b8_check_within(bytes: &[u8], groups: usize) -> u32
     ensures { let F = ⟦<Shape as Coded>⟧.coding.format
         in result ≡ status_or_ok (check_refusal_by F (Some groups) bytes.now) }
 {
-    read::check_within::<Shape>(bytes, groups)
+    read::check::<Sizes, Hash>(Sizes::new(), bytes, Some(groups))
 }
 
 /// Works like `open`, and writes the slot of the first error to `slot`. With an error of the
@@ -101,7 +108,7 @@ pub extern "C" fn odht_b8_open_at(bytes: &[u8], slot: &mut usize) -> u32
     ensures { PlaceAnswers (view_refusal ⟦<Shape as Coded>⟧.coding.format bytes.now) result
         slot.new }
 {
-    places::open_at::<Shape>(bytes, slot)
+    places::open_at::<Sizes, Hash>(Sizes::new(), bytes, slot)
 }
 
 /// Works like `check`, and writes the slot of the first error to `slot`: that of an entry, of a
@@ -113,7 +120,7 @@ pub extern "C" fn odht_b8_check_at(bytes: &[u8], slot: &mut usize) -> u32
     ensures { PlaceAnswers (check_refusal ⟦<Shape as Coded>⟧.coding.format bytes.now) result
         slot.new }
 {
-    places::check_at::<Shape>(bytes, slot)
+    places::check_at::<Sizes, Hash>(Sizes::new(), bytes, None, slot)
 }
 
 /// Works like `check_within`, and writes the slot of the first error to `slot`, as `check_at`
@@ -124,7 +131,7 @@ pub extern "C" fn odht_b8_check_within_at(bytes: &[u8], groups: usize, slot: &mu
     ensures { let F = ⟦<Shape as Coded>⟧.coding.format
         in PlaceAnswers (check_refusal_by F (Some groups) bytes.now) result slot.new }
 {
-    places::check_within_at::<Shape>(bytes, groups, slot)
+    places::check_at::<Sizes, Hash>(Sizes::new(), bytes, Some(groups), slot)
 }
 
 /// Inserts a key with its value. Returns 0 if the key was new. If the key was present, replaces
@@ -200,7 +207,7 @@ pub extern "C" fn odht_b8_get_all(
 pub extern "C" fn odht_b8_len(bytes: &[u8], item_count: &mut usize) -> u32
     ensures { LenAnswers ⟦<Shape as Coded>⟧.coding bytes.now item_count.old result item_count.new }
 {
-    read::len::<Shape>(bytes, item_count)
+    read::len::<Sizes, Hash>(Sizes::new(), bytes, item_count)
 }
 
 /// Writes the header's slot count, the maximum number of items for it, and the header's load
@@ -217,7 +224,13 @@ pub extern "C" fn odht_b8_sizes(
         slot_count.old max_item_count.old max_load_factor_percent.old result
         slot_count.new max_item_count.new max_load_factor_percent.new }
 {
-    read::sizes::<Shape>(bytes, slot_count, max_item_count, max_load_factor_percent)
+    read::sizes::<Sizes, Hash>(
+        Sizes::new(),
+        bytes,
+        slot_count,
+        max_item_count,
+        max_load_factor_percent,
+    )
 }
 
 /// Computes the length in bytes of the table at the start of the bytes from its header, writes it
@@ -228,7 +241,7 @@ pub extern "C" fn odht_b8_sizes(
 pub extern "C" fn odht_b8_table_len(bytes: &[u8], len: &mut usize) -> u32
     ensures { TableLenAnswers ⟦<Shape as Coded>⟧.coding.format bytes.now len.old result len.new }
 {
-    read::table_len::<Shape>(bytes, len)
+    read::table_len::<Sizes, Hash>(Sizes::new(), bytes, len)
 }
 
 /// Writes keys and values to the arrays, in slot order from the slot `cursor` on, until the arrays
@@ -261,7 +274,7 @@ pub extern "C" fn odht_b8_open_view<'a>(bytes: &'a [u8], view: &mut View<'a>) ->
     ensures { OpenViewAnswers ⟦<Shape as Coded>⟧.coding.format
         bytes.entry view.old.bytes result view.new.bytes }
 {
-    view::open::<Shape>(bytes, view)
+    view::open::<Sizes, Hash>(Sizes::new(), bytes, view)
 }
 
 /// Writes the value of a key in an opened table to `value`, and returns 0. Returns `ABSENT` if the
@@ -321,7 +334,7 @@ pub extern "C" fn odht_b8_view_len(view: &View<'_>) -> usize
 pub extern "C" fn odht_b8_insert_order(bytes: &[u8], out: &mut [usize]) -> u32
     ensures { OrderAnswers ⟦<Shape as Coded>⟧.coding bytes.now out.old result out.new }
 {
-    order::insert_order::<Shape>(bytes, out)
+    order::insert_order::<Sizes, Hash>(Sizes::new(), bytes, out, &mut [])
 }
 
 /// Writes a larger copy of the table in `bytes` to the start of `out`, its length in bytes to

@@ -1,8 +1,7 @@
 -- Worked examples: what the calls answer that build a table of one pair.
-use Rattle.std.proofs.Common.{◌∙◌, ℕ, refl, sym, ap, lit≤, lit<, length, List, [], ◌∷◌, replicate}
+use Rattle.std.proofs.Common.{◌∙◌, ℕ, refl, sym, ap, lit≤, length, List, [], ◌∷◌, replicate}
 use Rattle.odht_header.proofs.examples.Opened.{opened}
 use Rattle.odht_calls.specs.Builds.{BuildAnswers, BuildGrowingAnswers}
-use Rattle.odht_calls.proofs.lemmas.HandedOut.{IsHandedOut-none}
 use Rattle.odht_calls.proofs.examples.AfterInserts.{roomy_bytes, one_built, only_built, one_grown, only_grown}
 use Rattle.odht_calls.proofs.examples.Inits.{seven, one_fits}
 use Rattle.odht_base.proofs.examples.Numbers.{zero_percent_refused}
@@ -13,26 +12,6 @@ use Rattle.odht_calls.proofs.examples.Tables.{direct_coding, one_bytes}
 -- the bytes of the caller
 abbrev nines : List ℕ
 nines = replicate 192 9
-
--- arrays of two lengths are answered with ODHT_BAD_LENGTHS, and the buffers are unchanged
-pub lengths_build : BuildAnswers direct_coding (5 ∷ []) [] 7 nines 4 35 nines 4
-lengths_build = record {
-  lengths = λ other. (refl, refl, refl);
-  percent = λ long other. absurd (unequal 0 1 refl long);
-  built = IsHandedOut-none _ _ _ _ _ (unequal 35 0 refl) (unequal 35 36 refl);
-  refused = λ long ok undone roomy. absurd (unequal 0 1 refl long);
-  capacity = λ is. absurd (unequal 35 20 refl is);
-}
-
--- no percent
-pub percent_build : BuildAnswers direct_coding (5 ∷ []) (7 ∷ []) 0 nines 4 34 nines 4
-percent_build = record {
-  lengths = λ other. absurd (other refl);
-  percent = λ long other. (refl, refl, refl);
-  built = IsHandedOut-none _ _ _ _ _ (unequal 34 0 refl) (unequal 34 36 refl);
-  refused = λ long ok undone roomy. absurd (zero_percent_refused ok);
-  capacity = λ is. absurd (unequal 34 20 refl is);
-}
 
 -- a table, which takes all bytes
 pub one_build : BuildAnswers direct_coding (5 ∷ []) (7 ∷ []) 7 nines 4 0 one_bytes 192
@@ -51,46 +30,25 @@ one_build = record {
   capacity = λ is. absurd (unequal 0 20 refl is);
 }
 
--- a table, which is longer than the bytes
-pub small_build : BuildAnswers direct_coding (5 ∷ []) (7 ∷ []) 7 [] 4 36 [] 192
-unfolding opened
-small_build = record {
-  lengths = λ other. absurd (other refl);
-  percent = λ long other. absurd (other seven);
-  built = record {
-    built = λ is. absurd (unequal 36 0 refl is);
-    fits = λ is. absurd (unequal 36 0 refl is);
-    rest = λ is. absurd (unequal 36 0 refl is);
-    needed = λ is. (one_bytes, refl, one_built);
-    too_small = λ is. (lit< tt, refl);
-  };
-  refused = λ long ok undone roomy. absurd (roomy refl);
-  capacity = λ is. absurd (unequal 36 20 refl is);
-}
-
 -- arrays of two lengths are not answered with another status
 pub build_lengths_status_refused : BuildAnswers direct_coding (5 ∷ []) [] 7 nines 4 19 nines 4 → ⊥
 build_lengths_status_refused h = unequal 19 35 refl (h.lengths (unequal 0 1 refl)).0
 
--- and the bytes are unchanged
-pub build_lengths_bytes_refused : BuildAnswers direct_coding (5 ∷ []) [] 7 [] 4 35 (7 ∷ []) 4 → ⊥
-build_lengths_bytes_refused h = unequal_lists (7 ∷ []) [] refl (h.lengths (unequal 0 1 refl)).1
-
--- and the number
-pub build_lengths_number_refused : BuildAnswers direct_coding (5 ∷ []) [] 7 nines 4 35 nines 0 → ⊥
-build_lengths_number_refused h = unequal 0 4 refl (h.lengths (unequal 0 1 refl)).2
+-- and neither the bytes nor the number change
+pub build_lengths_written_refused : (BuildAnswers direct_coding (5 ∷ []) [] 7 [] 4 35 (7 ∷ []) 4 → ⊥)
+    × (BuildAnswers direct_coding (5 ∷ []) [] 7 [] 4 35 [] 0 → ⊥)
+build_lengths_written_refused =
+    (λ h. unequal_lists (7 ∷ []) [] refl (h.lengths (unequal 0 1 refl)).1, λ h. unequal 0 4 refl (h.lengths (unequal 0 1 refl)).2)
 
 -- no percent is not answered with another status
 pub build_percent_status_refused : BuildAnswers direct_coding (5 ∷ []) (7 ∷ []) 0 nines 4 19 nines 4 → ⊥
 build_percent_status_refused h = unequal 19 34 refl (h.percent refl zero_percent_refused).0
 
--- and the bytes are unchanged
-pub build_percent_bytes_refused : BuildAnswers direct_coding (5 ∷ []) (7 ∷ []) 0 [] 4 34 (7 ∷ []) 4 → ⊥
-build_percent_bytes_refused h = unequal_lists (7 ∷ []) [] refl (h.percent refl zero_percent_refused).1
-
--- and the number
-pub build_percent_number_refused : BuildAnswers direct_coding (5 ∷ []) (7 ∷ []) 0 nines 4 34 nines 0 → ⊥
-build_percent_number_refused h = unequal 0 4 refl (h.percent refl zero_percent_refused).2
+-- and nothing is written
+pub build_percent_written_refused : (BuildAnswers direct_coding (5 ∷ []) (7 ∷ []) 0 [] 4 34 (7 ∷ []) 4 → ⊥)
+    × (BuildAnswers direct_coding (5 ∷ []) (7 ∷ []) 0 [] 4 34 [] 0 → ⊥)
+build_percent_written_refused =
+    (λ h. unequal_lists (7 ∷ []) [] refl (h.percent refl zero_percent_refused).1, λ h. unequal 0 4 refl (h.percent refl zero_percent_refused).2)
 
 -- where the answer is `done` the bytes are the table
 pub unbuilt_refused : BuildAnswers direct_coding (5 ∷ []) (7 ∷ []) 7 nines 4 0 nines 192 → ⊥
@@ -113,40 +71,18 @@ build_other_length_refused h =
 pub build_other_status_refused : BuildAnswers direct_coding (5 ∷ []) (7 ∷ []) 7 nines 4 7 nines 4 → ⊥
 build_other_status_refused h = unequal 7 20 refl (h.refused refl seven (unequal 7 0 refl) (unequal 7 36 refl)).0
 
--- nor is `Memory`
-pub build_memory_refused : BuildAnswers direct_coding (5 ∷ []) (7 ∷ []) 7 nines 4 19 nines 4 → ⊥
-build_memory_refused h = unequal 19 20 refl (h.refused refl seven (unequal 19 0 refl) (unequal 19 36 refl)).0
-
--- without a slot count the bytes are unchanged
-pub build_capacity_bytes_refused : BuildAnswers direct_coding (5 ∷ []) (7 ∷ []) 7 [] 4 20 (7 ∷ []) 4 → ⊥
-build_capacity_bytes_refused h =
-    unequal_lists (7 ∷ []) [] refl (h.refused refl seven (unequal 20 0 refl) (unequal 20 36 refl)).1
-
--- and the number
-pub build_capacity_number_refused : BuildAnswers direct_coding (5 ∷ []) (7 ∷ []) 7 nines 4 20 nines 0 → ⊥
-build_capacity_number_refused h = unequal 0 4 refl (h.refused refl seven (unequal 20 0 refl) (unequal 20 36 refl)).2
+-- without a slot count nothing is written
+pub build_capacity_written_refused : (BuildAnswers direct_coding (5 ∷ []) (7 ∷ []) 7 [] 4 20 (7 ∷ []) 4 → ⊥)
+    × (BuildAnswers direct_coding (5 ∷ []) (7 ∷ []) 7 [] 4 20 [] 0 → ⊥)
+build_capacity_written_refused =
+    (λ h. unequal_lists (7 ∷ []) [] refl (h.refused refl seven (unequal 20 0 refl) (unequal 20 36 refl)).1,
+    λ h. unequal 0 4 refl (h.refused refl seven (unequal 20 0 refl) (unequal 20 36 refl)).2)
 
 -- one pair is not too many
 pub build_capacity_refused : BuildAnswers direct_coding (5 ∷ []) (7 ∷ []) 7 nines 4 20 nines 4 → ⊥
 build_capacity_refused h = one_fits (h.capacity refl)
 
 -- ---- BuildGrowingAnswers
--- arrays of two lengths are answered with ODHT_BAD_LENGTHS, and the buffers are unchanged
-pub lengths_growing : BuildGrowingAnswers direct_coding (5 ∷ []) [] nines 4 35 nines 4
-lengths_growing = record {
-  lengths = λ other. (refl, refl, refl);
-  built = IsHandedOut-none _ _ _ _ _ (unequal 35 0 refl) (unequal 35 36 refl);
-  refused = λ long undone roomy. absurd (unequal 0 1 refl long);
-}
-
--- no memory
-pub memory_growing : BuildGrowingAnswers direct_coding (5 ∷ []) (7 ∷ []) nines 4 19 nines 4
-memory_growing = record {
-  lengths = λ other. absurd (other refl);
-  built = IsHandedOut-none _ _ _ _ _ (unequal 19 0 refl) (unequal 19 36 refl);
-  refused = λ long undone roomy. (refl, refl, refl);
-}
-
 -- a table, which takes all bytes
 pub one_growing : BuildGrowingAnswers direct_coding (5 ∷ []) (7 ∷ []) nines 4 0 roomy_bytes 192
 unfolding opened
@@ -166,13 +102,11 @@ one_growing = record {
 pub growing_lengths_status_refused : BuildGrowingAnswers direct_coding (5 ∷ []) [] nines 4 19 nines 4 → ⊥
 growing_lengths_status_refused h = unequal 19 35 refl (h.lengths (unequal 0 1 refl)).0
 
--- and the bytes are unchanged
-pub growing_lengths_bytes_refused : BuildGrowingAnswers direct_coding (5 ∷ []) [] [] 4 35 (7 ∷ []) 4 → ⊥
-growing_lengths_bytes_refused h = unequal_lists (7 ∷ []) [] refl (h.lengths (unequal 0 1 refl)).1
-
--- and the number
-pub growing_lengths_number_refused : BuildGrowingAnswers direct_coding (5 ∷ []) [] nines 4 35 nines 0 → ⊥
-growing_lengths_number_refused h = unequal 0 4 refl (h.lengths (unequal 0 1 refl)).2
+-- and nothing is written
+pub growing_lengths_written_refused : (BuildGrowingAnswers direct_coding (5 ∷ []) [] [] 4 35 (7 ∷ []) 4 → ⊥)
+    × (BuildGrowingAnswers direct_coding (5 ∷ []) [] [] 4 35 [] 0 → ⊥)
+growing_lengths_written_refused =
+    (λ h. unequal_lists (7 ∷ []) [] refl (h.lengths (unequal 0 1 refl)).1, λ h. unequal 0 4 refl (h.lengths (unequal 0 1 refl)).2)
 
 -- where the answer is `done` the bytes are the table
 pub ungrown_refused : BuildGrowingAnswers direct_coding (5 ∷ []) (7 ∷ []) nines 4 0 nines 192 → ⊥
@@ -188,11 +122,9 @@ growing_other_percent_refused h = unequal_lists one_bytes roomy_bytes refl (only
 pub growing_other_status_refused : BuildGrowingAnswers direct_coding (5 ∷ []) (7 ∷ []) nines 4 20 nines 4 → ⊥
 growing_other_status_refused h = unequal 20 19 refl (h.refused refl (unequal 20 0 refl) (unequal 20 36 refl)).0
 
--- out of memory the bytes are unchanged
-pub growing_memory_bytes_refused : BuildGrowingAnswers direct_coding (5 ∷ []) (7 ∷ []) [] 4 19 (7 ∷ []) 4 → ⊥
-growing_memory_bytes_refused h =
-    unequal_lists (7 ∷ []) [] refl (h.refused refl (unequal 19 0 refl) (unequal 19 36 refl)).1
-
--- and the number
-pub growing_memory_number_refused : BuildGrowingAnswers direct_coding (5 ∷ []) (7 ∷ []) nines 4 19 nines 0 → ⊥
-growing_memory_number_refused h = unequal 0 4 refl (h.refused refl (unequal 19 0 refl) (unequal 19 36 refl)).2
+-- and out of memory nothing is written
+pub growing_memory_written_refused : (BuildGrowingAnswers direct_coding (5 ∷ []) (7 ∷ []) [] 4 19 (7 ∷ []) 4 → ⊥)
+    × (BuildGrowingAnswers direct_coding (5 ∷ []) (7 ∷ []) [] 4 19 [] 0 → ⊥)
+growing_memory_written_refused =
+    (λ h. unequal_lists (7 ∷ []) [] refl (h.refused refl (unequal 19 0 refl) (unequal 19 36 refl)).1,
+    λ h. unequal 0 4 refl (h.refused refl (unequal 19 0 refl) (unequal 19 36 refl)).2)

@@ -9,26 +9,10 @@ use Rattle.odht_header.specs.declared.error.Error.TheVariants.{TooShort}
 use Rattle.odht_header.proofs.examples.Opened.{opened}
 use Rattle.odht_calls.specs.Reads.{IsGotAt, GetAllAnswers}
 use Rattle.odht_calls.proofs.lemmas.Opened.{never_refused}
-use Rattle.odht_calls.proofs.lemmas.Refused.{refused_get_all}
 use Rattle.odht_header.proofs.examples.Apart.{unequal, unequal_lists}
 use Rattle.odht_calls.proofs.examples.Tables.{direct_coding, one_item, one_bytes, miscounted, one_image, accepted_bytes, same_table, not_stored}
 
 -- ---- what holds
--- the empty list of bytes has an error, and the arrays are unchanged
-pub too_short_all : GetAllAnswers direct_coding [] (5 ∷ []) (9 ∷ []) (3 ∷ []) 1 (9 ∷ []) (3 ∷ [])
-unfolding opened
-too_short_all = refused_get_all direct_coding [] (TooShort 0) 1 refl refl (5 ∷ []) (9 ∷ []) (3 ∷ []) (refl, refl)
-
--- arrays of two lengths are answered with ODHT_BAD_LENGTHS, and are unchanged
-pub lengths_all : GetAllAnswers direct_coding one_bytes (5 ∷ []) [] (3 ∷ []) 35 [] (3 ∷ [])
-lengths_all = record {
-  lengths = λ other. (refl, refl, refl);
-  refused = λ e long is. absurd (unequal 0 1 refl long.0);
-  accepted = λ long is. absurd (unequal 0 1 refl long.0);
-  on_valid = λ P i k long is at. absurd (unequal 0 1 refl long.0);
-  on_any = λ i k long is at. absurd (unequal 0 1 refl long.0);
-}
-
 -- the key 5 of a valid table has the value 7, and is reported as found
 pub present_all : GetAllAnswers direct_coding one_bytes (5 ∷ []) (9 ∷ []) (3 ∷ []) 0 (7 ∷ []) (1 ∷ [])
 unfolding opened
@@ -61,13 +45,12 @@ present_all = record {
 pub lengths_status_refused : GetAllAnswers direct_coding one_bytes (5 ∷ []) [] (3 ∷ []) 0 [] (3 ∷ []) → ⊥
 lengths_status_refused h = unequal 0 35 refl (h.lengths (λ long. unequal 0 1 refl long.0)).0
 
--- and the values are unchanged
-pub lengths_values_refused : GetAllAnswers direct_coding one_bytes (5 ∷ []) [] (3 ∷ []) 35 (7 ∷ []) (3 ∷ []) → ⊥
-lengths_values_refused h = unequal_lists (7 ∷ []) [] refl (h.lengths (λ long. unequal 0 1 refl long.0)).1
-
--- and so does what was found
-pub lengths_found_refused : GetAllAnswers direct_coding one_bytes (5 ∷ []) (9 ∷ []) [] 35 (9 ∷ []) (1 ∷ []) → ⊥
-lengths_found_refused h = unequal_lists (1 ∷ []) [] refl (h.lengths (λ long. unequal 0 1 refl long.1)).2
+-- and neither the values nor what was found change
+pub lengths_written_refused : (GetAllAnswers direct_coding one_bytes (5 ∷ []) [] (3 ∷ []) 35 (7 ∷ []) (3 ∷ []) → ⊥)
+    × (GetAllAnswers direct_coding one_bytes (5 ∷ []) (9 ∷ []) [] 35 (9 ∷ []) (1 ∷ []) → ⊥)
+lengths_written_refused =
+    (λ h. unequal_lists (7 ∷ []) [] refl (h.lengths (λ long. unequal 0 1 refl long.0)).1,
+    λ h. unequal_lists (1 ∷ []) [] refl (h.lengths (λ long. unequal 0 1 refl long.1)).2)
 
 -- ---- refused
 -- an error is not answered with another status
@@ -75,15 +58,13 @@ pub refusal_all_status_refused : GetAllAnswers direct_coding [] (5 ∷ []) (9 �
 unfolding opened
 refusal_all_status_refused h = unequal 2 1 refl (h.refused (TooShort 0) (refl, refl) refl).0
 
--- and the values are unchanged
-pub refusal_all_values_refused : GetAllAnswers direct_coding [] (5 ∷ []) (9 ∷ []) (3 ∷ []) 1 (7 ∷ []) (3 ∷ []) → ⊥
+-- and nothing is written
+pub refusal_all_written_refused : (GetAllAnswers direct_coding [] (5 ∷ []) (9 ∷ []) (3 ∷ []) 1 (7 ∷ []) (3 ∷ []) → ⊥)
+    × (GetAllAnswers direct_coding [] (5 ∷ []) (9 ∷ []) (3 ∷ []) 1 (9 ∷ []) (1 ∷ []) → ⊥)
 unfolding opened
-refusal_all_values_refused h = unequal_lists (7 ∷ []) (9 ∷ []) refl (h.refused (TooShort 0) (refl, refl) refl).1
-
--- and so does what was found
-pub refusal_all_found_refused : GetAllAnswers direct_coding [] (5 ∷ []) (9 ∷ []) (3 ∷ []) 1 (9 ∷ []) (1 ∷ []) → ⊥
-unfolding opened
-refusal_all_found_refused h = unequal_lists (1 ∷ []) (3 ∷ []) refl (h.refused (TooShort 0) (refl, refl) refl).2
+refusal_all_written_refused =
+    (λ h. unequal_lists (7 ∷ []) (9 ∷ []) refl (h.refused (TooShort 0) (refl, refl) refl).1,
+    λ h. unequal_lists (1 ∷ []) (3 ∷ []) refl (h.refused (TooShort 0) (refl, refl) refl).2)
 
 -- ---- accepted
 -- accepted bytes are answered with ODHT_OK, also where the one key is found

@@ -7,7 +7,6 @@ use Rattle.odht_header.specs.declared.error.Error.TheVariants.{TooShort}
 use Rattle.odht_header.proofs.examples.Opened.{opened}
 use Rattle.odht_calls.specs.Reads.{IsGot, IsGotAt, GetAnswers}
 use Rattle.odht_calls.proofs.lemmas.Opened.{never_refused}
-use Rattle.odht_calls.proofs.lemmas.Refused.{refused_get}
 use Rattle.odht_header.proofs.examples.Apart.{unequal}
 use Rattle.odht_calls.proofs.examples.Tables.{direct_coding, one_item, one_bytes, miscounted, one_image, accepted_bytes, same_table, not_stored}
 
@@ -54,11 +53,6 @@ pub present_unwritten_at_refused : IsGotAt {V = ℕ} (Some 7) (Some 9) (Some 1) 
 present_unwritten_at_refused h = unequal 9 7 refl (some_same 9 7 h.1)
 
 -- ---- GetAnswers
--- the empty list of bytes has an error, and the buffer is unchanged
-pub too_short_answers : GetAnswers direct_coding [] 5 9 1 9
-unfolding opened
-too_short_answers = refused_get direct_coding [] (TooShort 0) 1 refl refl 5 9
-
 -- the key 5 of a valid table has the value 7
 pub present_answers : GetAnswers direct_coding one_bytes 5 9 0 7
 unfolding opened
@@ -67,16 +61,6 @@ present_answers = record {
   on_valid = λ P is. subst (λ T. IsGot (value_for direct_coding T 5) 9 0 7)
       (same_table one_item P one_bytes one_image is) (refl, refl);
   on_any = λ is. (Some 7, (refl, refl), (le_bytes 4 7, refl, (5, lit< tt, refl, refl)));
-}
-
--- and the key 6 has none
-pub absent_answers : GetAnswers direct_coding one_bytes 6 9 32 9
-unfolding opened
-absent_answers = record {
-  refused = λ e is. never_refused direct_coding.format one_item one_bytes e one_image is;
-  on_valid = λ P is. subst (λ T. IsGot (value_for direct_coding T 6) 9 32 9)
-      (same_table one_item P one_bytes one_image is) (refl, refl);
-  on_any = λ is. (None, (refl, refl), tt);
 }
 
 -- an error is not answered with another status

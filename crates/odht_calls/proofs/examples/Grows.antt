@@ -20,7 +20,7 @@ use Rattle.odht_header.proofs.examples.Opened.{opened}
 use Rattle.odht.specs.Growths.{grown_len, IsGrownImage}
 use Rattle.odht_calls.specs.Grows.{growth_refusal, GrowAnswers, IsGrownFrom, IsGrownInto}
 use Rattle.odht_calls.proofs.examples.Tables.{direct_coding, no_bytes, one_item, one_bytes, miscounted, one_image, same_table}
-use Rattle.odht_calls.proofs.lemmas.Grown.{refused_grow, short_grow, done_grow}
+use Rattle.odht_calls.proofs.lemmas.Grown.{refused_grow, done_grow}
 use Rattle.odht_calls.proofs.lemmas.Refused.{not_none}
 
 abbrev grown_item : Table
@@ -111,60 +111,46 @@ unfolding opened
 behind_grown_refused h = unequal_lists (7 ∷ []) (9 ∷ []) refl h.rest
 
 -- ---- GrowAnswers
--- the empty list of bytes has an error, and the buffers are unchanged
-pub too_short_grow : GrowAnswers direct_coding [] (9 ∷ []) 4 1 (9 ∷ []) 4
-unfolding opened growth_refusal
-too_short_grow = refused_grow direct_coding [] (9 ∷ []) 4 (TooShort 0) 1 refl refl
-
--- so is a small load factor
+-- a small load factor is an error, and the buffers are unchanged
 pub weak_grow : GrowAnswers direct_coding weak (9 ∷ []) 4 10 (9 ∷ []) 4
 unfolding opened growth_refusal
-weak_grow = refused_grow direct_coding weak (9 ∷ []) 4 (LoadFactorTooSmall 654) 10 refl refl
+weak_grow = refused_grow direct_coding.format weak (9 ∷ []) 4 (LoadFactorTooSmall 654) 10 refl refl
 
--- and too many items
+-- and so are too many items
 pub crowded_grow : GrowAnswers direct_coding crowded (9 ∷ []) 4 20 (9 ∷ []) 4
 unfolding opened growth_refusal grown_len
-crowded_grow = refused_grow direct_coding crowded (9 ∷ []) 4 Capacity 20 refl refl
-
--- one byte is too few, and is unchanged; the length is written
-pub small_grow : GrowAnswers direct_coding one_bytes (9 ∷ []) 4 36 (9 ∷ []) 336
-unfolding opened growth_refusal grown_len
-small_grow = short_grow direct_coding one_bytes (9 ∷ []) 4 336 refl refl (lit< tt)
+crowded_grow = refused_grow direct_coding.format crowded (9 ∷ []) 4 Capacity 20 refl refl
 
 -- the table fits 337 bytes, and the last one is unchanged
 pub one_grow : GrowAnswers direct_coding one_bytes nines 4 0 inserted 336
 unfolding opened growth_refusal grown_len
-one_grow = done_grow direct_coding one_bytes nines 4 336 refl refl inserted (lit≤ tt) one_grown_into
+one_grow = done_grow direct_coding.format one_bytes nines 4 336 refl refl inserted (lit≤ tt) one_grown_into
 
 -- an error is not answered with another status
 pub grow_status_refused : GrowAnswers direct_coding weak (9 ∷ []) 4 20 (9 ∷ []) 4 → ⊥
 unfolding opened growth_refusal
 grow_status_refused h = unequal 20 10 refl (h.refused (LoadFactorTooSmall 654) refl).0
 
--- and writes no byte
-pub grow_bytes_refused : GrowAnswers direct_coding weak (9 ∷ []) 4 10 (7 ∷ []) 4 → ⊥
+-- and writes neither a byte nor a length
+pub grow_written_refused : (GrowAnswers direct_coding weak (9 ∷ []) 4 10 (7 ∷ []) 4 → ⊥)
+    × (GrowAnswers direct_coding weak (9 ∷ []) 4 10 (9 ∷ []) 0 → ⊥)
 unfolding opened growth_refusal
-grow_bytes_refused h = unequal_lists (7 ∷ []) (9 ∷ []) refl (h.refused (LoadFactorTooSmall 654) refl).1
-
--- and no length
-pub grow_length_refused : GrowAnswers direct_coding weak (9 ∷ []) 4 10 (9 ∷ []) 0 → ⊥
-unfolding opened growth_refusal
-grow_length_refused h = unequal 0 4 refl (h.refused (LoadFactorTooSmall 654) refl).2
+grow_written_refused =
+    (λ h. unequal_lists (7 ∷ []) (9 ∷ []) refl (h.refused (LoadFactorTooSmall 654) refl).1,
+    λ h. unequal 0 4 refl (h.refused (LoadFactorTooSmall 654) refl).2)
 
 -- too few bytes are not answered with ODHT_OK
 pub grow_short_status_refused : GrowAnswers direct_coding one_bytes (9 ∷ []) 4 0 (9 ∷ []) 336 → ⊥
 unfolding opened growth_refusal grown_len
 grow_short_status_refused h = unequal 0 36 refl (h.short 336 refl refl (lit< tt)).0
 
--- and are unchanged
-pub grow_short_bytes_refused : GrowAnswers direct_coding one_bytes (9 ∷ []) 4 36 (79 ∷ []) 336 → ⊥
+-- and are unchanged, and no other length is written
+pub grow_short_written_refused : (GrowAnswers direct_coding one_bytes (9 ∷ []) 4 36 (79 ∷ []) 336 → ⊥)
+    × (GrowAnswers direct_coding one_bytes (9 ∷ []) 4 36 (9 ∷ []) 4 → ⊥)
 unfolding opened growth_refusal grown_len
-grow_short_bytes_refused h = unequal_lists (79 ∷ []) (9 ∷ []) refl (h.short 336 refl refl (lit< tt)).1
-
--- and no other length is written
-pub grow_short_length_refused : GrowAnswers direct_coding one_bytes (9 ∷ []) 4 36 (9 ∷ []) 4 → ⊥
-unfolding opened growth_refusal grown_len
-grow_short_length_refused h = unequal 4 336 refl (h.short 336 refl refl (lit< tt)).2
+grow_short_written_refused =
+    (λ h. unequal_lists (79 ∷ []) (9 ∷ []) refl (h.short 336 refl refl (lit< tt)).1,
+    λ h. unequal 4 336 refl (h.short 336 refl refl (lit< tt)).2)
 
 -- enough bytes are not answered with ODHT_TOO_SMALL
 pub grow_done_status_refused : GrowAnswers direct_coding one_bytes nines 4 36 nines 336 → ⊥

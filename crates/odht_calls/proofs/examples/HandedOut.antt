@@ -1,8 +1,7 @@
 -- Worked examples: how a table is copied into bytes of the caller, here into up to three bytes. The bytes 1
 -- and 2 take the part of a table.
-use Rattle.std.proofs.Common.{◌≡◌, ◌≤◌, ◌<◌, ◌∙◌, ℕ, refl, sym, ap, arith, lit<, lit≤, List, [], ◌∷◌, length}
+use Rattle.std.proofs.Common.{◌≡◌, ◌≤◌, ◌<◌, ◌∙◌, ℕ, refl, sym, ap, arith, lit≤, List, [], ◌∷◌, length}
 use Rattle.odht_calls.specs.Builds.{IsHandedOut}
-use Rattle.odht_calls.proofs.lemmas.HandedOut.{IsHandedOut-none}
 use Rattle.odht_header.proofs.examples.Apart.{unequal, unequal_lists}
 
 -- the bytes that take the part of a table
@@ -18,20 +17,6 @@ copied = record {
   needed = λ is. absurd (unequal 0 36 refl is);
   too_small = λ is. absurd (unequal 0 36 refl is);
 }
-
--- one byte does not, and is unchanged; two is the length that is needed
-pub too_long : IsHandedOut AreOneTwo (9 ∷ []) 36 (9 ∷ []) 2
-too_long = record {
-  built = λ is. absurd (unequal 36 0 refl is);
-  fits = λ is. absurd (unequal 36 0 refl is);
-  rest = λ is. absurd (unequal 36 0 refl is);
-  needed = λ is. (1 ∷ 2 ∷ [], refl, refl);
-  too_small = λ is. (lit< tt, refl);
-}
-
--- other statuses imply nothing here
-pub not_made : IsHandedOut AreOneTwo (9 ∷ []) 19 (9 ∷ []) 4
-not_made = IsHandedOut-none _ _ _ _ _ (unequal 19 0 refl) (unequal 19 36 refl)
 
 -- no other bytes are copied
 pub other_copied_refused : IsHandedOut AreOneTwo (9 ∷ 9 ∷ 9 ∷ []) 0 (1 ∷ 3 ∷ 9 ∷ []) 2 → ⊥

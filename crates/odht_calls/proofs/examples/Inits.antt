@@ -9,7 +9,6 @@ use Rattle.odht_header.specs.Refusals.{IsTooLarge, new_refusal}
 use Rattle.odht_header.specs.declared.error.Error.TheVariants.{InitLength, Capacity}
 use Rattle.odht_header.proofs.examples.Opened.{opened}
 use Rattle.odht_calls.specs.Writes.{BytesNeededAnswers, InitAnswers}
-use Rattle.odht_calls.proofs.lemmas.Refused.{known, not_none}
 use Rattle.odht_base.proofs.examples.Numbers.{zero_percent_refused}
 use Rattle.odht_header.proofs.examples.Apart.{unequal, unequal_lists}
 use Rattle.odht_calls.proofs.examples.Tables.{direct_coding, no_items, no_bytes, one_bytes, no_image}
@@ -37,14 +36,6 @@ unfolding opened
 too_many_items s is = absurd (none-some s is)
 
 -- ---- BytesNeededAnswers
--- no percent
-pub zero_percent_needed : BytesNeededAnswers direct_coding 1 0 9 34 9
-zero_percent_needed = record {
-  percent = λ other. (refl, refl);
-  needed = λ slots ok is small. absurd (zero_percent_refused ok);
-  capacity = λ ok large. absurd (zero_percent_refused ok);
-}
-
 -- one item at 7 percent: sixteen slots, and 192 bytes
 pub one_needed : BytesNeededAnswers direct_coding 1 7 9 0 192
 unfolding opened
@@ -52,15 +43,6 @@ one_needed = record {
   percent = λ other. absurd (other seven);
   needed = λ slots ok is small. (refl, ap (image_len direct_config) (some_same 16 slots is));
   capacity = λ ok large. absurd (one_fits large);
-}
-
--- too many items
-pub too_many_needed : BytesNeededAnswers direct_coding too_many 100 9 20 9
-unfolding opened
-too_many_needed = record {
-  percent = λ other. absurd (other hundred);
-  needed = λ slots ok is small. absurd (none-some slots is);
-  capacity = λ ok large. (refl, refl);
 }
 
 -- no percent is not answered with ODHT_OK
@@ -93,23 +75,6 @@ needed_capacity_written_refused h = unequal 192 9 refl (h.capacity hundred too_m
 -- 192 bytes that are no table
 abbrev ones : List ℕ
 ones = replicate 192 1
-
--- no percent
-pub zero_percent_init : InitAnswers direct_coding 1 0 ones 34 ones
-zero_percent_init = record {
-  percent = λ other. (refl, refl);
-  refused = λ e ok is. absurd (zero_percent_refused ok);
-  made = λ ok none. absurd (zero_percent_refused ok);
-}
-
--- too few bytes
-pub short_init : InitAnswers direct_coding 1 7 [] 17 []
-unfolding opened new_refusal
-short_init = record {
-  percent = λ other. absurd (other seven);
-  refused = λ e ok is. (known _ (InitLength 0 192) e refl is, refl);
-  made = λ ok none. not_none _ (InitLength 0 192) refl none;
-}
 
 -- a new table for one item
 pub made_init : InitAnswers direct_coding 1 7 ones 0 no_bytes

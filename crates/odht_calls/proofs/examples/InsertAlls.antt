@@ -1,9 +1,8 @@
 -- Worked examples: what a call answers that inserts pairs in turn.
-use Rattle.std.proofs.Common.{◌≡◌, ◌∙◌, ℕ, refl, sym, ap, arith, List, [], ◌∷◌, lit<, lit≤, subst, Option, option_map, Result, Ok, Err}
+use Rattle.std.proofs.Common.{◌≡◌, ◌∙◌, ℕ, refl, sym, ap, arith, List, [], ◌∷◌, lit<, subst, Option, option_map, Result, Ok, Err}
 use Rattle.odht_base.specs.Bytes.{overwritten_at}
 use Rattle.odht_base.specs.Image.{image}
-use Rattle.odht_base.specs.Insert.{insert_view, IsFullFor}
-use Rattle.odht_base.specs.Numbers.{le_bytes}
+use Rattle.odht_base.specs.Insert.{insert_view}
 use Rattle.odht_base.specs.Decoded.{controls_of}
 use Rattle.odht_base.specs.Table.{Pair, Table}
 use Rattle.odht_base.proofs.examples.Configs.{direct_config, pair32}
@@ -13,39 +12,17 @@ use Rattle.odht_base.proofs.lemmas.TableInserts.{insert_view-IsInsert}
 use Rattle.odht_header.specs.declared.error.Error.TheVariants.{TooShort, Full}
 use Rattle.odht_header.specs.declared.error.Error.{Error}
 use Rattle.odht_header.specs.Coding.{encoded}
-use Rattle.odht_raw.proofs.examples.Missing.{missing_at_home}
-use Rattle.odht_raw.specs.Frame.{IsFramed, InsertFrame, entries_in}
+use Rattle.odht_raw.specs.Frame.{InsertFrame}
 use Rattle.odht_raw.proofs.examples.FrameRefusals.{free_slot_refused}
 use Rattle.odht_header.proofs.examples.Opened.{opened}
 use Rattle.std.specs.Result.{result_map_both}
 use Rattle.odht.specs.Lists.{IsAfterInserts}
-use Rattle.odht.proofs.lemmas.ListInserts.{inserted_none, inserted_more}
-use Rattle.odht.specs.Lists.{IsFramedRun}
+use Rattle.odht.proofs.lemmas.ListInserts.{inserted_more}
 use Rattle.odht_calls.specs.Writes.{InsertAllAnswers}
-use Rattle.odht_calls.proofs.lemmas.Inserted.{accepted_insert_all, full_insert_all}
-use Rattle.odht_calls.proofs.lemmas.Refused.{refused_insert_all}
+use Rattle.odht_calls.proofs.lemmas.Inserted.{accepted_insert_all}
 use Rattle.odht_calls.proofs.examples.Runs.{one_run, unchanged, misplaced}
 use Rattle.odht_header.proofs.examples.Apart.{unequal, unequal_lists}
 use Rattle.odht_calls.proofs.examples.Tables.{direct_coding, no_items, one_item, no_bytes, one_bytes, miscounted, no_image, one_image, accepted_bytes, same_table}
-
--- the empty list of bytes has an error, and the buffers are unchanged
-pub too_short_insert_all : InsertAllAnswers direct_coding [] (5 ∷ []) (7 ∷ []) 9 1 [] 9
-unfolding opened
-too_short_insert_all = refused_insert_all direct_coding [] (TooShort 0) 1 refl refl (5 ∷ []) (7 ∷ []) 9 refl
-
--- arrays of two lengths are answered with ODHT_BAD_LENGTHS, and the buffers are unchanged
-pub lengths_insert_all : InsertAllAnswers direct_coding no_bytes (5 ∷ []) [] 9 35 no_bytes 9
-lengths_insert_all = record {
-  lengths = λ other. (refl, refl, refl);
-  refused = λ e long is. absurd (unequal 0 1 refl long);
-  bound = λ long is. absurd (unequal 0 1 refl long);
-  all = λ long is every. absurd (unequal 0 1 refl long);
-  some = λ long is less. absurd (unequal 0 1 refl long);
-  inserted = λ P long is. absurd (unequal 0 1 refl long);
-  framed = λ long is. absurd (unequal 0 1 refl long);
-  at_maximum = λ P long is image less. absurd (unequal 0 1 refl long);
-  stopped = λ long is less. absurd (unequal 0 1 refl long);
-}
 
 -- one pair into a valid table
 one_inserted : IsAfterInserts direct_config (insert_view direct_config) no_items (pair32 5 7 ∷ []) one_bytes
@@ -62,10 +39,6 @@ inserted_from : (P : Table) → no_items ≡ P
 inserted_from P same =
     subst (λ T. IsAfterInserts direct_config (insert_view direct_config) T (pair32 5 7 ∷ []) one_bytes) same one_inserted
 
--- and full is each that is the one with one item
-full_for : (P : Table) → one_item ≡ P → IsFullFor P (le_bytes 4 6)
-full_for P same = subst (λ T. IsFullFor T (le_bytes 4 6)) same (refl, refl)
-
 -- one pair is inserted
 pub one_insert_all : InsertAllAnswers direct_coding no_bytes (5 ∷ []) (7 ∷ []) 9 0 one_bytes 1
 unfolding opened
@@ -73,58 +46,27 @@ one_insert_all =
     accepted_insert_all direct_coding no_bytes one_bytes (5 ∷ []) (7 ∷ []) 9 1 refl refl one_run
     (λ P is. inserted_from P (same_table no_items P no_bytes no_image is)) refl
 
--- an insert of the key 6 may be answered with Full there
-six_refused : IsFramed direct_coding one_bytes 6 8 (Err Full) one_bytes
-unfolding opened
-six_refused = (Err Full, refl, InsertFrame.full (lit≤ tt) (missing_at_home direct_config (entries_in direct_config one_bytes) (controls_of direct_config one_bytes) (le_bytes 4 6) refl))
-
--- another key into a full table
-pub full_insert_all_answers : InsertAllAnswers direct_coding one_bytes (6 ∷ []) (8 ∷ []) 9 18 one_bytes 0
-unfolding opened
-full_insert_all_answers =
-    full_insert_all direct_coding one_bytes one_bytes (6 ∷ []) (8 ∷ []) 9 0 refl refl IsFramedRun.start
-    (λ P is. inserted_none direct_config (insert_view direct_config) P one_bytes is)
-    one_bytes 18 refl (lit< tt) refl
-    (λ P is. record { item = (6, 8); at = refl; full = full_for P (same_table one_item P one_bytes one_image is) })
-    (record { item = (6, 8); at = refl; framed = six_refused })
-
--- two pairs, of which the second is answered with Full
-pub half_insert_all : InsertAllAnswers direct_coding no_bytes (5 ∷ 6 ∷ []) (7 ∷ 8 ∷ []) 9 18 one_bytes 1
-unfolding opened
-half_insert_all =
-    full_insert_all direct_coding no_bytes one_bytes (5 ∷ 6 ∷ []) (7 ∷ 8 ∷ []) 9 1 refl refl one_run
-    (λ P is. inserted_from P (same_table no_items P no_bytes no_image is))
-    one_bytes 18 refl (lit< tt) refl
-    (λ P is. record { item = (6, 8); at = refl; full = full_for P (same_table one_item P one_bytes one_image is) })
-    (record { item = (6, 8); at = refl; framed = six_refused })
-
 -- arrays of two lengths are not answered with ODHT_OK
 pub all_lengths_status_refused : InsertAllAnswers direct_coding no_bytes (5 ∷ []) [] 9 0 no_bytes 9 → ⊥
 all_lengths_status_refused h = unequal 0 35 refl (h.lengths (unequal 0 1 refl)).0
 
--- and the bytes are unchanged
-pub all_lengths_bytes_refused : InsertAllAnswers direct_coding no_bytes (5 ∷ []) [] 9 35 one_bytes 9 → ⊥
-unfolding opened
-all_lengths_bytes_refused h = unequal_lists one_bytes no_bytes refl (h.lengths (unequal 0 1 refl)).1
-
--- and the number
-pub all_lengths_number_refused : InsertAllAnswers direct_coding no_bytes (5 ∷ []) [] 9 35 no_bytes 0 → ⊥
-all_lengths_number_refused h = unequal 0 9 refl (h.lengths (unequal 0 1 refl)).2
+-- and neither the bytes nor the number change
+pub all_lengths_written_refused : (InsertAllAnswers direct_coding [] (5 ∷ []) [] 9 35 (7 ∷ []) 9 → ⊥)
+    × (InsertAllAnswers direct_coding [] (5 ∷ []) [] 9 35 [] 0 → ⊥)
+all_lengths_written_refused =
+    (λ h. unequal_lists (7 ∷ []) [] refl (h.lengths (unequal 0 1 refl)).1, λ h. unequal 0 9 refl (h.lengths (unequal 0 1 refl)).2)
 
 -- an error is not answered with another status
 pub all_status_refused : InsertAllAnswers direct_coding [] (5 ∷ []) (7 ∷ []) 9 2 [] 9 → ⊥
 unfolding opened
 all_status_refused h = unequal 2 1 refl (h.refused (TooShort 0) refl refl).0
 
--- and the bytes are unchanged
-pub all_bytes_refused : InsertAllAnswers direct_coding [] (5 ∷ []) (7 ∷ []) 9 1 (7 ∷ []) 9 → ⊥
+-- and nothing is written
+pub all_written_refused : (InsertAllAnswers direct_coding [] (5 ∷ []) (7 ∷ []) 9 1 (7 ∷ []) 9 → ⊥)
+    × (InsertAllAnswers direct_coding [] (5 ∷ []) (7 ∷ []) 9 1 [] 0 → ⊥)
 unfolding opened
-all_bytes_refused h = unequal_lists (7 ∷ []) [] refl (h.refused (TooShort 0) refl refl).1
-
--- and the number
-pub all_number_refused : InsertAllAnswers direct_coding [] (5 ∷ []) (7 ∷ []) 9 1 [] 0 → ⊥
-unfolding opened
-all_number_refused h = unequal 0 9 refl (h.refused (TooShort 0) refl refl).2
+all_written_refused =
+    (λ h. unequal_lists (7 ∷ []) [] refl (h.refused (TooShort 0) refl refl).1, λ h. unequal 0 9 refl (h.refused (TooShort 0) refl refl).2)
 
 -- the number of inserted pairs is not above that of the pairs
 pub all_bound_refused : InsertAllAnswers direct_coding no_bytes (5 ∷ []) (7 ∷ []) 9 0 one_bytes 2 → ⊥

@@ -1,18 +1,15 @@
 -- Worked examples: what an insert answers.
-use Rattle.std.proofs.Common.{lit≤, ◌≡◌, ◌∙◌, ℕ, refl, ap, inl, List, [], ◌∷◌, Option, None, Some, Result, Ok, Err, lit<, subst}
+use Rattle.std.proofs.Common.{◌≡◌, ◌∙◌, ℕ, refl, ap, inl, List, [], ◌∷◌, Option, None, Some, Result, Ok, Err, lit<, subst}
 use Rattle.odht_base.proofs.examples.Configs.{direct_config}
 use Rattle.odht_base.specs.Numbers.{le_bytes}
-use Rattle.odht_base.specs.Decoded.{controls_of}
 use Rattle.odht_base.specs.Table.{Pair}
-use Rattle.odht_raw.proofs.examples.Missing.{missing_at_home}
-use Rattle.odht_raw.specs.Frame.{InsertFrame, IsFramed, entries_in}
+use Rattle.odht_raw.specs.Frame.{InsertFrame, IsFramed}
 use Rattle.odht_header.specs.declared.error.Error.{Error}
 use Rattle.odht_header.specs.declared.error.Error.TheVariants.{TooShort, Full}
 use Rattle.odht_header.proofs.examples.Opened.{opened}
 use Rattle.odht_calls.specs.Statuses.{status_of}
 use Rattle.odht_calls.specs.Writes.{IsFormer, IsAnswered, IsAfterInsert, InsertAnswers}
 use Rattle.odht_calls.proofs.lemmas.Opened.{never_refused}
-use Rattle.odht_calls.proofs.lemmas.Refused.{refused_insert}
 use Rattle.odht_header.proofs.examples.Apart.{unequal, unequal_lists}
 use Rattle.odht_calls.proofs.examples.Tables.{direct_coding, no_items, one_item, no_bytes, one_bytes, other_bytes, miscounted, no_image, one_image, other_image, accepted_bytes, same_table}
 
@@ -103,11 +100,6 @@ unfolding opened
 insert_full_value_refused h = unequal 7 9 refl h.2
 
 -- ---- InsertAnswers
--- the empty list of bytes has an error, and the buffers are unchanged
-pub too_short_insert : InsertAnswers direct_coding [] 5 7 9 1 [] 9
-unfolding opened
-too_short_insert = refused_insert direct_coding [] (TooShort 0) 1 refl refl 5 7 9
-
 -- a new key into a valid table
 pub new_insert : InsertAnswers direct_coding no_bytes 5 7 9 0 one_bytes 9
 unfolding opened
@@ -118,40 +110,16 @@ new_insert = record {
   on_any = λ is. (Ok None, (refl, refl), (Ok None, refl, InsertFrame.added 5 (lit< tt) (inl refl) (lit< tt)));
 }
 
--- a key that was there
-pub again_insert : InsertAnswers direct_coding one_bytes 5 8 9 33 other_bytes 7
-unfolding opened
-again_insert = record {
-  refused = λ e is. never_refused direct_config one_item one_bytes e one_image is;
-  on_valid = λ P is. subst (λ T. IsAfterInsert direct_coding T 5 8 other_bytes 9 33 7)
-      (same_table one_item P one_bytes one_image is) insert_again;
-  on_any = λ is. (Ok (Some 7), (refl, refl), (Ok (Some (le_bytes 4 7)), refl, InsertFrame.overwrote 5 (lit< tt) refl));
-}
-
--- another key into a full table
-pub full_insert : InsertAnswers direct_coding one_bytes 6 8 9 18 one_bytes 9
-unfolding opened
-full_insert = record {
-  refused = λ e is. never_refused direct_config one_item one_bytes e one_image is;
-  on_valid = λ P is. subst (λ T. IsAfterInsert direct_coding T 6 8 one_bytes 9 18 9)
-      (same_table one_item P one_bytes one_image is) insert_full;
-  on_any = λ is. (Err Full, (refl, refl), (Err Full, refl, InsertFrame.full (lit≤ tt) (missing_at_home direct_config (entries_in direct_config one_bytes) (controls_of direct_config one_bytes) (le_bytes 4 6) refl)));
-}
-
 -- an error is not answered with another status
 pub insert_status_refused : InsertAnswers direct_coding [] 5 7 9 2 [] 9 → ⊥
 unfolding opened
 insert_status_refused h = unequal 2 1 refl (h.refused (TooShort 0) refl).0
 
--- and the bytes are unchanged
-pub insert_bytes_refused : InsertAnswers direct_coding [] 5 7 9 1 (7 ∷ []) 9 → ⊥
+-- and neither the bytes nor the value change
+pub insert_written_refused : (InsertAnswers direct_coding [] 5 7 9 1 (7 ∷ []) 9 → ⊥) × (InsertAnswers direct_coding [] 5 7 9 1 [] 7 → ⊥)
 unfolding opened
-insert_bytes_refused h = unequal_lists (7 ∷ []) [] refl (h.refused (TooShort 0) refl).1
-
--- and so does the value
-pub insert_written_refused : InsertAnswers direct_coding [] 5 7 9 1 [] 7 → ⊥
-unfolding opened
-insert_written_refused h = unequal 7 9 refl (h.refused (TooShort 0) refl).2
+insert_written_refused =
+    (λ h. unequal_lists (7 ∷ []) [] refl (h.refused (TooShort 0) refl).1, λ h. unequal 7 9 refl (h.refused (TooShort 0) refl).2)
 
 -- a valid table that has room answers Full for no key
 pub insert_roomy_refused : InsertAnswers direct_coding no_bytes 5 7 9 18 no_bytes 9 → ⊥

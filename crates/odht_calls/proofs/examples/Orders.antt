@@ -13,16 +13,13 @@ use Rattle.odht_base.proofs.examples.Configs.{direct_config}
 use Rattle.odht_base.proofs.examples.InsertOrders.{fifteen_first, fifteen_made, fifteen_order, slot_order_refused}
 use Rattle.odht_base.proofs.examples.Unmade.{unmade, unmade_valid, unmade_refused}
 use Rattle.odht_base.proofs.lemmas.Placed.{IsPlaced-tests}
-use Rattle.odht_header.specs.declared.error.Error.TheVariants.{TooShort, NonZeroPadding}
+use Rattle.odht_header.specs.declared.error.Error.TheVariants.{NonZeroPadding}
 use Rattle.odht_header.proofs.examples.Apart.{unequal, unequal_lists}
 use Rattle.odht_header.proofs.examples.Invalid.{unmade_accepted}
 use Rattle.odht_header.proofs.examples.Opened.{opened}
-use Rattle.odht_raw.proofs.lemmas.WholeChecks.{valid_check}
 use Rattle.odht_calls.specs.Orders.{OrderAnswers, ScratchAnswers}
-use Rattle.odht_calls.proofs.examples.Tables.{direct_coding, direct_format, same_table}
-use Rattle.odht_calls.proofs.lemmas.Opened.{never_refused}
-use Rattle.odht_calls.proofs.lemmas.Ordered.{refused_order, lengths_order, done_order, unmade_order}
-use Rattle.odht_calls.proofs.lemmas.Refused.{not_none}
+use Rattle.odht_calls.proofs.examples.Tables.{direct_coding, same_table}
+use Rattle.odht_calls.proofs.lemmas.Ordered.{done_order, unmade_order}
 
 abbrev fifteen_bytes : List ℕ
 fifteen_bytes = image direct_config fifteen_first
@@ -59,37 +56,18 @@ of_fifteen X is P image = subst X (same_table fifteen_first P fifteen_bytes fift
 of_unmade : (X : Table → Type 0) → X unmade → (P : Table) → IsImage direct_config P unmade_bytes → X P
 of_unmade X is P image = subst X (same_table unmade P unmade_bytes unmade_image image) is
 
--- the empty list of bytes has an error, and the array is unchanged
-pub too_short_order : OrderAnswers direct_coding [] (9 ∷ []) 1 (9 ∷ [])
-unfolding opened
-too_short_order = refused_order direct_coding [] (9 ∷ []) (TooShort 0) 1 refl refl (λ valid. never_refused direct_config valid.0 [] (TooShort 0) valid.1 refl)
-
--- so are bytes that opening accepts and the whole check rejects
-pub padded_order : OrderAnswers direct_coding padded (9 ∷ 9 ∷ []) 11 (9 ∷ 9 ∷ [])
-unfolding opened
-padded_order =
-    refused_order direct_coding padded (9 ∷ 9 ∷ []) (NonZeroPadding (1 ∷ 0 ∷ [])) 11 refl refl
-    (λ valid. not_none _ (NonZeroPadding (1 ∷ 0 ∷ [])) refl (valid_check direct_config padded direct_format valid))
-
--- an array of three elements has one too many for two items
-pub lengths_order_three : OrderAnswers direct_coding fifteen_bytes (9 ∷ 9 ∷ 9 ∷ []) 35 (9 ∷ 9 ∷ 9 ∷ [])
-unfolding opened
-lengths_order_three =
-    lengths_order direct_coding fifteen_bytes (9 ∷ 9 ∷ 9 ∷ []) refl
-    (of_fifteen (λ P. 3 ≡ count P → ⊥) (unequal 3 2 refl))
-
 -- the order of inserts is 15 and then 0
 pub fifteen_answer : OrderAnswers direct_coding fifteen_bytes (9 ∷ 9 ∷ []) 0 (15 ∷ 0 ∷ [])
 unfolding opened
 fifteen_answer =
-    done_order direct_coding fifteen_bytes (9 ∷ 9 ∷ []) refl (15 ∷ 0 ∷ []) (of_fifteen (λ P. 2 ≡ count P) refl)
+    done_order direct_coding.format fifteen_bytes (9 ∷ 9 ∷ []) refl (15 ∷ 0 ∷ []) (of_fifteen (λ P. 2 ≡ count P) refl)
     (of_fifteen (IsMade direct_config) (inl fifteen_made.0)) (of_fifteen (λ P. IsInsertOrder direct_config P (15 ∷ 0 ∷ [])) fifteen_order)
 
 -- and the other table has none
 pub unmade_answer : OrderAnswers direct_coding unmade_bytes places 37 places
 unfolding opened
 unmade_answer =
-    unmade_order direct_coding unmade_bytes places unmade_accepted.1 places (of_unmade (λ P. 48 ≡ count P) refl)
+    unmade_order direct_coding.format unmade_bytes places unmade_accepted.1 places (of_unmade (λ P. 48 ≡ count P) refl)
     (of_unmade (λ P. IsMade direct_config P → ⊥) unmade_refused)
 
 -- what the whole check rejects is not answered with ODHT_OK
@@ -135,11 +113,7 @@ order_by_slots_refused h = slot_order_refused (h.order fifteen_first fifteen_ima
 pub scratch_answer : ScratchAnswers direct_coding fifteen_bytes (9 ∷ 9 ∷ []) (7 ∷ 7 ∷ []) 0 (15 ∷ 0 ∷ []) (1 ∷ 2 ∷ [])
 scratch_answer = record { order = fifteen_answer; unwritten = λ is_other is_known. absurd (is_other refl) }
 
--- bytes that the whole check rejects leave them as they are
-pub scratch_padded : ScratchAnswers direct_coding padded (9 ∷ 9 ∷ []) (7 ∷ 7 ∷ []) 11 (9 ∷ 9 ∷ []) (7 ∷ 7 ∷ [])
-scratch_padded = record { order = padded_order; unwritten = λ is_other is_known. refl }
-
--- and the others are refused
+-- for bytes that the whole check rejects nothing is written to it
 pub scratch_written_refused : ScratchAnswers direct_coding padded (9 ∷ 9 ∷ []) (7 ∷ 7 ∷ []) 11 (9 ∷ 9 ∷ []) (7 ∷ 8 ∷ []) → ⊥
 scratch_written_refused h = unequal_lists (7 ∷ 8 ∷ []) (7 ∷ 7 ∷ []) refl (h.unwritten (unequal 11 0 refl) (unequal 11 37 refl))
 

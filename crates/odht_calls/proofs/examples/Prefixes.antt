@@ -6,7 +6,7 @@ use Rattle.odht_header.proofs.examples.Apart.{unequal}
 use Rattle.odht_header.proofs.examples.Opened.{opened}
 use Rattle.odht_raw.specs.Prefixes.{IsFront}
 use Rattle.odht_calls.specs.Prefixes.{TableLenAnswers}
-use Rattle.odht_calls.proofs.lemmas.Prefixes.{answered_table_len, refused_table_len}
+use Rattle.odht_calls.proofs.lemmas.Prefixes.{answered_table_len}
 use Rattle.odht_calls.proofs.examples.Tables.{direct_coding, one_bytes}
 
 abbrev longer : List ℕ
@@ -21,10 +21,7 @@ front = record { within = lit≤ tt; accepted = refl }
 pub longer_len : TableLenAnswers direct_coding.format longer 9 0 192
 longer_len = answered_table_len direct_coding.format longer 9 192 front
 
--- and no other: neither the number of all bytes nor one less
-pub all_bytes_refused : TableLenAnswers direct_coding.format longer 9 0 195 → ⊥
-all_bytes_refused h = unequal 195 192 refl (h.only 192 front).1
-
+-- and no other
 pub one_less_refused : TableLenAnswers direct_coding.format longer 9 0 191 → ⊥
 one_less_refused h = unequal 191 192 refl (h.only 192 front).1
 
@@ -33,10 +30,6 @@ pub longer_error_refused : TableLenAnswers direct_coding.format longer 9 7 9 →
 longer_error_refused h = unequal 7 0 refl (h.only 192 front).0
 
 -- of no bytes nothing is written
-pub too_short_len : TableLenAnswers direct_coding.format [] 9 1 9
-unfolding opened
-too_short_len = refused_table_len direct_coding.format [] 9 (TooShort 0) 1 refl refl
-
 pub too_short_written_refused : TableLenAnswers direct_coding.format [] 9 1 0 → ⊥
 unfolding opened
 too_short_written_refused h = unequal 0 9 refl (h.refused (TooShort 0) refl)

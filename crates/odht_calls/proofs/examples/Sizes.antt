@@ -8,13 +8,7 @@ use Rattle.odht_header.proofs.examples.Apart.{unequal}
 use Rattle.odht_header.proofs.examples.Opened.{opened}
 use Rattle.odht_calls.specs.Reads.{SizesAnswers}
 use Rattle.odht_calls.proofs.lemmas.Opened.{never_refused}
-use Rattle.odht_calls.proofs.lemmas.Refused.{refused_sizes}
 use Rattle.odht_calls.proofs.examples.Tables.{direct_coding, one_item, one_bytes, miscounted, one_image, accepted_bytes, same_table}
-
--- the empty list of bytes has an error, and the buffers are unchanged
-pub too_short_sizes : SizesAnswers direct_coding.format [] 9 9 9 1 9 9 9
-unfolding opened
-too_short_sizes = refused_sizes direct_coding.format [] (TooShort 0) 1 refl refl 9 9 9
 
 -- a valid table
 pub one_sizes : SizesAnswers direct_coding.format one_bytes 9 9 9 0 16 1 6
@@ -36,15 +30,10 @@ pub sizes_slots_written_refused : SizesAnswers direct_coding.format [] 9 9 9 1 0
 unfolding opened
 sizes_slots_written_refused h = unequal 0 9 refl (h.refused (TooShort 0) refl).0
 
--- no maximum
-pub sizes_maximum_written_refused : SizesAnswers direct_coding.format [] 9 9 9 1 9 0 9 → ⊥
+-- no maximum, and no percentage
+pub sizes_written_refused : (SizesAnswers direct_coding.format [] 9 9 9 1 9 0 9 → ⊥) × (SizesAnswers direct_coding.format [] 9 9 9 1 9 9 0 → ⊥)
 unfolding opened
-sizes_maximum_written_refused h = unequal 0 9 refl (h.refused (TooShort 0) refl).1
-
--- and no percentage
-pub sizes_percent_written_refused : SizesAnswers direct_coding.format [] 9 9 9 1 9 9 0 → ⊥
-unfolding opened
-sizes_percent_written_refused h = unequal 0 9 refl (h.refused (TooShort 0) refl).2
+sizes_written_refused = (λ h. unequal 0 9 refl (h.refused (TooShort 0) refl).1, λ h. unequal 0 9 refl (h.refused (TooShort 0) refl).2)
 
 -- of bytes that are accepted and not valid, they are those in the header
 pub sizes_unstated_slots_refused : SizesAnswers direct_coding.format miscounted 9 9 9 0 9 1 6 → ⊥

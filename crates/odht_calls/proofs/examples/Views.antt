@@ -34,16 +34,6 @@ one_opens = record {
   refused = λ other. absurd (other refl);
 }
 
--- the empty list of bytes does not, and the view is unchanged
-pub too_short_stays : OpenViewAnswers direct_coding.format (at64 []) (at640 no_bytes) 1 (at640 no_bytes)
-unfolding opened
-too_short_stays = record {
-  status = refl;
-  opened = λ ok. absurd (unequal 1 0 refl ok);
-  accepted = λ ok. absurd (unequal 1 0 refl ok);
-  refused = λ other. refl;
-}
-
 -- an error is not answered with ODHT_OK
 pub view_status_refused : OpenViewAnswers direct_coding.format (at64 []) (at640 no_bytes) 0 (at64 []) → ⊥
 unfolding opened
@@ -77,15 +67,6 @@ view_present = record {
   on_valid = λ P is. subst (λ T. IsGot (value_for direct_coding T 5) 9 0 7)
       (same_table one_item P one_bytes one_image is) (refl, refl);
   on_any = (Some 7, (refl, refl), (le_bytes 4 7, refl, (5, lit< tt, refl, refl)));
-}
-
--- and the key 6 has none
-pub view_absent : ViewGetAnswers direct_coding one_bytes 6 9 32 9
-unfolding opened
-view_absent = record {
-  on_valid = λ P is. subst (λ T. IsGot (value_for direct_coding T 6) 9 32 9)
-      (same_table one_item P one_bytes one_image is) (refl, refl);
-  on_any = (None, (refl, refl), tt);
 }
 
 -- a present key of a valid table is not answered as an absent one
@@ -141,15 +122,6 @@ unfolding opened
 any_view_recounted_refused h = unequal 0 5 refl (h (record { key_len = 8; value_len = 4; hash = 0 })).by_header
 
 -- ---- ViewGetAllAnswers, here of one key, into the arrays 9 ∷ [] and 3 ∷ []
--- arrays of two lengths are answered with ODHT_BAD_LENGTHS, and are unchanged
-pub view_lengths : ViewGetAllAnswers direct_coding one_bytes (5 ∷ []) [] (3 ∷ []) 35 [] (3 ∷ [])
-view_lengths = record {
-  lengths = λ other. (refl, refl, refl);
-  looked_up = λ long. absurd (unequal 0 1 refl long.0);
-  on_valid = λ P i k long is at. absurd (unequal 0 1 refl long.0);
-  on_any = λ i k long at. absurd (unequal 0 1 refl long.0);
-}
-
 -- the key 5 of a valid table has the value 7, and is reported as found
 pub view_present_all : ViewGetAllAnswers direct_coding one_bytes (5 ∷ []) (9 ∷ []) (3 ∷ []) 0 (7 ∷ []) (1 ∷ [])
 unfolding opened
@@ -180,13 +152,12 @@ view_present_all = record {
 pub view_lengths_status_refused : ViewGetAllAnswers direct_coding one_bytes (5 ∷ []) [] (3 ∷ []) 0 [] (3 ∷ []) → ⊥
 view_lengths_status_refused h = unequal 0 35 refl (h.lengths (λ long. unequal 0 1 refl long.0)).0
 
--- and the values are unchanged
-pub view_lengths_values_refused : ViewGetAllAnswers direct_coding one_bytes (5 ∷ []) [] (3 ∷ []) 35 (7 ∷ []) (3 ∷ []) → ⊥
-view_lengths_values_refused h = unequal_lists (7 ∷ []) [] refl (h.lengths (λ long. unequal 0 1 refl long.0)).1
-
--- and so does what was found
-pub view_lengths_found_refused : ViewGetAllAnswers direct_coding one_bytes (5 ∷ []) (9 ∷ []) [] 35 (9 ∷ []) (1 ∷ []) → ⊥
-view_lengths_found_refused h = unequal_lists (1 ∷ []) [] refl (h.lengths (λ long. unequal 0 1 refl long.1)).2
+-- and neither the values nor what was found change
+pub view_lengths_written_refused : (ViewGetAllAnswers direct_coding one_bytes (5 ∷ []) [] (3 ∷ []) 35 (7 ∷ []) (3 ∷ []) → ⊥)
+    × (ViewGetAllAnswers direct_coding one_bytes (5 ∷ []) (9 ∷ []) [] 35 (9 ∷ []) (1 ∷ []) → ⊥)
+view_lengths_written_refused =
+    (λ h. unequal_lists (7 ∷ []) [] refl (h.lengths (λ long. unequal 0 1 refl long.0)).1,
+    λ h. unequal_lists (1 ∷ []) [] refl (h.lengths (λ long. unequal 0 1 refl long.1)).2)
 
 -- arrays of one length are answered with ODHT_OK, also where the one key is found
 pub view_all_status_refused : ViewGetAllAnswers direct_coding one_bytes (5 ∷ []) (9 ∷ []) (3 ∷ []) 32 (7 ∷ []) (1 ∷ []) → ⊥

@@ -8,16 +8,10 @@ use Rattle.odht_header.proofs.examples.Opened.{opened}
 use Rattle.odht_calls.specs.Reads.{LenAnswers}
 use Rattle.odht_calls.specs.Walks.{IsWalked, WalkAnswers}
 use Rattle.odht_calls.proofs.lemmas.Opened.{never_refused}
-use Rattle.odht_calls.proofs.lemmas.Refused.{refused_len, refused_walk}
 use Rattle.odht_header.proofs.examples.Apart.{unequal, unequal_lists}
 use Rattle.odht_calls.proofs.examples.Tables.{direct_coding, one_item, one_bytes, miscounted, one_image, accepted_bytes, same_table}
 
 -- ---- LenAnswers
--- the empty list of bytes has an error, and the buffer is unchanged
-pub too_short_len : LenAnswers direct_coding [] 9 1 9
-unfolding opened
-too_short_len = refused_len direct_coding [] (TooShort 0) 1 refl refl 9
-
 -- a valid table with one item
 pub one_len : LenAnswers direct_coding one_bytes 9 0 1
 unfolding opened
@@ -65,18 +59,6 @@ walked_all = record {
   more = λ less. let no : 3 < 2 = less in absurd (omega (arith, no));
 }
 
--- both pairs fit arrays of two elements too
-pub walked_exactly : IsWalked direct_coding two 0 (9 ∷ 9 ∷ []) (8 ∷ 8 ∷ []) 0 4 (1 ∷ 3 ∷ []) (2 ∷ 4 ∷ []) 2
-unfolding opened
-walked_exactly = record {
-  known = refl;
-  keys = refl;
-  values = refl;
-  left = refl;
-  all = λ fits. (refl, refl);
-  more = λ less. let no : 2 < 2 = less in absurd (omega (arith, no));
-}
-
 -- arrays of one element take the first pair, and slot 3 is the one to continue at
 pub walked_first : IsWalked direct_coding two 0 (9 ∷ []) (8 ∷ []) 36 3 (1 ∷ []) (2 ∷ []) 1
 unfolding opened
@@ -87,30 +69,6 @@ walked_first = record {
   left = refl;
   all = λ fits. let no : 2 ≤ 1 = fits in absurd (omega (arith, no));
   more = λ less. (refl, refl);
-}
-
--- from there on they take the other
-pub walked_rest : IsWalked direct_coding two 3 (9 ∷ []) (8 ∷ []) 0 4 (3 ∷ []) (4 ∷ []) 1
-unfolding opened
-walked_rest = record {
-  known = refl;
-  keys = refl;
-  values = refl;
-  left = refl;
-  all = λ fits. (refl, refl);
-  more = λ less. let no : 1 < 1 = less in absurd (omega (arith, no));
-}
-
--- past the last slot nothing is left
-pub walked_past : IsWalked direct_coding two 7 (9 ∷ []) (8 ∷ []) 0 4 (9 ∷ []) (8 ∷ []) 0
-unfolding opened
-walked_past = record {
-  known = refl;
-  keys = refl;
-  values = refl;
-  left = refl;
-  all = λ fits. (refl, refl);
-  more = λ less. let no : 1 < 0 = less in absurd (omega (arith, no));
 }
 
 -- the number of pairs is not less than the arrays take
@@ -174,20 +132,6 @@ unfolding opened
 walked_cursor_early_refused h = true≢false (h.more (lit< tt)).1
 
 -- ---- WalkAnswers
--- the empty list of bytes has an error, and the buffers are unchanged
-pub too_short_walk : WalkAnswers direct_coding [] 2 (9 ∷ []) (8 ∷ []) 4 1 2 (9 ∷ []) (8 ∷ []) 4
-unfolding opened
-too_short_walk = refused_walk direct_coding [] (TooShort 0) 1 refl refl 2 (9 ∷ []) (8 ∷ []) 4 refl
-
--- arrays of two lengths are answered with ODHT_BAD_LENGTHS, and the buffers are unchanged
-pub lengths_walk : WalkAnswers direct_coding one_bytes 2 (9 ∷ []) [] 4 35 2 (9 ∷ []) [] 4
-lengths_walk = record {
-  lengths = λ other. (refl, refl, refl, refl, refl);
-  refused = λ e long is. absurd (unequal 0 1 refl long);
-  on_valid = λ P long is. absurd (unequal 0 1 refl long);
-  on_any = λ long is. absurd (unequal 0 1 refl long);
-}
-
 -- the pair of a valid table with one item
 one_walked : IsWalked direct_coding one_item 0 (9 ∷ 9 ∷ []) (8 ∷ 8 ∷ []) 0 16 (5 ∷ 9 ∷ []) (7 ∷ 8 ∷ []) 1
 unfolding opened
@@ -216,46 +160,35 @@ one_walk = record {
 pub walk_lengths_status_refused : WalkAnswers direct_coding one_bytes 2 (9 ∷ []) [] 4 0 2 (9 ∷ []) [] 4 → ⊥
 walk_lengths_status_refused h = unequal 0 35 refl (h.lengths (unequal 0 1 refl)).0
 
--- and the cursor is unchanged
-pub walk_lengths_cursor_refused : WalkAnswers direct_coding one_bytes 2 (9 ∷ []) [] 4 35 16 (9 ∷ []) [] 4 → ⊥
-walk_lengths_cursor_refused h = unequal 16 2 refl (h.lengths (unequal 0 1 refl)).1
-
--- and the keys
-pub walk_lengths_keys_refused : WalkAnswers direct_coding one_bytes 2 (9 ∷ []) [] 4 35 2 (5 ∷ []) [] 4 → ⊥
-walk_lengths_keys_refused h = unequal_lists (5 ∷ []) (9 ∷ []) refl (h.lengths (unequal 0 1 refl)).2
-
--- and the values
-pub walk_lengths_values_refused : WalkAnswers direct_coding one_bytes 2 [] (8 ∷ []) 4 35 2 [] (7 ∷ []) 4 → ⊥
-walk_lengths_values_refused h = unequal_lists (7 ∷ []) (8 ∷ []) refl (h.lengths (unequal 1 0 refl)).3
-
--- and the number
-pub walk_lengths_number_refused : WalkAnswers direct_coding one_bytes 2 (9 ∷ []) [] 4 35 2 (9 ∷ []) [] 0 → ⊥
-walk_lengths_number_refused h = unequal 0 4 refl (h.lengths (unequal 0 1 refl)).4
+-- and neither the cursor, the keys, the values nor the number change
+pub walk_lengths_written_refused : (WalkAnswers direct_coding one_bytes 2 (9 ∷ []) [] 4 35 16 (9 ∷ []) [] 4 → ⊥)
+    × (WalkAnswers direct_coding one_bytes 2 (9 ∷ []) [] 4 35 2 (5 ∷ []) [] 4 → ⊥)
+    × (WalkAnswers direct_coding one_bytes 2 [] (8 ∷ []) 4 35 2 [] (7 ∷ []) 4 → ⊥)
+    × (WalkAnswers direct_coding one_bytes 2 (9 ∷ []) [] 4 35 2 (9 ∷ []) [] 0 → ⊥)
+walk_lengths_written_refused = (
+  λ h. unequal 16 2 refl (h.lengths (unequal 0 1 refl)).1,
+  λ h. unequal_lists (5 ∷ []) (9 ∷ []) refl (h.lengths (unequal 0 1 refl)).2,
+  λ h. unequal_lists (7 ∷ []) (8 ∷ []) refl (h.lengths (unequal 1 0 refl)).3,
+  λ h. unequal 0 4 refl (h.lengths (unequal 0 1 refl)).4,
+)
 
 -- an error is not answered with another status
 pub walk_status_refused : WalkAnswers direct_coding [] 2 (9 ∷ []) (8 ∷ []) 4 2 2 (9 ∷ []) (8 ∷ []) 4 → ⊥
 unfolding opened
 walk_status_refused h = unequal 2 1 refl (h.refused (TooShort 0) refl refl).0
 
--- and the cursor is unchanged
-pub walk_cursor_refused : WalkAnswers direct_coding [] 2 (9 ∷ []) (8 ∷ []) 4 1 0 (9 ∷ []) (8 ∷ []) 4 → ⊥
+-- and nothing is written
+pub walk_written_refused : (WalkAnswers direct_coding [] 2 (9 ∷ []) (8 ∷ []) 4 1 0 (9 ∷ []) (8 ∷ []) 4 → ⊥)
+    × (WalkAnswers direct_coding [] 2 (9 ∷ []) (8 ∷ []) 4 1 2 (5 ∷ []) (8 ∷ []) 4 → ⊥)
+    × (WalkAnswers direct_coding [] 2 (9 ∷ []) (8 ∷ []) 4 1 2 (9 ∷ []) (7 ∷ []) 4 → ⊥)
+    × (WalkAnswers direct_coding [] 2 (9 ∷ []) (8 ∷ []) 4 1 2 (9 ∷ []) (8 ∷ []) 0 → ⊥)
 unfolding opened
-walk_cursor_refused h = unequal 0 2 refl (h.refused (TooShort 0) refl refl).1
-
--- and the keys
-pub walk_keys_refused : WalkAnswers direct_coding [] 2 (9 ∷ []) (8 ∷ []) 4 1 2 (5 ∷ []) (8 ∷ []) 4 → ⊥
-unfolding opened
-walk_keys_refused h = unequal_lists (5 ∷ []) (9 ∷ []) refl (h.refused (TooShort 0) refl refl).2
-
--- and the values
-pub walk_values_refused : WalkAnswers direct_coding [] 2 (9 ∷ []) (8 ∷ []) 4 1 2 (9 ∷ []) (7 ∷ []) 4 → ⊥
-unfolding opened
-walk_values_refused h = unequal_lists (7 ∷ []) (8 ∷ []) refl (h.refused (TooShort 0) refl refl).3
-
--- and the number
-pub walk_number_refused : WalkAnswers direct_coding [] 2 (9 ∷ []) (8 ∷ []) 4 1 2 (9 ∷ []) (8 ∷ []) 0 → ⊥
-unfolding opened
-walk_number_refused h = unequal 0 4 refl (h.refused (TooShort 0) refl refl).4
+walk_written_refused = (
+  λ h. unequal 0 2 refl (h.refused (TooShort 0) refl refl).1,
+  λ h. unequal_lists (5 ∷ []) (9 ∷ []) refl (h.refused (TooShort 0) refl refl).2,
+  λ h. unequal_lists (7 ∷ []) (8 ∷ []) refl (h.refused (TooShort 0) refl refl).3,
+  λ h. unequal 0 4 refl (h.refused (TooShort 0) refl refl).4,
+)
 
 -- no pair of a valid table is left out
 pub walk_missed_refused : WalkAnswers direct_coding one_bytes 0 (9 ∷ []) (8 ∷ []) 4 0 16 (9 ∷ []) (8 ∷ []) 0 → ⊥

@@ -4,13 +4,12 @@ use Rattle.std.specs.Prelude.{is_none}
 use Rattle.odht_base.specs.Format.{Format}
 use Rattle.odht_base.specs.Decoded.{header_factor}
 use Rattle.odht_base.proofs.lemmas.Options.{some_same}
-use Rattle.odht_header.specs.Coding.{Coding}
 use Rattle.odht_raw.specs.Frame.{IsAccepted}
 use Rattle.odht_header.specs.Refusals.{◌gives◌, first_of, factor_refusal, opening_refusal}
 use Rattle.odht_header.specs.declared.error.Error.{Error}
 use Rattle.odht_header.specs.declared.error.Error.TheVariants.{LoadFactorTooSmall, Capacity}
 use Rattle.odht.specs.Growths.{grown_len}
-use Rattle.odht_calls.specs.Grows.{growth_refusal, GrowAnswers, IsGrownFrom, IsGrownInto}
+use Rattle.odht_calls.specs.Grows.{growth_refusal, GrowAnswersOf, IsGrownFrom, IsGrownInto}
 use Rattle.odht_calls.specs.Statuses.{status_of, done, too_small}
 use Rattle.odht_calls.proofs.lemmas.Refused.{known, not_none}
 
@@ -52,18 +51,18 @@ pub written_front : (F : Format) (B T out : List ℕ) (n : ℕ) → length T ≡
 written_front F B T out n long from = record { table = subst (IsGrownFrom F B) (sym (take_at T (drop n out) n long)) from; rest = drop_at T (drop n out) n long }
 
 -- ---- what the call answers
-module _ {K V : Type 0} (c : Coding K V) (B out : List ℕ) (len : ℕ) where
+module _ (F : Format) (B out : List ℕ) (len : ℕ) where
   -- where it has an error
-  pub refused_grow : (a : Error) (s : ℕ) → growth_refusal c.format B ≡ Some a → s ≡ status_of a → GrowAnswers c B out len s out len
+  pub refused_grow : (a : Error) (s : ℕ) → growth_refusal F B ≡ Some a → s ≡ status_of a → GrowAnswersOf F B out len s out len
   refused_grow a s is status = record {
     refused = λ e other. (status ∙ known _ a e is other, refl, refl);
     short = λ n none. not_none _ a is none;
     grown = λ n none. not_none _ a is none;
   }
 
-  module _ (n : ℕ) (none : growth_refusal c.format B ≡ None) (is : grown_len c.format B ≡ Some n) where
+  module _ (n : ℕ) (none : growth_refusal F B ≡ None) (is : grown_len F B ≡ Some n) where
     -- where the bytes are too few
-    pub short_grow : length out < n → GrowAnswers c B out len too_small out n
+    pub short_grow : length out < n → GrowAnswersOf F B out len too_small out n
     short_grow less = record {
       refused = λ e other. not_none _ e other none;
       short = λ m ok other low. (refl, refl, some_same n m (sym is ∙ other));
@@ -71,9 +70,9 @@ module _ {K V : Type 0} (c : Coding K V) (B out : List ℕ) (len : ℕ) where
     }
 
     -- and where they are enough
-    pub done_grow : (out' : List ℕ) → n ≤ length out → IsGrownInto c.format B n out out' → GrowAnswers c B out len done out' n
+    pub done_grow : (out' : List ℕ) → n ≤ length out → IsGrownInto F B n out out' → GrowAnswersOf F B out len done out' n
     done_grow out' fits into = record {
       refused = λ e other. not_none _ e other none;
       short = λ m ok other low. absurd (let same = some_same n m (sym is ∙ other) in omega (arith, low, fits, same));
-      grown = λ m ok other enough. (let same = some_same n m (sym is ∙ other) in (refl, subst (λ k. IsGrownInto c.format B k out out') same into, same));
+      grown = λ m ok other enough. (let same = some_same n m (sym is ∙ other) in (refl, subst (λ k. IsGrownInto F B k out out') same into, same));
     }

@@ -1,5 +1,5 @@
 -- What is handed out of a table that was built.
-use Rattle.std.proofs.Common.{◌≡◌, ◌<◌, ◌≤◌, ◌∙◌, ◌++◌, ◌⊎◌, inl, inr, ℕ, List, Result, Err, Some, IsOk, OnErr, sym, ap, subst, refl, arith, length, take, drop, take_at, drop_at}
+use Rattle.std.proofs.Common.{◌≡◌, ◌<◌, ◌≤◌, ◌∙◌, ◌++◌, ◌⊎◌, inl, inr, ℕ, List, Result, Err, Some, IsOk, OnErr, sym, ap, subst, refl, arith, length, drop, take_at, drop_at}
 use Rattle.std.specs.List.{zip}
 use Rattle.odht_base.specs.Insert.{insert_owned}
 use Rattle.odht_base.specs.Load.{factor_of, IsPercent}

@@ -1,5 +1,5 @@
 -- What an insert answers that writes the former value into bytes of the caller.
-use Rattle.std.proofs.Common.{◌≡◌, ◌∙◌, ℕ, Bool, true, false, List, Option, Some, None, Result, Ok, Err, ap, refl, sym, subst}
+use Rattle.std.proofs.Common.{◌≡◌, ◌∙◌, ℕ, Bool, List, Option, Some, None, Result, Ok, Err, ap, refl, subst}
 use Rattle.std.specs.Prelude.{IfOk}
 use Rattle.odht_base.specs.Format.{Format, IsFormat}
 use Rattle.odht_header.specs.Refusals.{opening_refusal}

@@ -5,13 +5,12 @@ use Rattle.odht_base.specs.Format.{Format}
 use Rattle.odht_base.specs.Made.{IsMade, IsInsertOrder}
 use Rattle.odht_base.specs.Table.{Table, count}
 use Rattle.odht_base.specs.Valid.{IsImage, IsValidBytes}
-use Rattle.odht_header.specs.Coding.{Coding}
 use Rattle.odht_header.specs.Refusals.{check_refusal, check_refusal_by}
 use Rattle.odht_header.specs.declared.error.Error.{Error}
 use Rattle.odht_header.proofs.lemmas.FirstErrors.{option_or-None}
 use Rattle.odht_raw.proofs.lemmas.Openings.{view_refusal-accepted}
 use Rattle.odht_raw.proofs.lemmas.WholeChecks.{valid_late}
-use Rattle.odht_calls.specs.Orders.{OrderAnswers}
+use Rattle.odht_calls.specs.Orders.{OrderAnswersOf}
 use Rattle.odht_calls.specs.Statuses.{status_of, done, bad_lengths, unmade}
 use Rattle.odht_calls.proofs.lemmas.Refused.{known, not_none}
 
@@ -23,9 +22,9 @@ checked_valid F B small e =
     let each : All (λ x. x < 256) B = λ k d h. subst (λ x. x < 256) (sym (get_or_default B k d 0 h)) (small k) in
     (valid_late F None B each (view_refusal-accepted F B both.0) both.1).0
 
-module _ {K V : Type 0} (c : Coding K V) (B out : List ℕ) where
+module _ (F : Format) (B out : List ℕ) where
   -- for bytes that the whole check rejects
-  pub refused_order : (a : Error) (s : ℕ) → check_refusal c.format B ≡ Some a → s ≡ status_of a → (IsValidBytes c.format B → ⊥) → OrderAnswers c B out s out
+  pub refused_order : (a : Error) (s : ℕ) → check_refusal F B ≡ Some a → s ≡ status_of a → (IsValidBytes F B → ⊥) → OrderAnswersOf F B out s out
   refused_order a s is status invalid = record {
     refused = λ e other. (status ∙ known _ a e is other, refl);
     lengths = λ P image other. absurd (invalid (P, image));
@@ -35,9 +34,9 @@ module _ {K V : Type 0} (c : Coding K V) (B out : List ℕ) where
   }
 
   -- and of the others
-  module _ (none : check_refusal c.format B ≡ None) where
+  module _ (none : check_refusal F B ≡ None) where
     -- into an array of another length than the table has items
-    pub lengths_order : ((P : Table) → IsImage c.format P B → length out ≡ count P → ⊥) → OrderAnswers c B out bad_lengths out
+    pub lengths_order : ((P : Table) → IsImage F P B → length out ≡ count P → ⊥) → OrderAnswersOf F B out bad_lengths out
     lengths_order unlike = record {
       refused = λ e is. not_none _ e is none;
       lengths = λ P image other. (refl, refl);
@@ -47,8 +46,8 @@ module _ {K V : Type 0} (c : Coding K V) (B out : List ℕ) where
     }
 
     -- where inserts make the table
-    pub done_order : (out' : List ℕ) → ((P : Table) → IsImage c.format P B → length out ≡ count P) → ((P : Table) → IsImage c.format P B → IsMade c.format P) → ((P : Table) → IsImage c.format P B → IsInsertOrder c.format P out')
-        → OrderAnswers c B out done out'
+    pub done_order : (out' : List ℕ) → ((P : Table) → IsImage F P B → length out ≡ count P) → ((P : Table) → IsImage F P B → IsMade F P) → ((P : Table) → IsImage F P B → IsInsertOrder F P out')
+        → OrderAnswersOf F B out done out'
     done_order out' long made order = record {
       refused = λ e is. not_none _ e is none;
       lengths = λ P image other. absurd (other (long P image));
@@ -58,8 +57,8 @@ module _ {K V : Type 0} (c : Coding K V) (B out : List ℕ) where
     }
 
     -- and where none do
-    pub unmade_order : (out' : List ℕ) → ((P : Table) → IsImage c.format P B → length out ≡ count P) → ((P : Table) → IsImage c.format P B → IsMade c.format P → ⊥)
-        → OrderAnswers c B out unmade out'
+    pub unmade_order : (out' : List ℕ) → ((P : Table) → IsImage F P B → length out ≡ count P) → ((P : Table) → IsImage F P B → IsMade F P → ⊥)
+        → OrderAnswersOf F B out unmade out'
     unmade_order out' long never = record {
       refused = λ e is. not_none _ e is none;
       lengths = λ P image other. absurd (other (long P image));

@@ -4,7 +4,7 @@ use Rattle.odht_base.specs.Format.{Format}
 use Rattle.odht_header.specs.Coding.{Coding}
 use Rattle.odht_header.specs.Refusals.{opening_refusal}
 use Rattle.odht_header.specs.declared.error.Error.{Error}
-use Rattle.odht_calls.specs.Reads.{GetAnswers, GetAllAnswers, LenAnswers, SizesAnswers}
+use Rattle.odht_calls.specs.Reads.{GetAnswers, GetAllAnswers, LenAnswersOf, SizesAnswers}
 use Rattle.odht_calls.specs.Walks.{WalkAnswers}
 use Rattle.odht_calls.specs.Statuses.{AreAsLong, status_of, status_or_ok}
 use Rattle.odht_calls.specs.Writes.{InsertAnswers, InsertAllAnswers}
@@ -32,6 +32,15 @@ refused_sizes F B a s is status n m p = record {
   on_valid = λ P image. never_refused F P B a image (sym is);
 }
 
+-- and that for the item count
+pub refused_len : (F : Format) (B : List ℕ) (a : Error) (s : ℕ) → Some a ≡ opening_refusal F B → s ≡ status_of a → (old : ℕ) → LenAnswersOf F B old s old
+refused_len F B a s is status old = record {
+  status = status ∙ ap status_or_ok is;
+  refused = λ e other. refl;
+  by_header = λ none. not_none _ a (sym is) none;
+  on_valid = λ P image. never_refused F P B a image (sym is);
+}
+
 -- each other call on them
 module _ {K V : Type 0} (c : Coding K V) (B : List ℕ) (a : Error) (s : ℕ) (is : Some a ≡ opening_refusal c.format B) (status : s ≡ status_of a) where
   pub refused_get : (k : K) (old : V) → GetAnswers c B k old s old
@@ -48,14 +57,6 @@ module _ {K V : Type 0} (c : Coding K V) (B : List ℕ) (a : Error) (s : ℕ) (i
     accepted = λ long none. not_none _ a (sym is) none;
     on_valid = λ P i key long image at. never_refused c.format P B a image (sym is);
     on_any = λ i key long none at. not_none _ a (sym is) none;
-  }
-
-  pub refused_len : (old : ℕ) → LenAnswers c B old s old
-  refused_len old = record {
-    status = status ∙ ap status_or_ok is;
-    refused = λ e other. refl;
-    by_header = λ none. not_none _ a (sym is) none;
-    on_valid = λ P image. never_refused c.format P B a image (sym is);
   }
 
   pub refused_walk : (at : ℕ) (ks : List K) (vs : List V) (n : ℕ) → length vs ≡ length ks → WalkAnswers c B at ks vs n s at ks vs n

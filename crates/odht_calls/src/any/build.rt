@@ -7,17 +7,14 @@ ghost use Rattle.odht_base.specs.Load.{factor_of, IsPercent};
 ghost use Rattle.odht_header.specs.Refusals.{new_refusal};
 ghost use Rattle.odht_raw.specs.DynParts.{bytes_coding};
 ghost use Rattle.odht.specs.Lists.{IsFreshAfterInserts};
-ghost use Rattle.odht_calls.specs.Pieces.{pieces, ArePieces, PiecesBuildAnswers};
-ghost use Rattle.odht_calls.specs.Pieces.{DynBuildAnswers, AnyBuildAnswers};
+ghost use Rattle.odht_calls.specs.Pieces.{pieces, ArePieces, PiecesBuildAnswers, DynBuildAnswers};
 ghost use Rattle.odht_calls.specs.Pieces.{PiecesBuildGrowingAnswers, DynBuildGrowingAnswers};
-ghost use Rattle.odht_calls.specs.Pieces.{AnyBuildGrowingAnswers};
 
 use super::lists::insert_pieces;
 use super::pieces::{are_pieces, deciding_pairs, piece};
-use super::write::init_by;
-use super::{AnyLayout, with_hash};
 use crate::build::hand_out;
 use crate::status::{BAD_LENGTHS, BAD_PERCENT, CAPACITY, MEMORY, OK, TOO_SMALL};
+use crate::write::init;
 use odht::bytes::Borrowed;
 use odht::dynamic::{DynTable, DynTableOwned};
 use odht::hash::HashFn;
@@ -45,7 +42,7 @@ fn insert_into_new<H: HashFn>(
         (pieces layout.value_len count values.now)) bytes.new }
 {
     let mut accepted = 0;
-    let _ = init_by::<H>(layout, bytes, count, percent);
+    let _ = init::<Layout, H>(layout, bytes, count, percent);
     let _ = insert_pieces::<H>(layout, bytes, count, keys, values, &mut accepted);
 }
 
@@ -86,7 +83,11 @@ fn build_pieces<H: HashFn>(
     OK
 }
 
-fn build_by<H: HashFn>(
+/// Builds a table of `count` pairs at the front of `out`, with slots for as many items as there
+/// are pairs, and writes its length in bytes to `len`. BAD_LENGTHS, BAD_PERCENT and CAPACITY leave
+/// both unchanged, TOO_SMALL leaves `out` unchanged. Allocates nothing.
+#[inline(always)]
+pub fn build<H: HashFn>(
     layout: Layout,
     count: usize,
     keys: &[u8],
@@ -111,25 +112,6 @@ fn build_by<H: HashFn>(
         out,
         len,
     )
-}
-
-/// Builds a table of `count` pairs at the front of `out`, with slots for as many items as there
-/// are pairs, and writes its length in bytes to `len`. BAD_LENGTHS, BAD_PERCENT and CAPACITY leave
-/// both unchanged, TOO_SMALL leaves `out` unchanged. Allocates nothing.
-pub fn build(
-    layout: AnyLayout,
-    count: usize,
-    keys: &[u8],
-    values: &[u8],
-    max_load_factor_percent: u8,
-    out: &mut [u8],
-    len: &mut usize,
-) -> u32
-    ensures { AnyBuildAnswers layout count keys.now values.now max_load_factor_percent
-        out.old len.old result out.new len.new }
-{
-    let percent = max_load_factor_percent;
-    with_hash!(layout, build_by(count, keys, values, percent, out, len))
 }
 
 // The build of `count` pairs in memory of its own.
@@ -163,7 +145,11 @@ fn grow_pieces<H: HashFn>(
     hand_out(table.raw_bytes(), out, len)
 }
 
-fn build_growing_by<H: HashFn>(
+/// Builds a table of `count` pairs in memory of its own, which starts with sixteen slots at 87
+/// percent and grows, and copies it to the front of `out`. BAD_LENGTHS and MEMORY leave `out` and
+/// `len` unchanged, TOO_SMALL leaves `out` unchanged.
+#[inline(always)]
+pub fn build_growing<H: HashFn>(
     layout: Layout,
     alloc: Global,
     count: usize,
@@ -180,25 +166,4 @@ fn build_growing_by<H: HashFn>(
         return BAD_LENGTHS;
     }
     grow_pieces::<H>(alloc, layout, count, keys, values, out, len)
-}
-
-/// Builds a table of `count` pairs in memory of its own, which starts with sixteen slots at 87
-/// percent and grows, and copies it to the front of `out`. BAD_LENGTHS and MEMORY leave `out` and
-/// `len` unchanged, TOO_SMALL leaves `out` unchanged.
-pub fn build_growing(
-    alloc: Global,
-    layout: AnyLayout,
-    count: usize,
-    keys: &[u8],
-    values: &[u8],
-    out: &mut [u8],
-    len: &mut usize,
-) -> u32
-    ensures { AnyBuildGrowingAnswers layout count keys.now values.now out.old len.old result
-        out.new len.new }
-{
-    with_hash!(
-        layout,
-        build_growing_by(alloc, count, keys, values, out, len)
-    )
 }

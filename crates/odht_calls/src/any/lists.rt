@@ -2,16 +2,12 @@
 ghost use Rattle.std.specs.Prelude.{◌≡◌, ◌≤◌, length};
 ghost use Rattle.odht_base.specs.Format.{format_of};
 ghost use Rattle.odht_raw.specs.Frame.{IsAccepted};
-ghost use Rattle.odht_calls.specs.Layouts.{any_coding};
 ghost use Rattle.odht_calls.specs.Pieces.{ArePieces, PiecesGetAllAnswers, DynGetAllAnswers};
-ghost use Rattle.odht_calls.specs.Pieces.{AnyGetAllAnswers};
 ghost use Rattle.odht_calls.specs.Pieces.{PiecesInsertAllAnswers, DynInsertAllAnswers};
-ghost use Rattle.odht_calls.specs.Pieces.{AnyInsertAllAnswers};
 
 use super::pieces::{are_pieces, deciding_pairs, piece};
 use super::read::view;
 use super::view::look_up;
-use super::{AnyLayout, with_hash};
 use crate::status::{BAD_LENGTHS, OK, status_of};
 use odht::hash::HashFn;
 use odht::layout::Layout;
@@ -38,7 +34,11 @@ fn get_pieces<H: HashFn>(
     look_up::<H>(layout, bytes, count, keys, values, found)
 }
 
-fn get_all_by<H: HashFn>(
+/// Looks up `count` keys: at the index of a key that is found, its value is written to `values`
+/// and 1 to `found`; at any other index 0 is written to `found`. BAD_LENGTHS where the arrays are
+/// not for that many keys, values and flags. It and any other error leave both unchanged.
+#[inline(always)]
+pub fn get_all<H: HashFn>(
     layout: Layout,
     bytes: &[u8],
     count: usize,
@@ -54,23 +54,6 @@ fn get_all_by<H: HashFn>(
         return BAD_LENGTHS;
     }
     get_pieces::<H>(layout, bytes, count, keys, values, found)
-}
-
-/// Looks up `count` keys: at the index of a key that is found, its value is written to `values`
-/// and 1 to `found`; at any other index 0 is written to `found`. BAD_LENGTHS where the arrays are
-/// not for that many keys, values and flags. It and any other error leave both unchanged.
-pub fn get_all(
-    layout: AnyLayout,
-    bytes: &[u8],
-    count: usize,
-    keys: &[u8],
-    values: &mut [u8],
-    found: &mut [u8],
-) -> u32
-    ensures { AnyGetAllAnswers layout bytes.now
-        count keys.now values.old found.old result values.new found.new }
-{
-    with_hash!(layout, get_all_by(bytes, count, keys, values, found))
 }
 
 // The inserts of `count` pairs.
@@ -105,7 +88,11 @@ pub(crate) fn insert_pieces<H: HashFn>(
     OK
 }
 
-fn insert_all_by<H: HashFn>(
+/// Inserts `count` pairs in order, up to the first whose insert fails with FULL, and writes to
+/// `accepted` how many were inserted. BAD_LENGTHS where the arrays are not for that many keys and
+/// values. It and an error of the header or length leave everything unchanged.
+#[inline(always)]
+pub fn insert_all<H: HashFn>(
     layout: Layout,
     bytes: &mut [u8],
     count: usize,
@@ -123,23 +110,4 @@ fn insert_all_by<H: HashFn>(
         return BAD_LENGTHS;
     }
     insert_pieces::<H>(layout, bytes, count, keys, values, accepted)
-}
-
-/// Inserts `count` pairs in order, up to the first whose insert fails with FULL, and writes to
-/// `accepted` how many were inserted. BAD_LENGTHS where the arrays are not for that many keys and
-/// values. It and an error of the header or length leave everything unchanged.
-pub fn insert_all(
-    layout: AnyLayout,
-    bytes: &mut [u8],
-    count: usize,
-    keys: &[u8],
-    values: &[u8],
-    accepted: &mut usize,
-) -> u32
-    ensures answers { AnyInsertAllAnswers layout bytes.old
-        count keys.now values.now accepted.old result bytes.new accepted.new }
-    ensures accepted { let F = (any_coding layout).format
-        in IsAccepted F bytes.old → IsAccepted F bytes.new }
-{
-    with_hash!(layout, insert_all_by(bytes, count, keys, values, accepted))
 }

@@ -1,46 +1,18 @@
-//! Opened dynamic tables as a caller in C keeps them, and lookups that skip the header.
+//! Lookups in opened dynamic tables, which skip the header.
 ghost use Rattle.std.specs.Prelude.{◌≡◌, ◌≤◌, length};
 ghost use Rattle.odht_base.specs.Format.{format_of};
 ghost use Rattle.odht_raw.specs.Frame.{IsAccepted};
 ghost use Rattle.odht_raw.specs.DynParts.{bytes_coding};
-ghost use Rattle.odht_calls.specs.Layouts.{AnyAnswers, DynAnswers, ViewContainsAnswers};
-ghost use Rattle.odht_calls.specs.Layouts.{AnyViewLenAnswers, IsLayout, any_coding};
-ghost use Rattle.odht_calls.specs.Pieces.{ArePieces, PiecesViewGetAllAnswers};
-ghost use Rattle.odht_calls.specs.Pieces.{DynViewGetAllAnswers, AnyViewGetAllAnswers};
-ghost use Rattle.odht_calls.specs.Views.{OpenViewAnswers, ViewGetAnswers};
+ghost use Rattle.odht_calls.specs.Layouts.{DynAnswers, ViewContainsAnswers};
+ghost use Rattle.odht_calls.specs.Pieces.{ArePieces, PiecesViewGetAllAnswers, DynViewGetAllAnswers};
+ghost use Rattle.odht_calls.specs.Views.{ViewGetAnswers};
 
 use super::pieces::{are_pieces, piece, put_answer};
-use super::{AnyLayout, with_hash};
-use crate::status::{ABSENT, BAD_LENGTHS, OK, status_of};
-use crate::view::View;
+use crate::status::{ABSENT, BAD_LENGTHS, OK};
 use odht::bytes::Borrowed;
 use odht::dynamic::DynTable;
 use odht::hash::HashFn;
 use odht::layout::Layout;
-use odht::memory_layout::{Header, check_opening};
-
-fn open_by<'a, H: HashFn>(layout: Layout, bytes: &'a [u8], view: &mut View<'a>) -> u32
-    requires { H.MIN_LEN ≤ layout.key_len }
-    ensures { OpenViewAnswers (format_of layout.key_len layout.value_len H.hash) bytes.entry
-        view.old.bytes result view.new.bytes }
-{
-    match check_opening::<H>(bytes, layout) {
-        Ok(()) => {
-            *view = View { bytes };
-            OK
-        }
-        Err(refused) => status_of(&refused),
-    }
-}
-
-/// OK, and `view` is a view of the bytes; or the number of the first error, and `view` is
-/// unchanged. Reads the header, the length and the first ten slots.
-pub fn open<'a>(layout: AnyLayout, bytes: &'a [u8], view: &mut View<'a>) -> u32
-    ensures { AnyAnswers layout result (view.new.bytes ≡ view.old.bytes)
-        (λ c. OpenViewAnswers c.format bytes.entry view.old.bytes result view.new.bytes) }
-{
-    with_hash!(layout, open_by(bytes, view))
-}
 
 // The table of bytes whose header and length fit. Reads none of them.
 fn table_of<H: HashFn>(layout: Layout, bytes: &[u8]) -> DynTable<H, Borrowed<'_>>
@@ -53,7 +25,10 @@ fn table_of<H: HashFn>(layout: Layout, bytes: &[u8]) -> DynTable<H, Borrowed<'_>
     DynTable::open_unchecked(layout, Borrowed::new(bytes))
 }
 
-fn get_by<H: HashFn>(layout: Layout, bytes: &[u8], key: &[u8], value: &mut [u8]) -> u32
+/// Writes the value of a key of an opened table to `value`. BAD_LENGTHS where the key or `value`
+/// has another length than the layout says. It and ABSENT leave `value` unchanged.
+#[inline(always)]
+pub fn get<H: HashFn>(layout: Layout, bytes: &[u8], key: &[u8], value: &mut [u8]) -> u32
     requires hashes { H.MIN_LEN ≤ layout.key_len }
     requires accepted { IsAccepted (format_of layout.key_len layout.value_len H.hash) bytes.now }
     ensures { let c = bytes_coding (format_of layout.key_len layout.value_len H.hash)
@@ -74,20 +49,10 @@ fn get_by<H: HashFn>(layout: Layout, bytes: &[u8], key: &[u8], value: &mut [u8])
     }
 }
 
-/// Writes the value of a key of an opened table to `value`. BAD_LENGTHS where the key or `value`
-/// has another length than the layout says. It and ABSENT leave `value` unchanged.
-pub fn get(layout: AnyLayout, view: &View<'_>, key: &[u8], value: &mut [u8]) -> u32
-    requires accepted { IsLayout layout
-        → IsAccepted (any_coding layout).format view.now.bytes.now }
-    ensures { let Long = (length key.now ≡ layout.key_len) × (length value.old ≡ layout.value_len)
-        in AnyAnswers layout result (value.new ≡ value.old)
-        (λ c. DynAnswers Long result (value.new ≡ value.old)
-        (ViewGetAnswers c view.now.bytes.now key.now value.old result value.new)) }
-{
-    with_hash!(layout, get_by(view.bytes, key, value))
-}
-
-fn contains_by<H: HashFn>(layout: Layout, bytes: &[u8], key: &[u8]) -> u32
+/// OK where the key of an opened table has a value, else ABSENT. BAD_LENGTHS where the key has
+/// another length than the layout says.
+#[inline(always)]
+pub fn contains<H: HashFn>(layout: Layout, bytes: &[u8], key: &[u8]) -> u32
     requires hashes { H.MIN_LEN ≤ layout.key_len }
     requires accepted { IsAccepted (format_of layout.key_len layout.value_len H.hash) bytes.now }
     ensures { let c = bytes_coding (format_of layout.key_len layout.value_len H.hash)
@@ -102,18 +67,6 @@ fn contains_by<H: HashFn>(layout: Layout, bytes: &[u8], key: &[u8]) -> u32
         Some(_) => OK,
         None => ABSENT,
     }
-}
-
-/// OK where the key of an opened table has a value, else ABSENT. BAD_LENGTHS where the key has
-/// another length than the layout says.
-pub fn contains(layout: AnyLayout, view: &View<'_>, key: &[u8]) -> u32
-    requires accepted { IsLayout layout
-        → IsAccepted (any_coding layout).format view.now.bytes.now }
-    ensures { AnyAnswers layout result (Unit {0})
-        (λ c. DynAnswers (length key.now ≡ layout.key_len) result (Unit {0})
-        (ViewContainsAnswers c view.now.bytes.now key.now result)) }
-{
-    with_hash!(layout, contains_by(view.bytes, key))
 }
 
 // The lookups of `count` keys in bytes whose header and length fit.
@@ -140,7 +93,11 @@ pub(crate) fn look_up<H: HashFn>(
     OK
 }
 
-fn get_all_by<H: HashFn>(
+/// Looks up `count` keys in an opened table: at the index of a key that is found, its value is
+/// written to `values` and 1 to `found`; at any other index 0 is written to `found`. BAD_LENGTHS
+/// where the arrays are not for that many keys, values and flags; it leaves both unchanged.
+#[inline(always)]
+pub fn get_all<H: HashFn>(
     layout: Layout,
     bytes: &[u8],
     count: usize,
@@ -157,31 +114,4 @@ fn get_all_by<H: HashFn>(
         return BAD_LENGTHS;
     }
     look_up::<H>(layout, bytes, count, keys, values, found)
-}
-
-/// Looks up `count` keys in an opened table: at the index of a key that is found, its value is
-/// written to `values` and 1 to `found`; at any other index 0 is written to `found`. BAD_LENGTHS
-/// where the arrays are not for that many keys, values and flags; it leaves both unchanged.
-pub fn get_all(
-    layout: AnyLayout,
-    view: &View<'_>,
-    count: usize,
-    keys: &[u8],
-    values: &mut [u8],
-    found: &mut [u8],
-) -> u32
-    requires accepted { IsLayout layout
-        → IsAccepted (any_coding layout).format view.now.bytes.now }
-    ensures { AnyViewGetAllAnswers layout view.now.bytes.now
-        count keys.now values.old found.old result values.new found.new }
-{
-    with_hash!(layout, get_all_by(view.bytes, count, keys, values, found))
-}
-
-/// The item count in the header of an opened table, whatever its lengths.
-pub fn len(view: &View<'_>) -> usize
-    requires header { 32 ≤ length view.now.bytes.now }
-    ensures { AnyViewLenAnswers view.now.bytes.now result }
-{
-    Header::of(view.bytes).item_count()
 }

@@ -2,11 +2,9 @@
 ghost use Rattle.std.specs.Prelude.{◌≤◌};
 ghost use Rattle.odht_base.specs.Format.{format_of};
 ghost use Rattle.odht_calls.specs.Pieces.{ArePieces, PiecesWalkAnswers, DynWalkAnswers};
-ghost use Rattle.odht_calls.specs.Pieces.{AnyWalkAnswers};
 
 use super::pieces::{are_pieces, put_piece};
 use super::read::view;
-use super::{AnyLayout, with_hash};
 use crate::status::{BAD_LENGTHS, OK, TOO_SMALL, status_of};
 use odht::hash::HashFn;
 use odht::layout::Layout;
@@ -48,7 +46,12 @@ fn walk_pieces<H: HashFn>(
     OK
 }
 
-fn walk_by<H: HashFn>(
+/// Writes the keys and values in the slots from `cursor` on to the arrays, in slot order, as many
+/// as fit, and to `item_count` how many. `cursor` is then the slot of the first pair that did not
+/// fit (TOO_SMALL), or the slot count where none is left (OK). The arrays take `room` pairs;
+/// BAD_LENGTHS where they have more or fewer bytes. An error leaves everything unchanged.
+#[inline(always)]
+pub fn walk<H: HashFn>(
     layout: Layout,
     bytes: &[u8],
     cursor: &mut usize,
@@ -66,27 +69,4 @@ fn walk_by<H: HashFn>(
         return BAD_LENGTHS;
     }
     walk_pieces::<H>(layout, bytes, cursor, room, keys, values, item_count)
-}
-
-/// Writes the keys and values in the slots from `cursor` on to the arrays, in slot order, as many
-/// as fit, and to `item_count` how many. `cursor` is then the slot of the first pair that did not
-/// fit (TOO_SMALL), or the slot count where none is left (OK). The arrays take `room` pairs;
-/// BAD_LENGTHS where they have more or fewer bytes. An error leaves everything unchanged.
-pub fn walk(
-    layout: AnyLayout,
-    bytes: &[u8],
-    cursor: &mut usize,
-    room: usize,
-    keys: &mut [u8],
-    values: &mut [u8],
-    item_count: &mut usize,
-) -> u32
-    ensures { AnyWalkAnswers layout bytes.now
-        cursor.old room keys.old values.old item_count.old result cursor.new keys.new values.new
-        item_count.new }
-{
-    with_hash!(
-        layout,
-        walk_by(bytes, cursor, room, keys, values, item_count)
-    )
 }

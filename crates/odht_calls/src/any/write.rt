@@ -3,107 +3,24 @@ ghost use Rattle.std.specs.Prelude.{◌≡◌, ◌≤◌, length};
 ghost use Rattle.odht_base.specs.Format.{format_of};
 ghost use Rattle.odht_raw.specs.DynParts.{bytes_coding};
 ghost use Rattle.odht_raw.specs.Frame.{IsAccepted};
-ghost use Rattle.odht_calls.specs.Layouts.{AnyAnswers, DynAnswers, any_coding};
+ghost use Rattle.odht_calls.specs.Layouts.{DynAnswers};
 ghost use Rattle.odht_calls.specs.InsertedStatus.{inserted_status};
-ghost use Rattle.odht_calls.specs.Writes.{BytesNeededAnswers, InitAnswers, InsertAnswers};
+ghost use Rattle.odht_calls.specs.Writes.{InsertAnswers};
 ghost use Rattle.odht_calls.specs.Grows.{GrowAnswers};
 
 use super::read::view;
-use super::{AnyLayout, with_hash};
 use crate::status::{
-    BAD_LAYOUT, BAD_LENGTHS, BAD_PERCENT, CAPACITY, LOAD_FACTOR_TOO_SMALL, OK, REPLACED, TOO_SMALL,
-    status_of,
+    BAD_LENGTHS, CAPACITY, LOAD_FACTOR_TOO_SMALL, OK, REPLACED, TOO_SMALL, status_of,
 };
-use odht::bytes::{Borrowed, BorrowedMut};
-use odht::dynamic::{DynError, DynTable};
 use odht::error::Error;
 use odht::hash::HashFn;
 use odht::layout::Layout;
-use odht::load::Percent;
 use odht::memory_layout::{Header, LEAST_FACTOR, insert_dynamic_into};
 
-fn bytes_needed_by<H: HashFn>(
-    layout: Layout,
-    max_item_count: usize,
-    max_load_factor_percent: u8,
-    len: &mut usize,
-) -> u32
-    ensures { let c = bytes_coding (format_of layout.key_len layout.value_len H.hash)
-        in BytesNeededAnswers c max_item_count max_load_factor_percent len.old result len.new }
-{
-    let Some(percent) = Percent::new(max_load_factor_percent) else {
-        return BAD_PERCENT;
-    };
-    match DynTable::<H, Borrowed<'_>>::bytes_needed(layout, max_item_count, percent.value()) {
-        Some(needed) => {
-            *len = needed;
-            OK
-        }
-        None => CAPACITY,
-    }
-}
-
-/// Writes to `len` how many bytes a new table for that many items has. An error leaves `len`
-/// unchanged.
-pub fn bytes_needed(
-    layout: AnyLayout,
-    max_item_count: usize,
-    max_load_factor_percent: u8,
-    len: &mut usize,
-) -> u32
-    ensures { AnyAnswers layout result (len.new ≡ len.old)
-        (λ c. BytesNeededAnswers c max_item_count max_load_factor_percent len.old result len.new) }
-{
-    with_hash!(
-        layout,
-        bytes_needed_by(max_item_count, max_load_factor_percent, len)
-    )
-}
-
-pub(crate) fn init_by<H: HashFn>(
-    layout: Layout,
-    bytes: &mut [u8],
-    max_item_count: usize,
-    max_load_factor_percent: u8,
-) -> u32
-    requires { H.MIN_LEN ≤ layout.key_len }
-    ensures { let c = bytes_coding (format_of layout.key_len layout.value_len H.hash)
-        in InitAnswers c max_item_count max_load_factor_percent bytes.old result bytes.new }
-{
-    let Some(percent) = Percent::new(max_load_factor_percent) else {
-        return BAD_PERCENT;
-    };
-    let mut store = BorrowedMut::new(bytes);
-    match DynTable::<H, BorrowedMut<'_>>::init_store(
-        layout,
-        &mut store,
-        max_item_count,
-        percent.value(),
-    ) {
-        Ok(()) => OK,
-        Err(DynError::Rejected(refused)) => status_of(&refused),
-        Err(_) => BAD_LAYOUT,
-    }
-}
-
-/// Makes an empty table for that many items in the bytes, whatever they hold. An error leaves them
-/// unchanged.
-pub fn init(
-    layout: AnyLayout,
-    bytes: &mut [u8],
-    max_item_count: usize,
-    max_load_factor_percent: u8,
-) -> u32
-    ensures { AnyAnswers layout result (bytes.new ≡ bytes.old)
-        (λ c. InitAnswers c max_item_count max_load_factor_percent bytes.old result bytes.new) }
-{
-    with_hash!(
-        layout,
-        init_by(bytes, max_item_count, max_load_factor_percent)
-    )
-}
-
-fn insert_by<H: HashFn>(
+/// Gives the key this value. A value that it had before is written to `former`. BAD_LENGTHS where
+/// the key, the value or `former` has another length than the layout says. An error leaves the
+/// bytes and `former` unchanged.
+pub fn insert<H: HashFn>(
     layout: Layout,
     bytes: &mut [u8],
     key: &[u8],
@@ -143,28 +60,10 @@ fn inserted_status(told: Result<bool, Error>) -> u32
     }
 }
 
-/// Gives the key this value. A value that it had before is written to `former`. BAD_LENGTHS where
-/// the key, the value or `former` has another length than the layout says. An error leaves the
-/// bytes and `former` unchanged.
-pub fn insert(
-    layout: AnyLayout,
-    bytes: &mut [u8],
-    key: &[u8],
-    value: &[u8],
-    former: &mut [u8],
-) -> u32
-    ensures answers { let Long = (length key.now ≡ layout.key_len)
-        × (length value.now ≡ layout.value_len) × (length former.old ≡ layout.value_len)
-        in let Same = (bytes.new ≡ bytes.old) × (former.new ≡ former.old)
-        in AnyAnswers layout result Same (λ c. DynAnswers Long result Same
-        (InsertAnswers c bytes.old key.now value.now former.old result bytes.new former.new)) }
-    ensures accepted { let F = (any_coding layout).format
-        in IsAccepted F bytes.old → IsAccepted F bytes.new }
-{
-    with_hash!(layout, insert_by(bytes, key, value, former))
-}
-
-fn grow_by<H: HashFn>(layout: Layout, bytes: &[u8], out: &mut [u8], len: &mut usize) -> u32
+/// Writes the table that the one in `bytes` grows into to the front of `out`, and its length in
+/// bytes to `len`. TOO_SMALL leaves `out` unchanged, any other error leaves both unchanged.
+#[inline(always)]
+pub fn grow<H: HashFn>(layout: Layout, bytes: &[u8], out: &mut [u8], len: &mut usize) -> u32
     requires { H.MIN_LEN ≤ layout.key_len }
     ensures { let c = bytes_coding (format_of layout.key_len layout.value_len H.hash)
         in GrowAnswers c bytes.now out.old len.old result out.new len.new }
@@ -186,13 +85,4 @@ fn grow_by<H: HashFn>(layout: Layout, bytes: &[u8], out: &mut [u8], len: &mut us
     }
     table.grow_into(&mut out[..needed]);
     OK
-}
-
-/// Writes the table that the one in `bytes` grows into to the front of `out`, and its length in
-/// bytes to `len`. TOO_SMALL leaves `out` unchanged, any other error leaves both unchanged.
-pub fn grow(layout: AnyLayout, bytes: &[u8], out: &mut [u8], len: &mut usize) -> u32
-    ensures { AnyAnswers layout result ((out.new ≡ out.old) × (len.new ≡ len.old))
-        (λ c. GrowAnswers c bytes.now out.old len.old result out.new len.new) }
-{
-    with_hash!(layout, grow_by(bytes, out, len))
 }

@@ -1,13 +1,6 @@
-use Rattle.std.proofs.Common.{rules, ◌≡◌, ◌↔◌, ◌∙◌, sym, subst, take, length, List, IsOk, arith}
-use Rattle.std.specs.List.{zip}
-use Rattle.std.proofs.lemmas.List.{take_all}
-use Rattle.odht_base.specs.Insert.{insert_owned}
-use Rattle.odht_base.specs.Table.{Table}
-use Rattle.odht_base.proofs.lemmas.Options.{some_same}
+use Rattle.std.proofs.Common.{rules, subst, List, IsOk}
 use Rattle.odht_header.specs.Coding.{Coding, coding_of}
-use Rattle.odht.specs.Lists.{encoded_all, IsAfterInserts}
 use Rattle.odht.specs.Plain.{IsPlainList}
-use Rattle.odht_calls.specs.Builds.{IsGrownAfterInserts}
 use Rattle.odht_calls.proofs.lemmas.HandedOut.{refused_growing, grown_inserted, handed_growing}
 use Rattle.odht_calls.proofs.build.grown.Given.{Over}
 use Rattle.odht_calls.proofs.build.grown.Goals as goal

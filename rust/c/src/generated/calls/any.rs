@@ -2,34 +2,9 @@
 //! The calls for dynamic tables: the caller names the lengths of keys and values, and the
 //! hash function, by a layout.
 
-/// Calls a function for the hash function of a layout, which is its type parameter, with the
-/// lengths of the layout in front of these arguments. BAD_LAYOUT where there is no such hash
-/// function, or it needs longer keys.
-macro_rules! with_hash {
-    ($layout:ident, $function:ident($($argument:expr),*)) => {{
-        let lengths = crate::generated::tables::dynamic::Layout {
-            key_len: $layout.key_len,
-            value_len: $layout.value_len,
-        };
-        if crate::generated::calls::any::has_hash($layout, crate::generated::calls::any::FX, crate::generated::tables::FxHashFn::MIN_LEN) {
-            $function::<crate::generated::tables::FxHashFn>(lengths, $($argument),*)
-        } else if crate::generated::calls::any::has_hash($layout, crate::generated::calls::any::UNHASH, crate::generated::tables::UnHashFn::MIN_LEN) {
-            $function::<crate::generated::tables::UnHashFn>(lengths, $($argument),*)
-        } else if crate::generated::calls::any::has_hash($layout, crate::generated::calls::any::XXH64, crate::generated::tables::Xxh64HashFn::MIN_LEN) {
-            $function::<crate::generated::tables::Xxh64HashFn>(lengths, $($argument),*)
-        } else {
-            crate::generated::calls::status::BAD_LAYOUT
-        }
-    }};
-}
-
-pub(crate) use with_hash;
-
 pub mod build;
 pub mod lists;
-pub mod order;
 mod pieces;
-pub mod places;
 pub mod read;
 pub mod view;
 pub mod walk;
@@ -59,7 +34,7 @@ pub const UNHASH: u8 = 1;
 /// seed 0.
 pub const XXH64: u8 = 2;
 
-// Whether a layout has this hash function, and keys that are long enough for it.
-pub(crate) fn has_hash(layout: AnyLayout, hash: u8, least: usize) -> bool {
+/// Whether a layout has this hash function, and keys that are long enough for it.
+pub fn has_hash(layout: AnyLayout, hash: u8, least: usize) -> bool {
     layout.hash == hash && least <= layout.key_len as usize
 }

@@ -1,11 +1,13 @@
 // Generated from crates/odht_calls/src/places.rt by make generate.
-//! The calls that open or check bytes and tell where the first error is, for every configuration.
+//! The calls that open or check bytes and tell where the first error is, for lengths that are types
+//! or numbers.
 
+use crate::generated::calls::read::whole;
 use crate::generated::calls::status::{status_of, OK};
-use crate::generated::tables::bytes::Borrowed;
-use crate::generated::tables::config::Config;
 use crate::generated::tables::error::Error;
-use crate::generated::tables::{memory_layout, HashTable};
+use crate::generated::tables::hash::HashFn;
+use crate::generated::tables::layout::Lengths;
+use crate::generated::tables::memory_layout::check_opening_in;
 
 /// What is written for no slot: where there is no error, and where the error names none.
 pub const NO_SLOT: usize = usize::MAX;
@@ -27,7 +29,7 @@ fn slot_of(error: &Error) -> usize {
 }
 
 // Writes to `slot` where an error is. Returns the error's number.
-pub(crate) fn refused_at(error: &Error, slot: &mut usize) -> u32 {
+fn refused_at(error: &Error, slot: &mut usize) -> u32 {
     *slot = slot_of(error);
     status_of(error)
 }
@@ -35,25 +37,9 @@ pub(crate) fn refused_at(error: &Error, slot: &mut usize) -> u32 {
 /// OK where the header, the length and the first ten slots are accepted, else the number of the
 /// first error; and writes to `slot` where that is: the slot of `NonZeroEmpty` and
 /// `ControlMismatch`, and NO_SLOT of all other errors and with OK.
-#[inline]
-pub fn open_at<C: Config>(bytes: &[u8], slot: &mut usize) -> u32 {
-    let opened: Result<HashTable<C, Borrowed<'_>>, Error> =
-        HashTable::from_raw_bytes(Borrowed::new(bytes));
-    match opened {
-        Ok(_) => {
-            *slot = NO_SLOT;
-            OK
-        }
-        Err(refused) => refused_at(&refused, slot),
-    }
-}
-
-/// OK where the bytes are valid, else the number of the first error of the whole check; and writes
-/// to `slot` where that is: the slot that the error names, the index of the mirror's byte, or
-/// NO_SLOT of all other errors and with OK.
-#[inline]
-pub fn check_at<C: Config>(bytes: &[u8], slot: &mut usize) -> u32 {
-    match memory_layout::check_all::<C>(bytes) {
+#[inline(always)]
+pub fn open_at<L: Lengths, H: HashFn>(lengths: L, bytes: &[u8], slot: &mut usize) -> u32 {
+    match check_opening_in::<L, H>(bytes, lengths) {
         Ok(()) => {
             *slot = NO_SLOT;
             OK
@@ -62,13 +48,17 @@ pub fn check_at<C: Config>(bytes: &[u8], slot: &mut usize) -> u32 {
     }
 }
 
-/// OK where the bytes are valid and each home has a control byte that counts as free among the
-/// first `groups` groups of its probe order, so that no search reads more; else the number of the
-/// first error of the whole check with this bound. Writes to `slot` where that is, as `check_at`
-/// does, and of `SearchTooLong` the slot where the searches begin.
-#[inline]
-pub fn check_within_at<C: Config>(bytes: &[u8], groups: usize, slot: &mut usize) -> u32 {
-    match memory_layout::check_all_within::<C>(bytes, groups) {
+/// What [`check`](crate::generated::calls::read::check) returns; and writes to `slot` where the first error is: the
+/// slot that the error names, the index of the mirror's byte, of `SearchTooLong` the slot where the
+/// searches begin, or NO_SLOT of all other errors and with OK.
+#[inline(always)]
+pub fn check_at<L: Lengths, H: HashFn>(
+    lengths: L,
+    bytes: &[u8],
+    groups: Option<usize>,
+    slot: &mut usize,
+) -> u32 {
+    match whole::<L, H>(lengths, bytes, groups) {
         Ok(()) => {
             *slot = NO_SLOT;
             OK

@@ -1,14 +1,19 @@
 // Generated from crates/odht_calls/src/read.rt by make generate.
-//! The calls that read the bytes of a table, for every configuration.
+//! The calls that read the bytes of a table. Those that take no key are for lengths that are types
+//! or numbers, the others for every configuration.
 
 use crate::generated::calls::status::{status_of, OK};
 use crate::generated::calls::view;
 use crate::generated::tables::bytes::Borrowed;
 use crate::generated::tables::config::Config;
 use crate::generated::tables::error::Error;
+use crate::generated::tables::hash::HashFn;
+use crate::generated::tables::layout::{Layout, Lengths};
 use crate::generated::tables::load::max_item_count_for;
-use crate::generated::tables::memory_layout::{is_accepted, Header};
-use crate::generated::tables::{memory_layout, HashTable};
+use crate::generated::tables::memory_layout::{
+    check_by_header, check_opening_in, check_parts, dynamic_table_len, is_accepted, Header,
+};
+use crate::generated::tables::HashTable;
 
 /// Opens the bytes by their header and length. Reads no slot.
 #[inline(always)]
@@ -23,52 +28,6 @@ pub(crate) fn view<C: Config>(bytes: &[u8]) -> Result<HashTable<C, Borrowed<'_>>
 pub(crate) fn refused<C: Config>(bytes: &[u8]) -> u32 {
     match view::<C>(bytes) {
         Ok(_) => OK,
-        Err(refused) => status_of(&refused),
-    }
-}
-
-/// OK where the header, the length and the first ten slots are accepted, else the number of the
-/// first error.
-#[inline]
-pub fn open<C: Config>(bytes: &[u8]) -> u32 {
-    let opened: Result<HashTable<C, Borrowed<'_>>, Error> =
-        HashTable::from_raw_bytes(Borrowed::new(bytes));
-    match opened {
-        Ok(_) => OK,
-        Err(refused) => status_of(&refused),
-    }
-}
-
-/// Writes to `len` how many bytes the table at the front of the bytes has, by its header; what
-/// follows is not looked at, nor is any slot. An error leaves `len` unchanged: one of the header,
-/// or of fewer bytes than the table has.
-#[inline]
-pub fn table_len<C: Config>(bytes: &[u8], len: &mut usize) -> u32 {
-    match memory_layout::table_len::<C>(bytes) {
-        Ok(found) => {
-            *len = found;
-            OK
-        }
-        Err(refused) => status_of(&refused),
-    }
-}
-
-/// OK where the bytes are valid, else the number of the first error of the whole check.
-#[inline]
-pub fn check<C: Config>(bytes: &[u8]) -> u32 {
-    match memory_layout::check_all::<C>(bytes) {
-        Ok(()) => OK,
-        Err(refused) => status_of(&refused),
-    }
-}
-
-/// OK where the bytes are valid and each home has a control byte that counts as free among the
-/// first `groups` groups of its probe order, so that no search reads more; else the number of the
-/// first error of the whole check with this bound.
-#[inline]
-pub fn check_within<C: Config>(bytes: &[u8], groups: usize) -> u32 {
-    match memory_layout::check_all_within::<C>(bytes, groups) {
-        Ok(()) => OK,
         Err(refused) => status_of(&refused),
     }
 }
@@ -100,11 +59,56 @@ pub fn get_all<C: Config>(
     view::get_all(&table, keys, values, found)
 }
 
+/// The header of bytes whose header and length fit, or the first error. Reads no slot.
+#[inline(always)]
+pub(crate) fn header_of<L: Lengths, H: HashFn>(
+    lengths: L,
+    bytes: &[u8],
+) -> Result<Header<'_>, Error> {
+    match check_by_header(bytes, Layout::of_lengths(lengths)) {
+        Ok(()) => Ok(Header::of(bytes)),
+        Err(refused) => Err(refused),
+    }
+}
+
+/// OK where the header, the length and the first ten slots are accepted, else the number of the
+/// first error.
+#[inline(always)]
+pub fn open<L: Lengths, H: HashFn>(lengths: L, bytes: &[u8]) -> u32 {
+    match check_opening_in::<L, H>(bytes, lengths) {
+        Ok(()) => OK,
+        Err(refused) => status_of(&refused),
+    }
+}
+
+/// The first error of the whole check, with a bound of searches where there is one.
+#[inline(always)]
+pub(crate) fn whole<L: Lengths, H: HashFn>(
+    lengths: L,
+    bytes: &[u8],
+    groups: Option<usize>,
+) -> Result<(), Error> {
+    check_opening_in::<L, H>(bytes, lengths)?;
+    check_parts::<L, H>(bytes, lengths, groups)
+}
+
+/// OK where the bytes are valid and, if there is a bound, each home has a control byte that counts
+/// as free among the first `groups` groups of its probe order, so that no search reads more; else
+/// the number of the first error of the whole check with this bound.
+#[inline(always)]
+pub fn check<L: Lengths, H: HashFn>(lengths: L, bytes: &[u8], groups: Option<usize>) -> u32 {
+    match whole::<L, H>(lengths, bytes, groups) {
+        Ok(()) => OK,
+        Err(refused) => status_of(&refused),
+    }
+}
+
 /// Writes the header's item count to `item_count`. An error leaves it unchanged.
-pub fn len<C: Config>(bytes: &[u8], item_count: &mut usize) -> u32 {
-    match view::<C>(bytes) {
-        Ok(table) => {
-            *item_count = table.len();
+#[inline]
+pub fn len<L: Lengths, H: HashFn>(lengths: L, bytes: &[u8], item_count: &mut usize) -> u32 {
+    match header_of::<L, H>(lengths, bytes) {
+        Ok(header) => {
+            *item_count = header.item_count();
             OK
         }
         Err(refused) => status_of(&refused),
@@ -113,20 +117,36 @@ pub fn len<C: Config>(bytes: &[u8], item_count: &mut usize) -> u32 {
 
 /// Writes the slot count, the maximum item count and the load factor in percent of slots, rounded
 /// down, by the header. An error leaves all three unchanged.
-pub fn sizes<C: Config>(
+#[inline]
+pub fn sizes<L: Lengths, H: HashFn>(
+    lengths: L,
     bytes: &[u8],
     slot_count: &mut usize,
     max_item_count: &mut usize,
     max_load_factor_percent: &mut u8,
 ) -> u32 {
-    if let Err(refused) = view::<C>(bytes) {
-        return status_of(&refused);
-    }
-    let header = Header::of(bytes);
+    let header = match header_of::<L, H>(lengths, bytes) {
+        Ok(header) => header,
+        Err(refused) => return status_of(&refused),
+    };
     let slots = header.slot_count();
     let factor = header.max_load_factor();
     *slot_count = slots;
     *max_item_count = max_item_count_for(slots, factor);
     *max_load_factor_percent = factor.to_percent() as u8;
     OK
+}
+
+/// Writes to `len` how many bytes the table at the front of the bytes has, by its header; what
+/// follows is not looked at, nor is any slot. An error leaves `len` unchanged: one of the header,
+/// or of fewer bytes than the table has.
+#[inline]
+pub fn table_len<L: Lengths, H: HashFn>(lengths: L, bytes: &[u8], len: &mut usize) -> u32 {
+    match dynamic_table_len(bytes, Layout::of_lengths(lengths)) {
+        Ok(found) => {
+            *len = found;
+            OK
+        }
+        Err(refused) => status_of(&refused),
+    }
 }

@@ -1,12 +1,14 @@
 // Generated from crates/odht_calls/src/view.rt by make generate.
-//! Opened tables as a caller in C keeps them, and lookups that skip the header, for every
-//! configuration.
+//! Opened tables as a caller in C keeps them, and for every configuration lookups that skip the
+//! header.
 
 use crate::generated::calls::lookups::Arrays;
 use crate::generated::calls::status::{status_of, ABSENT, OK};
 use crate::generated::tables::bytes::Borrowed;
 use crate::generated::tables::config::Config;
-use crate::generated::tables::error::Error;
+use crate::generated::tables::hash::HashFn;
+use crate::generated::tables::layout::Lengths;
+use crate::generated::tables::memory_layout::{check_opening_in, Header};
 use crate::generated::tables::{lookups, HashTable};
 
 /// The bytes of an opened table, as C keeps them: a pointer and a length. The calls that read a
@@ -20,17 +22,21 @@ pub struct View<'a> {
 
 /// OK, and `view` is a view of the bytes; or the number of the first error, and `view` is
 /// unchanged. Reads the header, the length and the first ten slots.
-#[inline]
-pub fn open<'a, C: Config>(bytes: &'a [u8], view: &mut View<'a>) -> u32 {
-    let opened: Result<HashTable<C, Borrowed<'_>>, Error> =
-        HashTable::from_raw_bytes(Borrowed::new(bytes));
-    match opened {
-        Ok(_) => {
+#[inline(always)]
+pub fn open<'a, L: Lengths, H: HashFn>(lengths: L, bytes: &'a [u8], view: &mut View<'a>) -> u32 {
+    match check_opening_in::<L, H>(bytes, lengths) {
+        Ok(()) => {
             *view = View { bytes };
             OK
         }
         Err(refused) => status_of(&refused),
     }
+}
+
+/// The item count in the header of an opened table, whatever its lengths.
+#[inline]
+pub fn len(view: &View<'_>) -> usize {
+    Header::of(view.bytes).item_count()
 }
 
 /// The table of a view. Reads none of its bytes.

@@ -1,18 +1,24 @@
 // Generated from crates/odht_calls/src/write.rt by make generate.
-//! The calls that write the bytes of a table, for every configuration.
+//! The calls that write the bytes of a table. Those that take no key are for lengths that are types
+//! or numbers, the others for every configuration.
 
 use crate::generated::calls::read::{refused, view};
-use crate::generated::calls::status::{status_of, BAD_PERCENT, CAPACITY, OK, REPLACED};
+use crate::generated::calls::status::{
+    status_of, BAD_PERCENT, CAPACITY, INIT_LENGTH, OK, REPLACED,
+};
 use crate::generated::tables::bytes::ByteStoreMut;
 use crate::generated::tables::config::Config;
+use crate::generated::tables::hash::HashFn;
 use crate::generated::tables::items::Zipped;
-use crate::generated::tables::load::Percent;
-use crate::generated::tables::memory_layout::is_accepted;
+use crate::generated::tables::layout::{Layout, Lengths};
+use crate::generated::tables::load::{Factor, Percent};
+use crate::generated::tables::memory_layout::{init_parts, is_accepted};
 use crate::generated::tables::HashTable;
 
 /// Writes to `len` how many bytes a new table for that many items has. BAD_PERCENT and CAPACITY
 /// leave `len` unchanged.
-pub fn bytes_needed<C: Config>(
+pub fn bytes_needed<L: Lengths, H: HashFn>(
+    lengths: L,
     max_item_count: usize,
     max_load_factor_percent: u8,
     len: &mut usize,
@@ -20,8 +26,9 @@ pub fn bytes_needed<C: Config>(
     let Some(percent) = Percent::new(max_load_factor_percent) else {
         return BAD_PERCENT;
     };
-    match crate::generated::tables::bytes_needed::<C>(max_item_count, percent.value()) {
-        Some(needed) => {
+    let factor = Factor::from_percent(percent.value());
+    match Layout::of_lengths(lengths).table_for(max_item_count, factor) {
+        Some((_, needed)) => {
             *len = needed;
             OK
         }
@@ -29,20 +36,27 @@ pub fn bytes_needed<C: Config>(
     }
 }
 
-/// Makes an empty table for that many items in the store, whatever it holds. BAD_PERCENT, CAPACITY
-/// and INIT_LENGTH leave the store unchanged.
-pub fn init<C: Config, M: ByteStoreMut>(
-    store: &mut M,
+/// Makes an empty table for that many items in the bytes, whatever they hold. BAD_PERCENT, CAPACITY
+/// and INIT_LENGTH leave them unchanged.
+pub fn init<L: Lengths, H: HashFn>(
+    lengths: L,
+    bytes: &mut [u8],
     max_item_count: usize,
     max_load_factor_percent: u8,
 ) -> u32 {
     let Some(percent) = Percent::new(max_load_factor_percent) else {
         return BAD_PERCENT;
     };
-    match HashTable::<C, M>::init_store(store, max_item_count, percent.value()) {
-        Ok(()) => OK,
-        Err(refused) => status_of(&refused),
+    let factor = Factor::from_percent(percent.value());
+    let Some((slot_count, needed)) = Layout::of_lengths(lengths).table_for(max_item_count, factor)
+    else {
+        return CAPACITY;
+    };
+    if bytes.len() != needed {
+        return INIT_LENGTH;
     }
+    init_parts(bytes, lengths, slot_count, 0, factor);
+    OK
 }
 
 /// Gives the key this value. A value that it had before is written to `former`. An error leaves

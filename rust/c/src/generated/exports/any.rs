@@ -7,8 +7,42 @@
 //! it needs. Then nothing is written. `BAD_PERCENT` rejects load factors that are not from 1 to 100
 //! percent. `CAPACITY`: no slot count is large enough, or the length does not fit `usize`.
 
-use crate::generated::calls::any::{build, lists, order, places, read, walk, write, AnyLayout};
+use crate::generated::calls::any::build::{build, build_growing};
+use crate::generated::calls::any::lists::{get_all, insert_all};
+use crate::generated::calls::any::read::{contains, get, layout_of};
+use crate::generated::calls::any::walk::walk;
+use crate::generated::calls::any::write::{grow, insert};
+use crate::generated::calls::any::{has_hash, AnyLayout, FX, UNHASH, XXH64};
+use crate::generated::calls::order::insert_order;
+use crate::generated::calls::places::{check_at, open_at};
+use crate::generated::calls::read::{check, len, open, sizes, table_len};
+use crate::generated::calls::status::BAD_LAYOUT;
+use crate::generated::calls::write::{bytes_needed, init};
+use crate::generated::tables::hash::HashFn;
+use crate::generated::tables::layout::Layout;
 use crate::shim::Global;
+
+/// Calls a function for the hash function of a layout, which is its last type parameter, with the
+/// lengths of the layout in front of these arguments. BAD_LAYOUT where there is no such hash
+/// function, or it needs longer keys.
+macro_rules! with_hash {
+    ($layout:expr, $function:ident $(::<$lengths:ident>)? ($($argument:expr),* $(,)?)) => {{
+        let layout = $layout;
+        let lengths = crate::generated::tables::dynamic::Layout {
+            key_len: layout.key_len,
+            value_len: layout.value_len,
+        };
+        if has_hash(layout, FX, crate::generated::tables::FxHashFn::MIN_LEN) {
+            $function::<$($lengths,)? crate::generated::tables::FxHashFn>(lengths, $($argument),*)
+        } else if has_hash(layout, UNHASH, crate::generated::tables::UnHashFn::MIN_LEN) {
+            $function::<$($lengths,)? crate::generated::tables::UnHashFn>(lengths, $($argument),*)
+        } else if has_hash(layout, XXH64, crate::generated::tables::Xxh64HashFn::MIN_LEN) {
+            $function::<$($lengths,)? crate::generated::tables::Xxh64HashFn>(lengths, $($argument),*)
+        } else {
+            BAD_LAYOUT
+        }
+    }};
+}
 
 pub(crate) mod views;
 
@@ -21,7 +55,7 @@ pub unsafe extern "C" fn odht_any_bytes_needed(
     max_load_factor_percent: u8,
     len: &mut usize,
 ) -> u32 {
-    write::bytes_needed(*layout, max_item_count, max_load_factor_percent, len)
+    with_hash!(*layout, bytes_needed::<Layout>(max_item_count, max_load_factor_percent, len))
 }
 
 /// Makes an empty table for that number of items in the bytes, and returns 0. The former content
@@ -36,7 +70,7 @@ pub unsafe extern "C" fn odht_any_init(
     max_load_factor_percent: u8,
 ) -> u32 {
     let bytes = unsafe { crate::lists::list_mut(bytes, bytes_len) };
-    write::init(*layout, bytes, max_item_count, max_load_factor_percent)
+    with_hash!(*layout, init::<Layout>(bytes, max_item_count, max_load_factor_percent))
 }
 
 /// Returns 0 if the bytes can be opened. Otherwise returns the number of the first error: too few
@@ -48,7 +82,7 @@ pub unsafe extern "C" fn odht_any_open(
     bytes_len: usize,
 ) -> u32 {
     let bytes = unsafe { crate::lists::list(bytes, bytes_len) };
-    read::open(*layout, bytes)
+    with_hash!(*layout, open::<Layout>(bytes))
 }
 
 /// Returns 0 exactly if the bytes are valid. Otherwise returns the number of the first error of
@@ -61,7 +95,7 @@ pub unsafe extern "C" fn odht_any_check(
     bytes_len: usize,
 ) -> u32 {
     let bytes = unsafe { crate::lists::list(bytes, bytes_len) };
-    read::check(*layout, bytes)
+    with_hash!(*layout, check::<Layout>(bytes, None))
 }
 
 /// Works like `check`, with a bound for searches. Returns 0 exactly if the bytes are valid and
@@ -77,7 +111,7 @@ pub unsafe extern "C" fn odht_any_check_within(
     groups: usize,
 ) -> u32 {
     let bytes = unsafe { crate::lists::list(bytes, bytes_len) };
-    read::check_within(*layout, bytes, groups)
+    with_hash!(*layout, check::<Layout>(bytes, Some(groups)))
 }
 
 /// Works like `open`, and writes the slot of the first error to `slot`. With an error of the
@@ -91,7 +125,7 @@ pub unsafe extern "C" fn odht_any_open_at(
     slot: &mut usize,
 ) -> u32 {
     let bytes = unsafe { crate::lists::list(bytes, bytes_len) };
-    places::open_at(*layout, bytes, slot)
+    with_hash!(*layout, open_at::<Layout>(bytes, slot))
 }
 
 /// Works like `check`, and writes the slot of the first error to `slot`: that of an entry, of a
@@ -106,7 +140,7 @@ pub unsafe extern "C" fn odht_any_check_at(
     slot: &mut usize,
 ) -> u32 {
     let bytes = unsafe { crate::lists::list(bytes, bytes_len) };
-    places::check_at(*layout, bytes, slot)
+    with_hash!(*layout, check_at::<Layout>(bytes, None, slot))
 }
 
 /// Works like `check_within`, and writes the slot of the first error to `slot`, as `check_at`
@@ -120,7 +154,7 @@ pub unsafe extern "C" fn odht_any_check_within_at(
     slot: &mut usize,
 ) -> u32 {
     let bytes = unsafe { crate::lists::list(bytes, bytes_len) };
-    places::check_within_at(*layout, bytes, groups, slot)
+    with_hash!(*layout, check_at::<Layout>(bytes, Some(groups), slot))
 }
 
 /// Writes the header's item count to `item_count`, and returns 0. With an error of the header or
@@ -133,7 +167,7 @@ pub unsafe extern "C" fn odht_any_len(
     item_count: &mut usize,
 ) -> u32 {
     let bytes = unsafe { crate::lists::list(bytes, bytes_len) };
-    read::len(*layout, bytes, item_count)
+    with_hash!(*layout, len::<Layout>(bytes, item_count))
 }
 
 /// Writes the header's slot count, the maximum number of items for it, and the header's load factor
@@ -148,7 +182,7 @@ pub unsafe extern "C" fn odht_any_sizes(
     max_load_factor_percent: &mut u8,
 ) -> u32 {
     let bytes = unsafe { crate::lists::list(bytes, bytes_len) };
-    read::sizes(*layout, bytes, slot_count, max_item_count, max_load_factor_percent)
+    with_hash!(*layout, sizes::<Layout>(bytes, slot_count, max_item_count, max_load_factor_percent))
 }
 
 /// Computes the length in bytes of the table at the start of the bytes from its header, writes it
@@ -163,7 +197,7 @@ pub unsafe extern "C" fn odht_any_table_len(
     len: &mut usize,
 ) -> u32 {
     let bytes = unsafe { crate::lists::list(bytes, bytes_len) };
-    read::table_len(*layout, bytes, len)
+    with_hash!(*layout, table_len::<Layout>(bytes, len))
 }
 
 /// Writes the lengths of keys and values in the header to `layout`, and returns 0. The number of
@@ -175,7 +209,7 @@ pub unsafe extern "C" fn odht_any_layout_of(
     layout: &mut AnyLayout,
 ) -> u32 {
     let bytes = unsafe { crate::lists::list(bytes, bytes_len) };
-    read::layout_of(bytes, layout)
+    layout_of(bytes, layout)
 }
 
 /// Writes the value of a key to `value`, and returns 0. Returns `ABSENT` if the key is absent,
@@ -194,7 +228,7 @@ pub unsafe extern "C" fn odht_any_get(
     let bytes = unsafe { crate::lists::list(bytes, bytes_len) };
     let key = unsafe { crate::lists::list(key, key_len) };
     let value = unsafe { crate::lists::list_mut(value, value_len) };
-    read::get(*layout, bytes, key, value)
+    with_hash!(*layout, get(bytes, key, value))
 }
 
 /// Returns 0 if the key is present, and `ABSENT` if it is absent. Returns `BAD_LENGTHS` if the key
@@ -209,7 +243,7 @@ pub unsafe extern "C" fn odht_any_contains(
 ) -> u32 {
     let bytes = unsafe { crate::lists::list(bytes, bytes_len) };
     let key = unsafe { crate::lists::list(key, key_len) };
-    read::contains(*layout, bytes, key)
+    with_hash!(*layout, contains(bytes, key))
 }
 
 /// Looks up `count` keys, and returns 0. If the key at an index is present, writes 1 to `found` and
@@ -233,7 +267,7 @@ pub unsafe extern "C" fn odht_any_get_all(
     let keys = unsafe { crate::lists::list(keys, keys_len) };
     let values = unsafe { crate::lists::list_mut(values, values_len) };
     let found = unsafe { crate::lists::list_mut(found, found_len) };
-    lists::get_all(*layout, bytes, count, keys, values, found)
+    with_hash!(*layout, get_all(bytes, count, keys, values, found))
 }
 
 /// Writes keys and values to the arrays, in slot order from the slot `cursor` on, until `room`
@@ -258,7 +292,7 @@ pub unsafe extern "C" fn odht_any_walk(
     let bytes = unsafe { crate::lists::list(bytes, bytes_len) };
     let keys = unsafe { crate::lists::list_mut(keys, keys_len) };
     let values = unsafe { crate::lists::list_mut(values, values_len) };
-    walk::walk(*layout, bytes, cursor, room, keys, values, item_count)
+    with_hash!(*layout, walk(bytes, cursor, room, keys, values, item_count))
 }
 
 /// Writes the occupied slots to `out`, in an order in which inserts make the table, and returns 0.
@@ -285,7 +319,7 @@ pub unsafe extern "C" fn odht_any_insert_order(
     let bytes = unsafe { crate::lists::list(bytes, bytes_len) };
     let out = unsafe { crate::lists::list_mut(out, out_len) };
     let scratch = unsafe { crate::lists::list_mut(scratch, scratch_len) };
-    order::insert_order(*layout, bytes, out, scratch)
+    with_hash!(*layout, insert_order::<Layout>(bytes, out, scratch))
 }
 
 /// Inserts a key with its value. Returns 0 if the key was new. If the key was present, replaces its
@@ -309,7 +343,7 @@ pub unsafe extern "C" fn odht_any_insert(
     let key = unsafe { crate::lists::list(key, key_len) };
     let value = unsafe { crate::lists::list(value, value_len) };
     let former = unsafe { crate::lists::list_mut(former, former_len) };
-    write::insert(*layout, bytes, key, value, former)
+    with_hash!(*layout, insert(bytes, key, value, former))
 }
 
 /// Inserts `count` pairs in order, up to the first `FULL`. Writes the number of inserted pairs to
@@ -333,7 +367,7 @@ pub unsafe extern "C" fn odht_any_insert_all(
     let bytes = unsafe { crate::lists::list_mut(bytes, bytes_len) };
     let keys = unsafe { crate::lists::list(keys, keys_len) };
     let values = unsafe { crate::lists::list(values, values_len) };
-    lists::insert_all(*layout, bytes, count, keys, values, accepted)
+    with_hash!(*layout, insert_all(bytes, count, keys, values, accepted))
 }
 
 /// Writes a larger copy of the table to the start of `out`, its length in bytes to `len`, and
@@ -352,7 +386,7 @@ pub unsafe extern "C" fn odht_any_grow(
 ) -> u32 {
     let bytes = unsafe { crate::lists::list(bytes, bytes_len) };
     let out = unsafe { crate::lists::list_mut(out, out_len) };
-    write::grow(*layout, bytes, out, len)
+    with_hash!(*layout, grow(bytes, out, len))
 }
 
 /// Makes a table for `count` items at the start of `out`, inserts the pairs in order, writes the
@@ -377,7 +411,8 @@ pub unsafe extern "C" fn odht_any_build(
     let keys = unsafe { crate::lists::list(keys, keys_len) };
     let values = unsafe { crate::lists::list(values, values_len) };
     let out = unsafe { crate::lists::list_mut(out, out_len) };
-    build::build(*layout, count, keys, values, max_load_factor_percent, out, len)
+    let percent = max_load_factor_percent;
+    with_hash!(*layout, build(count, keys, values, percent, out, len))
 }
 
 /// Inserts `count` pairs, in order, into a table in allocated memory, which starts with sixteen
@@ -404,5 +439,5 @@ pub unsafe extern "C" fn odht_any_build_growing(
     let keys = unsafe { crate::lists::list(keys, keys_len) };
     let values = unsafe { crate::lists::list(values, values_len) };
     let out = unsafe { crate::lists::list_mut(out, out_len) };
-    build::build_growing(alloc, *layout, count, keys, values, out, len)
+    with_hash!(*layout, build_growing(alloc, count, keys, values, out, len))
 }

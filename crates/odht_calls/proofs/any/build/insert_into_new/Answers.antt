@@ -23,11 +23,11 @@ returns g c =
     let many : length keys ≡ c.args.count = length-pieces c.args.layout.key_len c.args.count c.args.keys.now in
     let equal : length values ≡ length keys = length-pieces c.args.layout.value_len c.args.count c.args.values.now ∙ sym many in
     let long : length items ≡ c.args.count = omega (arith, length-zip keys values, many, equal) in
-    let made = (c.init_by.ensures.made c.requires.percent c.requires.fits).1 in
+    let made = (c.init.ensures.made c.requires.percent c.requires.fits).1 in
     let new : fresh (length items) c.args.percent ≡ Some made.0 = ap (λ n. fresh n c.args.percent) long ∙ made.1 in
     let inserts = c.insert_pieces.ensures.answers in
     let n = c.insert_pieces.new.accepted in
-    let opens = IsAccepted-IsImage F made.0 c.init_by.new.bytes made.2 in
+    let opens = IsAccepted-IsImage F made.0 c.init.new.bytes made.2 in
     let bound = inserts.bound equal opens in
     let inserted = inserts.inserted made.0 equal made.2 in
     elim (eq-or-lt_of_le bound) [

@@ -4,10 +4,9 @@
 
 use super::lists::insert_pieces;
 use super::pieces::{are_pieces, deciding_pairs, piece};
-use super::write::init_by;
-use super::{with_hash, AnyLayout};
 use crate::generated::calls::build::hand_out;
 use crate::generated::calls::status::{BAD_LENGTHS, BAD_PERCENT, CAPACITY, MEMORY, OK, TOO_SMALL};
+use crate::generated::calls::write::init;
 use crate::generated::tables::bytes::Borrowed;
 use crate::generated::tables::dynamic::{DynTable, DynTableOwned};
 use crate::generated::tables::hash::HashFn;
@@ -26,7 +25,7 @@ fn insert_into_new<H: HashFn>(
     values: &[u8],
 ) {
     let mut accepted = 0;
-    let _ = init_by::<H>(layout, bytes, count, percent);
+    let _ = init::<Layout, H>(layout, bytes, count, percent);
     let _ = insert_pieces::<H>(layout, bytes, count, keys, values, &mut accepted);
 }
 
@@ -55,7 +54,11 @@ fn build_pieces<H: HashFn>(
     OK
 }
 
-fn build_by<H: HashFn>(
+/// Builds a table of `count` pairs at the front of `out`, with slots for as many items as there
+/// are pairs, and writes its length in bytes to `len`. BAD_LENGTHS, BAD_PERCENT and CAPACITY leave
+/// both unchanged, TOO_SMALL leaves `out` unchanged. Allocates nothing.
+#[inline(always)]
+pub fn build<H: HashFn>(
     layout: Layout,
     count: usize,
     keys: &[u8],
@@ -68,22 +71,6 @@ fn build_by<H: HashFn>(
         return BAD_LENGTHS;
     }
     build_pieces::<H>(layout, count, keys, values, max_load_factor_percent, out, len)
-}
-
-/// Builds a table of `count` pairs at the front of `out`, with slots for as many items as there
-/// are pairs, and writes its length in bytes to `len`. BAD_LENGTHS, BAD_PERCENT and CAPACITY leave
-/// both unchanged, TOO_SMALL leaves `out` unchanged. Allocates nothing.
-pub fn build(
-    layout: AnyLayout,
-    count: usize,
-    keys: &[u8],
-    values: &[u8],
-    max_load_factor_percent: u8,
-    out: &mut [u8],
-    len: &mut usize,
-) -> u32 {
-    let percent = max_load_factor_percent;
-    with_hash!(layout, build_by(count, keys, values, percent, out, len))
 }
 
 // The build of `count` pairs in memory of its own.
@@ -112,7 +99,11 @@ fn grow_pieces<H: HashFn>(
     hand_out(table.raw_bytes(), out, len)
 }
 
-fn build_growing_by<H: HashFn>(
+/// Builds a table of `count` pairs in memory of its own, which starts with sixteen slots at 87
+/// percent and grows, and copies it to the front of `out`. BAD_LENGTHS and MEMORY leave `out` and
+/// `len` unchanged, TOO_SMALL leaves `out` unchanged.
+#[inline(always)]
+pub fn build_growing<H: HashFn>(
     layout: Layout,
     alloc: Global,
     count: usize,
@@ -125,19 +116,4 @@ fn build_growing_by<H: HashFn>(
         return BAD_LENGTHS;
     }
     grow_pieces::<H>(alloc, layout, count, keys, values, out, len)
-}
-
-/// Builds a table of `count` pairs in memory of its own, which starts with sixteen slots at 87
-/// percent and grows, and copies it to the front of `out`. BAD_LENGTHS and MEMORY leave `out` and
-/// `len` unchanged, TOO_SMALL leaves `out` unchanged.
-pub fn build_growing(
-    alloc: Global,
-    layout: AnyLayout,
-    count: usize,
-    keys: &[u8],
-    values: &[u8],
-    out: &mut [u8],
-    len: &mut usize,
-) -> u32 {
-    with_hash!(layout, build_growing_by(alloc, count, keys, values, out, len))
 }

@@ -3,7 +3,6 @@
 
 use super::pieces::{are_pieces, put_piece};
 use super::read::view;
-use super::{with_hash, AnyLayout};
 use crate::generated::calls::status::{status_of, BAD_LENGTHS, OK, TOO_SMALL};
 use crate::generated::tables::hash::HashFn;
 use crate::generated::tables::layout::Layout;
@@ -39,7 +38,12 @@ fn walk_pieces<H: HashFn>(
     OK
 }
 
-fn walk_by<H: HashFn>(
+/// Writes the keys and values in the slots from `cursor` on to the arrays, in slot order, as many
+/// as fit, and to `item_count` how many. `cursor` is then the slot of the first pair that did not
+/// fit (TOO_SMALL), or the slot count where none is left (OK). The arrays take `room` pairs;
+/// BAD_LENGTHS where they have more or fewer bytes. An error leaves everything unchanged.
+#[inline(always)]
+pub fn walk<H: HashFn>(
     layout: Layout,
     bytes: &[u8],
     cursor: &mut usize,
@@ -52,20 +56,4 @@ fn walk_by<H: HashFn>(
         return BAD_LENGTHS;
     }
     walk_pieces::<H>(layout, bytes, cursor, room, keys, values, item_count)
-}
-
-/// Writes the keys and values in the slots from `cursor` on to the arrays, in slot order, as many
-/// as fit, and to `item_count` how many. `cursor` is then the slot of the first pair that did not
-/// fit (TOO_SMALL), or the slot count where none is left (OK). The arrays take `room` pairs;
-/// BAD_LENGTHS where they have more or fewer bytes. An error leaves everything unchanged.
-pub fn walk(
-    layout: AnyLayout,
-    bytes: &[u8],
-    cursor: &mut usize,
-    room: usize,
-    keys: &mut [u8],
-    values: &mut [u8],
-    item_count: &mut usize,
-) -> u32 {
-    with_hash!(layout, walk_by(bytes, cursor, room, keys, values, item_count))
 }

@@ -2,82 +2,18 @@
 //! The calls that write a dynamic table.
 
 use super::read::view;
-use super::{with_hash, AnyLayout};
 use crate::generated::calls::status::{
-    status_of, BAD_LAYOUT, BAD_LENGTHS, BAD_PERCENT, CAPACITY, LOAD_FACTOR_TOO_SMALL, OK, REPLACED,
-    TOO_SMALL,
+    status_of, BAD_LENGTHS, CAPACITY, LOAD_FACTOR_TOO_SMALL, OK, REPLACED, TOO_SMALL,
 };
-use crate::generated::tables::bytes::{Borrowed, BorrowedMut};
-use crate::generated::tables::dynamic::{DynError, DynTable};
 use crate::generated::tables::error::Error;
 use crate::generated::tables::hash::HashFn;
 use crate::generated::tables::layout::Layout;
-use crate::generated::tables::load::Percent;
 use crate::generated::tables::memory_layout::{insert_dynamic_into, Header, LEAST_FACTOR};
 
-fn bytes_needed_by<H: HashFn>(
-    layout: Layout,
-    max_item_count: usize,
-    max_load_factor_percent: u8,
-    len: &mut usize,
-) -> u32 {
-    let Some(percent) = Percent::new(max_load_factor_percent) else {
-        return BAD_PERCENT;
-    };
-    match DynTable::<H, Borrowed<'_>>::bytes_needed(layout, max_item_count, percent.value()) {
-        Some(needed) => {
-            *len = needed;
-            OK
-        }
-        None => CAPACITY,
-    }
-}
-
-/// Writes to `len` how many bytes a new table for that many items has. An error leaves `len`
-/// unchanged.
-pub fn bytes_needed(
-    layout: AnyLayout,
-    max_item_count: usize,
-    max_load_factor_percent: u8,
-    len: &mut usize,
-) -> u32 {
-    with_hash!(layout, bytes_needed_by(max_item_count, max_load_factor_percent, len))
-}
-
-pub(crate) fn init_by<H: HashFn>(
-    layout: Layout,
-    bytes: &mut [u8],
-    max_item_count: usize,
-    max_load_factor_percent: u8,
-) -> u32 {
-    let Some(percent) = Percent::new(max_load_factor_percent) else {
-        return BAD_PERCENT;
-    };
-    let mut store = BorrowedMut::new(bytes);
-    match DynTable::<H, BorrowedMut<'_>>::init_store(
-        layout,
-        &mut store,
-        max_item_count,
-        percent.value(),
-    ) {
-        Ok(()) => OK,
-        Err(DynError::Rejected(refused)) => status_of(&refused),
-        Err(_) => BAD_LAYOUT,
-    }
-}
-
-/// Makes an empty table for that many items in the bytes, whatever they hold. An error leaves them
-/// unchanged.
-pub fn init(
-    layout: AnyLayout,
-    bytes: &mut [u8],
-    max_item_count: usize,
-    max_load_factor_percent: u8,
-) -> u32 {
-    with_hash!(layout, init_by(bytes, max_item_count, max_load_factor_percent))
-}
-
-fn insert_by<H: HashFn>(
+/// Gives the key this value. A value that it had before is written to `former`. BAD_LENGTHS where
+/// the key, the value or `former` has another length than the layout says. An error leaves the
+/// bytes and `former` unchanged.
+pub fn insert<H: HashFn>(
     layout: Layout,
     bytes: &mut [u8],
     key: &[u8],
@@ -104,20 +40,10 @@ fn inserted_status(told: Result<bool, Error>) -> u32 {
     }
 }
 
-/// Gives the key this value. A value that it had before is written to `former`. BAD_LENGTHS where
-/// the key, the value or `former` has another length than the layout says. An error leaves the
-/// bytes and `former` unchanged.
-pub fn insert(
-    layout: AnyLayout,
-    bytes: &mut [u8],
-    key: &[u8],
-    value: &[u8],
-    former: &mut [u8],
-) -> u32 {
-    with_hash!(layout, insert_by(bytes, key, value, former))
-}
-
-fn grow_by<H: HashFn>(layout: Layout, bytes: &[u8], out: &mut [u8], len: &mut usize) -> u32 {
+/// Writes the table that the one in `bytes` grows into to the front of `out`, and its length in
+/// bytes to `len`. TOO_SMALL leaves `out` unchanged, any other error leaves both unchanged.
+#[inline(always)]
+pub fn grow<H: HashFn>(layout: Layout, bytes: &[u8], out: &mut [u8], len: &mut usize) -> u32 {
     let table = match view::<H>(layout, bytes) {
         Ok(table) => table,
         Err(refused) => return status_of(&refused),
@@ -135,10 +61,4 @@ fn grow_by<H: HashFn>(layout: Layout, bytes: &[u8], out: &mut [u8], len: &mut us
     }
     table.grow_into(&mut out[..needed]);
     OK
-}
-
-/// Writes the table that the one in `bytes` grows into to the front of `out`, and its length in
-/// bytes to `len`. TOO_SMALL leaves `out` unchanged, any other error leaves both unchanged.
-pub fn grow(layout: AnyLayout, bytes: &[u8], out: &mut [u8], len: &mut usize) -> u32 {
-    with_hash!(layout, grow_by(bytes, out, len))
 }

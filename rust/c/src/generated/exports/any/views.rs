@@ -5,8 +5,12 @@
 //! they are after `open_view` with the same lengths. Calls that take a layout return `BAD_LAYOUT`
 //! as the other exports do.
 
-use crate::generated::calls::any::{view, AnyLayout};
-use crate::generated::calls::view::View;
+use crate::generated::calls::any::view::{contains, get, get_all};
+use crate::generated::calls::any::{has_hash, AnyLayout, FX, UNHASH, XXH64};
+use crate::generated::calls::status::BAD_LAYOUT;
+use crate::generated::calls::view::{len, open, View};
+use crate::generated::tables::hash::HashFn;
+use crate::generated::tables::layout::Layout;
 
 /// Opens the bytes as `open` does, makes `view` a view of them, and returns 0. Otherwise returns
 /// an error of the header, the length or the first ten slots. Then `view` is unchanged.
@@ -18,7 +22,7 @@ pub unsafe extern "C" fn odht_any_open_view<'a>(
     view: &mut View<'a>,
 ) -> u32 {
     let bytes = unsafe { crate::lists::list(bytes, bytes_len) };
-    view::open(*layout, bytes, view)
+    with_hash!(*layout, open::<Layout>(bytes, view))
 }
 
 /// Writes the value of a key in an opened table to `value`, and returns 0. Returns `ABSENT` if the
@@ -35,7 +39,7 @@ pub unsafe extern "C" fn odht_any_view_get(
 ) -> u32 {
     let key = unsafe { crate::lists::list(key, key_len) };
     let value = unsafe { crate::lists::list_mut(value, value_len) };
-    view::get(*layout, view, key, value)
+    with_hash!(*layout, get(view.bytes, key, value))
 }
 
 /// Returns 0 if the key is present in an opened table, and `ABSENT` if it is absent. Returns
@@ -48,7 +52,7 @@ pub unsafe extern "C" fn odht_any_view_contains(
     key_len: usize,
 ) -> u32 {
     let key = unsafe { crate::lists::list(key, key_len) };
-    view::contains(*layout, view, key)
+    with_hash!(*layout, contains(view.bytes, key))
 }
 
 /// Looks up `count` keys in an opened table, and returns 0. If the key at an index is present,
@@ -70,7 +74,7 @@ pub unsafe extern "C" fn odht_any_view_get_all(
     let keys = unsafe { crate::lists::list(keys, keys_len) };
     let values = unsafe { crate::lists::list_mut(values, values_len) };
     let found = unsafe { crate::lists::list_mut(found, found_len) };
-    view::get_all(*layout, view, count, keys, values, found)
+    with_hash!(*layout, get_all(view.bytes, count, keys, values, found))
 }
 
 /// Returns the item count in the header of an opened table. If the bytes are valid, this is the
@@ -79,5 +83,5 @@ pub unsafe extern "C" fn odht_any_view_get_all(
 /// depend on the lengths.
 #[unsafe(no_mangle)]
 pub unsafe extern "C" fn odht_any_view_len(view: &View<'_>) -> usize {
-    view::len(view)
+    len(view)
 }

@@ -11,8 +11,15 @@ use crate::generated::calls::status::BAD_LENGTHS;
 use crate::generated::calls::view::{self, View};
 use crate::generated::calls::{build, grow, order, places, read, walk, write};
 use crate::generated::tables::bytes::BorrowedMut;
+use crate::generated::tables::config::Config;
 use crate::generated::tables::configs::Bytes8Set as Shape;
+use crate::generated::tables::layout::Fixed;
 use crate::shim::Global;
+
+// The lengths of keys and values, and the hash function.
+type Sizes = Fixed<<Shape as Config>::EncodedKey, <Shape as Config>::EncodedValue>;
+
+type Hash = <Shape as Config>::H;
 
 /// Writes the length in bytes of a new table for that number of items to `len`, and returns 0.
 /// Returns `BAD_PERCENT` if the load factor is not from 1 to 100 percent. Returns `CAPACITY` if no
@@ -23,7 +30,8 @@ pub unsafe extern "C" fn odht_b8_bytes_needed(
     max_load_factor_percent: u8,
     len: &mut usize,
 ) -> u32 {
-    write::bytes_needed::<Shape>(max_item_count, max_load_factor_percent, len)
+    let sizes = Sizes::new();
+    write::bytes_needed::<Sizes, Hash>(sizes, max_item_count, max_load_factor_percent, len)
 }
 
 /// Makes an empty table for that number of items in the bytes, and returns 0. The former content
@@ -37,8 +45,8 @@ pub unsafe extern "C" fn odht_b8_init(
     max_load_factor_percent: u8,
 ) -> u32 {
     let bytes = unsafe { crate::lists::list_mut(bytes, bytes_len) };
-    let mut store = BorrowedMut::new(bytes);
-    write::init::<Shape, BorrowedMut<'_>>(&mut store, max_item_count, max_load_factor_percent)
+    let sizes = Sizes::new();
+    write::init::<Sizes, Hash>(sizes, bytes, max_item_count, max_load_factor_percent)
 }
 
 /// Returns 0 if the bytes can be opened. Otherwise returns the number of the first error,
@@ -47,7 +55,7 @@ pub unsafe extern "C" fn odht_b8_init(
 #[unsafe(no_mangle)]
 pub unsafe extern "C" fn odht_b8_open(bytes: *const u8, bytes_len: usize) -> u32 {
     let bytes = unsafe { crate::lists::list(bytes, bytes_len) };
-    read::open::<Shape>(bytes)
+    read::open::<Sizes, Hash>(Sizes::new(), bytes)
 }
 
 /// Returns 0 exactly if the bytes are valid. Otherwise returns the number of the first error of
@@ -56,7 +64,7 @@ pub unsafe extern "C" fn odht_b8_open(bytes: *const u8, bytes_len: usize) -> u32
 #[unsafe(no_mangle)]
 pub unsafe extern "C" fn odht_b8_check(bytes: *const u8, bytes_len: usize) -> u32 {
     let bytes = unsafe { crate::lists::list(bytes, bytes_len) };
-    read::check::<Shape>(bytes)
+    read::check::<Sizes, Hash>(Sizes::new(), bytes, None)
 }
 
 /// Works like `check`, with a bound for searches. Returns 0 exactly if the bytes are valid and
@@ -71,7 +79,7 @@ pub unsafe extern "C" fn odht_b8_check_within(
     groups: usize,
 ) -> u32 {
     let bytes = unsafe { crate::lists::list(bytes, bytes_len) };
-    read::check_within::<Shape>(bytes, groups)
+    read::check::<Sizes, Hash>(Sizes::new(), bytes, Some(groups))
 }
 
 /// Works like `open`, and writes the slot of the first error to `slot`. With an error of the
@@ -84,7 +92,7 @@ pub unsafe extern "C" fn odht_b8_open_at(
     slot: &mut usize,
 ) -> u32 {
     let bytes = unsafe { crate::lists::list(bytes, bytes_len) };
-    places::open_at::<Shape>(bytes, slot)
+    places::open_at::<Sizes, Hash>(Sizes::new(), bytes, slot)
 }
 
 /// Works like `check`, and writes the slot of the first error to `slot`: that of an entry, of a
@@ -98,7 +106,7 @@ pub unsafe extern "C" fn odht_b8_check_at(
     slot: &mut usize,
 ) -> u32 {
     let bytes = unsafe { crate::lists::list(bytes, bytes_len) };
-    places::check_at::<Shape>(bytes, slot)
+    places::check_at::<Sizes, Hash>(Sizes::new(), bytes, None, slot)
 }
 
 /// Works like `check_within`, and writes the slot of the first error to `slot`, as `check_at`
@@ -112,7 +120,7 @@ pub unsafe extern "C" fn odht_b8_check_within_at(
     slot: &mut usize,
 ) -> u32 {
     let bytes = unsafe { crate::lists::list(bytes, bytes_len) };
-    places::check_within_at::<Shape>(bytes, groups, slot)
+    places::check_at::<Sizes, Hash>(Sizes::new(), bytes, Some(groups), slot)
 }
 
 /// Inserts a key with its value. Returns 0 if the key was new. If the key was present, replaces
@@ -202,7 +210,7 @@ pub unsafe extern "C" fn odht_b8_len(
     item_count: &mut usize,
 ) -> u32 {
     let bytes = unsafe { crate::lists::list(bytes, bytes_len) };
-    read::len::<Shape>(bytes, item_count)
+    read::len::<Sizes, Hash>(Sizes::new(), bytes, item_count)
 }
 
 /// Writes the header's slot count, the maximum number of items for it, and the header's load
@@ -217,7 +225,13 @@ pub unsafe extern "C" fn odht_b8_sizes(
     max_load_factor_percent: &mut u8,
 ) -> u32 {
     let bytes = unsafe { crate::lists::list(bytes, bytes_len) };
-    read::sizes::<Shape>(bytes, slot_count, max_item_count, max_load_factor_percent)
+    read::sizes::<Sizes, Hash>(
+        Sizes::new(),
+        bytes,
+        slot_count,
+        max_item_count,
+        max_load_factor_percent,
+    )
 }
 
 /// Computes the length in bytes of the table at the start of the bytes from its header, writes it
@@ -231,7 +245,7 @@ pub unsafe extern "C" fn odht_b8_table_len(
     len: &mut usize,
 ) -> u32 {
     let bytes = unsafe { crate::lists::list(bytes, bytes_len) };
-    read::table_len::<Shape>(bytes, len)
+    read::table_len::<Sizes, Hash>(Sizes::new(), bytes, len)
 }
 
 /// Writes keys and values to the arrays, in slot order from the slot `cursor` on, until the arrays
@@ -268,7 +282,7 @@ pub unsafe extern "C" fn odht_b8_open_view<'a>(
     view: &mut View<'a>,
 ) -> u32 {
     let bytes = unsafe { crate::lists::list(bytes, bytes_len) };
-    view::open::<Shape>(bytes, view)
+    view::open::<Sizes, Hash>(Sizes::new(), bytes, view)
 }
 
 /// Writes the value of a key in an opened table to `value`, and returns 0. Returns `ABSENT` if the
@@ -328,7 +342,7 @@ pub unsafe extern "C" fn odht_b8_insert_order(
 ) -> u32 {
     let bytes = unsafe { crate::lists::list(bytes, bytes_len) };
     let out = unsafe { crate::lists::list_mut(out, out_len) };
-    order::insert_order::<Shape>(bytes, out)
+    order::insert_order::<Sizes, Hash>(Sizes::new(), bytes, out, &mut [])
 }
 
 /// Writes a larger copy of the table in `bytes` to the start of `out`, its length in bytes to

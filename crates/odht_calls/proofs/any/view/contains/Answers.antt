@@ -4,7 +4,7 @@ use Rattle.odht_raw.specs.DynParts.{bytes_coding}
 use Rattle.odht.specs.Gets.{IsGet}
 use Rattle.odht_calls.specs.Layouts.{IsFoundBy}
 use Rattle.odht_calls.proofs.lemmas.Layouts.{opened}
-use Rattle.odht_calls.proofs.any.view.contains_by.Goals as goal
+use Rattle.odht_calls.proofs.any.view.contains.Goals as goal
 
 pub returns-in-Some : goal.returns-in-Some
 returns-in-Some g c =

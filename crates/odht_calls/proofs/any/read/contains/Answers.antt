@@ -6,7 +6,7 @@ use Rattle.odht_calls.specs.Layouts.{IsFoundBy}
 use Rattle.odht_calls.proofs.lemmas.Layouts.{opened}
 use Rattle.odht_calls.proofs.lemmas.Opened.{never_refused}
 use Rattle.odht_calls.proofs.lemmas.Refused.{known, not_none}
-use Rattle.odht_calls.proofs.any.read.contains_by.Goals as goal
+use Rattle.odht_calls.proofs.any.read.contains.Goals as goal
 
 pub returns-in-Err : goal.returns-in-Err
 returns-in-Err g c =

@@ -1,9 +1,9 @@
-use Rattle.std.proofs.Common.{rules, ◌≡◌, ◌≤◌}
+use Rattle.std.proofs.Common.{rules, ◌≤◌}
 use Rattle.odht_base.specs.Format.{Format, IsFormat, format_of}
 use Rattle.odht_header.proofs.lemmas.Formats.{IsFormat-format_of}
 use Rattle.odht_calls.proofs.lemmas.InsertedInto.{into_answers}
 use Rattle.odht_calls.proofs.lemmas.Refused.{refused_insert}
-use Rattle.odht_calls.proofs.any.write.insert_by.Goals as goal
+use Rattle.odht_calls.proofs.any.write.insert.Goals as goal
 
 pub returns-in-Err-clause-answers : goal.returns-in-Err-clause-answers
 returns-in-Err-clause-answers g c = record {
