@@ -15,7 +15,7 @@ int main(void)
     if (bytes == NULL || odht_u64_u32_init(bytes, length, 3, 95) != ODHT_OK) return 1;
     if (odht_u64_u32_insert(bytes, length, 1, 2, NULL) != ODHT_OK) return 1;
     if (odht_u64_u32_insert(bytes, length, 1, 5, &former) != ODHT_REPLACED) return 1;           /* former is 2 */
-    if (odht_u64_u32_open_view(bytes, length, &view) != ODHT_OK) return 1;      /* header, length, ten slots */
+    if (odht_u64_u32_open_view(bytes, length, &view) != ODHT_OK) return 1;      /* checks header and ten slots */
     if (odht_u64_u32_view_get(&view, 1, &value) != ODHT_OK) return 1;                            /* value is 5 */
 
     if (former != 2 || value != 5) return 1;
