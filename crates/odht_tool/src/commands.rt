@@ -271,7 +271,8 @@ where
             )
         }
         Reading::Count {
-            is_checked: false, ..
+            is_checked: false,
+            ..
         } => {
             let Some((source, len)) = positions::open_regular(rt, file) else {
                 return Ok(None);

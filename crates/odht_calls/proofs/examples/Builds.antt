@@ -74,9 +74,10 @@ build_other_status_refused h = unequal 7 20 refl (h.refused refl seven (unequal 
 -- without a slot count nothing is written
 pub build_capacity_written_refused : (BuildAnswers direct_coding (5 ∷ []) (7 ∷ []) 7 [] 4 20 (7 ∷ []) 4 → ⊥)
     × (BuildAnswers direct_coding (5 ∷ []) (7 ∷ []) 7 [] 4 20 [] 0 → ⊥)
-build_capacity_written_refused =
-    (λ h. unequal_lists (7 ∷ []) [] refl (h.refused refl seven (unequal 20 0 refl) (unequal 20 36 refl)).1,
-    λ h. unequal 0 4 refl (h.refused refl seven (unequal 20 0 refl) (unequal 20 36 refl)).2)
+build_capacity_written_refused = (
+  λ h. unequal_lists (7 ∷ []) [] refl (h.refused refl seven (unequal 20 0 refl) (unequal 20 36 refl)).1,
+  λ h. unequal 0 4 refl (h.refused refl seven (unequal 20 0 refl) (unequal 20 36 refl)).2,
+)
 
 -- one pair is not too many
 pub build_capacity_refused : BuildAnswers direct_coding (5 ∷ []) (7 ∷ []) 7 nines 4 20 nines 4 → ⊥
@@ -125,6 +126,7 @@ growing_other_status_refused h = unequal 20 19 refl (h.refused refl (unequal 20 
 -- and out of memory nothing is written
 pub growing_memory_written_refused : (BuildGrowingAnswers direct_coding (5 ∷ []) (7 ∷ []) [] 4 19 (7 ∷ []) 4 → ⊥)
     × (BuildGrowingAnswers direct_coding (5 ∷ []) (7 ∷ []) [] 4 19 [] 0 → ⊥)
-growing_memory_written_refused =
-    (λ h. unequal_lists (7 ∷ []) [] refl (h.refused refl (unequal 19 0 refl) (unequal 19 36 refl)).1,
-    λ h. unequal 0 4 refl (h.refused refl (unequal 19 0 refl) (unequal 19 36 refl)).2)
+growing_memory_written_refused = (
+  λ h. unequal_lists (7 ∷ []) [] refl (h.refused refl (unequal 19 0 refl) (unequal 19 36 refl)).1,
+  λ h. unequal 0 4 refl (h.refused refl (unequal 19 0 refl) (unequal 19 36 refl)).2,
+)

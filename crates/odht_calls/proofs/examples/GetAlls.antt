@@ -48,9 +48,10 @@ lengths_status_refused h = unequal 0 35 refl (h.lengths (λ long. unequal 0 1 re
 -- and neither the values nor what was found change
 pub lengths_written_refused : (GetAllAnswers direct_coding one_bytes (5 ∷ []) [] (3 ∷ []) 35 (7 ∷ []) (3 ∷ []) → ⊥)
     × (GetAllAnswers direct_coding one_bytes (5 ∷ []) (9 ∷ []) [] 35 (9 ∷ []) (1 ∷ []) → ⊥)
-lengths_written_refused =
-    (λ h. unequal_lists (7 ∷ []) [] refl (h.lengths (λ long. unequal 0 1 refl long.0)).1,
-    λ h. unequal_lists (1 ∷ []) [] refl (h.lengths (λ long. unequal 0 1 refl long.1)).2)
+lengths_written_refused = (
+  λ h. unequal_lists (7 ∷ []) [] refl (h.lengths (λ long. unequal 0 1 refl long.0)).1,
+  λ h. unequal_lists (1 ∷ []) [] refl (h.lengths (λ long. unequal 0 1 refl long.1)).2,
+)
 
 -- ---- refused
 -- an error is not answered with another status
@@ -62,9 +63,10 @@ refusal_all_status_refused h = unequal 2 1 refl (h.refused (TooShort 0) (refl, r
 pub refusal_all_written_refused : (GetAllAnswers direct_coding [] (5 ∷ []) (9 ∷ []) (3 ∷ []) 1 (7 ∷ []) (3 ∷ []) → ⊥)
     × (GetAllAnswers direct_coding [] (5 ∷ []) (9 ∷ []) (3 ∷ []) 1 (9 ∷ []) (1 ∷ []) → ⊥)
 unfolding opened
-refusal_all_written_refused =
-    (λ h. unequal_lists (7 ∷ []) (9 ∷ []) refl (h.refused (TooShort 0) (refl, refl) refl).1,
-    λ h. unequal_lists (1 ∷ []) (3 ∷ []) refl (h.refused (TooShort 0) (refl, refl) refl).2)
+refusal_all_written_refused = (
+  λ h. unequal_lists (7 ∷ []) (9 ∷ []) refl (h.refused (TooShort 0) (refl, refl) refl).1,
+  λ h. unequal_lists (1 ∷ []) (3 ∷ []) refl (h.refused (TooShort 0) (refl, refl) refl).2,
+)
 
 -- ---- accepted
 -- accepted bytes are answered with ODHT_OK, also where the one key is found

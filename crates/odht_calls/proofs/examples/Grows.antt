@@ -135,9 +135,10 @@ grow_status_refused h = unequal 20 10 refl (h.refused (LoadFactorTooSmall 654) r
 pub grow_written_refused : (GrowAnswers direct_coding weak (9 ∷ []) 4 10 (7 ∷ []) 4 → ⊥)
     × (GrowAnswers direct_coding weak (9 ∷ []) 4 10 (9 ∷ []) 0 → ⊥)
 unfolding opened growth_refusal
-grow_written_refused =
-    (λ h. unequal_lists (7 ∷ []) (9 ∷ []) refl (h.refused (LoadFactorTooSmall 654) refl).1,
-    λ h. unequal 0 4 refl (h.refused (LoadFactorTooSmall 654) refl).2)
+grow_written_refused = (
+  λ h. unequal_lists (7 ∷ []) (9 ∷ []) refl (h.refused (LoadFactorTooSmall 654) refl).1,
+  λ h. unequal 0 4 refl (h.refused (LoadFactorTooSmall 654) refl).2,
+)
 
 -- too few bytes are not answered with ODHT_OK
 pub grow_short_status_refused : GrowAnswers direct_coding one_bytes (9 ∷ []) 4 0 (9 ∷ []) 336 → ⊥
@@ -148,9 +149,10 @@ grow_short_status_refused h = unequal 0 36 refl (h.short 336 refl refl (lit< tt)
 pub grow_short_written_refused : (GrowAnswers direct_coding one_bytes (9 ∷ []) 4 36 (79 ∷ []) 336 → ⊥)
     × (GrowAnswers direct_coding one_bytes (9 ∷ []) 4 36 (9 ∷ []) 4 → ⊥)
 unfolding opened growth_refusal grown_len
-grow_short_written_refused =
-    (λ h. unequal_lists (79 ∷ []) (9 ∷ []) refl (h.short 336 refl refl (lit< tt)).1,
-    λ h. unequal 4 336 refl (h.short 336 refl refl (lit< tt)).2)
+grow_short_written_refused = (
+  λ h. unequal_lists (79 ∷ []) (9 ∷ []) refl (h.short 336 refl refl (lit< tt)).1,
+  λ h. unequal 4 336 refl (h.short 336 refl refl (lit< tt)).2,
+)
 
 -- enough bytes are not answered with ODHT_TOO_SMALL
 pub grow_done_status_refused : GrowAnswers direct_coding one_bytes nines 4 36 nines 336 → ⊥

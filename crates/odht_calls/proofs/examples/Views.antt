@@ -155,9 +155,10 @@ view_lengths_status_refused h = unequal 0 35 refl (h.lengths (λ long. unequal 0
 -- and neither the values nor what was found change
 pub view_lengths_written_refused : (ViewGetAllAnswers direct_coding one_bytes (5 ∷ []) [] (3 ∷ []) 35 (7 ∷ []) (3 ∷ []) → ⊥)
     × (ViewGetAllAnswers direct_coding one_bytes (5 ∷ []) (9 ∷ []) [] 35 (9 ∷ []) (1 ∷ []) → ⊥)
-view_lengths_written_refused =
-    (λ h. unequal_lists (7 ∷ []) [] refl (h.lengths (λ long. unequal 0 1 refl long.0)).1,
-    λ h. unequal_lists (1 ∷ []) [] refl (h.lengths (λ long. unequal 0 1 refl long.1)).2)
+view_lengths_written_refused = (
+  λ h. unequal_lists (7 ∷ []) [] refl (h.lengths (λ long. unequal 0 1 refl long.0)).1,
+  λ h. unequal_lists (1 ∷ []) [] refl (h.lengths (λ long. unequal 0 1 refl long.1)).2,
+)
 
 -- arrays of one length are answered with ODHT_OK, also where the one key is found
 pub view_all_status_refused : ViewGetAllAnswers direct_coding one_bytes (5 ∷ []) (9 ∷ []) (3 ∷ []) 32 (7 ∷ []) (1 ∷ []) → ⊥
