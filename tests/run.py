@@ -118,6 +118,8 @@ def generated(part):
         part.run("sh", "crates/odht_c/exports/statuses.sh"),
         part.run("sh", "examples/quoted.sh"),
     ]
+    if kit.folder():
+        ran.append(part.run(sys.executable, "tools/formatted.py"))
     faults = [printed for status, printed in ran if status]
     passed, failed, printed = part.counted(sys.executable, "tests/rust.py", "current")
     return len(ran) - len(faults) + passed, len(faults) + failed, "".join([*faults, printed] if failed else faults)
