@@ -55,13 +55,7 @@ pub mod Plain
 pub mod Stored
 -- lists of inserts into an owned table
 pub mod PlainLists
--- what the clauses of an owned table say of its bytes
-pub mod PlainBytes
--- room for more, of bytes and of their table
-pub mod PlainReserves
 -- inserts in turn into the plain table of an owned table
 pub mod PlainRuns
 -- the owned table of lengths that are known only at run time, as its plain table
 pub mod DynPlain
--- what its clauses say of its bytes
-pub mod DynPlainBytes

@@ -8,11 +8,9 @@
 --     IsInsertIntoAny c B k v r B'   an insert of the key k with the value v into any bytes B returns r and leaves the
 --                          bytes B'. It overwrites one value, adds one entry or fails, and no other byte changes
 --                          (`frame`); its only error is `Full` (`only_full`); header and length still fit (`accepted`)
---     IsInsertOwned c P k v r B    IsInsertInto in a table that grows: it fails at most where P is at its maximum and has no
---                          such key (`at_maximum`)
 use Rattle.std.specs.Prelude.{◌≡◌, ◌↔◌, ℕ, List, Option, Some, Result, Err, bytes_eq, if◌then◌else◌, IfOk, OnOk, OnErr}
 use Rattle.odht_base.specs.Format.{Format}
-use Rattle.odht_base.specs.Insert.{insert_owned, insert_view, IsFullFor}
+use Rattle.odht_base.specs.Insert.{insert_view, IsFullFor}
 use Rattle.odht_base.specs.Map.{map_of}
 use Rattle.odht_base.specs.Table.{Pair, Table, fresh}
 use Rattle.odht_base.specs.Valid.{IsImage}
@@ -41,8 +39,3 @@ pub record IsInsertIntoAny {K V : Type 0} (c : Coding K V) (B : List ℕ) (k : K
   pub frame : IsFramed c B k v r B'
   pub only_full : OnErr r (r ≡ Err Full)
   pub accepted : IsAccepted c.format B'
-
-pub record IsInsertOwned {K V : Type 0} (c : Coding K V) (P : Table) (k : K) (v : V) (r : Result (Option V) Error) (B : List ℕ) : Type 0 where
-  pub former : IfOk r (λ former. former ≡ value_for c P k)
-  pub inserted : OnOk r (IsInserted c.format (insert_owned c.format) P (encoded c k v) B)
-  pub at_maximum : OnErr r (IsFullFor P (c.key_bytes k))

@@ -3,14 +3,12 @@
 --     IsLastItem items k v     some item has the key k and the value v, and no later one has this key
 --     IsLastValue items k o    o is the value of the last item with the key k, None where no item has it
 --     HasLastValues c items B  B are the bytes of a table whose map has the last values of the items, as bytes
---     IsCollected c p items B  B are the bytes of the fresh table for as many items at p percent, after the inserts of the
---                              items into it, so it has their last values
 use Rattle.std.specs.Prelude.{◌≡◌, ◌≢◌, ℕ, List, ◌∷◌, ◌++◌, Option, Some, None, All}
 use Rattle.odht_base.specs.Map.{map_of, last}
 use Rattle.odht_base.specs.Table.{Table}
 use Rattle.odht_base.specs.Valid.{IsImage}
 use Rattle.odht_header.specs.Coding.{Coding}
-use Rattle.odht.specs.Lists.{encoded_all, IsFreshAfterInserts}
+use Rattle.odht.specs.Lists.{encoded_all}
 
 abbrev pub HasNoKey : {K V : Type 0} → List (K × V) → K → Type 0
 HasNoKey items k = All (λ item. item.0 ≢ k) items
@@ -29,7 +27,3 @@ pub record HasLastValues {K V : Type 0} (c : Coding K V) (items : List (K × V))
   pub table : Table
   pub image : IsImage c.format table B
   pub maps : (k : List ℕ) → map_of table k ≡ last (encoded_all c items) k
-
-pub record IsCollected {K V : Type 0} (c : Coding K V) (percent : ℕ) (items : List (K × V)) (B : List ℕ) : Type 0 where
-  pub inserted : IsFreshAfterInserts c percent items B
-  pub last_values : HasLastValues c items B

@@ -5,21 +5,15 @@
 --                          more changes than the accepted inserts may change (`framed`), header and length still fit
 --                          (`accepted`), and an insert of the item that failed may fail (`stopped`); there is no other
 --                          error than `Full`, and it stays the same store
---     IsOwnedList c before after items r  of inserts into an owned table, from bytes to bytes: it is the table after
---                          the accepted ones (`inserted`), which is full for the item that failed (`at_maximum`); a
---                          fresh table that accepted all has the last values (`last_values`), and has not grown where
---                          it was made for as many (`fresh`); there is no other error than `Memory`
-use Rattle.std.specs.Prelude.{◌≡◌, ◌↔◌, ◌≤◌, ℕ, List, length, take, Result, Err, IsOk, OnOk, OnErr}
-use Rattle.odht_base.specs.Insert.{insert_view, insert_owned}
+use Rattle.std.specs.Prelude.{◌≡◌, ◌↔◌, ◌≤◌, ℕ, List, length, take, Result, Err, IsOk, OnErr}
+use Rattle.odht_base.specs.Insert.{insert_view}
 use Rattle.odht_base.specs.Table.{Table}
 use Rattle.odht_base.specs.Valid.{IsImage}
 use Rattle.odht_header.specs.Coding.{Coding}
 use Rattle.odht_header.specs.declared.error.Error.{Error}
-use Rattle.odht_header.specs.declared.error.Error.TheVariants.{Full, Memory}
+use Rattle.odht_header.specs.declared.error.Error.TheVariants.{Full}
 use Rattle.odht_raw.specs.Frame.{IsAccepted}
-use Rattle.odht.specs.Inserts.{IsFresh}
-use Rattle.odht.specs.LastValues.{HasLastValues}
-use Rattle.odht.specs.Lists.{encoded_all, IsAfterInserts, IsFreshAfterInserts, IsFramedRun, IsRefusedAt, IsStoppedAt}
+use Rattle.odht.specs.Lists.{encoded_all, IsAfterInserts, IsFramedRun, IsRefusedAt, IsStoppedAt}
 
 pub record IsViewList {K V D : Type 0} (c : Coding K V) (bytes : D → List ℕ) (holding : D → List ℕ → D) (before after : D) (items : List (K × V)) (r : ℕ × Result Unit Error) : Type 0 where
   pub bound : r.0 ≤ length items
@@ -31,12 +25,3 @@ pub record IsViewList {K V D : Type 0} (c : Coding K V) (bytes : D → List ℕ)
   pub at_maximum : (P : Table) → IsImage c.format P (bytes after) → OnErr r.1 (IsRefusedAt c P items r.0)
   pub stopped : OnErr r.1 (IsStoppedAt c items r.0 (bytes after))
   pub only_full : OnErr r.1 (r.1 ≡ Err Full)
-
-pub record IsOwnedList {K V : Type 0} (c : Coding K V) (before after : List ℕ) (items : List (K × V)) (r : ℕ × Result Unit Error) : Type 0 where
-  pub bound : r.0 ≤ length items
-  pub all : IsOk r.1 ↔ (r.0 ≡ length items)
-  pub inserted : (P : Table) → IsImage c.format P before → IsAfterInserts c.format (insert_owned c.format) P (encoded_all c (take r.0 items)) after
-  pub fresh : (p : ℕ) → IsFresh c.format (length items) p before → OnOk r.1 (IsFreshAfterInserts c p items after)
-  pub last_values : (n p : ℕ) → IsFresh c.format n p before → OnOk r.1 (HasLastValues c items after)
-  pub at_maximum : (P : Table) → IsImage c.format P after → OnErr r.1 (IsRefusedAt c P items r.0)
-  pub memory : OnErr r.1 (r.1 ≡ Err Memory)

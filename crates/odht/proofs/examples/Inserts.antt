@@ -1,5 +1,5 @@
 -- Worked examples: what a new table is, and what an insert leaves.
-use Rattle.std.proofs.Common.{◌≡◌, ◌∙◌, Bool, true, false, refl, sym, ap, arith, [], Some, None, Ok, Err, option_map, if◌then◌else◌, bytes_eq}
+use Rattle.std.proofs.Common.{◌≡◌, ◌∙◌, Bool, true, false, refl, sym, ap, arith, Some, None, Ok, Err, option_map, if◌then◌else◌, bytes_eq, []}
 use Rattle.std.proofs.lemmas.Option.{none-some}
 use Rattle.odht_base.specs.Insert.{insert_owned}
 use Rattle.odht_base.specs.Load.{factor_of}
@@ -9,11 +9,11 @@ use Rattle.odht_base.specs.Table.{Pair, Table, empty}
 use Rattle.odht_base.proofs.lemmas.Options.{some_same}
 use Rattle.odht_base.proofs.examples.Configs.{my_config, pair64}
 use Rattle.odht_header.specs.Coding.{value_for}
-use Rattle.odht_header.specs.declared.error.Error.TheVariants.{Full, Memory}
+use Rattle.odht_header.specs.declared.error.Error.TheVariants.{Full}
 use Rattle.odht_header.proofs.examples.Opened.{opened}
-use Rattle.odht.specs.Inserts.{IsFresh, IsInserted, IsInsertInto, IsInsertOwned}
+use Rattle.odht.specs.Inserts.{IsFresh, IsInserted, IsInsertInto}
 use Rattle.odht_header.proofs.examples.Apart.{unequal_lists, some_unequal_lists}
-use Rattle.odht.proofs.examples.SmallTables.{number_coding, no_pairs, one_pair, full_of_none, one_of_32, bytes_of, no_pairs_image, one_pair_image, one_of_32_image}
+use Rattle.odht.proofs.examples.SmallTables.{number_coding, no_pairs, one_pair, full_of_none, one_of_32, bytes_of, no_pairs_image, one_pair_image}
 
 -- ---- new tables
 -- sixteen slots at 87 percent
@@ -104,36 +104,3 @@ unfolding opened
 into_full_late h =
     let full = h.full.1 (refl, refl) in
     absurd cc
-
--- ---- inserts into a table that grows
--- a new key
-pub owned_none : IsInsertOwned number_coding no_pairs 1 2 (Ok None) (bytes_of (one_pair 2))
-owned_none = record { former = refl; inserted = a_new_key; at_maximum = tt }
-
--- at the maximum the table grows
-pub owned_full : IsInsertOwned number_coding full_of_none 1 2 (Ok None) (bytes_of (one_of_32 6 2))
-unfolding opened
-owned_full = record {
-  former = refl;
-  inserted = record { table = one_of_32 6 2; inserted = refl; image = one_of_32_image; maps = λ q. go (bytes_eq q (le_bytes 8 1)) };
-  at_maximum = tt;
-}
-  where
-    go : (b : Bool)
-        → option_map (λ (p : Pair). p.value) (if b then Some (pair64 1 2) else None) ≡ (if b then Some (le_bytes 4 2) else None)
-    go true = refl
-    go false = refl
-
--- or fails, whatever the error is
-pub owned_failed : IsInsertOwned number_coding full_of_none 1 2 (Err Memory) (bytes_of full_of_none)
-unfolding opened
-owned_failed = record { former = tt; inserted = tt; at_maximum = (refl, refl) }
-
--- no failure below the maximum
-pub owned_early : IsInsertOwned number_coding no_pairs 1 2 (Err Memory) (bytes_of no_pairs) → ⊥
-unfolding opened
-owned_early h = omega (arith, h.at_maximum.0)
-
--- another former value
-pub owned_former : IsInsertOwned number_coding (one_pair 2) 1 3 (Ok None) (bytes_of (one_pair 3)) → ⊥
-owned_former h = no_former h.former

@@ -1,5 +1,5 @@
 -- Worked examples: lists of items that are inserted in turn.
-use Rattle.std.proofs.Common.{◌≡◌, ◌∙◌, ℕ, Bool, true, false, refl, sym, ap, arith, List, [], ◌∷◌, Option, Some, None, Result, Ok, Err, option_map, lit<, if◌then◌else◌, bytes_eq, lit≤, replicate, ◌++◌}
+use Rattle.std.proofs.Common.{◌≡◌, ◌∙◌, ℕ, Bool, true, false, refl, sym, ap, arith, List, ◌∷◌, Option, Some, None, Result, Ok, Err, option_map, lit<, if◌then◌else◌, bytes_eq, lit≤, replicate, ◌++◌, []}
 use Rattle.std.specs.Option.{option_or}
 use Rattle.std.proofs.lemmas.Option.{none-some}
 use Rattle.odht_base.specs.Insert.{insert_owned, run}
@@ -19,7 +19,6 @@ use Rattle.odht_raw.specs.Frame.{InsertFrame, entries_in}
 use Rattle.odht_header.specs.declared.error.Error.{Error}
 use Rattle.odht_header.specs.declared.error.Error.TheVariants.{Full}
 use Rattle.std.specs.Result.{result_map_both}
-use Rattle.odht.specs.LastValues.{IsCollected}
 use Rattle.odht.specs.Rebuilds.{IsBuilt}
 use Rattle.odht.specs.Lists.{encoded_all, HasSizeOf, IsAfterInserts, IsRefusedAt, IsStoppedAt, IsFreshAfterInserts}
 use Rattle.odht_header.proofs.examples.Apart.{unequal_lists, some_unequal_lists}
@@ -151,18 +150,7 @@ pub larger_start : IsFreshAfterInserts number_coding 87 ((1, 2) ∷ []) (bytes_o
 unfolding opened
 larger_start h = unequal_lists _ _ refl (the_list _ h)
 
--- ---- what is collected, and what is built from scratch
-pub collected : IsCollected number_coding 87 ((1, 2) ∷ []) (bytes_of (one_pair 2))
-unfolding opened
-collected = record { inserted = a_fresh_list; last_values = record { table = one_pair 2; image = one_pair_image.0; maps = λ k. go (bytes_eq k (le_bytes 8 1)) } }
-  where
-    go : (b : Bool) → option_map (λ (p : Pair). p.value) (if b then Some (pair64 1 2) else None) ≡ option_map (λ (p : Pair). p.value) (if b then Some (pair64 1 2) else None)
-    go b = refl
-
--- not in a larger table
-pub collected_wide : IsCollected number_coding 87 ((1, 2) ∷ []) (bytes_of (one_of_32 87 2)) → ⊥
-collected_wide h = larger_start h.inserted
-
+-- ---- what is built from scratch
 -- a table for up to 13 items has sixteen slots
 pub built : IsBuilt number_coding ((1, 2) ∷ []) 13 87 (bytes_of (one_pair 2))
 unfolding opened a_list

@@ -9,8 +9,9 @@ use Rattle.odht_base.proofs.examples.Configs.{my_config, pair64}
 use Rattle.odht_header.proofs.examples.Apart.{unequal_lists}
 use Rattle.odht_header.proofs.examples.Opened.{opened}
 use Rattle.odht_header.specs.declared.error.Error.TheVariants.{Capacity, Memory}
-use Rattle.odht.specs.Reserves.{LacksRoom, has_room_for, moved, reserved, IsMovedImage, IsReserved, IsMove, IsMoveFor, IsReserve}
-use Rattle.odht.proofs.examples.SmallTables.{number_coding, one_pair, one_of_32, bytes_of, one_pair_image, wide_image, only_one_pair}
+use Rattle.odht.specs.Reserves.{LacksRoom, has_room_for, moved, reserved, IsMovedImage, IsMove, IsMoveFor}
+use Rattle.odht.specs.Plain.{IsPlainReserve}
+use Rattle.odht.proofs.examples.SmallTables.{number_coding, one_pair, one_of_32, bytes_of, wide_image, only_one_pair}
 
 -- with one pair twelve more have room, and thirteen have not
 pub rooms : (has_room_for (one_pair 2) 12 ≡ true) × (has_room_for (one_pair 2) 13 ≡ false) × LacksRoom (one_pair 2) 13
@@ -25,7 +26,7 @@ unfolding opened reserved
 tables = (refl, refl, refl, refl)
 
 -- the same map in both
-same : (k : List ℕ) → map_of (one_of_32 87 2) k ≡ map_of (one_pair 2) k
+same : (k : List ℕ) → map_of (one_pair 2) k ≡ map_of (one_of_32 87 2) k
 unfolding opened
 same k = go (bytes_eq k (le_bytes 8 1))
   where
@@ -33,16 +34,7 @@ same k = go (bytes_eq k (le_bytes 8 1))
         → option_map (λ (p : Pair). p.value) (if b then Some (pair64 1 2) else None) ≡ option_map (λ (p : Pair). p.value) (if b then Some (pair64 1 2) else None)
     go b = refl
 
--- room for twelve more is there
-pub stays : IsReserved my_config (one_pair 2) 12 (bytes_of (one_pair 2))
-unfolding opened reserved
-stays = record { table = one_pair 2; is = refl; image = one_pair_image.0; maps = λ k. refl; room = lit≤ tt }
-
--- for thirteen more the pair moves
-pub moves : IsReserved my_config (one_pair 2) 13 (bytes_of (one_of_32 87 2))
-unfolding opened reserved
-moves = record { table = one_of_32 87 2; is = refl; image = wide_image; maps = same; room = lit≤ tt }
-
+-- the bytes of the moved table
 pub moved_image : IsMovedImage my_config (one_pair 2) 32 (bytes_of (one_of_32 87 2))
 unfolding opened
 moved_image = (one_of_32 87 2, refl, wide_image)
@@ -52,12 +44,7 @@ pub move : IsMove my_config (bytes_of (one_pair 2)) 32 (bytes_of (one_of_32 87 2
 unfolding opened moved_image
 move = record { on_valid = λ P is room. subst (λ T. IsMovedImage my_config T 32 (bytes_of (one_of_32 87 2))) (only_one_pair P is) moved_image; accepted = refl }
 
--- a table without the room
-pub too_small : IsReserved my_config (one_pair 2) 13 (bytes_of (one_pair 2)) → ⊥
-unfolding opened reserved
-too_small h = unequal_lists _ _ refl (h.image.bytes ∙ ap bytes_of (sym (some_same (one_of_32 87 2) h.table h.is)))
-
--- nor are these the bytes of the moved table
+-- those of the pair in sixteen slots are not
 pub not_moved : IsMovedImage my_config (one_pair 2) 32 (bytes_of (one_pair 2)) → ⊥
 unfolding opened
 not_moved h = unequal_lists _ _ refl (h.2.bytes ∙ ap bytes_of (sym (some_same (one_of_32 87 2) h.0 h.1)))
@@ -82,16 +69,28 @@ sizes_large h = let long = h.1 32 refl in omega (arith, long)
 
 -- ---- with the result of the call
 -- the pair has moved, and there is room
-pub reserve_moves : IsReserve number_coding (one_pair 2) 13 (Ok tt) (bytes_of (one_of_32 87 2))
+pub reserve_moves : IsPlainReserve number_coding (one_pair 2) 13 (Ok tt) (one_of_32 87 2)
+unfolding opened reserved
+reserve_moves = record {
+  table = refl;
+  same_map = same;
+  room = lit≤ tt;
+  capacity = (λ e. absurd cc, λ h. absurd (let long = h.1 32 refl in omega (arith, long)));
+  lacking = tt;
+  only = tt;
+}
+
+-- a table without the room
+pub too_small : IsPlainReserve number_coding (one_pair 2) 13 (Ok tt) (one_pair 2) → ⊥
 unfolding opened
-reserve_moves = record { ok = moves; capacity = (λ e. absurd cc, λ h. absurd (let long = h.1 32 refl in omega (arith, long))); lacking = tt }
+too_small h = omega (arith, h.room)
 
 -- no failure where there is the room
-pub reserve_early : IsReserve number_coding (one_pair 2) 12 (Err Memory) (bytes_of (one_pair 2)) → ⊥
+pub reserve_early : IsPlainReserve number_coding (one_pair 2) 12 (Err Memory) (one_pair 2) → ⊥
 unfolding opened
 reserve_early h = omega (arith, h.lacking)
 
 -- nor `Capacity` where some table is large enough
-pub reserve_large : IsReserve number_coding (one_pair 2) 13 (Err Capacity) (bytes_of (one_pair 2)) → ⊥
+pub reserve_large : IsPlainReserve number_coding (one_pair 2) 13 (Err Capacity) (one_pair 2) → ⊥
 unfolding opened
 reserve_large h = let long = (h.capacity.0 refl).1 32 refl in omega (arith, long)

@@ -10,9 +10,10 @@ use Rattle.odht_base.specs.Valid.{IsImage}
 use Rattle.odht_header.specs.Coding.{encoded}
 use Rattle.odht.specs.Dynamic.{DynStore, dyn_coding, dyn_format, dyn_plain, dyn_store, IsDynImage}
 use Rattle.odht.specs.DynOwned.{IsDynWith}
-use Rattle.odht.specs.Inserts.{IsInsertOwned}
+use Rattle.odht.specs.Inserts.{IsInsertInto}
 use Rattle.odht.specs.Plain.{HasMapWith, KeepsSize}
 use Rattle.odht.proofs.lemmas.DynLookups.{other_length}
+use Rattle.odht.proofs.lemmas.OwnedInserts.{owned_of_view}
 use Rattle.odht.proofs.lemmas.Plain.{the_table, decoded_image}
 use Rattle.odht.proofs.lemmas.PlainRuns.{one_stays}
 
@@ -71,15 +72,16 @@ module _ (h : List ℕ → ℕ) (t t' : DynStore (List ℕ)) (is : IsDynImage t 
     stands = sym (the_table (dyn_format t h) Q t'.store is.format image) ∙ ap (λ (G : Format). decoded_table G t'.store) (sym formats)
 
   -- of tables, what is said of bytes
-  pub done : (k v : List ℕ) (o : Option (List ℕ)) → IsInsertOwned (dyn_coding t h) (decoded_table (dyn_format t h) t.store) k v (Ok o) t'.store → IsDone h (dyn_plain t h) k v o (dyn_plain t' h)
+  pub done : (k v : List ℕ) (o : Option (List ℕ)) → IsInsertInto (dyn_coding t h) (decoded_table (dyn_format t h) t.store) k v (Ok o) t'.store → IsDone h (dyn_plain t h) k v o (dyn_plain t' h)
   done k v o insert =
       let F = dyn_format t h in
       let c = dyn_coding t h in
       let P = decoded_table F t.store in
       let into = insert.inserted in
+      let runs = owned_of_view c P k v o t'.store insert in
       let at = stands into.table into.image in (
         insert.former ∙ same_value (map_of P k),
-        into.inserted ∙ ap Some at,
+        runs ∙ ap Some at,
         subst (HasMapWith P (encoded c k v)) at into.maps,
-        subst (KeepsSize P 1) at (one_stays F P (encoded c k v) into.table t.store t'.store is.image into.inserted into.image),
+        subst (KeepsSize P 1) at (one_stays F P (encoded c k v) into.table t.store t'.store is.image runs into.image),
       )

@@ -1,5 +1,5 @@
 -- Tables that are read by position: which error their bytes give, and what a lookup in their parts answers.
-use Rattle.std.proofs.Common.{arith, refl, ◌≡◌, ◌∙◌, ℕ, zero, suc, ◌+◌, ◌-◌, ◌*◌, ◌/◌, ◌^◌, ◌<◌, ◌≤◌, ◌==◌, ◌&&◌, not, min, sym, ap, ap₂, subst, length, length-drop, List, [], ◌∷◌, drop, take, take_all, map, Option, Some, None, Err}
+use Rattle.std.proofs.Common.{arith, refl, ◌≡◌, ◌∙◌, ℕ, zero, suc, ◌+◌, ◌-◌, ◌*◌, ◌/◌, ◌<◌, ◌≤◌, ◌==◌, ◌&&◌, not, min, sym, ap, ap₂, subst, length, length-drop, List, ◌∷◌, drop, take, take_all, map, Option, Some, None, Err, []}
 use Rattle.std.specs.Prelude.{IfSome, option_map, slice_index}
 use Rattle.std.specs.List.{range_with_len, list_all}
 use Rattle.std.specs.Option.{option_or}
@@ -26,7 +26,7 @@ use Rattle.odht_raw.specs.Dumps.{parts_of}
 use Rattle.odht_raw.specs.Finds.{IsCountedFind}
 use Rattle.odht_raw.specs.Frame.{IsAccepted}
 use Rattle.odht_raw.specs.Parts.{TableParts, entry_format}
-use Rattle.odht_raw.specs.Reads.{entry_size, read_entries, read_controls, read_groups, IsHeldBy, IsPlaceFitting}
+use Rattle.odht_raw.specs.Reads.{entry_size, read_entries, read_controls, read_groups, IsHeldBy}
 use Rattle.odht_raw.specs.SearchEnds.{IsBesideKey}
 use Rattle.odht_raw.specs.Searches.{IsSearch}
 use Rattle.odht_raw.specs.DynParts.{bytes_coding}
@@ -158,11 +158,7 @@ none_rejected (Some x) e = cc
 
 -- ---- the place of a table
 module _ (a s kl vl : ℕ) where
-  -- its offsets fit
-  pub place_fits : a + image_len (entry_format kl vl) s < 2 ^ 64 → kl ≤ 255 → IsPlaceFitting (table_place a s kl vl)
-  place_fits fits short = record { entries = omega (arith, fits); controls = omega (arith, fits); key = short }
-
-  -- and bytes that have the table have its parts
+  -- bytes that have the table have its parts
   pub place_held : (B : List ℕ) → a + image_len (entry_format kl vl) s ≤ length B → IsHeldBy (table_place a s kl vl) B
   place_held B held = record { entries = omega (arith, held); controls = omega (arith, held) }
 

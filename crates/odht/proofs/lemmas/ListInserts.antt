@@ -1,5 +1,5 @@
 -- Inserts in turn: one more pair.
-use Rattle.std.proofs.Common.{◌≡◌, ◌<◌, ◌≤◌, ◌+◌, ◌∙◌, ◌++◌, ℕ, Bool, true, false, cond, sym, ap, refl, List, [], ◌∷◌, Option, Some, None, Err, subst, take, length, bytes_eq, get_or, arith, length-append, append_assoc, append-nil}
+use Rattle.std.proofs.Common.{◌≡◌, ◌<◌, ◌≤◌, ◌+◌, ◌∙◌, ◌++◌, ℕ, Bool, true, false, cond, sym, ap, refl, List, ◌∷◌, Option, Some, None, Err, subst, take, length, bytes_eq, get_or, arith, length-append, []}
 use Rattle.std.proofs.lemmas.List.{take_all, take_more, map-append, length-map}
 use Rattle.std.specs.Prelude.{option_and_then}
 use Rattle.std.specs.Option.{option_or}
@@ -21,7 +21,7 @@ use Rattle.odht_raw.proofs.lemmas.PartRuns.{take-range}
 use Rattle.odht_header.specs.declared.error.Error.TheVariants.{Full}
 use Rattle.odht.proofs.lemmas.FittingRuns.{PlacesTaken, run-fitting}
 use Rattle.odht.proofs.lemmas.ViewInserts.{framed-full}
-use Rattle.odht.specs.Lists.{encoded_all, HasSizeOf, IsAfterInserts, IsFramedRun, IsFreshAfterInserts, IsRefusedAt, IsStoppedAt}
+use Rattle.odht.specs.Lists.{encoded_all, HasSizeOf, IsAfterInserts, IsFreshAfterInserts, IsRefusedAt, IsStoppedAt}
 
 -- no pairs leave the table as it is
 pub inserted_none : (F : Format) (insert : Table → Pair → Option Table) (P : Table) (B : List ℕ) → IsImage F P B → IsAfterInserts F insert P [] B
@@ -87,13 +87,6 @@ module _ (F : Format) (insert : Table → Pair → Option Table) (is : IsInsert 
             (slot_count-place_all F h.table more.table qs ok.placed more.fits more.placed ∙ so_far.0.0, factor-run F (IsValid F) insert is h.table more.table qs ok more.fits runs ∙ so_far.0.1),
             omega (arith, few, so_far.1, long),
           )
-
--- inserts in turn, and then others
-pub framed_append : {K V : Type 0} (c : Coding K V) (B C : List ℕ) (xs : List (K × V)) → IsFramedRun c B xs C → (ys : List (K × V)) (D : List ℕ) → IsFramedRun c C ys D → IsFramedRun c B (xs ++ ys) D
-framed_append {K = K} {V = V} c B C xs before ys D (IsFramedRun.start) = subst (λ (zs : List (K × V)). IsFramedRun c B zs C) (sym (append-nil xs)) before
-framed_append {K = K} {V = V} c B C xs before ys D (IsFramedRun.accepted items k v o E G run frame) =
-    subst (λ (zs : List (K × V)). IsFramedRun c B zs D) (append_assoc xs items ((k, v) ∷ []))
-    (IsFramedRun.accepted (xs ++ items) k v o E D (framed_append c B C xs before items E run) frame)
 
 -- the first items of a list and the items after them as pairs
 pub encoded_all-range : {K V : Type 0} (c : Coding K V) (items : List (K × V)) (a b : ℕ) → a ≤ b → encoded_all c (take a items) ++ encoded_all c (slice_range items a b) ≡ encoded_all c (take b items)

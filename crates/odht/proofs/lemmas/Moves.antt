@@ -1,5 +1,5 @@
 -- The pairs of a table, placed in slot order into other slots, and the table that has room for more.
-use Rattle.std.proofs.Common.{◌≡◌, ◌≤◌, ◌+◌, ◌*◌, ◌^◌, ◌∙◌, ◌++◌, ℕ, sym, ap, subst, refl, List, Some, arith, append-nil, IsPermutation, cond, Ok, Err}
+use Rattle.std.proofs.Common.{◌≡◌, ◌≤◌, ◌+◌, ◌*◌, ◌^◌, ◌∙◌, ◌++◌, ℕ, sym, ap, subst, refl, Bool, List, Option, Some, arith, append-nil, IsPermutation, cond, Ok, Err, inl, inr}
 use Rattle.std.proofs.lemmas.Bool.{le-leb, lt-leb}
 use Rattle.std.specs.Prelude.{option_and_then}
 use Rattle.std.specs.Option.{option_or}
@@ -26,7 +26,8 @@ use Rattle.odht_header.specs.Coding.{Coding}
 use Rattle.odht_header.specs.Layouts.{IsLayout}
 use Rattle.odht_header.specs.Refusals.{IsTooLarge}
 use Rattle.odht_header.specs.declared.error.Error.TheVariants.{Capacity, Memory}
-use Rattle.odht.specs.Reserves.{moved, reserved, LacksRoom, IsMovedImage, IsReserve, IsReserved}
+use Rattle.odht.specs.Plain.{IsPlainReserve}
+use Rattle.odht.specs.Reserves.{moved, reserved, LacksRoom, IsMovedImage}
 use Rattle.odht.proofs.lemmas.NewRefusals.{not_both, not_ok}
 use Rattle.odht.proofs.lemmas.ViewInserts.{factor_header}
 
@@ -77,40 +78,12 @@ module _ (F : Format) (P : Table) (ok : IsValid F P) (s : ℕ) (is_count : IsSlo
       let h = moved-IsMoved Q e in
       (Q, e, record { valid = h.valid; bytes = written ∙ sym (λ i. header_bytes F (h.slots i) (h.counts i) (h.factor i) ++ parts F Q.cells) })
 
-module _ (F : Format) (P : Table) (ok : IsValid F P) (n : ℕ) where
-  -- a table with the room stays
-  pub reserved-stays : (B : List ℕ) → IsImage F P B → count P + n ≤ max_items (slot_count P) P.factor → IsReserved F P n B
-  unfolding reserved
-  reserved-stays B is enough = record {
-    table = P;
-    is = ap (λ b. cond b (Some P) (option_and_then (moved F P) (slots_for (count P + n) P.factor))) (le-leb _ _ enough);
-    image = is;
-    maps = λ k. refl;
-    room = enough;
-  }
-
-  -- another moves to the slots for as many and n more
-  pub reserved-moves : (s : ℕ) (B : List ℕ) → LacksRoom P n → slots_for (count P + n) P.factor ≡ Some s → IsMovedImage F P s B → IsReserved F P n B
-  unfolding reserved
-  reserved-moves s B lacks slots at =
-      let least = slots_for-IsLeastSlots _ _ s slots in
-      let holds : count P + n ≤ max_items s P.factor = max_items-holds (count P + n) s P.factor least.holds in
-      let h = moved-IsMoved F P ok s least.is_count (omega (arith, holds)) at.0 at.1 in
-      record {
-        table = at.0;
-        is = ap (λ b. cond b (Some P) (option_and_then (moved F P) (slots_for (count P + n) P.factor))) (lt-leb _ _ lacks) ∙ ap (option_and_then (moved F P)) slots ∙ at.1;
-        image = at.2;
-        maps = h.maps;
-        room = subst (λ c. c + n ≤ max_items (slot_count at.0) at.0.factor) (sym h.counts)
-            (subst (λ t. count P + n ≤ max_items t at.0.factor) (sym h.slots) (subst (λ f. count P + n ≤ max_items s f) (sym h.factor) holds));
-      }
-
-  -- where the sum passes 64 bits no slot count is enough
-  pub reserved-many : 2 ^ 64 ≤ count P + n → IsTooLarge F (count P + n) P.factor
-  reserved-many many = λ s e. (
-      let least = slots_for-IsLeastSlots _ _ s e in
-      let most : s * P.factor ≤ s * 65535 = mul-le-mul_left s ok.factor_high in
-      absurd (omega (arith, least.holds, most, few_slots s least.is_count, many)))
+-- where the sum passes 64 bits no slot count is enough
+pub reserved-many : (F : Format) (P : Table) → IsValid F P → (n : ℕ) → 2 ^ 64 ≤ count P + n → IsTooLarge F (count P + n) P.factor
+reserved-many F P ok n many = λ s e. (
+    let least = slots_for-IsLeastSlots _ _ s e in
+    let most : s * P.factor ≤ s * 65535 = mul-le-mul_left s ok.factor_high in
+    absurd (omega (arith, least.holds, most, few_slots s least.is_count, many)))
 
 -- slots for that many items take those that there are
 pub reserved-room : (P : Table) (n s : ℕ) → slots_for (count P + n) P.factor ≡ Some s → count P ≤ max_items s P.factor
@@ -119,31 +92,52 @@ reserved-room P n s slots =
     omega (arith, holds)
 
 -- ---- room for more, with the result of the call
-module _ {K V : Type 0} (c : Coding K V) (P : Table) (ok : IsValid c.format P) (n : ℕ) (B : List ℕ) where
+module _ {K V : Type 0} (c : Coding K V) (P : Table) (n : ℕ) where
+  -- the table that is left, by whether the room is there
+  abbrev left : Bool → Option Table
+  left there = cond there (Some P) (option_and_then (moved c.format P) (slots_for (count P + n) P.factor))
+
   -- a table with the room stays
-  pub reserve-stays : IsImage c.format P B → count P + n ≤ max_items (slot_count P) P.factor → IsReserve c P n (Ok tt) B
-  reserve-stays is enough = record { ok = reserved-stays c.format P ok n B is enough; capacity = (λ e. absurd (not_ok _ refl e), λ h. absurd (omega (arith, h.0, enough))); lacking = tt }
+  pub reserve-stays : count P + n ≤ max_items (slot_count P) P.factor → IsPlainReserve c P n (Ok tt) P
+  unfolding reserved
+  reserve-stays enough = record {
+    table = ap left (le-leb _ _ enough);
+    same_map = λ k. refl;
+    room = enough;
+    capacity = (λ e. absurd (not_ok _ refl e), λ h. absurd (omega (arith, h.0, enough)));
+    lacking = tt;
+    only = tt;
+  }
 
   module _ (lacks : LacksRoom P n) where
     -- no table is that large
-    pub reserve-large : IsTooLarge c.format (count P + n) P.factor → IsReserve c P n (Err Capacity) B
-    reserve-large large = record { ok = tt; capacity = (λ e. (lacks, large), λ h. refl); lacking = lacks }
+    pub reserve-large : IsTooLarge c.format (count P + n) P.factor → IsPlainReserve c P n (Err Capacity) P
+    reserve-large large = record { table = tt; same_map = tt; room = tt; capacity = (λ e. (lacks, large), λ h. refl); lacking = lacks; only = inl refl }
 
     module _ (s len : ℕ) (there : IsLayout c.format (count P + n) P.factor s len) where
       small : LacksRoom P n × IsTooLarge c.format (count P + n) P.factor → ⊥
       small h = omega (arith, h.1 s there.slots, there.long, there.fits)
 
       -- there is no memory for it
-      pub reserve-no_memory : IsReserve c P n (Err Memory) B
-      reserve-no_memory = record { ok = tt; capacity = (λ e. absurd (not_both _ e refl), λ h. absurd (small h)); lacking = lacks }
+      pub reserve-no_memory : IsPlainReserve c P n (Err Memory) P
+      reserve-no_memory = record { table = tt; same_map = tt; room = tt; capacity = (λ e. absurd (not_both _ e refl), λ h. absurd (small h)); lacking = lacks; only = inr refl }
 
       -- the pairs have moved
-      pub reserve-moves : (count P ≤ max_items s P.factor → IsMovedImage c.format P s B) → IsReserve c P n (Ok tt) B
-      reserve-moves moved = record {
-        ok = reserved-moves c.format P ok n s B lacks there.slots (moved (reserved-room P n s there.slots));
-        capacity = (λ e. absurd (not_ok _ refl e), λ h. absurd (small h));
-        lacking = tt;
-      }
+      pub reserve-moves : IsValid c.format P → (Q : Table) → moved c.format P s ≡ Some Q → IsPlainReserve c P n (Ok tt) Q
+      unfolding reserved
+      reserve-moves ok Q at =
+          let least = slots_for-IsLeastSlots _ _ s there.slots in
+          let holds : count P + n ≤ max_items s P.factor = max_items-holds (count P + n) s P.factor least.holds in
+          let h = moved-IsMoved c.format P ok s least.is_count (omega (arith, holds)) Q at in
+          record {
+            table = ap left (lt-leb _ _ lacks) ∙ ap (option_and_then (moved c.format P)) there.slots ∙ at;
+            same_map = λ k. sym (h.maps k);
+            room = subst (λ c. c + n ≤ max_items (slot_count Q) Q.factor) (sym h.counts)
+                (subst (λ t. count P + n ≤ max_items t Q.factor) (sym h.slots) (subst (λ f. count P + n ≤ max_items s f) (sym h.factor) holds));
+            capacity = (λ e. absurd (not_ok _ refl e), λ h. absurd (small h));
+            lacking = tt;
+            only = tt;
+          }
 
 -- ---- a table that is emptied
 -- the slot count of the header is that of the table

@@ -9,9 +9,8 @@ use Rattle.odht_base.specs.Valid.{IsImage}
 use Rattle.odht_base.proofs.lemmas.FreeSlots.{fresh-slots, slot_count-empty, count-empty, max_items-holds}
 use Rattle.odht_header.specs.Coding.{Coding, encoded}
 use Rattle.odht_header.specs.declared.error.Error.{Error}
-use Rattle.odht.specs.LastValues.{HasLastValues}
 use Rattle.odht.specs.Lists.{encoded_all, HasSizeOf, IsAfterInserts, IsFreshAfterInserts}
-use Rattle.odht.specs.Plain.{HasLastValuesIn, KeepsSize, IsPlainList}
+use Rattle.odht.specs.Plain.{KeepsSize, IsPlainList}
 use Rattle.odht.proofs.lemmas.ListInserts.{fresh_inserted, inserted_all}
 
 -- a fresh table has no pairs, and room for the items that it is made for
@@ -59,10 +58,3 @@ module _ {K V : Type 0} (c : Coding K V) (P Q : Table) (items : List (K × V)) (
       go : (a : Result Unit Error) → (IsOk a → r.0 ≡ length items) → OnOk a (IsFreshAfterInserts c p items B)
       go (Ok u) all = fresh_inserted c p items B P new (inserted_all c (insert_owned c.format) P items r.0 B (omega (arith, all refl)) (list_after B is))
       go (Err x) all = tt
-
-  pub list_last_values : (n p : ℕ) (B : List ℕ) → fresh n p ≡ Some P → IsImage c.format Q B → OnOk r.1 (HasLastValues c items B)
-  list_last_values n p B new is = go r.1 (list.last_values n p new)
-    where
-      go : (a : Result Unit Error) → OnOk a (HasLastValuesIn c items Q) → OnOk a (HasLastValues c items B)
-      go (Ok u) maps = record { table = Q; image = is; maps = maps }
-      go (Err x) none = tt

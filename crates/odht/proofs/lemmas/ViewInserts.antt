@@ -1,5 +1,5 @@
 -- An insert into the bytes of a table that cannot grow: what it leaves of a plain table, and when it is an error.
-use Rattle.std.proofs.Common.{◌≡◌, ◌∙◌, ◌+◌, ◌-◌, ℕ, sym, ap, refl, subst, arith, List, [], ◌∷◌, length, Option, Some, None, Result, Ok, Err}
+use Rattle.std.proofs.Common.{◌≡◌, ◌∙◌, ◌+◌, ◌-◌, ℕ, sym, ap, refl, subst, arith, List, ◌∷◌, length, Option, Some, None, Result, Ok, Err, []}
 use Rattle.std.specs.Prelude.{option_map, option_and_then, IfOk, OnErr, OnOk}
 use Rattle.std.specs.Result.{result_map_both}
 use Rattle.std.proofs.lemmas.Option.{none-some}
@@ -7,7 +7,7 @@ use Rattle.odht_base.specs.Format.{Format, IsFormat}
 use Rattle.odht_base.specs.Insert.{insert_view, IsFullFor}
 use Rattle.odht_base.specs.Load.{max_items}
 use Rattle.odht_base.specs.Map.{map_of}
-use Rattle.odht_base.specs.Table.{Pair, Table, count, slot_count}
+use Rattle.odht_base.specs.Table.{Table, count, slot_count}
 use Rattle.odht_base.specs.Valid.{IsImage, IsPartsOf}
 use Rattle.odht_base.specs.Decoded.{header_slots, header_count, header_factor, entries_of, controls_of, value_at}
 use Rattle.odht_base.proofs.lemmas.Fits.{IsSized-IsPlaced}
@@ -23,7 +23,6 @@ use Rattle.odht_raw.specs.Frame.{EachCountsAsOccupied, IsAbsent, IsMissing, Inse
 use Rattle.odht_raw.specs.Runs.{IsOnePlaced}
 use Rattle.odht_raw.proofs.lemmas.Steps.{missing-absent, has_free_slot}
 use Rattle.odht.specs.Inserts.{IsInserted}
-use Rattle.odht.specs.Tables.{OfTable}
 use Rattle.odht.proofs.lemmas.FittingRuns.{run-fitting, insert_view-PlacesTaken}
 
 -- ---- what the bytes of a valid table say of it
@@ -141,10 +140,3 @@ module _ {K V : Type 0} (c : Coding K V) (B : List ℕ) (k : K) (v : V) where
 -- a store that holds the bytes it had is as it was
 pub held_same_bytes : {S : Type 0} (holding : S → List ℕ → S) (bytes : S → List ℕ) (held_same : (s : S) → holding s (bytes s) ≡ s) (s t : S) → t ≡ holding s (bytes t) → bytes t ≡ bytes s → t ≡ s
 held_same_bytes holding bytes held_same s t same kept = same ∙ ap (holding s) kept ∙ held_same s
-
--- of each table that the bytes stand for an insert says its former value and what it leaves together
-pub insert_said : {K V : Type 0} (c : Coding K V) (insert : Table → Pair → Option Table) (k : K) (v : V) (r : Result (Option V) Error) (B B' : List ℕ)
-    → OfTable c.format B (λ P. IfOk r (λ former. former ≡ value_for c P k)) → OfTable c.format B (λ P. OnOk r (IsInserted c.format insert P (encoded c k v) B'))
-    → (P : Table) → IsImage c.format P B → IfOk r (λ former. (former ≡ value_for c P k) × IsInserted c.format insert P (encoded c k v) B')
-insert_said c insert k v (Ok former) B B' was leaves P is = (was P is, leaves P is)
-insert_said c insert k v (Err e) B B' was leaves P is = tt

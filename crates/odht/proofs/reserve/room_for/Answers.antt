@@ -1,20 +1,18 @@
-use Rattle.std.proofs.Common.{◌≡◌, ◌∙◌, List, ℕ, Result, Ok, Err, Some, OnErr, inl, inr, refl, sym, subst, arith}
+use Rattle.std.proofs.Common.{◌≡◌, ◌∙◌, List, ℕ, Result, Ok, Err, Some, sym, subst, arith}
 use Rattle.odht_base.specs.Decoded.{decoded_table}
 use Rattle.odht_base.specs.Format.{Format, IsFormat, format_of}
 use Rattle.odht_base.specs.Table.{Table}
 use Rattle.odht_base.specs.Valid.{IsImage}
 use Rattle.odht_header.specs.Coding.{Coding}
 use Rattle.odht_header.specs.declared.error.Error.{Error}
-use Rattle.odht_header.specs.declared.error.Error.TheVariants.{Capacity, Memory}
+use Rattle.odht_header.specs.declared.error.Error.TheVariants.{Capacity}
 use Rattle.odht_header.proofs.lemmas.Formats.{IsFormat-format_of}
 use Rattle.odht_raw.specs.DynParts.{bytes_coding}
 use Rattle.odht_raw.proofs.lemmas.Accepted.{IsAccepted-IsValidBytes, accepted_opening}
-use Rattle.odht.specs.NewTables.{IsCapacityOrMemory}
 use Rattle.odht.specs.Plain.{IsPlainReserve}
-use Rattle.odht.specs.Reserves.{IsMoveFor, IsReserve}
+use Rattle.odht.specs.Reserves.{IsMoveFor}
 use Rattle.odht.proofs.lemmas.Moves.{reserve-stays, reserve-moves, reserve-no_memory, reserve-large, reserved-room}
-use Rattle.odht.proofs.lemmas.Plain.{decoded_image}
-use Rattle.odht.proofs.lemmas.PlainReserves.{plain_of_bytes}
+use Rattle.odht.proofs.lemmas.Plain.{decoded_image, the_table}
 use Rattle.odht.proofs.lemmas.ViewInserts.{factor_header}
 use Rattle.odht.proofs.reserve.room_for.Given.{Over}
 use Rattle.odht.proofs.reserve.room_for.Goals.{After-sizes_for_more, After-moved_bytes}
@@ -36,10 +34,6 @@ module _ (g : Over) (c : After-sizes_for_more g) where
 
   is : IsImage F P c.args.bytes.now
   is = decoded_image F c.args.bytes.now fits c.requires.valid
-
-  -- what is said of bytes holds of their tables
-  plain : (r : Result Unit Error) (B : List ℕ) → IsReserve coding P c.args.additional r B → OnErr r (IsCapacityOrMemory r) → IsPlainReserve coding P c.args.additional r (decoded_table F B)
-  plain = plain_of_bytes coding fits P c.args.additional
 
   -- the sizes are those of the table for more
   sizes : IsMoveFor F P c.args.additional c.sizes_for_more.result
@@ -70,7 +64,7 @@ returns-in-Err-clause-failed g c =
     let n = c.args.additional in
     let large = err_same c.sizes_for_more.result c.in-Err.too_large Capacity c.in-Err.is (c.in-Err.is ∙ c.in-Err.ensures.err) in
     let none = subst (IsMoveFor (F g at) (P g at) n) c.in-Err.is (sizes g at) in
-    let known = plain g at (Err Capacity) c.args.bytes.now (reserve-large (coding g at) (P g at) (is g at).valid n _ none.0 none.1) (inl refl) in
+    let known = reserve-large (coding g at) (P g at) n none.0 none.1 in
     subst (λ e. IsPlainReserve (coding g at) (P g at) n (Err e) (P g at)) (sym large) known
 
 pub returns-in_default-clause-made : goal.returns-in_default-clause-made
@@ -78,7 +72,7 @@ returns-in_default-clause-made g c =
     let at = (goal.at.returns-in_default-clause-made g c).After-sizes_for_more in
     let here = IsMoveFor (F g at) (P g at) c.args.additional in
     let enough = subst (λ o. here (Ok o)) c.in_default.is (subst here c.in-Ok.is (sizes g at)) in
-    plain g at (Ok tt) c.args.bytes.now (reserve-stays (coding g at) (P g at) (is g at).valid c.args.additional _ (is g at) enough) tt
+    reserve-stays (coding g at) (P g at) c.args.additional enough
 
 -- the room is lacking, and these are the slots and the length of the table for more
 found : (g : Over) (c : After-moved_bytes g) (at : After-sizes_for_more g) → IsMoveFor (F g at) (P g at) c.args.additional c.sizes_for_more.result
@@ -95,11 +89,12 @@ returns-in-Some-moved_bytes-clause-made g c =
     let T = c.in-Some-moved_bytes.moved.items in
     let moves = c.in-Some-moved_bytes.ensures.moved.on_valid (P g at) (is g at) in
     let q = moves (reserved-room (P g at) _ _ to.1.slots) in
-    ((q.0, q.2), plain g at (Ok tt) T (reserve-moves (coding g at) (P g at) (is g at).valid c.args.additional T to.0 _ _ to.1 moves) tt)
+    let left = reserve-moves (coding g at) (P g at) c.args.additional to.0 _ _ to.1 (is g at).valid q.0 q.1 in
+    ((q.0, q.2), subst (IsPlainReserve (coding g at) (P g at) c.args.additional (Ok tt)) (sym (the_table (F g at) q.0 T (fits g at) q.2)) left)
 
 pub returns-in-None-clause-failed : goal.returns-in-None-clause-failed
 returns-in-None-clause-failed g c =
     let steps = goal.at.returns-in-None-clause-failed g c in
     let at = steps.After-sizes_for_more in
     let to = found g steps.After-moved_bytes at (sizes g at) in
-    plain g at (Err Memory) c.args.bytes.now (reserve-no_memory (coding g at) (P g at) (is g at).valid c.args.additional _ to.0 _ _ to.1) (inr refl)
+    reserve-no_memory (coding g at) (P g at) c.args.additional to.0 _ _ to.1

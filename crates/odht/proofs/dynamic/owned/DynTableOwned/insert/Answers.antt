@@ -6,23 +6,22 @@ use Rattle.odht_base.specs.Map.{map_of}
 use Rattle.odht_base.specs.Table.{Table}
 use Rattle.odht_header.specs.Coding.{encoded}
 use Rattle.odht.specs.Dynamic.{DynStore, dyn_coding, dyn_format, dyn_plain}
-use Rattle.odht.specs.Inserts.{IsInsertOwned}
+use Rattle.odht.specs.Inserts.{IsInsertInto}
 use Rattle.odht.specs.Plain.{HasMapWith}
 use Rattle.odht.specs.declared.dynamic.DynError.TheVariants.{Rejected}
 use Rattle.odht.proofs.lemmas.DynOwned.{took, found_full}
 use Rattle.odht.proofs.lemmas.DynLengths.{accepted_fits, rejected_fits}
 use Rattle.odht.proofs.lemmas.DynPlain.{IsDone, done, held_after}
-use Rattle.odht.proofs.lemmas.OwnedInserts.{owned_of_view}
 use Rattle.odht.proofs.dynamic.owned.DynTableOwned.insert.Given.{Over}
 use Rattle.odht.proofs.dynamic.owned.DynTableOwned.insert.Goals.{After-insert}
 use Rattle.odht.proofs.dynamic.owned.DynTableOwned.insert.Goals as goal
 
 module _ (g : Over) (c : After-insert g) (former : Option (List ℕ)) (was : c.insert.result ≡ Ok former) where
   -- what the insert into the view did, of bytes
-  into : (let t : DynStore (List ℕ) = c.self.inside.table in let h = g.H.HashFn.hash in IsInsertOwned (dyn_coding t h) (decoded_table (dyn_format t h) t.store) c.args.key.now c.args.value.now (Ok former) c.insert.new.self.store)
+  into : (let t : DynStore (List ℕ) = c.self.inside.table in let h = g.H.HashFn.hash in IsInsertInto (dyn_coding t h) (decoded_table (dyn_format t h) t.store) c.args.key.now c.args.value.now (Ok former) c.insert.new.self.store)
   into =
       let none = accepted_fits c.self.inside.table c.args.key.now c.args.value.now c.insert.result c.insert.ensures.lengths former was in
-      owned_of_view _ _ _ _ former _ (took _ _ _ _ _ c.insert.result (c.insert.ensures.inserted none) _ c.self.invariant.image former was)
+      took _ _ _ _ _ c.insert.result (c.insert.ensures.inserted none) _ c.self.invariant.image former was
 
   -- and of tables
   whole : IsDone g.H.HashFn.hash c.args.self.now c.args.key.now c.args.value.now former (dyn_plain c.insert.new.self g.H.HashFn.hash)
