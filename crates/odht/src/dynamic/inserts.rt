@@ -1,16 +1,13 @@
 //! Inserts into a dynamic table.
-ghost use Rattle.std.specs.Prelude.{◌≡◌, length, None, IfSome, Err, OnErr};
-ghost use Rattle.odht_base.specs.Format.{format_of};
+ghost use Rattle.std.specs.Prelude.{◌≡◌, None, IfSome, Err, OnErr};
 ghost use Rattle.odht_raw.specs.Frame.{IsAccepted};
-ghost use Rattle.odht_raw.specs.DynParts.{bytes_coding};
-ghost use Rattle.odht.specs.Dynamic.{dyn_coding, dyn_format, dyn_store, IsOpened};
-ghost use Rattle.odht.specs.DynFormers.{IsDynInsertInto, IsStoreInsertInto, lengths_error};
-ghost use Rattle.odht.specs.DynInserts.{IsDynInsert, IsStoreInsert};
+ghost use Rattle.odht.specs.Dynamic.{dyn_coding, dyn_format, dyn_store};
+ghost use Rattle.odht.specs.DynFormers.{IsDynInsertInto, lengths_error};
+ghost use Rattle.odht.specs.DynInserts.{IsDynInsert};
 ghost use Rattle.odht.specs.DynLists.{length_error};
 
 use super::{DynError, DynTable};
 use crate::bytes::{ByteStore, ByteStoreMut};
-use crate::error::Error;
 use crate::hash::HashFn;
 use crate::layout::Layout;
 use crate::memory_layout::{insert_dynamic, insert_dynamic_into};
@@ -66,7 +63,7 @@ impl<H: HashFn, D: ByteStoreMut> DynTable<H, D> {
         if let Some(refused) = self.wrong_length(key, value) {
             return Err(refused);
         }
-        match insert_store::<H, D>(&mut self.store, self.layout, key, value) {
+        match insert_dynamic::<H>(self.store.bytes_mut(), self.layout, key, value) {
             Ok(former) => Ok(former),
             Err(refused) => Err(DynError::Rejected(refused)),
         }
@@ -100,58 +97,10 @@ impl<H: HashFn, D: ByteStoreMut> DynTable<H, D> {
         if let Some(wrong) = self.wrong_length(key, former) {
             return Err(wrong);
         }
-        match insert_store_into::<H, D>(&mut self.store, self.layout, key, value, former) {
+        let bytes = self.store.bytes_mut();
+        match insert_dynamic_into::<H>(bytes, self.layout, key, value, former) {
             Ok(had) => Ok(had),
             Err(refused) => Err(DynError::Rejected(refused)),
         }
     }
-}
-
-// `insert` on the store itself, of a key and a value of the table's lengths.
-fn insert_store<H: HashFn, D: ByteStoreMut>(
-    store: &mut D,
-    layout: Layout,
-    key: &[u8],
-    value: &[u8],
-) -> Result<Option<ShortBytes>, Error>
-    requires opened { IsOpened H.MIN_LEN H.hash D.bytes
-        (dyn_store layout.key_len layout.value_len store.old) }
-    requires key { length key.now ≡ layout.key_len }
-    requires value { length value.now ≡ layout.value_len }
-    ensures inserted { let c = bytes_coding (format_of layout.key_len layout.value_len H.hash)
-        in IsStoreInsert c (D.bytes store.old) key.now value.now result (D.bytes store.new) }
-    ensures refused { OnErr result (store.new ≡ store.old) }
-    ensures same_store { store.new ≡ D.holding store.old (D.bytes store.new) }
-    ensures accepted { IsAccepted (format_of layout.key_len layout.value_len H.hash)
-        (D.bytes store.new) }
-    ensures len { length (D.bytes store.new) ≡ length (D.bytes store.old) }
-{
-    insert_dynamic::<H>(store.bytes_mut(), layout, key, value)
-}
-
-// `insert_into` on the store itself, of a key, a value and bytes of the table's lengths.
-#[inline(always)]
-fn insert_store_into<H: HashFn, D: ByteStoreMut>(
-    store: &mut D,
-    layout: Layout,
-    key: &[u8],
-    value: &[u8],
-    former: &mut [u8],
-) -> Result<bool, Error>
-    requires opened { IsOpened H.MIN_LEN H.hash D.bytes
-        (dyn_store layout.key_len layout.value_len store.old) }
-    requires key { length key.now ≡ layout.key_len }
-    requires value { length value.now ≡ layout.value_len }
-    requires former { length former.old ≡ layout.value_len }
-    ensures inserted { let c = bytes_coding (format_of layout.key_len layout.value_len H.hash)
-        in IsStoreInsertInto c (D.bytes store.old) key.now value.now former.old result
-        (D.bytes store.new) former.new }
-    ensures refused { OnErr result (store.new ≡ store.old) }
-    ensures kept { OnErr result (former.new ≡ former.old) }
-    ensures same_store { store.new ≡ D.holding store.old (D.bytes store.new) }
-    ensures accepted { IsAccepted (format_of layout.key_len layout.value_len H.hash)
-        (D.bytes store.new) }
-    ensures len { length (D.bytes store.new) ≡ length (D.bytes store.old) }
-{
-    insert_dynamic_into::<H>(store.bytes_mut(), layout, key, value, former)
 }

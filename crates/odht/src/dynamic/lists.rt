@@ -1,16 +1,11 @@
 //! Lists of inserts into a dynamic table.
-ghost use Rattle.std.specs.Prelude.{◌≡◌, map};
-ghost use Rattle.odht_base.specs.Format.{format_of};
-ghost use Rattle.odht_raw.specs.DynParts.{bytes_coding};
-ghost use Rattle.odht_raw.specs.Runs.{HasLengthsAt, IsEncodedRun};
-ghost use Rattle.odht.specs.Dynamic.{dyn_store, IsOpened};
+ghost use Rattle.std.specs.Prelude.{map};
 ghost use Rattle.odht.specs.DynLists.{IsDynList};
 
 use super::{DynError, DynTable};
 use crate::bytes::ByteStoreMut;
 use crate::error::Error;
 use crate::hash::HashFn;
-use crate::layout::Layout;
 use crate::memory_layout::insert_items_dynamic;
 
 impl<H: HashFn, D: ByteStoreMut> DynTable<H, D> {
@@ -26,7 +21,7 @@ impl<H: HashFn, D: ByteStoreMut> DynTable<H, D> {
         ensures { let pairs = map (λ item. (item.0.now, item.1.now)) items.now
             in IsDynList H.hash D.bytes D.holding self.old self.new pairs result }
     {
-        let accepted = insert_store_items::<H, D>(&mut self.store, self.layout, items);
+        let accepted = insert_items_dynamic::<H>(self.store.bytes_mut(), self.layout, items);
         if accepted >= items.len() {
             return (accepted, Ok(()));
         }
@@ -37,22 +32,4 @@ impl<H: HashFn, D: ByteStoreMut> DynTable<H, D> {
         };
         (accepted, Err(refused))
     }
-}
-
-// `insert_all` on the store itself. Returns how many items were accepted.
-#[inline(always)]
-fn insert_store_items<H: HashFn, D: ByteStoreMut>(
-    store: &mut D,
-    layout: Layout,
-    items: &[(&[u8], &[u8])],
-) -> usize
-    requires { IsOpened H.MIN_LEN H.hash D.bytes
-        (dyn_store layout.key_len layout.value_len store.old) }
-    ensures run { let c = bytes_coding (format_of layout.key_len layout.value_len H.hash)
-        in let pairs = map (λ item. (item.0.now, item.1.now)) items.now
-        in IsEncodedRun (HasLengthsAt layout.key_len layout.value_len pairs) c (D.bytes store.old)
-        pairs 0 result (D.bytes store.new) }
-    ensures same_store { store.new ≡ D.holding store.old (D.bytes store.new) }
-{
-    insert_items_dynamic::<H>(store.bytes_mut(), layout, items)
 }
