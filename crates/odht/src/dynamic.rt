@@ -2,7 +2,7 @@
 //! file.
 ghost use Rattle.odht.specs.Tables.{OfTable, HasParts};
 ghost use Rattle.std.specs.Prelude.{◌≡◌, ◌≢◌, ◌<◌, ◌≤◌, ◌↔◌, ℕ, None, All, length, slice_index};
-ghost use Rattle.std.specs.Prelude.{IfOk, IfErr, IsOk, IsTrue};
+ghost use Rattle.std.specs.Prelude.{IfOk, IfErr, IsOk, IsTrue, map};
 ghost use Rattle.std.specs.Option.{option_copied};
 ghost use Rattle.std.specs.Result.{result_err};
 ghost use Rattle.odht_base.specs.Format.{format_of, IsFormat};
@@ -11,7 +11,7 @@ ghost use Rattle.odht_header.specs.declared.error.Error.TheVariants.{TooShort};
 ghost use Rattle.odht_raw.specs.Frame.{IsAccepted};
 ghost use Rattle.odht_raw.specs.DynParts.{HasLengthsOf};
 ghost use Rattle.odht.specs.Dynamic.{dyn_coding, dyn_format, dyn_refusal, stated_refusal};
-ghost use Rattle.odht.specs.Gets.{IsGet, IsCountedGet, IsKnown};
+ghost use Rattle.odht.specs.Gets.{IsGet, IsCountedGet, IsKnown, AreGot};
 ghost use Rattle.odht.specs.Walks.{IsItemCount, ArePairs, AreSlots};
 ghost use Rattle.odht.specs.SearchBounds.{IsValidWithin, IsBound};
 ghost use Rattle.odht.specs.Dynamic.{dyn_store, dyn_parts};
@@ -30,11 +30,8 @@ use crate::raw_table::{DynIter, DynRawTable, DynSlots};
 use std::marker::{Model, PhantomData};
 
 mod file;
-mod growth;
 mod insert_order;
 mod inserts;
-mod lists;
-mod lookups;
 mod new_tables;
 mod owned;
 mod prefix;
@@ -212,6 +209,20 @@ impl<H: HashFn, D: ByteStore> DynTable<H, D> {
         self.as_dynamic().find(key)
     }
 
+    /// `get` of many keys: the value of each key is written to its index. A key of another length
+    /// has no value.
+    ///
+    /// It takes no memory, and costs a `get` for each key.
+    pub fn get_all<'a>(&'a self, keys: &[&[u8]], values: &mut [Option<&'a [u8]>])
+        requires { length values.old ≡ length keys.now }
+        ensures { AreGot (dyn_coding self.now H.hash) (D.bytes self.now.store)
+            (map (λ key. key.now) keys.now) (map (λ value. option_copied value) values.new) }
+    {
+        for index in 0..keys.len() {
+            values[index] = self.get(keys[index]);
+        }
+    }
+
     /// Like `get`, and also returns how many groups of control bytes it read. On valid bytes these
     /// are the groups up to the first slot of the key's probe order that is free or contains the
     /// key. On any bytes it is at most one group for sixteen slots. docs/FORMAT.md, "Search",
@@ -327,11 +338,7 @@ impl<H: HashFn, D: ByteStore> DynTable<H, D> {
         ensures store { result ≡ self.store }
         ensures accepted { IsAccepted (dyn_format self H.hash) (D.bytes result) }
     {
-        let DynTable {
-            store,
-            layout: _,
-            hash: _,
-        } = self;
+        let DynTable { store, .. } = self;
         store
     }
 

@@ -1,26 +1,29 @@
-//! Growth: a table with the slots for twice as many items, written into larger bytes.
+//! Growth: a table with the slots for twice as many items, or for more, written into larger bytes.
 ghost use Rattle.odht.specs.Tables.{InTable, OfTable};
 ghost use Rattle.std.specs.Prelude.{◌≡◌, All, IfSome, length};
 ghost use Rattle.odht_base.specs.Image.{image_len};
-ghost use Rattle.odht_base.specs.Decoded.{header_count, header_factor};
+ghost use Rattle.odht_base.specs.Decoded.{header_count, header_factor, decoded_table};
 ghost use Rattle.odht_base.specs.Format.{format_of};
 ghost use Rattle.odht_base.specs.Insert.{grown_slots};
 ghost use Rattle.odht_base.specs.Load.{IsSlotCount};
 ghost use Rattle.odht_base.specs.Table.{Table};
-ghost use Rattle.odht_base.specs.Valid.{IsPartsOf};
-ghost use Rattle.odht_raw.specs.DynParts.{HasLengthsOf};
+ghost use Rattle.odht_base.specs.Valid.{IsPartsOf, IsValidBytes};
+ghost use Rattle.odht_raw.specs.DynParts.{HasLengthsOf, bytes_coding};
 ghost use Rattle.odht_raw.specs.Frame.{IsAccepted};
 ghost use Rattle.odht_raw.specs.PartLengths.{ArePairLengths, ArePartLengths};
 ghost use Rattle.odht.specs.Growths.{grown_len, table_len, HasGrownLen};
-ghost use Rattle.odht.specs.Reserves.{IsMove};
+ghost use Rattle.odht.specs.Reserves.{IsMove, IsMoveFor};
 ghost use Rattle.odht.specs.Growths.{IsWritten, IsGrownFrom, IsGrownLayout, IsRoomFor, IsPlacing};
+ghost use Rattle.std.specs.Prelude.{◌≤◌, Ok, Err, IfOk, IfErr, OnErr, MatchOption};
+ghost use Rattle.odht.specs.Plain.{IsPlainReserve};
 
 use crate::bytes::ByteStore;
 use crate::config::{Coded, Config};
+use crate::error::Error;
 use crate::hash::HashFn;
 use crate::hash_table::HashTable;
 use crate::layout::{Fixed, Layout, Lengths};
-use crate::load::Factor;
+use crate::load::{Factor, max_item_count_for};
 use crate::memory_layout::{self, HEADER_SIZE, Header, clear_entries, parts_in};
 use crate::raw_table::{PartPairs, write_new};
 use crate::swisstable_group_query::GroupQuery;
@@ -141,11 +144,11 @@ pub(crate) fn grown_bytes<L: Lengths, H: HashFn>(
     Some(grown)
 }
 
-/// The pairs of the table in the bytes, placed in slot order into that many slots in new memory.
-/// `len` is the length for them. The new header has the item count and the load factor of the
-/// table. None where the allocator gives no memory.
+// The pairs of the table in the bytes, placed in slot order into that many slots in new memory.
+// `len` is the length for them. The new header has the item count and the load factor of the
+// table. None where the allocator gives no memory.
 #[inline(always)]
-pub(crate) fn moved_bytes<L: Lengths, H: HashFn>(
+fn moved_bytes<L: Lengths, H: HashFn>(
     alloc: Global,
     bytes: &[u8],
     lengths: L,
@@ -236,5 +239,73 @@ fn place_walk<L: Lengths, H: HashFn>(
     for (key, value) in walk {
         // There is room for each item of a valid table.
         let _ = write_new::<L, H, GroupQuery>(control, entries, lengths, key, value);
+    }
+}
+
+/// Room for `additional` more items than the table in valid bytes has. None where it has the room,
+/// and no memory is asked for. Otherwise its pairs, placed in slot order into the least slot count
+/// that is enough, in new memory. All tables that own their bytes reserve by it.
+///
+/// Where the room is lacking, `Capacity` exactly where no slot count is enough, or the length
+/// passes `usize`; otherwise `Memory` where the allocator gives none.
+pub(crate) fn room_for<L: Lengths, H: HashFn>(
+    alloc: Global,
+    bytes: &[u8],
+    lengths: L,
+    additional: usize,
+) -> Result<Option<Vec<u8>>, Error>
+    requires valid { IsValidBytes (format_of (L.key_len lengths) (L.value_len lengths) H.hash)
+        bytes.now }
+    requires pair { ArePairLengths H.MIN_LEN (L.key_len lengths) (L.value_len lengths) }
+    ensures made { let F = format_of (L.key_len lengths) (L.value_len lengths) H.hash
+        in let P = decoded_table F bytes.now
+        in IfOk result (λ o. MatchOption o
+        (IsPlainReserve (bytes_coding F) P additional (Ok tt) P)
+        (λ v. IsValidBytes F v.items
+        × IsPlainReserve (bytes_coding F) P additional (Ok tt) (decoded_table F v.items))) }
+    ensures failed { let F = format_of (L.key_len lengths) (L.value_len lengths) H.hash
+        in let P = decoded_table F bytes.now
+        in IfErr result (λ e. IsPlainReserve (bytes_coding F) P additional (Err e) P) }
+{
+    let header = Header::of(bytes);
+    let sizes = match sizes_for_more::<H>(Layout::of_lengths(lengths), &header, additional) {
+        Ok(sizes) => sizes,
+        Err(too_large) => return Err(too_large),
+    };
+    let Some((slot_count, len)) = sizes else {
+        return Ok(None);
+    };
+    match moved_bytes::<L, H>(alloc, bytes, lengths, slot_count, len) {
+        Some(moved) => Ok(Some(moved)),
+        None => Err(Error::Memory),
+    }
+}
+
+// The slot count and the length in bytes of the table that has room for `additional` more items
+// than one of these lengths and with this header. Of the header of a valid table: None where that
+// one has the room; `Capacity` exactly where it has not, and no slot count is enough, or the
+// length passes `usize`.
+fn sizes_for_more<H: HashFn>(
+    layout: Layout,
+    header: &Header<'_>,
+    additional: usize,
+) -> Result<Option<(usize, usize)>, Error>
+    requires { 1 ≤ header_factor header.now }
+    ensures sizes { let F = format_of layout.key_len layout.value_len H.hash
+        in OfTable F header.now (λ P. IsMoveFor F P additional result) }
+    ensures err { OnErr result (result ≡ Err Error.Capacity) }
+{
+    let item_count = header.item_count();
+    let factor = header.max_load_factor();
+    let most = max_item_count_for(header.slot_count(), factor);
+    if additional <= most.saturating_sub(item_count) {
+        return Ok(None);
+    }
+    let Some(wanted) = item_count.checked_add(additional) else {
+        return Err(Error::Capacity);
+    };
+    match layout.table_for(wanted, factor) {
+        Some(sizes) => Ok(Some(sizes)),
+        None => Err(Error::Capacity),
     }
 }

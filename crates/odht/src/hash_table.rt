@@ -1,6 +1,5 @@
 //! A table in the bytes of any store.
-ghost use Rattle.std.specs.Prelude.{◌≡◌, ◌≤◌, ◌↔◌, length, IfOk, IsOk};
-ghost use Rattle.std.specs.Prelude.{IsTrue, OnErr, OnOk};
+ghost use Rattle.std.specs.Prelude.{◌≡◌, ◌≤◌, ◌↔◌, length, IfOk, IsOk, IsTrue, OnErr, OnOk};
 ghost use Rattle.std.specs.Result.{result_err};
 ghost use Rattle.odht_base.specs.Load.{IsPercent};
 ghost use Rattle.odht_base.specs.Valid.{IsPartsOf, IsValidBytes};
@@ -8,29 +7,28 @@ ghost use Rattle.odht.specs.Gets.{IsGet, IsCountedGet, IsKnown, AreGot};
 ghost use Rattle.odht.specs.Inserts.{IsFresh, IsInsertInto, IsInsertIntoAny};
 ghost use Rattle.odht.specs.Tables.{OfTable, InTable};
 ghost use Rattle.odht_raw.specs.Frame.{IsAccepted};
-ghost use Rattle.odht_header.specs.Refusals.{opening_refusal};
-ghost use Rattle.odht_header.specs.Refusals.{view_refusal};
+ghost use Rattle.odht_header.specs.Refusals.{opening_refusal, view_refusal};
 ghost use Rattle.odht.specs.NewTables.{new_len, init_refusal};
-ghost use Rattle.odht.specs.Walks.{IsWalk, IsItemCount};
+ghost use Rattle.odht.specs.Walks.{IsWalk, IsItemCount, IsWalkFrom};
 ghost use Rattle.odht_raw.specs.Dumps.{parts_of};
+ghost use Rattle.odht.specs.SearchBounds.{IsValidWithin, IsBound};
+ghost use Rattle.odht.specs.ListResults.{IsViewList};
 
 use crate::bytes::{ByteStore, ByteStoreMut};
 use crate::config::{Coded, Config};
 use crate::error::Error;
-use crate::iter::Iter;
+use crate::items::Items;
+use crate::iter::{Iter, Slots};
 use crate::layout::Fixed;
 use crate::load::Factor;
 use crate::lookups::{self, InSlice};
 use crate::memory_layout::{self, Allocation};
 use crate::new_tables::init_bytes;
-use crate::raw_table::{RawIter, RawTable};
+use crate::raw_table::{RawIter, RawSlots, RawTable};
 use crate::swisstable_group_query::GroupQuery;
 use std::marker::Model;
 
-mod bounds;
-mod lists;
 mod prefix;
-mod walks;
 
 /// Returns the length in bytes of a new table for `max_item_count` items, at a load factor in
 /// percent of the slots. Returns `None` exactly if no slot count is large enough, or the length
@@ -116,12 +114,8 @@ impl<C: Config, D: ByteStore> HashTable<C, D> {
     pub fn get(&self, key: &C::Key) -> Option<C::Value>
         ensures { IsGet ⟦<C as Coded>⟧.coding (D.bytes self.now) key.now result }
     {
-        let table = self.as_raw();
-        let key = C::encode_key(key);
-        match table.find_counted_by::<GroupQuery>(&key) {
-            (Some(value), _) => Some(C::decode_value(&value)),
-            (None, _) => None,
-        }
+        let (value, _) = self.get_counted(key);
+        value
     }
 
     /// Looks up many keys, and writes the value of `keys[i]` to `values[i]`. The loads of eight
@@ -141,7 +135,7 @@ impl<C: Config, D: ByteStore> HashTable<C, D> {
     /// are the groups up to the first slot of the key's probe order that is free or contains the
     /// key. On any bytes it is at most one group for sixteen slots. docs/FORMAT.md, "Search",
     /// defines the count.
-    #[inline]
+    #[inline(always)]
     pub fn get_counted(&self, key: &C::Key) -> (Option<C::Value>, usize)
         ensures { IsCountedGet ⟦<C as Coded>⟧.coding (D.bytes self.now) key.now result }
     {
@@ -178,6 +172,20 @@ impl<C: Config, D: ByteStore> HashTable<C, D> {
         }
     }
 
+    /// The slots from slot `from` on whose own control byte is below 128, in slot order, each with
+    /// its key and value: on valid bytes each pair in these slots once. Nothing where `from` is
+    /// past the last slot.
+    #[inline]
+    pub fn iter_from(&self, from: usize) -> Slots<'_, C>
+        ensures slots { IsWalkFrom ⟦<C as Coded>⟧.coding (D.bytes self.now) from result }
+        ensures few { length result ≤ usize.MAX }
+    {
+        let (control, entries) = self.allocation.data_slices();
+        Slots {
+            raw: RawSlots::new(control, entries, from),
+        }
+    }
+
     /// Returns the item count of the header. On valid bytes it is the number of items.
     #[inline]
     pub fn len(&self) -> usize
@@ -196,6 +204,30 @@ impl<C: Config, D: ByteStore> HashTable<C, D> {
         ensures { IsTrue result ↔ IsValidBytes ⟦<C as Coded>⟧.coding.format (D.bytes self.now) }
     {
         self.allocation.check_rest().is_ok()
+    }
+
+    /// Whether the bytes are valid and each home has, among the first `groups` groups of its probe
+    /// order, a control byte that counts as free. Then no search, of a present or an absent key,
+    /// reads more. [`DEFAULT_GROUPS`](crate::memory_layout::DEFAULT_GROUPS) is a bound that tables
+    /// of hashes that vary keep.
+    ///
+    /// It is for untrusted bytes: whatever they are it costs no more than
+    /// [`memory_layout::check_all_within`](crate::memory_layout::check_all_within), which returns
+    /// the error.
+    pub fn verify_within(&self, groups: usize) -> bool
+        ensures { IsTrue result ↔ IsValidWithin ⟦<C as Coded>⟧.coding (D.bytes self.now) groups }
+    {
+        self.allocation.check_rest_within(groups).is_ok()
+    }
+
+    /// Whether each home has, among the first `groups` groups of its probe order, a control byte
+    /// that counts as free. Then no search in valid bytes, of a present or an absent key, reads
+    /// more. It reads only control bytes: for `s` slots at most `s * groups` groups. An insert
+    /// may lengthen searches, so what holds before inserts need not hold after them.
+    pub fn searches_within(&self, groups: usize) -> bool
+        ensures { IsBound ⟦<C as Coded>⟧.coding (D.bytes self.now) groups result }
+    {
+        self.as_raw().searches_within(groups)
     }
 
     /// Returns all bytes. Their header and length fit, so [`HashTable::from_raw_bytes_unchecked`]
@@ -314,5 +346,36 @@ impl<C: Config, D: ByteStoreMut> HashTable<C, D> {
         ensures same_store { self.new ≡ D.holding self.old (D.bytes self.new) }
     {
         self.allocation.insert_by::<GroupQuery>(key, value)
+    }
+
+    /// Inserts the items in their order, and stops at the first whose insert fails. Returns how
+    /// many were accepted, and `Full` where one failed. The table is then as the accepted ones
+    /// left it; on valid bytes it is at its maximum, and the key of the item that failed is
+    /// absent.
+    ///
+    /// On any bytes each accepted item changes no more than `insert` may, and the item that failed
+    /// is one for which `insert` may return `Full`.
+    pub fn insert_all(&mut self, items: &[(C::Key, C::Value)]) -> (usize, Result<(), Error>)
+        ensures { IsViewList ⟦<C as Coded>⟧.coding D.bytes D.holding self.old self.new
+            items.now result }
+    {
+        self.insert_items(&items)
+    }
+
+    /// `insert_all` of items in any form, such as the keys and the values of two slices
+    /// ([`Zipped`](crate::items::Zipped)).
+    #[inline(always)]
+    pub fn insert_items<I: Items<C::Key, C::Value>>(
+        &mut self,
+        items: &I,
+    ) -> (usize, Result<(), Error>)
+        ensures { IsViewList ⟦<C as Coded>⟧.coding D.bytes D.holding self.old self.new
+            (I.items items.now) result }
+    {
+        let accepted = self.allocation.insert_items(items, 0);
+        if accepted < items.count() {
+            return (accepted, Err(Error::Full));
+        }
+        (accepted, Ok(()))
     }
 }

@@ -22,4 +22,3 @@ mod iter;
 pub mod laws;
 pub mod lookups;
 mod new_tables;
-mod reserve;

@@ -21,4 +21,3 @@ mod hash_table_owned;
 mod iter;
 pub mod lookups;
 mod new_tables;
-mod reserve;

@@ -1,16 +1,13 @@
 -- Worked examples: what is rejected, and what an insert returns, where lengths are known only at run time.
 use Rattle.std.proofs.Common.{◌≡◌, ℕ, List, refl, Option, Some, Result, Ok, Err}
-use Rattle.std.specs.Prelude.{option_map, OnErr}
+use Rattle.std.specs.Prelude.{OnErr}
 use Rattle.std.specs.Result.{result_map_both}
 use Rattle.odht_base.specs.Format.{format_of}
 use Rattle.odht_header.specs.Coding.{Coding}
-use Rattle.odht_header.specs.Refusals.{new_refusal, view_refusal}
 use Rattle.odht_header.specs.declared.error.Error.{Error}
 use Rattle.odht_header.specs.declared.error.Error.TheVariants.{Full, TooShort}
 use Rattle.odht.specs.Dynamic.{dyn_refusal, dyn_new_refusal}
 use Rattle.odht.specs.DynInserts.{IsDynInsert}
-use Rattle.odht.specs.Inserts.{IsInsertInto, IsInsertIntoAny}
-use Rattle.odht.specs.Tables.{OfTable}
 use Rattle.odht.specs.declared.dynamic.DynError.TheVariants.{KeyTooShort, WrongKeyLength, Rejected}
 
 -- ---- keys of three bytes, where the hash function needs four: before all other errors
@@ -20,20 +17,8 @@ short_keys h B = refl
 pub new_short_keys : (h : List ℕ → ℕ) (n f len : ℕ) → dyn_new_refusal 4 (format_of 3 1 h) n f len ≡ Some (KeyTooShort 3 4)
 new_short_keys h n f len = refl
 
--- of keys of four bytes the errors of a configuration
-pub long_keys : (h : List ℕ → ℕ) (B : List ℕ) → dyn_refusal 4 (format_of 4 1 h) B ≡ option_map Rejected (view_refusal (format_of 4 1 h) B)
-long_keys h B = refl
-
-pub new_long_keys : (h : List ℕ → ℕ) (n f len : ℕ) → dyn_new_refusal 4 (format_of 4 1 h) n f len ≡ option_map Rejected (new_refusal (format_of 4 1 h) n f len)
-new_long_keys h n f len = refl
-
 -- ---- inserts
 module _ {K V : Type 0} (c : Coding K V) (B B' : List ℕ) (k : K) (v : V) where
-  -- what an insert into a view returns, with its error as a Rejected
-  pub of_a_view : (r : Result (Option V) Error) → OfTable c.format B (λ P. IsInsertInto c P k v r B') → IsInsertIntoAny c B k v r B'
-      → IsDynInsert c B k v (result_map_both (λ o. o) Rejected r) B'
-  of_a_view r valid any = record { answer = r; is = refl; insert = record { on_valid = valid; on_any = any } }
-
   -- no other error than Full
   pub other_error_refused : (n : ℕ) → IsDynInsert c B k v (Err (Rejected (TooShort n))) B' → ⊥
   other_error_refused n h = go h.answer h.is h.insert.on_any.only_full

@@ -1,16 +1,14 @@
 -- Worked examples: lists of inserts, lookups of no keys, and tables at the front of longer bytes, where lengths are
 -- known only at run time.
 use Rattle.std.proofs.Common.{◌≡◌, ℕ, List, [], ◌∷◌, refl, Some, None}
-use Rattle.std.specs.Prelude.{option_map}
 use Rattle.odht_base.specs.Format.{format_of}
 use Rattle.odht_header.specs.Coding.{Coding}
-use Rattle.odht_raw.specs.Prefixes.{front_refusal}
 use Rattle.odht.specs.Dynamic.{DynStore, dyn_store}
 use Rattle.odht.specs.DynFormers.{lengths_error}
 use Rattle.odht.specs.DynLists.{length_error}
 use Rattle.odht.specs.DynPrefixes.{dyn_front_refusal}
 use Rattle.odht.specs.Gets.{AreGot}
-use Rattle.odht.specs.declared.dynamic.DynError.TheVariants.{KeyTooShort, WrongKeyLength, WrongValueLength, Rejected}
+use Rattle.odht.specs.declared.dynamic.DynError.TheVariants.{KeyTooShort, WrongKeyLength, WrongValueLength}
 
 -- ---- items for a table with keys of three bytes and values of one
 module _ {D : Type 0} (store : D) where
@@ -47,10 +45,6 @@ module _ {D : Type 0} (store : D) where
 -- ---- keys of three bytes, where the hash function needs four: before all other errors
 pub short_keys : (h : List ℕ → ℕ) (B : List ℕ) → dyn_front_refusal 4 (format_of 3 1 h) B ≡ Some (KeyTooShort 3 4)
 short_keys h B = refl
-
--- of keys of four bytes the errors of a configuration
-pub long_keys : (h : List ℕ → ℕ) (B : List ℕ) → dyn_front_refusal 4 (format_of 4 1 h) B ≡ option_map Rejected (front_refusal (format_of 4 1 h) B)
-long_keys h B = refl
 
 -- ---- lookups of a list
 module _ {K V : Type 0} (c : Coding K V) (B : List ℕ) where

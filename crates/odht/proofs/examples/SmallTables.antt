@@ -20,7 +20,7 @@ use Rattle.odht_base.specs.Valid.{IsImage}
 use Rattle.odht_base.proofs.examples.Configs.{my_config, pair64, owned_of}
 use Rattle.odht_base.proofs.lemmas.Image.{decoded_table-image}
 use Rattle.odht_base.proofs.lemmas.Placed.{IsPlaced-tests, pair_fits, all_arrive}
-use Rattle.odht_header.specs.Coding.{Coding, coding_of, encoded}
+use Rattle.odht_header.specs.Coding.{Coding, coding_of}
 use Rattle.odht_header.proofs.examples.Opened.{opened}
 
 abbrev pub number_coding : Coding ℕ ℕ
@@ -50,10 +50,6 @@ pub made_by_inserts : (fresh 0 87 ≡ Some no_pairs)
     × (owned_of my_config 20 87 (pair64 1 2 ∷ []) ≡ Some (one_of_32 87 2))
 unfolding opened
 made_by_inserts = (refl, refl, refl, refl, refl)
-
--- the coding encodes these pairs so
-pub coded_pair : encoded number_coding 1 2 ≡ pair64 1 2
-coded_pair = refl
 
 -- ---- bytes of valid tables
 -- tests decide that a table is valid

@@ -1,16 +1,17 @@
-//! Inserts into a dynamic table.
-ghost use Rattle.std.specs.Prelude.{◌≡◌, None, IfSome, Err, OnErr};
+//! Inserts into a dynamic table, by one and in lists.
+ghost use Rattle.std.specs.Prelude.{◌≡◌, None, IfSome, Err, OnErr, map};
 ghost use Rattle.odht_raw.specs.Frame.{IsAccepted};
 ghost use Rattle.odht.specs.Dynamic.{dyn_coding, dyn_format, dyn_store};
 ghost use Rattle.odht.specs.DynFormers.{IsDynInsertInto, lengths_error};
 ghost use Rattle.odht.specs.DynInserts.{IsDynInsert};
-ghost use Rattle.odht.specs.DynLists.{length_error};
+ghost use Rattle.odht.specs.DynLists.{length_error, IsDynList};
 
 use super::{DynError, DynTable};
 use crate::bytes::{ByteStore, ByteStoreMut};
+use crate::error::Error;
 use crate::hash::HashFn;
 use crate::layout::Layout;
-use crate::memory_layout::{insert_dynamic, insert_dynamic_into};
+use crate::memory_layout::{insert_dynamic, insert_dynamic_into, insert_items_dynamic};
 use crate::raw_table::ShortBytes;
 
 impl<H: HashFn, D: ByteStore> DynTable<H, D> {
@@ -67,6 +68,30 @@ impl<H: HashFn, D: ByteStoreMut> DynTable<H, D> {
             Ok(former) => Ok(former),
             Err(refused) => Err(DynError::Rejected(refused)),
         }
+    }
+
+    /// Inserts the items, keys and values, in their order, and stops at the first whose insert
+    /// fails. Returns how many were accepted, and the error of the one that failed, as
+    /// [`DynTable::insert`] returns it: `WrongKeyLength`, `WrongValueLength`, or `Rejected` with
+    /// `Full`. The table is then as the accepted ones left it.
+    ///
+    /// It takes no memory. It costs what
+    /// [`HashTable::insert_all`](crate::hash_table::HashTable::insert_all) costs: a search for each
+    /// item, and the header is read and the item count written once.
+    pub fn insert_all(&mut self, items: &[(&[u8], &[u8])]) -> (usize, Result<(), DynError>)
+        ensures { let pairs = map (λ item. (item.0.now, item.1.now)) items.now
+            in IsDynList H.hash D.bytes D.holding self.old self.new pairs result }
+    {
+        let accepted = insert_items_dynamic::<H>(self.store.bytes_mut(), self.layout, items);
+        if accepted >= items.len() {
+            return (accepted, Ok(()));
+        }
+        let (key, value) = items[accepted];
+        let refused = match self.wrong_length(key, value) {
+            Some(wrong) => wrong,
+            None => DynError::Rejected(Error::Full),
+        };
+        (accepted, Err(refused))
     }
 
     /// Like [`DynTable::insert`], but writes the former value to `former`, and returns whether there

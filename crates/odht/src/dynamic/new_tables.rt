@@ -1,22 +1,47 @@
-//! New dynamic tables.
+//! New dynamic tables, and those that they grow into.
 ghost use Rattle.std.specs.Prelude.{◌≡◌, ◌≤◌, length, OnErr, OnOk};
 ghost use Rattle.std.specs.Result.{result_err};
 ghost use Rattle.odht_base.specs.Format.{format_of};
 ghost use Rattle.odht_base.specs.Load.{factor_of, IsPercent};
 ghost use Rattle.odht_raw.specs.Frame.{IsAccepted};
 ghost use Rattle.odht_raw.specs.DynParts.{bytes_coding};
-ghost use Rattle.odht.specs.Dynamic.{dyn_new_refusal};
+ghost use Rattle.odht.specs.Dynamic.{dyn_new_refusal, dyn_format};
 ghost use Rattle.odht.specs.Inserts.{IsFresh};
 ghost use Rattle.odht.specs.NewTables.{new_len};
+ghost use Rattle.odht_base.specs.Insert.{grown_slots};
+ghost use Rattle.odht.specs.Growths.{grown_len, table_len, HasGrownLen, IsGrownFrom};
+ghost use Rattle.odht.specs.Tables.{OfTable};
 
 use super::{DynError, DynTable};
 use crate::bytes::{ByteStore, ByteStoreMut};
+use crate::growth::{grow_parts, grown_len_of};
 use crate::hash::HashFn;
 use crate::layout::Layout;
 use crate::load::Factor;
 use crate::new_tables::init_bytes;
 
 impl<H: HashFn, D: ByteStore> DynTable<H, D> {
+    /// Returns the length in bytes of the table that this one grows into, like
+    /// [`HashTable::grown_len`](crate::hash_table::HashTable::grown_len).
+    pub fn grown_len(&self) -> Option<usize>
+        ensures by_header { result
+            ≡ grown_len (dyn_format self.now H.hash) (D.bytes self.now.store) }
+        ensures on_valid { let F = dyn_format self.now H.hash
+            in OfTable F (D.bytes self.now.store) (λ P. result ≡ table_len F (grown_slots P)) }
+    {
+        grown_len_of::<Layout, H>(self.raw_bytes(), self.layout())
+    }
+
+    /// Writes the table that this one grows into to `out`, over any bytes that are there, like
+    /// [`HashTable::grow_into`](crate::hash_table::HashTable::grow_into). `out` must have
+    /// [`DynTable::grown_len`] bytes.
+    pub fn grow_into(&self, out: &mut [u8])
+        requires { HasGrownLen (dyn_format self.now H.hash) (D.bytes self.now.store) out.old }
+        ensures { IsGrownFrom (dyn_format self.now H.hash) (D.bytes self.now.store) out.new }
+    {
+        grow_parts::<Layout, H>(self.raw_bytes(), self.layout(), out);
+    }
+
     /// The length in bytes of a new table of these lengths for `max_item_count` items, at a load
     /// factor in percent of the slots. None exactly where no slot count is enough, or the length
     /// passes `usize`. docs/FORMAT.md, "Load factors", has the rule.

@@ -1,31 +1,36 @@
 //! The table that owns its bytes and grows, with key and value lengths that are known only at run
 //! time.
 ghost use Rattle.std.specs.Prelude.{◌≡◌, ◌≢◌, ◌≤◌, ◌<◌, ◌↔◌, None, Some, All, length, IfOk, Err};
-ghost use Rattle.std.specs.Prelude.{IsSome, IsTrue};
+ghost use Rattle.std.specs.Prelude.{IsSome, IsTrue, IfSome, OnErr, OnOk};
 ghost use Rattle.std.specs.Option.{option_copied};
 ghost use Rattle.odht_base.specs.Format.{format_of};
 ghost use Rattle.odht_base.specs.Load.{factor_of, IsPercent};
 ghost use Rattle.odht_base.specs.Map.{map_of};
 ghost use Rattle.odht_base.specs.Search.{groups_read};
 ghost use Rattle.odht_base.specs.Table.{count, fresh, walk};
-ghost use Rattle.odht_base.specs.Valid.{IsImage};
+ghost use Rattle.odht_base.specs.Valid.{IsImage, IsValidBytes};
 ghost use Rattle.odht_header.specs.Refusals.{check_refusal};
 ghost use Rattle.odht_raw.specs.DynParts.{HasLengthsOf, bytes_coding};
-ghost use Rattle.odht.specs.Dynamic.{dyn_format};
+ghost use Rattle.odht.specs.Dynamic.{dyn_format, dyn_coding, dyn_store};
 ghost use Rattle.odht.specs.DynOwned.{IsDynWith, IsRejecting};
 ghost use Rattle.odht.specs.NewTables.{FailsAsNew, FailsBy};
+ghost use Rattle.odht_base.specs.Insert.{insert_owned, IsFullFor};
+ghost use Rattle.odht_header.specs.Coding.{encoded};
+ghost use Rattle.odht.specs.DynLists.{length_error};
+ghost use Rattle.odht.specs.Plain.{HasMapWith, KeepsSize, IsPlainReserve};
+ghost use Rattle.odht.specs.Inserts.{IsFresh};
 
 use super::{DynError, DynTable};
 use crate::bytes::OwnedBytes;
+use crate::error::Error;
+use crate::growth::{grown_bytes, room_for};
 use crate::hash::HashFn;
 use crate::layout::Layout;
-use crate::raw_table::DynIter;
+use crate::load::Factor;
+use crate::memory_layout::{check_dynamic, check_opening, init_parts};
+use crate::raw_table::{DynIter, ShortBytes};
 use std::alloc::Global;
 use std::marker::Model;
-
-mod inserts;
-mod reserve;
-mod stores;
 
 /// A table that owns its bytes. The lengths of keys and values are given when it is created. It
 /// grows when an absent key is inserted at the maximum. Its bytes are always valid.
@@ -77,7 +82,7 @@ impl<H: HashFn> DynTableOwned<H> {
                 least: H::MIN_LEN,
             });
         }
-        match stores::empty::<H>(alloc, layout, max_item_count, max_load_factor_percent) {
+        match empty::<H>(alloc, layout, max_item_count, max_load_factor_percent) {
             Ok(bytes) => {
                 let table = DynTable::open_unchecked(layout, OwnedBytes::new(bytes));
                 Ok(DynTableOwned { table, alloc })
@@ -108,7 +113,7 @@ impl<H: HashFn> DynTableOwned<H> {
                 least: H::MIN_LEN,
             });
         }
-        match stores::copied::<H>(alloc, layout, raw_bytes) {
+        match copied::<H>(alloc, layout, raw_bytes) {
             Ok(bytes) => {
                 let table = DynTable::open_unchecked(layout, OwnedBytes::new(bytes));
                 Ok(DynTableOwned { table, alloc })
@@ -167,6 +172,94 @@ impl<H: HashFn> DynTableOwned<H> {
         self.table.contains_key(key)
     }
 
+    /// Gives the key this value, and returns its former one, or None. At the maximum the table
+    /// grows for an absent key; a present key is given its value in place, which takes no memory.
+    /// docs/FORMAT.md, "Insert" and "Growth", has the rules.
+    ///
+    /// The first error: `WrongKeyLength` where the key has another length than the table's keys;
+    /// `WrongValueLength` where the value has another one than its values; then `Rejected` with
+    /// `Memory`, only at the maximum and for an absent key, where the allocator gives none, or the
+    /// grown table would need more than 2^63 slots, or more bytes than a `usize` counts; that it
+    /// comes for no other reason, no clause says. On an error nothing changes.
+    ///
+    /// The key is hashed once, and again at a growth, which hashes and places each item again.
+    pub fn insert(&mut self, key: &[u8], value: &[u8]) -> Result<Option<ShortBytes>, DynError>
+        ensures former { IfOk result (λ former. former ≡ map_of self.old.store key.now) }
+        ensures inserted { let c = dyn_coding self.old H.hash in OnOk result (insert_owned
+            c.format self.old.store (encoded c key.now value.now) ≡ Some self.new.store) }
+        ensures maps { let c = dyn_coding self.old H.hash in OnOk result
+            (HasMapWith self.old.store (encoded c key.now value.now) self.new.store) }
+        ensures stays { OnOk result (KeepsSize self.old.store 1 self.new.store) }
+        ensures layout { self.new ≡ dyn_store self.old.key_len self.old.value_len self.new.store }
+        // On failure.
+        ensures lengths { IfSome (length_error self.old (key.now, value.now))
+            (λ e. result ≡ Err e) }
+        ensures full { length_error self.old (key.now, value.now) ≡ None → OnErr result
+            ((result ≡ Err (DynError.Rejected Error.Memory)) × IsFullFor self.old.store key.now) }
+        ensures refused { OnErr result (self.new ≡ self.old) }
+    {
+        match self.table.insert(key, value) {
+            Ok(former) => Ok(former),
+            // The table is at its maximum, and the key is absent.
+            Err(DynError::Rejected(_)) => self.insert_grown(key, value),
+            Err(refused) => Err(refused),
+        }
+    }
+
+    // `insert` of an absent key of the table's length at the maximum: into the grown table.
+    #[inline(never)]
+    fn insert_grown(&mut self, key: &[u8], value: &[u8]) -> Result<Option<ShortBytes>, DynError>
+        requires key { length key.now ≡ self.old.key_len }
+        requires value { length value.now ≡ self.old.value_len }
+        requires full { IsFullFor self.old.store key.now }
+        ensures former { IfOk result (λ former. former ≡ map_of self.old.store key.now) }
+        ensures inserted { let c = dyn_coding self.old H.hash in OnOk result (insert_owned
+            c.format self.old.store (encoded c key.now value.now) ≡ Some self.new.store) }
+        ensures maps { let c = dyn_coding self.old H.hash in OnOk result
+            (HasMapWith self.old.store (encoded c key.now value.now) self.new.store) }
+        ensures stays { OnOk result (KeepsSize self.old.store 1 self.new.store) }
+        ensures layout { self.new ≡ dyn_store self.old.key_len self.old.value_len self.new.store }
+        ensures memory { OnErr result (result ≡ Err (DynError.Rejected Error.Memory)) }
+        ensures refused { OnErr result (self.new ≡ self.old) }
+    {
+        let layout = self.table.layout();
+        let grown = grown_bytes::<Layout, H>(self.alloc, self.table.raw_bytes(), layout);
+        let Some(bytes) = grown else {
+            return Err(DynError::Rejected(Error::Memory));
+        };
+        let mut grown = DynTable::open_unchecked(layout, OwnedBytes::new(bytes));
+        let former = grown.insert(key, value)?;
+        self.table = grown;
+        Ok(former)
+    }
+
+    /// Makes room for `additional` more items: that many new keys can be inserted before the table
+    /// grows. Where it has the room nothing changes, and no memory is asked for. Otherwise the
+    /// pairs are placed in slot order into the least slot count that is enough for as many items
+    /// as there are and `additional` more, at the same load factor, as at a growth.
+    ///
+    /// Where the room is lacking, `Rejected` with `Capacity` exactly where no slot count is
+    /// enough, or the length passes `usize`; otherwise with `Memory` where the allocator gives
+    /// none. On an error nothing changes.
+    ///
+    /// Where it moves, one pass over the slots; each item is hashed once. No key is compared.
+    pub fn reserve(&mut self, additional: usize) -> Result<(), DynError>
+        ensures reserved { let c = dyn_coding self.old H.hash in IsRejecting
+            (λ r. IsPlainReserve c self.old.store additional r self.new.store) result }
+        ensures refused { OnErr result (self.new ≡ self.old) }
+        ensures layout { self.new ≡ dyn_store self.old.key_len self.old.value_len self.new.store }
+    {
+        let layout = self.table.layout();
+        match room_for::<Layout, H>(self.alloc, self.table.raw_bytes(), layout, additional) {
+            Ok(None) => Ok(()),
+            Ok(Some(moved)) => {
+                self.table = DynTable::open_unchecked(layout, OwnedBytes::new(moved));
+                Ok(())
+            }
+            Err(refused) => Err(DynError::Rejected(refused)),
+        }
+    }
+
     /// The keys and values, each pair once, in slot order.
     #[inline]
     pub fn iter(&self) -> DynIter<'_, H>
@@ -201,4 +294,49 @@ impl<H: HashFn> DynTableOwned<H> {
         let DynTableOwned { table, alloc: _ } = self;
         table.into_data().into_vec()
     }
+}
+
+// The bytes of an empty table of these lengths with the slots for that many items.
+fn empty<H: HashFn>(
+    alloc: Global,
+    layout: Layout,
+    max_item_count: usize,
+    max_load_factor_percent: u8,
+) -> Result<Vec<u8>, Error>
+    requires percent { IsPercent max_load_factor_percent }
+    ensures ok { let F = format_of layout.key_len layout.value_len H.hash
+        in IfOk result (λ v. IsFresh F max_item_count max_load_factor_percent v.items) }
+    ensures err { let c = bytes_coding (format_of layout.key_len layout.value_len H.hash)
+        in FailsAsNew c max_item_count (factor_of max_load_factor_percent) result }
+{
+    let factor = Factor::from_percent(max_load_factor_percent);
+    let Some((slot_count, len)) = layout.table_for(max_item_count, factor) else {
+        return Err(Error::Capacity);
+    };
+    let Ok(mut bytes) = vec![in alloc; 0; len] else {
+        return Err(Error::Memory);
+    };
+    init_parts(bytes.as_mut_slice(), layout, slot_count, 0, factor);
+    Ok(bytes)
+}
+
+// A copy of the bytes, after all of them were checked as those of a table of these lengths.
+fn copied<H: HashFn>(alloc: Global, layout: Layout, raw_bytes: &[u8]) -> Result<Vec<u8>, Error>
+    requires hashes { H.MIN_LEN ≤ layout.key_len }
+    ensures ok { IfOk result (λ v. v.items ≡ raw_bytes.now) }
+    ensures valid { let F = format_of layout.key_len layout.value_len H.hash
+        in IfOk result (λ v. IsValidBytes F raw_bytes.now) }
+    ensures err { let F = format_of layout.key_len layout.value_len H.hash
+        in FailsBy (check_refusal F raw_bytes.now) result }
+{
+    if let Err(refused) = check_opening::<H>(raw_bytes, layout) {
+        return Err(refused);
+    }
+    if let Err(refused) = check_dynamic::<H>(raw_bytes, layout) {
+        return Err(refused);
+    }
+    let Ok(bytes) = raw_bytes.to_vec(alloc) else {
+        return Err(Error::Memory);
+    };
+    Ok(bytes)
 }

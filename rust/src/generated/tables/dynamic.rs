@@ -15,11 +15,8 @@ use crate::generated::tables::raw_table::{DynIter, DynRawTable, DynSlots};
 use std::marker::PhantomData;
 
 mod file;
-mod growth;
 mod insert_order;
 mod inserts;
-mod lists;
-mod lookups;
 mod new_tables;
 mod owned;
 mod prefix;
@@ -137,6 +134,16 @@ impl<H: HashFn, D: ByteStore> DynTable<H, D> {
         self.as_dynamic().find(key)
     }
 
+    /// `get` of many keys: the value of each key is written to its index. A key of another length
+    /// has no value.
+    ///
+    /// It takes no memory, and costs a `get` for each key.
+    pub fn get_all<'a>(&'a self, keys: &[&[u8]], values: &mut [Option<&'a [u8]>]) {
+        for index in 0..keys.len() {
+            values[index] = self.get(keys[index]);
+        }
+    }
+
     /// Like `get`, and also returns how many groups of control bytes it read. On valid bytes these
     /// are the groups up to the first slot of the key's probe order that is free or contains the
     /// key. On any bytes it is at most one group for sixteen slots. docs/FORMAT.md, "Search",
@@ -219,7 +226,7 @@ impl<H: HashFn, D: ByteStore> DynTable<H, D> {
     /// Returns the store, with the bytes as they are now. Their header and length fit.
     #[inline]
     pub fn into_data(self) -> D {
-        let DynTable { store, layout: _, hash: _ } = self;
+        let DynTable { store, .. } = self;
         store
     }
 

@@ -1,12 +1,13 @@
 // Generated from crates/odht/src/growth.rt by make generate.
-//! Growth: a table with the slots for twice as many items, written into larger bytes.
+//! Growth: a table with the slots for twice as many items, or for more, written into larger bytes.
 
 use crate::generated::tables::bytes::ByteStore;
 use crate::generated::tables::config::Config;
+use crate::generated::tables::error::Error;
 use crate::generated::tables::hash::HashFn;
 use crate::generated::tables::hash_table::HashTable;
 use crate::generated::tables::layout::{Fixed, Layout, Lengths};
-use crate::generated::tables::load::Factor;
+use crate::generated::tables::load::{max_item_count_for, Factor};
 use crate::generated::tables::memory_layout::{self, clear_entries, parts_in, Header, HEADER_SIZE};
 use crate::generated::tables::raw_table::{write_new, PartPairs};
 use crate::generated::tables::swisstable_group_query::GroupQuery;
@@ -93,11 +94,11 @@ pub(crate) fn grown_bytes<L: Lengths, H: HashFn>(
     Some(grown)
 }
 
-/// The pairs of the table in the bytes, placed in slot order into that many slots in new memory.
-/// `len` is the length for them. The new header has the item count and the load factor of the
-/// table. None where the allocator gives no memory.
+// The pairs of the table in the bytes, placed in slot order into that many slots in new memory.
+// `len` is the length for them. The new header has the item count and the load factor of the
+// table. None where the allocator gives no memory.
 #[inline(always)]
-pub(crate) fn moved_bytes<L: Lengths, H: HashFn>(
+fn moved_bytes<L: Lengths, H: HashFn>(
     alloc: Global,
     bytes: &[u8],
     lengths: L,
@@ -151,5 +152,55 @@ fn place_walk<L: Lengths, H: HashFn>(
     for (key, value) in walk {
         // There is room for each item of a valid table.
         let _ = write_new::<L, H, GroupQuery>(control, entries, lengths, key, value);
+    }
+}
+
+/// Room for `additional` more items than the table in valid bytes has. None where it has the room,
+/// and no memory is asked for. Otherwise its pairs, placed in slot order into the least slot count
+/// that is enough, in new memory. All tables that own their bytes reserve by it.
+///
+/// Where the room is lacking, `Capacity` exactly where no slot count is enough, or the length
+/// passes `usize`; otherwise `Memory` where the allocator gives none.
+pub(crate) fn room_for<L: Lengths, H: HashFn>(
+    alloc: Global,
+    bytes: &[u8],
+    lengths: L,
+    additional: usize,
+) -> Result<Option<Vec<u8>>, Error> {
+    let header = Header::of(bytes);
+    let sizes = match sizes_for_more::<H>(Layout::of_lengths(lengths), &header, additional) {
+        Ok(sizes) => sizes,
+        Err(too_large) => return Err(too_large),
+    };
+    let Some((slot_count, len)) = sizes else {
+        return Ok(None);
+    };
+    match moved_bytes::<L, H>(alloc, bytes, lengths, slot_count, len) {
+        Some(moved) => Ok(Some(moved)),
+        None => Err(Error::Memory),
+    }
+}
+
+// The slot count and the length in bytes of the table that has room for `additional` more items
+// than one of these lengths and with this header. Of the header of a valid table: None where that
+// one has the room; `Capacity` exactly where it has not, and no slot count is enough, or the
+// length passes `usize`.
+fn sizes_for_more<H: HashFn>(
+    layout: Layout,
+    header: &Header<'_>,
+    additional: usize,
+) -> Result<Option<(usize, usize)>, Error> {
+    let item_count = header.item_count();
+    let factor = header.max_load_factor();
+    let most = max_item_count_for(header.slot_count(), factor);
+    if additional <= most.saturating_sub(item_count) {
+        return Ok(None);
+    }
+    let Some(wanted) = item_count.checked_add(additional) else {
+        return Err(Error::Capacity);
+    };
+    match layout.table_for(wanted, factor) {
+        Some(sizes) => Ok(Some(sizes)),
+        None => Err(Error::Capacity),
     }
 }

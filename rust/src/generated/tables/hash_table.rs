@@ -4,19 +4,17 @@
 use crate::generated::tables::bytes::{ByteStore, ByteStoreMut};
 use crate::generated::tables::config::Config;
 use crate::generated::tables::error::Error;
-use crate::generated::tables::iter::Iter;
+use crate::generated::tables::items::Items;
+use crate::generated::tables::iter::{Iter, Slots};
 use crate::generated::tables::layout::Fixed;
 use crate::generated::tables::load::Factor;
 use crate::generated::tables::lookups::{self, InSlice};
 use crate::generated::tables::memory_layout::{self, Allocation};
 use crate::generated::tables::new_tables::init_bytes;
-use crate::generated::tables::raw_table::{RawIter, RawTable};
+use crate::generated::tables::raw_table::{RawIter, RawSlots, RawTable};
 use crate::generated::tables::swisstable_group_query::GroupQuery;
 
-mod bounds;
-mod lists;
 mod prefix;
-mod walks;
 
 /// Returns the length in bytes of a new table for `max_item_count` items, at a load factor in
 /// percent of the slots. Returns `None` exactly if no slot count is large enough, or the length
@@ -79,12 +77,8 @@ impl<C: Config, D: ByteStore> HashTable<C, D> {
     /// [`HashTable::get_counted`] counts the groups that such a search reads.
     #[inline(always)]
     pub fn get(&self, key: &C::Key) -> Option<C::Value> {
-        let table = self.as_raw();
-        let key = C::encode_key(key);
-        match table.find_counted_by::<GroupQuery>(&key) {
-            (Some(value), _) => Some(C::decode_value(&value)),
-            (None, _) => None,
-        }
+        let (value, _) = self.get_counted(key);
+        value
     }
 
     /// Looks up many keys, and writes the value of `keys[i]` to `values[i]`. The loads of eight
@@ -101,7 +95,7 @@ impl<C: Config, D: ByteStore> HashTable<C, D> {
     /// are the groups up to the first slot of the key's probe order that is free or contains the
     /// key. On any bytes it is at most one group for sixteen slots. docs/FORMAT.md, "Search",
     /// defines the count.
-    #[inline]
+    #[inline(always)]
     pub fn get_counted(&self, key: &C::Key) -> (Option<C::Value>, usize) {
         let table = self.as_raw();
         let key = C::encode_key(key);
@@ -129,6 +123,15 @@ impl<C: Config, D: ByteStore> HashTable<C, D> {
         Iter { raw: RawIter::new(control, entries) }
     }
 
+    /// The slots from slot `from` on whose own control byte is below 128, in slot order, each with
+    /// its key and value: on valid bytes each pair in these slots once. Nothing where `from` is
+    /// past the last slot.
+    #[inline]
+    pub fn iter_from(&self, from: usize) -> Slots<'_, C> {
+        let (control, entries) = self.allocation.data_slices();
+        Slots { raw: RawSlots::new(control, entries, from) }
+    }
+
     /// Returns the item count of the header. On valid bytes it is the number of items.
     #[inline]
     pub fn len(&self) -> usize {
@@ -143,6 +146,26 @@ impl<C: Config, D: ByteStore> HashTable<C, D> {
     /// [`verify_within`](HashTable::verify_within), whose time is bounded.
     pub fn verify(&self) -> bool {
         self.allocation.check_rest().is_ok()
+    }
+
+    /// Whether the bytes are valid and each home has, among the first `groups` groups of its probe
+    /// order, a control byte that counts as free. Then no search, of a present or an absent key,
+    /// reads more. [`DEFAULT_GROUPS`](crate::generated::tables::memory_layout::DEFAULT_GROUPS) is a bound that tables
+    /// of hashes that vary keep.
+    ///
+    /// It is for untrusted bytes: whatever they are it costs no more than
+    /// [`memory_layout::check_all_within`](crate::generated::tables::memory_layout::check_all_within), which returns
+    /// the error.
+    pub fn verify_within(&self, groups: usize) -> bool {
+        self.allocation.check_rest_within(groups).is_ok()
+    }
+
+    /// Whether each home has, among the first `groups` groups of its probe order, a control byte
+    /// that counts as free. Then no search in valid bytes, of a present or an absent key, reads
+    /// more. It reads only control bytes: for `s` slots at most `s * groups` groups. An insert
+    /// may lengthen searches, so what holds before inserts need not hold after them.
+    pub fn searches_within(&self, groups: usize) -> bool {
+        self.as_raw().searches_within(groups)
     }
 
     /// Returns all bytes. Their header and length fit, so [`HashTable::from_raw_bytes_unchecked`]
@@ -225,5 +248,30 @@ impl<C: Config, D: ByteStoreMut> HashTable<C, D> {
     #[inline(always)]
     pub fn insert(&mut self, key: &C::Key, value: &C::Value) -> Result<Option<C::Value>, Error> {
         self.allocation.insert_by::<GroupQuery>(key, value)
+    }
+
+    /// Inserts the items in their order, and stops at the first whose insert fails. Returns how
+    /// many were accepted, and `Full` where one failed. The table is then as the accepted ones
+    /// left it; on valid bytes it is at its maximum, and the key of the item that failed is
+    /// absent.
+    ///
+    /// On any bytes each accepted item changes no more than `insert` may, and the item that failed
+    /// is one for which `insert` may return `Full`.
+    pub fn insert_all(&mut self, items: &[(C::Key, C::Value)]) -> (usize, Result<(), Error>) {
+        self.insert_items(&items)
+    }
+
+    /// `insert_all` of items in any form, such as the keys and the values of two slices
+    /// ([`Zipped`](crate::generated::tables::items::Zipped)).
+    #[inline(always)]
+    pub fn insert_items<I: Items<C::Key, C::Value>>(
+        &mut self,
+        items: &I,
+    ) -> (usize, Result<(), Error>) {
+        let accepted = self.allocation.insert_items(items, 0);
+        if accepted < items.count() {
+            return (accepted, Err(Error::Full));
+        }
+        (accepted, Ok(()))
     }
 }

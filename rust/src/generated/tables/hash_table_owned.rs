@@ -4,7 +4,7 @@
 use crate::generated::tables::bytes::OwnedBytes;
 use crate::generated::tables::config::Config;
 use crate::generated::tables::error::Error;
-use crate::generated::tables::growth::grown_bytes;
+use crate::generated::tables::growth::{grown_bytes, room_for};
 use crate::generated::tables::hash_table::HashTable;
 use crate::generated::tables::iter::Iter;
 use crate::generated::tables::layout::Fixed;
@@ -13,13 +13,9 @@ use crate::generated::tables::memory_layout;
 use crate::shim::Global;
 use alloc::vec::Vec;
 
-mod clear;
 mod dump;
-mod extend;
-mod get_all;
 mod insert_order;
 mod lists;
-mod reserve;
 
 /// A table that owns its bytes, and grows when an absent key is inserted at the maximum. Its bytes
 /// are always valid. In contracts its value is the table that they store.
@@ -78,6 +74,14 @@ impl<C: Config> HashTableOwned<C> {
     #[inline]
     pub fn get(&self, key: &C::Key) -> Option<C::Value> {
         self.table.get(key)
+    }
+
+    /// `get` of many keys: the value of each key is written to its index. The loads of eight keys
+    /// overlap, so that many lookups in a large table are faster than one `get` after the other.
+    /// It costs what `get_all` of a view does.
+    #[inline]
+    pub fn get_all(&self, keys: &[C::Key], values: &mut [Option<C::Value>]) {
+        self.table.get_all(keys, values);
     }
 
     /// Like `get`, and also returns how many groups of control bytes it read: the groups up to the
@@ -158,6 +162,14 @@ impl<C: Config> HashTableOwned<C> {
         Ok(HashTableOwned { table, alloc })
     }
 
+    /// Takes all items out: leaves the empty table of as many slots and the same load factor, to
+    /// the last byte that of a new table of this size.
+    ///
+    /// It takes no memory and gives none back. Each byte is written once.
+    pub fn clear(&mut self) {
+        self.table.allocation.clear();
+    }
+
     /// Copies the table. The copy has the same bytes.
     ///
     /// The error is `Memory` if allocation fails.
@@ -181,6 +193,31 @@ impl<C: Config> HashTableOwned<C> {
             Ok(old) => Ok(old),
             // The error is `Full`: the table is at its maximum, and the key is absent.
             Err(_) => self.insert_grown(key, value),
+        }
+    }
+
+    /// Makes room for `additional` more items: that many new keys can be inserted before the table
+    /// grows. Where it has the room nothing changes, and no memory is asked for. Otherwise the
+    /// pairs are placed in slot order into the least slot count that is enough for as many items
+    /// as there are and `additional` more, at the same load factor, as at a growth.
+    ///
+    /// Where the room is lacking, `Capacity` exactly where no slot count is enough, or the length
+    /// passes `usize`; otherwise `Memory` where the allocator gives none. On an error nothing
+    /// changes.
+    ///
+    /// Where it moves, one pass over the slots; each item is hashed once. No key is compared.
+    pub fn reserve(&mut self, additional: usize) -> Result<(), Error> {
+        let lengths: Fixed<C::EncodedKey, C::EncodedValue> = Fixed::new();
+        let bytes = self.table.raw_bytes();
+        match room_for::<Fixed<C::EncodedKey, C::EncodedValue>, C::H>(
+            self.alloc, bytes, lengths, additional,
+        ) {
+            Ok(None) => Ok(()),
+            Ok(Some(moved)) => {
+                self.table = HashTable::from_raw_bytes_unchecked(OwnedBytes::new(moved));
+                Ok(())
+            }
+            Err(refused) => Err(refused),
         }
     }
 

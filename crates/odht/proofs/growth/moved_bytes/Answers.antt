@@ -3,7 +3,6 @@ use Rattle.std.proofs.lemmas.List.{length-replicate}
 use Rattle.odht_base.specs.Bytes.{bytes_at}
 use Rattle.odht_base.specs.Format.{Format, format_of, entry_len}
 use Rattle.odht_raw.proofs.lemmas.NewTables.{bytes_at-zeros}
-use Rattle.odht.proofs.growth.moved_bytes.Goals.{After-move_parts}
 use Rattle.odht.proofs.growth.moved_bytes.Goals as goal
 
 pub move_parts-requires-clause-room : goal.move_parts-requires-clause-room

@@ -63,16 +63,10 @@ pub(super) fn open_header<H: HashFn, S: ReadAt>(
         (option_map DynError.Rejected (view_refusal F T))
         (λ r. (header_slots T ≡ r.0) × (header_count T ≡ r.1)) result) }
 {
-    match header_counts::<S>(source, layout, at, len) {
-        Ok((slots, items)) => {
-            let place = place_of(at, slots, layout);
-            match check_first::<H, S>(source, &place) {
-                Ok(()) => Ok((slots, items)),
-                Err(error) => Err(error),
-            }
-        }
-        Err(error) => Err(error),
-    }
+    let (slots, items) = header_counts::<S>(source, layout, at, len)?;
+    let place = place_of(at, slots, layout);
+    check_first::<H, S>(source, &place)?;
+    Ok((slots, items))
 }
 
 // Reads and checks the header of a table of `len` bytes.
@@ -206,8 +200,6 @@ fn read_value<S: ReadAt>(
     let entry_at = place.entries_at + slot as u64 * layout.entry_len() as u64;
     let mut bytes = [0; 255];
     let (value, _) = bytes.split_at_mut(layout.value_len as usize);
-    match read_exact_at(source, entry_at + layout.key_len as u64, value) {
-        Ok(()) => Ok(ShortBytes::of(&*value)),
-        Err(error) => Err(error),
-    }
+    read_exact_at(source, entry_at + layout.key_len as u64, value)?;
+    Ok(ShortBytes::of(&*value))
 }

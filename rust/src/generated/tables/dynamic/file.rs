@@ -87,10 +87,8 @@ impl<H: HashFn, S: ReadAt> FileTable<H, S> {
         if offset.checked_add(len as u64).is_none() {
             return Err(FileError::Read(ReadError::EarlyEnd));
         }
-        match reads::stated_lengths(&source, offset, len) {
-            Ok(layout) => FileTable::open_at(layout, source, offset, len),
-            Err(error) => Err(error),
-        }
+        let layout = reads::stated_lengths(&source, offset, len)?;
+        FileTable::open_at(layout, source, offset, len)
     }
 
     /// The lengths of keys and values.

@@ -1,12 +1,14 @@
 // Generated from crates/odht/src/dynamic/inserts.rt by make generate.
-//! Inserts into a dynamic table.
+//! Inserts into a dynamic table, by one and in lists.
 
 use super::{DynError, DynTable};
 use crate::generated::tables::bytes::{ByteStore, ByteStoreMut};
 use crate::generated::tables::error::Error;
 use crate::generated::tables::hash::HashFn;
 use crate::generated::tables::layout::Layout;
-use crate::generated::tables::memory_layout::{insert_dynamic, insert_dynamic_into};
+use crate::generated::tables::memory_layout::{
+    insert_dynamic, insert_dynamic_into, insert_items_dynamic,
+};
 use crate::generated::tables::raw_table::ShortBytes;
 
 impl<H: HashFn, D: ByteStore> DynTable<H, D> {
@@ -41,10 +43,31 @@ impl<H: HashFn, D: ByteStoreMut> DynTable<H, D> {
         if let Some(refused) = self.wrong_length(key, value) {
             return Err(refused);
         }
-        match insert_store::<H, D>(&mut self.store, self.layout, key, value) {
+        match insert_dynamic::<H>(self.store.bytes_mut(), self.layout, key, value) {
             Ok(former) => Ok(former),
             Err(refused) => Err(DynError::Rejected(refused)),
         }
+    }
+
+    /// Inserts the items, keys and values, in their order, and stops at the first whose insert
+    /// fails. Returns how many were accepted, and the error of the one that failed, as
+    /// [`DynTable::insert`] returns it: `WrongKeyLength`, `WrongValueLength`, or `Rejected` with
+    /// `Full`. The table is then as the accepted ones left it.
+    ///
+    /// It takes no memory. It costs what
+    /// [`HashTable::insert_all`](crate::generated::tables::hash_table::HashTable::insert_all) costs: a search for each
+    /// item, and the header is read and the item count written once.
+    pub fn insert_all(&mut self, items: &[(&[u8], &[u8])]) -> (usize, Result<(), DynError>) {
+        let accepted = insert_items_dynamic::<H>(self.store.bytes_mut(), self.layout, items);
+        if accepted >= items.len() {
+            return (accepted, Ok(()));
+        }
+        let (key, value) = items[accepted];
+        let refused = match self.wrong_length(key, value) {
+            Some(wrong) => wrong,
+            None => DynError::Rejected(Error::Full),
+        };
+        (accepted, Err(refused))
     }
 
     /// Like [`DynTable::insert`], but writes the former value to `former`, and returns whether there
@@ -64,31 +87,10 @@ impl<H: HashFn, D: ByteStoreMut> DynTable<H, D> {
         if let Some(wrong) = self.wrong_length(key, former) {
             return Err(wrong);
         }
-        match insert_store_into::<H, D>(&mut self.store, self.layout, key, value, former) {
+        let bytes = self.store.bytes_mut();
+        match insert_dynamic_into::<H>(bytes, self.layout, key, value, former) {
             Ok(had) => Ok(had),
             Err(refused) => Err(DynError::Rejected(refused)),
         }
     }
-}
-
-// `insert` on the store itself, of a key and a value of the table's lengths.
-fn insert_store<H: HashFn, D: ByteStoreMut>(
-    store: &mut D,
-    layout: Layout,
-    key: &[u8],
-    value: &[u8],
-) -> Result<Option<ShortBytes>, Error> {
-    insert_dynamic::<H>(store.bytes_mut(), layout, key, value)
-}
-
-// `insert_into` on the store itself, of a key, a value and bytes of the table's lengths.
-#[inline(always)]
-fn insert_store_into<H: HashFn, D: ByteStoreMut>(
-    store: &mut D,
-    layout: Layout,
-    key: &[u8],
-    value: &[u8],
-    former: &mut [u8],
-) -> Result<bool, Error> {
-    insert_dynamic_into::<H>(store.bytes_mut(), layout, key, value, former)
 }

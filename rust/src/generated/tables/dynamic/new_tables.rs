@@ -1,14 +1,28 @@
 // Generated from crates/odht/src/dynamic/new_tables.rt by make generate.
-//! New dynamic tables.
+//! New dynamic tables, and those that they grow into.
 
 use super::{DynError, DynTable};
 use crate::generated::tables::bytes::{ByteStore, ByteStoreMut};
+use crate::generated::tables::growth::{grow_parts, grown_len_of};
 use crate::generated::tables::hash::HashFn;
 use crate::generated::tables::layout::Layout;
 use crate::generated::tables::load::Factor;
 use crate::generated::tables::new_tables::init_bytes;
 
 impl<H: HashFn, D: ByteStore> DynTable<H, D> {
+    /// Returns the length in bytes of the table that this one grows into, like
+    /// [`HashTable::grown_len`](crate::generated::tables::hash_table::HashTable::grown_len).
+    pub fn grown_len(&self) -> Option<usize> {
+        grown_len_of::<Layout, H>(self.raw_bytes(), self.layout())
+    }
+
+    /// Writes the table that this one grows into to `out`, over any bytes that are there, like
+    /// [`HashTable::grow_into`](crate::generated::tables::hash_table::HashTable::grow_into). `out` must have
+    /// [`DynTable::grown_len`] bytes.
+    pub fn grow_into(&self, out: &mut [u8]) {
+        grow_parts::<Layout, H>(self.raw_bytes(), self.layout(), out);
+    }
+
     /// The length in bytes of a new table of these lengths for `max_item_count` items, at a load
     /// factor in percent of the slots. None exactly where no slot count is enough, or the length
     /// passes `usize`. docs/FORMAT.md, "Load factors", has the rule.

@@ -4,15 +4,15 @@
 
 use super::{DynError, DynTable};
 use crate::generated::tables::bytes::OwnedBytes;
+use crate::generated::tables::error::Error;
+use crate::generated::tables::growth::{grown_bytes, room_for};
 use crate::generated::tables::hash::HashFn;
 use crate::generated::tables::layout::Layout;
-use crate::generated::tables::raw_table::DynIter;
+use crate::generated::tables::load::Factor;
+use crate::generated::tables::memory_layout::{check_dynamic, check_opening, init_parts};
+use crate::generated::tables::raw_table::{DynIter, ShortBytes};
 use crate::shim::Global;
 use alloc::vec::Vec;
-
-mod inserts;
-mod reserve;
-mod stores;
 
 /// A table that owns its bytes. The lengths of keys and values are given when it is created. It
 /// grows when an absent key is inserted at the maximum. Its bytes are always valid.
@@ -40,7 +40,7 @@ impl<H: HashFn> DynTableOwned<H> {
         if (layout.key_len as usize) < H::MIN_LEN {
             return Err(DynError::KeyTooShort { key_len: layout.key_len, least: H::MIN_LEN });
         }
-        match stores::empty::<H>(alloc, layout, max_item_count, max_load_factor_percent) {
+        match empty::<H>(alloc, layout, max_item_count, max_load_factor_percent) {
             Ok(bytes) => {
                 let table = DynTable::open_unchecked(layout, OwnedBytes::new(bytes));
                 Ok(DynTableOwned { table, alloc })
@@ -63,7 +63,7 @@ impl<H: HashFn> DynTableOwned<H> {
         if (layout.key_len as usize) < H::MIN_LEN {
             return Err(DynError::KeyTooShort { key_len: layout.key_len, least: H::MIN_LEN });
         }
-        match stores::copied::<H>(alloc, layout, raw_bytes) {
+        match copied::<H>(alloc, layout, raw_bytes) {
             Ok(bytes) => {
                 let table = DynTable::open_unchecked(layout, OwnedBytes::new(bytes));
                 Ok(DynTableOwned { table, alloc })
@@ -106,6 +106,62 @@ impl<H: HashFn> DynTableOwned<H> {
         self.table.contains_key(key)
     }
 
+    /// Gives the key this value, and returns its former one, or None. At the maximum the table
+    /// grows for an absent key; a present key is given its value in place, which takes no memory.
+    /// docs/FORMAT.md, "Insert" and "Growth", has the rules.
+    ///
+    /// The first error: `WrongKeyLength` where the key has another length than the table's keys;
+    /// `WrongValueLength` where the value has another one than its values; then `Rejected` with
+    /// `Memory`, only at the maximum and for an absent key, where the allocator gives none, or the
+    /// grown table would need more than 2^63 slots, or more bytes than a `usize` counts; that it
+    /// comes for no other reason, no clause says. On an error nothing changes.
+    ///
+    /// The key is hashed once, and again at a growth, which hashes and places each item again.
+    pub fn insert(&mut self, key: &[u8], value: &[u8]) -> Result<Option<ShortBytes>, DynError> {
+        match self.table.insert(key, value) {
+            Ok(former) => Ok(former),
+            // The table is at its maximum, and the key is absent.
+            Err(DynError::Rejected(_)) => self.insert_grown(key, value),
+            Err(refused) => Err(refused),
+        }
+    }
+
+    // `insert` of an absent key of the table's length at the maximum: into the grown table.
+    #[inline(never)]
+    fn insert_grown(&mut self, key: &[u8], value: &[u8]) -> Result<Option<ShortBytes>, DynError> {
+        let layout = self.table.layout();
+        let grown = grown_bytes::<Layout, H>(self.alloc, self.table.raw_bytes(), layout);
+        let Some(bytes) = grown else {
+            return Err(DynError::Rejected(Error::Memory));
+        };
+        let mut grown = DynTable::open_unchecked(layout, OwnedBytes::new(bytes));
+        let former = grown.insert(key, value)?;
+        self.table = grown;
+        Ok(former)
+    }
+
+    /// Makes room for `additional` more items: that many new keys can be inserted before the table
+    /// grows. Where it has the room nothing changes, and no memory is asked for. Otherwise the
+    /// pairs are placed in slot order into the least slot count that is enough for as many items
+    /// as there are and `additional` more, at the same load factor, as at a growth.
+    ///
+    /// Where the room is lacking, `Rejected` with `Capacity` exactly where no slot count is
+    /// enough, or the length passes `usize`; otherwise with `Memory` where the allocator gives
+    /// none. On an error nothing changes.
+    ///
+    /// Where it moves, one pass over the slots; each item is hashed once. No key is compared.
+    pub fn reserve(&mut self, additional: usize) -> Result<(), DynError> {
+        let layout = self.table.layout();
+        match room_for::<Layout, H>(self.alloc, self.table.raw_bytes(), layout, additional) {
+            Ok(None) => Ok(()),
+            Ok(Some(moved)) => {
+                self.table = DynTable::open_unchecked(layout, OwnedBytes::new(moved));
+                Ok(())
+            }
+            Err(refused) => Err(DynError::Rejected(refused)),
+        }
+    }
+
     /// The keys and values, each pair once, in slot order.
     #[inline]
     pub fn iter(&self) -> DynIter<'_, H> {
@@ -130,4 +186,36 @@ impl<H: HashFn> DynTableOwned<H> {
         let DynTableOwned { table, alloc: _ } = self;
         table.into_data().into_vec()
     }
+}
+
+// The bytes of an empty table of these lengths with the slots for that many items.
+fn empty<H: HashFn>(
+    alloc: Global,
+    layout: Layout,
+    max_item_count: usize,
+    max_load_factor_percent: u8,
+) -> Result<Vec<u8>, Error> {
+    let factor = Factor::from_percent(max_load_factor_percent);
+    let Some((slot_count, len)) = layout.table_for(max_item_count, factor) else {
+        return Err(Error::Capacity);
+    };
+    let Ok(mut bytes) = crate::shim::zeroed_bytes(alloc, len) else {
+        return Err(Error::Memory);
+    };
+    init_parts(bytes.as_mut_slice(), layout, slot_count, 0, factor);
+    Ok(bytes)
+}
+
+// A copy of the bytes, after all of them were checked as those of a table of these lengths.
+fn copied<H: HashFn>(alloc: Global, layout: Layout, raw_bytes: &[u8]) -> Result<Vec<u8>, Error> {
+    if let Err(refused) = check_opening::<H>(raw_bytes, layout) {
+        return Err(refused);
+    }
+    if let Err(refused) = check_dynamic::<H>(raw_bytes, layout) {
+        return Err(refused);
+    }
+    let Ok(bytes) = crate::shim::to_vec(raw_bytes, alloc) else {
+        return Err(Error::Memory);
+    };
+    Ok(bytes)
 }

@@ -1,10 +1,11 @@
 // Generated from crates/odht/src/hash_table_owned/lists.rt by make generate.
-//! Lists of inserts into the table that grows.
+//! Lists of inserts into the table that grows, and of what an iterator gives.
 
 use super::HashTableOwned;
 use crate::generated::tables::config::Config;
 use crate::generated::tables::error::Error;
 use crate::generated::tables::items::Items;
+use alloc::vec::Vec;
 
 impl<C: Config> HashTableOwned<C> {
     /// Inserts the items in their order, and stops at the first whose insert fails. Returns how
@@ -15,6 +16,20 @@ impl<C: Config> HashTableOwned<C> {
     /// are has not grown.
     pub fn insert_all(&mut self, items: &[(C::Key, C::Value)]) -> (usize, Result<(), Error>) {
         self.insert_items(&items)
+    }
+
+    /// `insert_all` of the items of an iterator, which are collected first. Returns how many were
+    /// accepted, and `Memory` where there was none for the list, with none accepted and nothing
+    /// changed, or where an insert failed, as `insert_all` leaves it.
+    pub fn extend<I: Iterator<Item = (C::Key, C::Value)>>(
+        &mut self,
+        items: I,
+    ) -> (usize, Result<(), Error>) {
+        let collected: Result<Vec<(C::Key, C::Value)>, _> = crate::shim::collect(items, self.alloc);
+        let Ok(items) = collected else {
+            return (0, Err(Error::Memory));
+        };
+        self.insert_all(items.as_slice())
     }
 
     /// `insert_all` of items in any form, such as the keys and the values of two slices

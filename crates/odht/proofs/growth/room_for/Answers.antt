@@ -14,9 +14,9 @@ use Rattle.odht.specs.Reserves.{IsMoveFor}
 use Rattle.odht.proofs.lemmas.Moves.{reserve-stays, reserve-moves, reserve-no_memory, reserve-large, reserved-room}
 use Rattle.odht.proofs.lemmas.Plain.{decoded_image, the_table}
 use Rattle.odht.proofs.lemmas.ViewInserts.{factor_header}
-use Rattle.odht.proofs.reserve.room_for.Given.{Over}
-use Rattle.odht.proofs.reserve.room_for.Goals.{After-sizes_for_more, After-moved_bytes}
-use Rattle.odht.proofs.reserve.room_for.Goals as goal
+use Rattle.odht.proofs.growth.room_for.Given.{Over}
+use Rattle.odht.proofs.growth.room_for.Goals.{After-sizes_for_more, After-moved_bytes}
+use Rattle.odht.proofs.growth.room_for.Goals as goal
 
 module _ (g : Over) (c : After-sizes_for_more g) where
   abbrev F : Format

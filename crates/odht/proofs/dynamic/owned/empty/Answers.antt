@@ -12,9 +12,9 @@ use Rattle.odht_header.specs.Refusals.{IsTooLarge}
 use Rattle.odht_raw.specs.DynParts.{bytes_coding}
 use Rattle.odht_raw.proofs.lemmas.NewTables.{with_count-new}
 use Rattle.odht.proofs.lemmas.DynOwned.{fails_large, fails_memory, fails_never}
-use Rattle.odht.proofs.dynamic.owned.stores.empty.Given.{Over}
-use Rattle.odht.proofs.dynamic.owned.stores.empty.Goals.{In-Some}
-use Rattle.odht.proofs.dynamic.owned.stores.empty.Goals as goal
+use Rattle.odht.proofs.dynamic.owned.empty.Given.{Over}
+use Rattle.odht.proofs.dynamic.owned.empty.Goals.{In-Some}
+use Rattle.odht.proofs.dynamic.owned.empty.Goals as goal
 
 pub returns-in_default-clause-err : goal.returns-in_default-clause-err
 returns-in_default-clause-err g c =

@@ -8,9 +8,9 @@ use Rattle.odht_header.specs.Refusals.{IsTooLarge}
 use Rattle.odht.specs.Reserves.{LacksRoom}
 use Rattle.odht.proofs.lemmas.Moves.{slots_of_image, reserved-many}
 use Rattle.odht.proofs.lemmas.ViewInserts.{count_header, factor_header}
-use Rattle.odht.proofs.reserve.sizes_for_more.Given.{Over}
-use Rattle.odht.proofs.reserve.sizes_for_more.Goals.{After-saturating_sub}
-use Rattle.odht.proofs.reserve.sizes_for_more.Goals as goal
+use Rattle.odht.proofs.growth.sizes_for_more.Given.{Over}
+use Rattle.odht.proofs.growth.sizes_for_more.Goals.{After-saturating_sub}
+use Rattle.odht.proofs.growth.sizes_for_more.Goals as goal
 
 module _ (g : Over) (c : After-saturating_sub g) (P : Table) (is : IsImage (format_of c.args.layout.key_len c.args.layout.value_len g.H.HashFn.hash) P c.args.header.now) where
   abbrev F : Format

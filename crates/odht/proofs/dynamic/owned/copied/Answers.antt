@@ -4,9 +4,9 @@ use Rattle.odht_header.specs.Refusals.{check_refusal, view_refusal}
 use Rattle.odht_header.proofs.lemmas.FirstErrors.{Err-checked}
 use Rattle.odht_raw.proofs.lemmas.Openings.{check_refusal-view, check_refusal-late, view_refusal-accepted}
 use Rattle.odht.proofs.lemmas.DynOwned.{no_error, fails_by, fails_by_memory, fails_by_never}
-use Rattle.odht.proofs.dynamic.owned.stores.copied.Given.{Over}
-use Rattle.odht.proofs.dynamic.owned.stores.copied.Goals.{In_default, In_default-check_dynamic}
-use Rattle.odht.proofs.dynamic.owned.stores.copied.Goals as goal
+use Rattle.odht.proofs.dynamic.owned.copied.Given.{Over}
+use Rattle.odht.proofs.dynamic.owned.copied.Goals.{In_default, In_default-check_dynamic}
+use Rattle.odht.proofs.dynamic.owned.copied.Goals as goal
 
 pub returns-in-Err-clause-err : goal.returns-in-Err-clause-err
 returns-in-Err-clause-err g c =
