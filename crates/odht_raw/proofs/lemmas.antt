@@ -1,4 +1,6 @@
 -- The library of laws over the definitions in specs/; that of plain tables is in `odht_base`.
+-- the lemmas of std and of the crates below that are cited here
+pub mod Below
 -- the cells that the parts of a placed table decode to
 pub mod PartCells
 -- a search slot by slot

@@ -8,13 +8,8 @@
 --     ArePassed F T k b n  none of the n slots from b on, modulo the slot count, is free or holds the key k
 --     IsGroupSearch g h q  q is a search of the group g for the tag h
 use Rattle.std.specs.Prelude.{◌≡◌, ℕ, ◌+◌, ◌%◌, ◌<◌, Bool, List, length, filter_map, None, IsFalse}
-use Rattle.odht_base.specs.Format.{Format}
-use Rattle.odht_base.specs.Groups.{GroupMatches, IsReport, first_free}
-use Rattle.odht_base.specs.Search.{stops_at, search_end, is_at}
-use Rattle.odht_base.specs.Decoded.{slot_key, decoded_cells}
-use Rattle.odht_base.specs.Table.{Cells}
+use Rattle.odht_raw.specs.Words.{Cells, decoded_cells, first_free, Format, GroupMatches, is_at, IsReport, mirror_refusal, search_end, slot_key, slots_refusal, stops_at}
 use Rattle.odht_raw.specs.Parts.{TableParts}
-use Rattle.odht_header.specs.Refusals.{slots_refusal, mirror_refusal}
 
 abbrev pub cells_of : Format → TableParts → Cells
 cells_of F T = decoded_cells F T.entries.bytes T.control

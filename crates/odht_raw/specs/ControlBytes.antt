@@ -14,9 +14,7 @@
 --     IsMissing F E ctrl k a search for k, slot by slot, can end without it: at a slot that counts as free, or after
 --                          the last slot. What is behind such a slot is not asked, though a search by groups looks there
 use Rattle.std.specs.Prelude.{◌≡◌, ℕ, ◌+◌, ◌-◌, ◌<◌, ◌≤◌, List, length, slice_index, ◌⊎◌, IsTrue, IsFalse}
-use Rattle.odht_base.specs.Format.{Format, home, tag}
-use Rattle.odht_base.specs.Decoded.{counts_as_free, slot_key}
-use Rattle.odht_base.specs.Probe.{probe_slot}
+use Rattle.odht_raw.specs.Words.{counts_as_free, Format, home, probe_slot, slot_key, tag}
 use Rattle.odht_raw.specs.Parts.{EntryBytes}
 
 abbrev pub OfSlot : (ℕ → Type 0) → List ℕ → ℕ → Type 0

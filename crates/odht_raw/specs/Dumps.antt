@@ -13,9 +13,7 @@
 use Rattle.std.specs.Prelude.{ℕ, List, [], ◌∷◌, ◌++◌, map, slice_index, Option, Some, if◌then◌else◌, codes, decimal}
 use Rattle.std.specs.Fmt.{◌++?◌}
 use Rattle.std.specs.List.{range_with_len}
-use Rattle.odht_base.specs.Format.{Format}
-use Rattle.odht_base.specs.Load.{max_items, percent_of}
-use Rattle.odht_base.specs.Decoded.{slot_key, slot_value, counts_as_free, header_count, header_slots, header_factor, entries_of, controls_of}
+use Rattle.odht_raw.specs.Words.{controls_of, counts_as_free, entries_of, Format, header_count, header_factor, header_slots, max_items, percent_of, slot_key, slot_value}
 use Rattle.odht_raw.specs.Parts.{TableParts}
 
 abbrev pub DebugText : Type 0

@@ -11,10 +11,7 @@
 --     AreWhole ml S         the parts are as long as these lengths say, and keys are long enough for a hash that needs ml
 --                          bytes
 use Rattle.std.specs.Prelude.{◌≡◌, ℕ, List, length}
-use Rattle.odht_base.specs.Format.{Format, format_of}
-use Rattle.odht_base.specs.Decoded.{slot_key, slot_value}
-use Rattle.odht_base.specs.Table.{Pair}
-use Rattle.odht_header.specs.Coding.{Coding}
+use Rattle.odht_raw.specs.Words.{Coding, Format, format_of, Pair, slot_key, slot_value}
 use Rattle.odht_raw.specs.Parts.{TableParts, IsTableParts, entry_format}
 use Rattle.odht_raw.specs.Stored.{StoredEntries}
 

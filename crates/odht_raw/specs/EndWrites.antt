@@ -7,12 +7,7 @@
 --                          image of a table the image with the pair placed (`placed`), of any bytes what an insert
 --                          with this answer leaves (`framed`)
 use Rattle.std.specs.Prelude.{◌≡◌, ℕ, List, length, Bool, Option, Result, IfOk, IsTrue, ⊤}
-use Rattle.odht_base.specs.Decoded.{entries_of, controls_of}
-use Rattle.odht_base.specs.Format.{Format, tag as key_tag}
-use Rattle.odht_base.specs.Table.{Table}
-use Rattle.odht_base.specs.Valid.{IsImage}
-use Rattle.odht_header.specs.Coding.{Coding}
-use Rattle.odht_header.specs.declared.error.Error.{Error}
+use Rattle.odht_raw.specs.Words.{Coding, controls_of, entries_of, Error, Format, IsImage, Table, tag as key_tag}
 use Rattle.odht_raw.specs.Formers.{answered, write_result}
 use Rattle.odht_raw.specs.Frame.{IsAccepted, IsFramed}
 use Rattle.odht_raw.specs.Parts.{stored_in}

@@ -6,9 +6,7 @@
 --     AreAhead fits F ctrl items from as  each item of as is ahead for the item of items at the same index counted from
 --                                    `from`, if that fits
 use Rattle.std.specs.Prelude.{◌≡◌, ℕ, ◌+◌, ◌<◌, List, slice_get, Some, IsTrue}
-use Rattle.odht_base.specs.Format.{Format}
-use Rattle.odht_base.specs.Table.{Table, slot_count, is_free}
-use Rattle.odht_base.specs.Valid.{IsPartsOf}
+use Rattle.odht_raw.specs.Words.{Format, is_free, IsPartsOf, slot_count, Table}
 use Rattle.odht_raw.specs.SearchResults.{answer}
 use Rattle.odht_raw.specs.declared.raw_table.search_result.Search.TheVariants.{Free}
 

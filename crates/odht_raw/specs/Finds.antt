@@ -5,11 +5,7 @@
 --                              parts of a table those up to the end of the search (`groups`), on any parts no more than
 --                              there are (`few`)
 use Rattle.std.specs.Prelude.{◌≡◌, ℕ, ◌/◌, ◌≤◌, List, Option, IfSome, option_map}
-use Rattle.odht_base.specs.Format.{Format}
-use Rattle.odht_base.specs.Map.{map_of}
-use Rattle.odht_base.specs.Search.{groups_read}
-use Rattle.odht_base.specs.Table.{Table}
-use Rattle.odht_base.specs.Valid.{IsPartsOf}
+use Rattle.odht_raw.specs.Words.{Format, groups_read, IsPartsOf, map_of, Table}
 use Rattle.odht_raw.specs.Parts.{TableParts}
 use Rattle.odht_raw.specs.SearchEnds.{IsBesideKey}
 

@@ -4,9 +4,7 @@
 --     home_group F T k     the sixteen control bytes of the parts T from the home slot of the key k on
 --     first_look_of F T k  the first look of the search for the key k among the parts T
 use Rattle.std.specs.Prelude.{ℕ, List, Option}
-use Rattle.odht_base.specs.Bytes.{bytes_at}
-use Rattle.odht_base.specs.Format.{Format, home, tag}
-use Rattle.odht_base.specs.Groups.{equal, first_free}
+use Rattle.odht_raw.specs.Words.{bytes_at, equal, first_free, Format, home, tag}
 use Rattle.odht_raw.specs.Parts.{TableParts}
 
 pub record FirstLookOf : Type 0 where

@@ -9,10 +9,7 @@
 --                          IsFramed says, and r and f' tell of it
 use Rattle.std.specs.Prelude.{◌≡◌, ℕ, Bool, List, Option, Some, None, is_some, Result, Ok, Err, IfOk}
 use Rattle.std.specs.Result.{result_map_both}
-use Rattle.odht_base.specs.Table.{Table}
-use Rattle.odht_base.specs.Valid.{IsImage}
-use Rattle.odht_header.specs.Coding.{Coding}
-use Rattle.odht_header.specs.declared.error.Error.{Error}
+use Rattle.odht_raw.specs.Words.{Coding, Error, IsImage, Table}
 use Rattle.odht_raw.specs.Frame.{IsFramed}
 use Rattle.odht_raw.specs.Runs.{IsOnePlaced}
 

@@ -12,18 +12,10 @@
 --     IsOnlyFull es ctrl r es' ctrl'      Full is the only error, and changes none of the parts
 use Rattle.std.specs.Prelude.{◌≡◌, ℕ, ◌+◌, ◌-◌, ◌*◌, ◌<◌, ◌≤◌, length, List, ◌++◌, Option, option_map, Some, None, Result, Ok, Err, OnErr}
 use Rattle.std.specs.Result.{result_map_both}
-use Rattle.odht_base.specs.Bytes.{overwritten_at}
-use Rattle.odht_base.specs.Format.{Format, entry_len, tag}
-use Rattle.odht_base.specs.Load.{max_items}
-use Rattle.odht_base.specs.Table.{Pair}
-use Rattle.odht_base.specs.Decoded.{header_count, header_slots, header_factor, entries_of, controls_of, key_at, value_at, slot_key, slot_value}
-use Rattle.odht_base.specs.Writes.{with_value, with_pair, with_count, tagged}
-use Rattle.odht_header.specs.Coding.{Coding, encoded}
-use Rattle.odht_header.specs.Refusals.{opening_refusal}
+use Rattle.odht_raw.specs.Words.{Coding, controls_of, encoded, entries_of, entry_len, Format, header_count, header_factor, header_slots, key_at, max_items, opening_refusal, overwritten_at, Pair, slot_key, slot_value, tag, tagged, value_at, with_count, with_pair, with_value}
 pub use Rattle.odht_raw.specs.ControlBytes.{CountsAsFree, CountsAsOccupied, HasNoFree, EachCountsAsOccupied, IsMissing}
 use Rattle.odht_raw.specs.Parts.{EntryBytes}
-use Rattle.odht_header.specs.declared.error.Error.{Error}
-use Rattle.odht_header.specs.declared.error.Error.TheVariants.{Full}
+use Rattle.odht_raw.specs.Words.{Error, Full}
 
 abbrev pub IsAccepted : Format → List ℕ → Type 0
 IsAccepted F B = opening_refusal F B ≡ None

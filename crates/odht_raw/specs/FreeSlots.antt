@@ -2,8 +2,7 @@
 --     IsFirstFree ctrl hash s i  slot i is in the order and counts as free, and each earlier slot counts as occupied
 --     IsFirstFreeByte bs i       byte i of the group bs counts as free, and no earlier byte does
 use Rattle.std.specs.Prelude.{◌≡◌, ℕ, ◌%◌, ◌<◌, List, length, slice_index, IsTrue}
-use Rattle.odht_base.specs.Probe.{probe_slot}
-use Rattle.odht_base.specs.Decoded.{counts_as_free}
+use Rattle.odht_raw.specs.Words.{counts_as_free, probe_slot}
 use Rattle.odht_raw.specs.Frame.{CountsAsFree, CountsAsOccupied, HasNoFree}
 
 pub record IsFirstFree (ctrl : List ℕ) (hash s i : ℕ) : Type 0 where

@@ -1,5 +1,7 @@
 -- The definitions about configurations, errors, and searches, inserts and walks in the parts of a table. Those about
 -- numbers, plain tables and their bytes are in `odht_base`.
+-- the words of the crates below that this crate names
+pub mod Words
 -- the parts of a table as code reads them
 pub mod Parts
 -- the lengths that searches and inserts require

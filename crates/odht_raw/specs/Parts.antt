@@ -10,8 +10,7 @@
 --     IsZeros n bs         bs is n zeros, like key or value of a free slot's entry
 --     ReadGroups        control bytes with their mirror, and how many groups of sixteen of them were read
 use Rattle.std.specs.Prelude.{◌≡◌, ℕ, ◌+◌, ◌-◌, ◌*◌, ◌≤◌, List, length, replicate}
-use Rattle.odht_base.specs.Format.{Format, format_of}
-use Rattle.odht_base.specs.Load.{IsSlotCount}
+use Rattle.odht_raw.specs.Words.{Format, format_of, IsSlotCount}
 
 pub record EntryBytes : Type 0 where
   pub slots : ℕ

@@ -8,14 +8,8 @@
 --     IsInsertAt F f A t p r t'        both, the first only for placed tables P for which A P; t and t' are entries and
 --                                      control bytes
 use Rattle.std.specs.Prelude.{◌≡◌, ℕ, ◌↔◌, List, Option, Some, None, option_map, Result, Err, IfOk}
-use Rattle.odht_base.specs.Format.{Format}
-use Rattle.odht_base.specs.Insert.{place}
-use Rattle.odht_base.specs.Map.{map_of}
-use Rattle.odht_base.specs.Table.{Pair, Table}
-use Rattle.odht_base.specs.Valid.{IsPartsOf, IsFullWithout}
+use Rattle.odht_raw.specs.Words.{Error, Format, Full, IsFullWithout, IsPartsOf, map_of, Pair, place, Table}
 use Rattle.odht_raw.specs.Frame.{IsPartsFramed, IsOnlyFull}
-use Rattle.odht_header.specs.declared.error.Error.{Error}
-use Rattle.odht_header.specs.declared.error.Error.TheVariants.{Full}
 
 abbrev pub ArePartsPlaced : Format → Table → Pair → List ℕ → List ℕ → Type 0
 ArePartsPlaced F P p es' ctrl' = (Q : Table) × (place F P p ≡ Some Q) × IsPartsOf F Q es' ctrl'

@@ -8,18 +8,10 @@
 --                                      its key's probe order that counts as free, or each slot counts as occupied
 --     IsAddition F es ctrl p r es' ctrl'  this frame; Full is the only error and changes nothing
 use Rattle.std.specs.Prelude.{◌≡◌, ℕ, ◌-◌, ◌*◌, ◌↔◌, List, ◌++◌, length, None, Result, Ok, Err, OnOk}
-use Rattle.odht_base.specs.Bytes.{overwritten_at}
-use Rattle.odht_base.specs.Format.{Format, entry_len, tag}
-use Rattle.odht_base.specs.Insert.{place}
-use Rattle.odht_base.specs.Map.{map_of}
-use Rattle.odht_base.specs.Table.{Pair, Table}
-use Rattle.odht_base.specs.Valid.{IsFullWithout}
-use Rattle.odht_base.specs.Writes.{tagged}
+use Rattle.odht_raw.specs.Words.{entry_len, Error, Format, Full, IsFullWithout, map_of, overwritten_at, Pair, place, Table, tag, tagged}
 use Rattle.odht_raw.specs.Frame.{EachCountsAsOccupied, IsOnlyFull}
 use Rattle.odht_raw.specs.FreeSlots.{IsFirstFree}
 use Rattle.odht_raw.specs.PartsInserts.{ArePartsPlaced}
-use Rattle.odht_header.specs.declared.error.Error.{Error}
-use Rattle.odht_header.specs.declared.error.Error.TheVariants.{Full}
 
 abbrev pub IsNewTo : Table → Pair → Type 0
 IsNewTo P p = map_of P p.key ≡ None

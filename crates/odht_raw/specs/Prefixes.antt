@@ -6,11 +6,7 @@
 --                              bytes, then of its first ten slots
 use Rattle.std.specs.Prelude.{◌≡◌, ℕ, ◌≤◌, List, ◌++◌, length, take, Option}
 use Rattle.std.specs.Option.{option_or}
-use Rattle.odht_base.specs.Format.{Format}
-use Rattle.odht_base.specs.Image.{image_len}
-use Rattle.odht_base.specs.Decoded.{header_slots, entries_of, controls_of}
-use Rattle.odht_header.specs.Refusals.{prefix_refusal, hashes_refusal}
-use Rattle.odht_header.specs.declared.error.Error.{Error}
+use Rattle.odht_raw.specs.Words.{controls_of, entries_of, Error, Format, hashes_refusal, header_slots, image_len, prefix_refusal}
 use Rattle.odht_raw.specs.Frame.{IsAccepted}
 
 pub record IsFront (F : Format) (B : List ℕ) (n : ℕ) : Type 0 where

@@ -7,8 +7,7 @@
 --                            slot, and a position of its order
 --     place_of s q              the place of a search that reads by the scan s and is at the position q
 use Rattle.std.specs.Prelude.{◌≡◌, ℕ, ◌+◌, ◌*◌, ◌/◌, ◌%◌, ◌<◌, List}
-use Rattle.odht_base.specs.Load.{IsSlotCount}
-use Rattle.odht_base.specs.Probe.{probe_slot}
+use Rattle.odht_raw.specs.Words.{IsSlotCount, probe_slot}
 use Rattle.odht_raw.specs.Parts.{ReadGroups}
 
 pub record ProbePosition : Type 0 where

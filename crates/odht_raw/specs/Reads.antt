@@ -9,10 +9,7 @@
 --     IsLooking F p k t b      a search for the key k with the tag t is at the slots from b on
 --     read_groups p B n        the control bytes at the place p, of which n groups were read
 use Rattle.std.specs.Prelude.{⊤, ◌≡◌, ℕ, ◌+◌, ◌*◌, ◌<◌, ◌≤◌, List, length}
-use Rattle.odht_base.specs.Bytes.{bytes_at}
-use Rattle.odht_base.specs.Decoded.{slot_key}
-use Rattle.odht_base.specs.Format.{Format, IsFormat}
-use Rattle.odht_base.specs.Load.{IsSlotCount}
+use Rattle.odht_raw.specs.Words.{bytes_at, Format, IsFormat, IsSlotCount, slot_key}
 use Rattle.odht_raw.specs.Parts.{EntryBytes, ReadGroups, entry_format}
 use Rattle.odht_raw.specs.SearchResults.{MatchSearchResult}
 use Rattle.odht_raw.specs.SearchSteps.{IsTag}

@@ -9,8 +9,8 @@
 --     IsRunTo c m es ctrl items from i n es' ctrl'  the items from index `from` up to i are inserted in turn, with room
 --                          for m new entries, of which n are used
 --     IsRefusedIn c m items i es ctrl  an insert of item i with room for m may answer Full on these parts
---     CanRun c t items i   t are the entries and the control bytes of some slot count, and i is an index of the items,
---                          or behind the last
+--     CanRun m kl vl kl' vl' t items i  t are the entries and the control bytes of some slot count, and i is an index of
+--                          the items, or behind the last; kl' and vl' are the lengths kl and vl, and fit m
 --     HasLengthsAt kl vl items i  key and value of item i have these lengths, in bytes
 --     IsRun fits c m t items from r t'  the items from index `from` on are inserted in turn into the entries and the control
 --                          bytes t, with room for m new entries, and leave t': up to item r.0, which is behind the last,
@@ -26,19 +26,14 @@
 --     IsEncodedRun fits c B items from i B'  the same of items that may have other lengths than those of the table: the
 --                          inserted ones have these lengths (`fit`), and item i may also be one that does not fit. B' is
 --                          accepted, and as long as B
-use Rattle.std.specs.Prelude.{◌≡◌, ℕ, ◌+◌, ◌-◌, ◌*◌, ◌≤◌, ◌⊎◌, List, [], ◌∷◌, ◌++◌, length, map, All, Option, Some, None, Result, Ok, Err, slice_get}
+use Rattle.std.specs.Prelude.{◌≡◌, ℕ, ◌+◌, ◌-◌, ◌≤◌, ◌⊎◌, List, [], ◌∷◌, ◌++◌, length, map, All, Option, Some, None, Result, Ok, Err, slice_get}
 use Rattle.std.specs.List.{slice_range}
-use Rattle.odht_base.specs.Format.{Format, entry_len}
-use Rattle.odht_base.specs.Load.{IsSlotCount}
-use Rattle.odht_base.specs.Insert.{place_all}
-use Rattle.odht_base.specs.Table.{Pair, Table, count}
-use Rattle.odht_base.specs.Valid.{IsPairOf, IsPartsOf, IsImage}
-use Rattle.odht_header.specs.Coding.{Coding, encoded, value_for}
+use Rattle.odht_raw.specs.Words.{Coding, count, encoded, Error, Format, Full, IsImage, IsPairOf, IsPartsOf, Pair, place_all, Table, value_for}
 use Rattle.odht_raw.specs.DynParts.{HasLengthsOf}
 use Rattle.odht_raw.specs.Frame.{IsAccepted, IsFramed, PartsFrame}
+use Rattle.odht_raw.specs.PartLengths.{ArePartLengths}
 use Rattle.odht_raw.specs.Steps.{StepFrame}
-use Rattle.odht_header.specs.declared.error.Error.{Error}
-use Rattle.odht_header.specs.declared.error.Error.TheVariants.{Full}
+use Rattle.odht_raw.specs.Stored.{AreLengths}
 
 abbrev pub encoded_all : {K V : Type 0} → Coding K V → List (K × V) → List Pair
 encoded_all c items = map (λ item. encoded c item.0 item.1) items
@@ -76,9 +71,9 @@ pub record IsRefusedIn {K V : Type 0} (c : Coding K V) (m : ℕ) (items : List (
   pub at : slice_get items i ≡ Some item
   pub frame : StepFrame c.format m es ctrl (encoded c item.0 item.1) (Err Full) es ctrl
 
-pub record CanRun {K V : Type 0} (c : Coding K V) (t : List ℕ × List ℕ) (items : List (K × V)) (i : ℕ) : Type 0 where
-  pub slots : IsSlotCount (length t.1 - 16)
-  pub entries : length t.0 ≡ (length t.1 - 16) * entry_len c.format
+pub record CanRun {K V : Type 0} (m kl vl kl' vl' : ℕ) (t : List ℕ × List ℕ) (items : List (K × V)) (i : ℕ) : Type 0 where
+  pub parts : ArePartLengths m kl vl (length t.0) (length t.1)
+  pub lengths : AreLengths kl vl kl' vl'
   pub within : i ≤ length items
 
 abbrev pub HasLengthsAt : ℕ → ℕ → List (List ℕ × List ℕ) → ℕ → Type 0

@@ -16,8 +16,7 @@
 --                               Neither is no such end
 --     IsBesideKey F f E k v     some slot's entry is the key k and bytes that f decodes to v, whatever its control byte
 use Rattle.std.specs.Prelude.{◌≡◌, ℕ, ◌+◌, ◌-◌, ◌%◌, ◌<◌, List, slice_index, IsTrue, IsFalse}
-use Rattle.odht_base.specs.Format.{Format}
-use Rattle.odht_base.specs.Decoded.{slot_key, slot_value, counts_as_free}
+use Rattle.odht_raw.specs.Words.{counts_as_free, Format, slot_key, slot_value}
 use Rattle.odht_raw.specs.SearchResults.{MatchSearchResult}
 use Rattle.odht_raw.specs.ControlBytes.{CountsAsFree, HasNoFree, EachCountsAsOccupied, order_slot, IsOther, Differs, GoesOnTo}
 use Rattle.odht_raw.specs.Parts.{EntryBytes}

@@ -10,10 +10,7 @@
 --                          is the free slot that such a pair goes into, and on Neither it has no place
 use Rattle.std.specs.Prelude.{◌≡◌, ℕ, List, set, Some, None, IsTrue, if◌then◌else◌}
 use Rattle.std.specs.Option.{option_map_or}
-use Rattle.odht_base.specs.Format.{Format}
-use Rattle.odht_base.specs.Table.{Pair, Table, Cells, cell_at, is_free, has_key}
-use Rattle.odht_base.specs.Insert.{place}
-use Rattle.odht_base.specs.Search.{search_end}
+use Rattle.odht_raw.specs.Words.{cell_at, Cells, Format, has_key, is_free, Pair, place, search_end, Table}
 use Rattle.odht_raw.specs.declared.raw_table.search_result.Search.{Search}
 use Rattle.odht_raw.specs.declared.raw_table.search_result.Search.TheVariants.{Found, Free, Neither}
 

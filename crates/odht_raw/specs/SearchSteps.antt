@@ -12,12 +12,7 @@
 --                            (`slot`), and None where the search goes on from each slot (`none`)
 --     IsTag F k t            t is the tag of k, which is below that of any free slot
 use Rattle.std.specs.Prelude.{◌≡◌, ℕ, ◌+◌, ◌%◌, ◌<◌, ◌≤◌, false, List, length, slice_index, Option, Some, MatchOption, IfSome, IsNone}
-use Rattle.odht_base.specs.Format.{Format, home, tag}
-use Rattle.odht_base.specs.Image.{entries, control_byte}
-use Rattle.odht_base.specs.Probe.{probe_slot}
-use Rattle.odht_base.specs.Search.{stops_at, reach}
-use Rattle.odht_base.specs.Table.{Table, slot_count, cell_at}
-use Rattle.odht_base.specs.Valid.{IsPlaced}
+use Rattle.odht_raw.specs.Words.{cell_at, control_byte, entries, Format, home, IsPlaced, probe_slot, reach, slot_count, stops_at, Table, tag}
 use Rattle.odht_raw.specs.SearchEnds.{IsEndAmong, GoesOnAmong}
 use Rattle.odht_raw.specs.SearchResults.{answer}
 use Rattle.odht_raw.specs.Parts.{EntryBytes}

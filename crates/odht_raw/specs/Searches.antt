@@ -9,10 +9,7 @@
 --     IsUnderWay F E k q             it passed those before the place q, the first one of a group of sixteen
 --     IsRest F E k before after r    the same as IsSearch of the rest of a search, from the place `before` on
 use Rattle.std.specs.Prelude.{◌≡◌, ℕ, ◌+◌, ◌-◌, ◌/◌, ◌%◌, ◌≤◌, List, min}
-use Rattle.odht_base.specs.Format.{Format, home}
-use Rattle.odht_base.specs.Table.{Table}
-use Rattle.odht_base.specs.Search.{groups_read}
-use Rattle.odht_base.specs.Valid.{IsPartsOf}
+use Rattle.odht_raw.specs.Words.{Format, groups_read, home, IsPartsOf, Table}
 use Rattle.odht_raw.specs.ControlBytes.{GoesOnTo}
 use Rattle.odht_raw.specs.Parts.{EntryBytes, ReadGroups}
 use Rattle.odht_raw.specs.ProbeSeqs.{GroupPlace}

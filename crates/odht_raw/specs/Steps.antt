@@ -13,16 +13,12 @@
 --     IsCountedStep A F m t p r t'  such an insert with some answer, of which r tells whether it adds an entry
 use Rattle.std.specs.Prelude.{◌≡◌, ℕ, ◌<◌, Bool, List, Option, option_map, is_none, Some, None, Result, Ok, Err}
 use Rattle.std.specs.Result.{result_map_both}
-use Rattle.odht_base.specs.Format.{Format, tag as key_tag}
-use Rattle.odht_base.specs.Table.{Pair, Table}
-use Rattle.odht_base.specs.Valid.{IsPartsOf}
+use Rattle.odht_raw.specs.Words.{Error, Format, Full, IsPartsOf, Pair, Table, tag as key_tag}
 use Rattle.odht_raw.specs.ControlBytes.{IsMissing}
 use Rattle.odht_raw.specs.Frame.{PartsFrame, IsOnlyFull}
 use Rattle.odht_raw.specs.Parts.{stored_in}
 use Rattle.odht_raw.specs.PartsInserts.{AnswersFormer}
 use Rattle.odht_raw.specs.SearchEnds.{IsEnd, IsAfter}
-use Rattle.odht_header.specs.declared.error.Error.{Error}
-use Rattle.odht_header.specs.declared.error.Error.TheVariants.{Full}
 use Rattle.odht_raw.specs.declared.raw_table.search_result.Search.{Search}
 
 pub record IsStepEnd (F : Format) (m : ℕ) (es ctrl k : List ℕ) (r : Search) : Type 0 where

@@ -13,14 +13,10 @@
 use Rattle.std.specs.Prelude.{◌≡◌, ℕ, ◌+◌, ◌<◌, Bool, true, List, length, map, filter_map, slice_index, Contains, Option, Some, None, MatchOption, Result, OnErr}
 use Rattle.std.specs.List.{range_with_len}
 use Rattle.std.specs.Result.{result_err}
-use Rattle.odht_base.specs.Format.{Format, entry_len}
-use Rattle.odht_base.specs.Decoded.{decoded_cell, slot_entry}
+use Rattle.odht_raw.specs.Words.{decoded_cell, entry_len, Error, Format, slot_entry, slot_refusal_at, slots_refusal, Unreachable, unreachable}
 use Rattle.odht_raw.specs.Checks.{IsFitting}
 use Rattle.odht_raw.specs.Parts.{TableParts, IsZeros}
 use Rattle.odht_raw.specs.declared.raw_table.check.SlotSummary.{SlotSummary}
-use Rattle.odht_header.specs.declared.error.Error.{Error}
-use Rattle.odht_header.specs.declared.error.Error.TheVariants.{Unreachable}
-use Rattle.odht_header.specs.Refusals.{slot_refusal_at, slots_refusal, unreachable}
 
 abbrev pub occupied_before : Format → TableParts → ℕ → ℕ
 occupied_before F T n = length (filter_map (λ c. c) (map (decoded_cell F T.entries.bytes T.control) (range_with_len 0 n)))

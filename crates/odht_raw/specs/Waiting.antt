@@ -27,13 +27,7 @@
 --                          are pending in each valid table whose parts are T, with as many pairs as ns has numbers
 --     IsFar F T n          the slot listed as the waiting n is below the home of its key, or past the group from there on
 use Rattle.std.specs.Prelude.{◌≡◌, ℕ, ◌+◌, ◌-◌, ◌^◌, ◌%◌, ◌<◌, ◌≤◌, ◌⊎◌, ◌↔◌, Bool, IsTrue, nat_lt, List, ◌++◌, length, map, filter, take, drop, All, AllPairs, Contains, IsPermutation}
-use Rattle.odht_base.specs.Decoded.{slot_key}
-use Rattle.odht_base.specs.Format.{Format}
-use Rattle.odht_base.specs.Made.{occupied, IsMade, IsInsertOrder}
-use Rattle.odht_base.specs.Probe.{probe_slot}
-use Rattle.odht_base.specs.Ready.{IsSoFar, IsStuck}
-use Rattle.odht_base.specs.Table.{Table, count}
-use Rattle.odht_base.specs.Valid.{IsPartsOf, IsValid}
+use Rattle.odht_raw.specs.Words.{count, Format, IsInsertOrder, IsMade, IsPartsOf, IsSoFar, IsStuck, IsValid, occupied, probe_slot, slot_key, Table}
 use Rattle.odht_raw.specs.Parts.{TableParts}
 
 abbrev pub waiting : ℕ → ℕ

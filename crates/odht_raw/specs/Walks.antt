@@ -16,12 +16,9 @@
 --     AreOccupied T b is     slot b + i is one of T and does not count as free, for each i of is
 use Rattle.std.specs.Prelude.{ℕ, ◌+◌, ◌-◌, ◌<◌, All, IsFalse, List, map, slice_index, Option, option_map}
 use Rattle.std.specs.List.{range_with_len, filter_map}
-use Rattle.odht_base.specs.Format.{Format}
-use Rattle.odht_base.specs.Table.{Pair}
-use Rattle.odht_base.specs.Decoded.{decoded_cell, counts_as_free}
-use Rattle.odht_header.specs.Coding.{Coding}
+use Rattle.odht_raw.specs.Words.{Coding, counts_as_free, decoded_cell, Format, Pair}
 use Rattle.odht_raw.specs.Parts.{TableParts}
-use Rattle.odht_raw.specs.declared.raw_table.entries.Entry.{Entry}
+use Rattle.odht_raw.specs.declared.raw_table.stored.Entry.{Entry}
 
 abbrev pub decoded : {K V : Type 0} → Coding K V → Pair → K × V
 decoded c p = (c.key_of p.key, c.value_of p.value)

@@ -5,7 +5,6 @@
 pub use odht_base::{bytes, hash, load, swisstable_group_query};
 pub use odht_header::{config, error, layout};
 
-mod encoded_items;
 pub mod items;
 pub mod memory_layout;
 pub mod raw_table;

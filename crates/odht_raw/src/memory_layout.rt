@@ -4,11 +4,9 @@
 
 mod allocation;
 mod check;
-mod cuts;
 mod inserts;
 mod new_tables;
 mod opening;
-mod prefix;
 
 pub use crate::raw_table::{Entries, EntryMetadata};
 pub use allocation::Allocation;
@@ -16,10 +14,11 @@ pub(crate) use allocation::prove_bytes;
 pub use check::{
     DEFAULT_GROUPS, check_all, check_all_within, check_dynamic, check_dynamic_within, check_parts,
 };
-pub use cuts::{dynamic_parts, parts_in};
 pub use inserts::{insert_dynamic, insert_dynamic_into, insert_items_dynamic};
 pub use new_tables::{allocate, clear_entries, init_in_place, init_parts, write_empty};
 pub use odht_header::header::{HEADER_SIZE, Header, LEAST_FACTOR, is_accepted, write_header};
 pub use odht_header::sizes::{bytes_needed, entry_at, layout_for};
-pub use opening::{check_by_header, check_opening, check_opening_in, stated_layout};
-pub use prefix::{dynamic_table_len, table_len};
+pub use opening::{
+    check_by_header, check_opening, check_opening_in, dynamic_parts, dynamic_table_len, parts_in,
+    stated_layout, table_len,
+};

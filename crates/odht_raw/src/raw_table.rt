@@ -4,12 +4,10 @@
 //! "On the parts of a placed table" is `IsPartsOf` in a clause: control bytes, mirror and entries
 //! are those of such a table.
 ghost use Rattle.std.specs.Prelude.{◌≡◌, ◌+◌, ◌-◌, ◌/◌, ◌^◌, ◌<◌, ◌≤◌, length};
-ghost use Rattle.odht_base.specs.Format.{format_of};
-ghost use Rattle.odht_base.specs.Load.{IsSlotCount};
+ghost use Rattle.odht_raw.specs.Words.{checked, format_of, hashes_refusal, IsSlotCount};
 ghost use Rattle.odht_raw.specs.Parts.{entry_format};
 ghost use Rattle.odht_raw.specs.Finds.{IsFind, IsCountedFind};
 ghost use Rattle.odht_raw.specs.Walks.{items_from};
-ghost use Rattle.odht_header.specs.Refusals.{checked, hashes_refusal};
 
 use crate::bytes::ByteArray;
 use crate::error::Error;
@@ -19,54 +17,41 @@ pub(crate) use crate::swisstable_group_query::is_empty_or_deleted;
 use crate::swisstable_group_query::{Group, GroupQuery, REFERENCE_GROUP_SIZE};
 use std::marker::Model;
 
-mod ahead;
 mod bound;
 mod check;
 mod dump;
-mod entries;
 mod first_look;
-mod free_search;
-mod group_probe;
 mod group_search;
-mod insert_ends;
 mod insert_order;
 mod linear_order;
 mod orders;
 mod parts;
-mod parts_walk;
 mod plain;
 mod probe_seq;
 mod read_search;
 mod runs;
 mod scan;
 mod search_result;
-mod short_bytes;
 mod slot_checks;
-mod slot_reads;
 mod stored;
 mod table_mut;
-mod waiting;
 mod walk;
 mod writes;
 
 pub(crate) use bound::longer_refusal;
 pub(crate) use check::{check_mirror, check_slots};
-pub use entries::{Entries, Entry};
 pub use first_look::FirstLook;
-pub use group_probe::GroupProbe;
 pub use group_search::{search, search_hashed};
 pub use parts::{DynRawTable, Parts};
-pub use parts_walk::{DynIter, DynSlots, PartPairs, PartSlots};
 pub use plain::{plain_find, plain_insert};
-pub use probe_seq::{ProbeSeq, probe_order};
+pub use probe_seq::{GroupProbe, ProbeSeq, probe_order};
 pub use read_search::{ReadPlace, search_read};
 pub(crate) use runs::insert_run;
 pub use scan::Scan;
 pub use search_result::Search;
-pub use short_bytes::ShortBytes;
-pub use stored::Stored;
+pub use stored::{Entries, Entry, ShortBytes, Stored};
 pub use table_mut::RawTableMut;
-pub use walk::{RawIter, RawSlots};
+pub use walk::{DynIter, DynSlots, PartPairs, PartSlots, RawIter, RawSlots};
 pub use writes::write_new;
 pub(crate) use writes::{is_found, write_at_end, write_slot};
 

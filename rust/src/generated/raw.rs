@@ -5,7 +5,6 @@
 pub use crate::generated::base::{bytes, hash, load, swisstable_group_query};
 pub use crate::generated::header::{config, error, layout};
 
-mod encoded_items;
 pub mod items;
 pub mod memory_layout;
 pub mod raw_table;

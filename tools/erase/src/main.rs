@@ -6,8 +6,8 @@ use std::process::ExitCode;
 
 const ARRAYS: &str = "odht_base/bytes/arrays";
 const ALLOCATION: &str = "odht_raw/memory_layout/allocation";
-const INSERTS: &str = "odht_raw/memory_layout/allocation/inserts";
-const CUTS: &str = "odht_raw/memory_layout/cuts";
+const INSERTS: &str = "odht_raw/memory_layout/allocation/writing";
+const CUTS: &str = "odht_raw/memory_layout/opening";
 const BYTE_INSERTS: &str = "odht_raw/memory_layout/inserts";
 const WRITES: &str = "odht_raw/raw_table/writes";
 const LAYOUT: &str = "odht_header/layout";
@@ -67,18 +67,6 @@ const PLAN: Plan<'static> = Plan {
         SlotCount { file: INSERTS, function: "insert_by", store: "M", layout: TYPED },
         SlotCount { file: INSERTS, function: "insert_items", store: "M", layout: TYPED },
         SlotCount { file: CUTS, function: "parts_in", store: "&[u8]", layout: BY_LENGTHS },
-        SlotCount {
-            file: BYTE_INSERTS,
-            function: "insert_dynamic",
-            store: "&[u8]",
-            layout: "layout",
-        },
-        SlotCount {
-            file: BYTE_INSERTS,
-            function: "insert_dynamic_into",
-            store: "&[u8]",
-            layout: "layout",
-        },
         SlotCount {
             file: BYTE_INSERTS,
             function: "insert_items_dynamic",

@@ -1,8 +1,6 @@
 -- Worked examples: what the whole check reads in the parts of a table, and what it rejects there.
 use Rattle.std.proofs.Common.{◌≡◌, ◌+◌, ◌%◌, ℕ, refl, sym, true≢false, not, List, [], ◌∷◌, true, false, replicate, set, lit<}
-use Rattle.odht_base.specs.Bytes.{overwritten_at}
-use Rattle.odht_base.specs.Numbers.{le_bytes}
-use Rattle.odht_base.specs.Search.{stops_at}
+use Rattle.odht_raw.specs.Words.{le_bytes, overwritten_at, stops_at}
 use Rattle.odht_base.proofs.examples.Configs.{direct_config}
 use Rattle.odht_raw.specs.Checks.{cells_of, decoded_count, IsFitting, IsHashAt, IsReachAnswer, ArePassed}
 use Rattle.odht_raw.specs.Parts.{TableParts}

@@ -1,11 +1,7 @@
 -- Worked examples: the write of a pair where the search for its key ended, in the bytes of a table, and what it may not do.
 use Rattle.std.proofs.Common.{◌≡◌, ◌∙◌, ℕ, List, Bool, true, false, true≢false, Some, IfOk, length, sym}
 use Rattle.std.proofs.lemmas.Option.{none-some}
-use Rattle.odht_base.specs.Decoded.{entries_of, controls_of}
-use Rattle.odht_base.specs.Format.{Format, tag as key_tag}
-use Rattle.odht_base.specs.Table.{Table}
-use Rattle.odht_base.specs.Valid.{IsImage}
-use Rattle.odht_header.specs.Coding.{Coding, value_for}
+use Rattle.odht_raw.specs.Words.{Coding, controls_of, entries_of, Format, IsImage, Table, tag as key_tag, value_for}
 use Rattle.odht_raw.specs.EndWrites.{IsKeyEnd, IsEndWrite, end_answer}
 use Rattle.odht_raw.specs.Frame.{IsAccepted, IsFramed}
 use Rattle.odht_raw.specs.Parts.{stored_in}

@@ -1,18 +1,10 @@
 -- Worked examples: what an insert may not do, also to bytes that are not valid.
 use Rattle.std.proofs.Common.{◌≡◌, ◌<◌, ◌∙◌, ◌+◌, ◌-◌, ℕ, refl, sym, inl, inr, Bool, true, false, true≢false, ◌||◌, List, [], ◌∷◌, Option, Some, None, Ok, Err, length, replicate, set, slice_index, lit<, arith}
 use Rattle.std.specs.List.{range_with_len, list_all}
-use Rattle.odht_base.specs.Bytes.{overwritten_at}
-use Rattle.odht_base.specs.Format.{Format}
-use Rattle.odht_base.specs.Numbers.{le_bytes}
-use Rattle.odht_base.specs.Decoded.{controls_of, counts_as_free, key_at, value_at, slot_key}
-use Rattle.odht_base.specs.Table.{Pair}
-use Rattle.odht_base.specs.Writes.{with_value, with_pair, with_count}
+use Rattle.odht_raw.specs.Words.{controls_of, counts_as_free, Error, Format, Full, key_at, le_bytes, lists_differ, overwritten_at, Pair, slot_key, TooShort, value_at, with_count, with_pair, with_value}
 use Rattle.odht_base.proofs.examples.Configs.{test_config, direct_config, pair32}
 use Rattle.odht_raw.proofs.examples.Missing.{held_at_home}
 use Rattle.odht_raw.specs.Frame.{InsertFrame, PartsFrame, IsAbsent, entries_in, CountsAsFree, CountsAsOccupied, HasNoFree, EachCountsAsOccupied}
-use Rattle.odht_header.specs.Refusals.{lists_differ}
-use Rattle.odht_header.specs.declared.error.Error.{Error}
-use Rattle.odht_header.specs.declared.error.Error.TheVariants.{Full, TooShort}
 use Rattle.odht_header.proofs.examples.Apart.{unequal_lists, tested, untrue, neither}
 use Rattle.odht_header.proofs.examples.Opened.{opened}
 use Rattle.odht_header.proofs.examples.Refused.{test_bytes}

@@ -1,19 +1,12 @@
 -- Worked examples: inserts into bytes that a view accepts and that are not valid.
 use Rattle.std.proofs.Common.{◌≡◌, ◌+◌, ℕ, refl, inl, List, [], ◌∷◌, Some, None, Ok, Err, option_map, lit<, lit≤}
-use Rattle.odht_base.specs.Numbers.{le_bytes, num}
-use Rattle.odht_base.specs.Bytes.{overwritten_at}
-use Rattle.odht_base.specs.Format.{Format}
-use Rattle.odht_base.specs.Image.{image}
-use Rattle.odht_base.specs.Decoded.{header_count, header_slots, controls_of}
-use Rattle.odht_base.specs.Table.{Pair}
-use Rattle.odht_base.specs.Writes.{with_pair, with_count}
+use Rattle.odht_raw.specs.Words.{controls_of, Format, Full, header_count, header_slots, image, le_bytes, num, overwritten_at, Pair, with_count, with_pair}
 use Rattle.odht_base.proofs.examples.Configs.{test_config, direct_config, pair32, view_of}
 use Rattle.odht_header.proofs.examples.Opened.{opened}
 use Rattle.odht_header.proofs.examples.Refused.{test_bytes}
 use Rattle.odht_header.proofs.examples.Invalid.{count_of_five, all_occupied}
 use Rattle.odht_raw.specs.Frame.{InsertFrame, IsBytesFramed, entries_in}
 use Rattle.odht_raw.proofs.examples.Missing.{missing_everywhere}
-use Rattle.odht_header.specs.declared.error.Error.TheVariants.{Full}
 
 -- at the maximum of thirteen by the header, key 99 may be answered with Full
 pub refused : InsertFrame direct_config (all_occupied 13) (pair32 99 7) (Err Full) (all_occupied 13)

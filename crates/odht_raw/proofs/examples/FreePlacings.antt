@@ -1,21 +1,12 @@
 -- Worked examples: the first free slot of sixteen, and a pair that is written there.
 use Rattle.std.proofs.Common.{◌≡◌, ◌<◌, ◌*◌, ◌++◌, ◌||◌, ◌==◌, ◌%◌, ℕ, Bool, true, true≢false, not, refl, inl, inr, sym, set, slice_index, List, [], ◌∷◌, Result, Ok, Err, lit<, arith, eq-eqb}
 use Rattle.std.specs.List.{range_with_len, list_all}
-use Rattle.std.proofs.lemmas.Bool.{cases_lt}
-use Rattle.odht_base.specs.Bytes.{overwritten_at}
-use Rattle.odht_base.specs.Format.{tag}
-use Rattle.odht_base.specs.Probe.{probe_slot}
-use Rattle.odht_base.specs.Decoded.{counts_as_free}
-use Rattle.odht_base.specs.Table.{Pair}
-use Rattle.odht_base.specs.Writes.{tagged}
+use Rattle.odht_raw.proofs.lemmas.Below.{cases_lt, probe_slot-lt}
+use Rattle.odht_raw.specs.Words.{counts_as_free, Error, Full, lists_differ, overwritten_at, Pair, probe_slot, tag, tagged}
 use Rattle.odht_base.proofs.examples.Configs.{direct_config, pair32}
-use Rattle.odht_base.proofs.lemmas.Orders.{probe_slot-lt}
 use Rattle.odht_raw.specs.Frame.{CountsAsOccupied}
 use Rattle.odht_raw.specs.FreeSlots.{IsFirstFree, IsFirstFreeByte}
 use Rattle.odht_raw.specs.PartsPlacings.{PlacingFrame}
-use Rattle.odht_header.specs.Refusals.{lists_differ}
-use Rattle.odht_header.specs.declared.error.Error.{Error}
-use Rattle.odht_header.specs.declared.error.Error.TheVariants.{Full}
 use Rattle.odht_header.proofs.lemmas.FirstErrors.{not-true}
 use Rattle.odht_header.proofs.examples.Apart.{unequal_lists, tested, untrue, neither}
 use Rattle.odht_raw.proofs.examples.FrameRefusals.{occupied_controls, no_entries, slot_five_free, counted_as_free, neighbour_not_free, free_slot_refused, no_free_slots}

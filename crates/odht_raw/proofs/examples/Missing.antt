@@ -1,10 +1,8 @@
 -- Worked examples: keys that a search in any parts does not find, and keys that it does.
 use Rattle.std.proofs.Common.{◌≡◌, ◌<◌, ℕ, zero, suc, sym, inl, inr, true, false, true≢false, not, List, slice_index, length, arith, ◌-◌, ◌+◌, ◌∙◌}
 use Rattle.std.specs.List.{range_with_len, list_all}
-use Rattle.odht_base.specs.Decoded.{counts_as_free, slot_key}
-use Rattle.odht_base.specs.Format.{Format, home, tag}
+use Rattle.odht_raw.specs.Words.{counts_as_free, Format, home, lists_differ, slot_key, tag}
 use Rattle.odht_base.proofs.lemmas.Orders.{probe_slot-lt}
-use Rattle.odht_header.specs.Refusals.{lists_differ}
 use Rattle.odht_header.proofs.lemmas.FirstErrors.{not-true}
 use Rattle.odht_header.proofs.examples.Apart.{unequal_lists, tested}
 use Rattle.odht_raw.specs.ControlBytes.{order_slot, GoesOnTo, IsMissing}

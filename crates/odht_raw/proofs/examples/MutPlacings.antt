@@ -5,15 +5,11 @@ use Rattle.std.specs.declared.cmp.PartialEq.{Ghosts as PartialEqOf}
 use Rattle.std.specs.declared.fmt.Debug.{Ghosts as DebugOf}
 use Rattle.odht_base.specs.declared.bytes.arrays.ByteArray.{Ghosts as ByteArrayOf}
 use Rattle.odht_base.specs.declared.hash.HashFn.{Ghosts as HashFnOf}
-use Rattle.odht_base.specs.Format.{Format}
-use Rattle.odht_base.specs.Insert.{place}
-use Rattle.odht_base.specs.Table.{Pair, Table, slot_count, is_free}
+use Rattle.odht_raw.specs.Words.{Error, Format, Full, is_free, Pair, place, slot_count, Table, TooShort}
 use Rattle.odht_raw.specs.FreeSlots.{IsFirstFree}
 use Rattle.odht_raw.specs.PartsInserts.{ArePartsPlaced}
 use Rattle.odht_raw.specs.PartsPlacings.{IsNewTo, IsNewPlacing, PlacingFrame, IsAddition}
 use Rattle.odht_raw.specs.PartsMut.{mut_control, mut_entries, control_loan, entries_loan, table_format, IsParts, pair_of, IsMutPlacing}
-use Rattle.odht_header.specs.declared.error.Error.{Error}
-use Rattle.odht_header.specs.declared.error.Error.TheVariants.{Full, TooShort}
 use Rattle.odht_raw.specs.declared.raw_table.table_mut.RawTableMut.{RawTableMut}
 
 -- an Ok that the frame admits wrote into the first slot that counts as free

@@ -1,13 +1,9 @@
 -- Worked examples: inserts into any parts.
 use Rattle.std.proofs.Common.{◌≡◌, ◌*◌, ◌++◌, ◌||◌, ℕ, Bool, true, refl, inl, set, List, [], ◌∷◌, Option, Some, None, Ok, lit<}
 use Rattle.std.specs.List.{range_with_len, list_all}
-use Rattle.odht_base.specs.Bytes.{overwritten_at}
-use Rattle.odht_base.specs.Format.{tag}
-use Rattle.odht_base.specs.Numbers.{le_bytes}
-use Rattle.odht_base.specs.Writes.{tagged}
+use Rattle.odht_raw.specs.Words.{le_bytes, lists_differ, overwritten_at, tag, tagged}
 use Rattle.odht_base.proofs.examples.Configs.{test_config, pair32}
 use Rattle.odht_raw.specs.Frame.{PartsFrame}
-use Rattle.odht_header.specs.Refusals.{lists_differ}
 use Rattle.odht_header.proofs.examples.Apart.{unequal_lists, tested, neither}
 use Rattle.odht_raw.proofs.examples.FrameRefusals.{occupied_controls, no_entries, slot_five_free}
 use Rattle.odht_header.proofs.examples.Opened.{opened}

@@ -2,20 +2,12 @@
 use Rattle.std.proofs.Common.{◌≡◌, ◌<◌, ◌∙◌, ap, true, ℕ, refl, sym, false, true≢false, not, bytes_eq, set, List, [], ◌∷◌, Option, Some, None, Result, Ok, Err, map, lit<, lit≤}
 use Rattle.std.specs.List.{range_with_len}
 use Rattle.std.specs.Option.{option_map_or}
-use Rattle.std.proofs.lemmas.Option.{none-some}
-use Rattle.odht_base.specs.Load.{factor_of}
-use Rattle.odht_base.specs.Image.{entries, controls}
-use Rattle.odht_base.specs.Numbers.{le_bytes}
-use Rattle.odht_base.specs.Table.{Pair, Table, slot_count, cell_at, is_free, has_key}
-use Rattle.odht_base.specs.Valid.{IsPartsOf, IsFullWithout}
+use Rattle.odht_raw.proofs.lemmas.Below.{IsPlaced-tests, none-some, some_same}
+use Rattle.odht_raw.specs.Words.{cell_at, controls, entries, Error, factor_of, Full, has_key, is_free, IsFullWithout, IsPartsOf, le_bytes, Pair, slot_count, Table, TooShort}
 use Rattle.odht_base.proofs.examples.Configs.{direct_config, pair32}
-use Rattle.odht_base.proofs.lemmas.Options.{some_same}
-use Rattle.odht_base.proofs.lemmas.Placed.{IsPlaced-tests}
 use Rattle.odht_raw.specs.SearchResults.{answer, IsWherePlaced}
 use Rattle.odht_raw.specs.Frame.{PartsFrame, IsPartsFramed}
 use Rattle.odht_raw.specs.PartsInserts.{ArePartsPlaced, IsPartsInsert, IsInsertChange}
-use Rattle.odht_header.specs.declared.error.Error.{Error}
-use Rattle.odht_header.specs.declared.error.Error.TheVariants.{Full, TooShort}
 use Rattle.odht_raw.specs.declared.raw_table.search_result.Search.TheVariants.{Found, Free, Neither}
 use Rattle.odht_header.proofs.lemmas.FirstErrors.{not-true}
 use Rattle.odht_header.proofs.examples.Apart.{are_distinct, unequal_lists, tested}

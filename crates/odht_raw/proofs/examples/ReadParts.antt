@@ -1,18 +1,14 @@
 -- Worked examples: parts of a table that are read by position, here behind 40 other bytes.
 use Rattle.std.proofs.Common.{◌≡◌, ℕ, ◌+◌, ◌%◌, ◌++◌, refl, List, replicate, length, Some, None, lit<, arith}
-use Rattle.odht_base.specs.Decoded.{slot_key}
-use Rattle.odht_base.specs.Format.{Format, IsFormat}
-use Rattle.odht_base.specs.Load.{IsSlotCount}
-use Rattle.odht_base.specs.Table.{Table, slot_count}
+use Rattle.odht_raw.specs.Words.{Format, IsFormat, IsSlotCount, lists_differ, slot_count, slot_key, Table}
 use Rattle.odht_base.proofs.examples.Configs.{direct_config}
-use Rattle.odht_header.specs.Refusals.{lists_differ}
 use Rattle.odht_header.proofs.examples.Apart.{unequal, unequal_lists, tested}
 use Rattle.odht_header.proofs.examples.Opened.{opened}
 use Rattle.odht_raw.specs.Parts.{EntryBytes}
 use Rattle.odht_raw.specs.SearchResults.{answer}
 use Rattle.odht_raw.specs.SearchSteps.{IsGroupAt, IsGroupLook}
 use Rattle.odht_raw.specs.declared.raw_table.search_result.Search.{Search}
-use Rattle.odht_raw.specs.Reads.{entry_size, read_entries, read_controls, read_key, read_groups, IsPlaceFitting, IsHeldBy, IsFoundWithin, IsLooking}
+use Rattle.odht_raw.specs.Reads.{read_entries, read_controls, read_key, IsPlaceFitting, IsHeldBy, IsFoundWithin, IsLooking}
 use Rattle.odht_raw.specs.declared.raw_table.read_search.ReadPlace.{ReadPlace}
 use Rattle.odht_raw.specs.declared.raw_table.search_result.Search.TheVariants.{Found, Free, Neither}
 use Rattle.odht_raw.proofs.examples.FrameRefusals.{occupied_controls}
@@ -25,9 +21,6 @@ place = record { entries_at = 40; control_at = 168; slots = 16; layout = record 
 abbrev source : List ℕ
 source = replicate 40 9 ++ ((five_in_three 16).bytes ++ occupied_controls)
 
-pub size : entry_size place ≡ 8
-size = refl
-
 -- they are read where they lie
 pub read_parts : (read_entries place source ≡ five_in_three 16) × (read_controls place source ≡ occupied_controls)
 read_parts = (refl, refl)
@@ -35,10 +28,6 @@ read_parts = (refl, refl)
 -- and so is the key of slot 3, which is that of no other
 pub read_three : (read_key place source 3 ≡ five) × (read_key place source 2 ≡ five → ⊥)
 read_three = (refl, unequal_lists (read_key place source 2) five refl)
-
--- two groups of them were read
-pub two_read : read_groups place source 2 ≡ record { control = occupied_controls; groups = 2 }
-two_read = refl
 
 -- ---- what has such parts
 pub fits : IsPlaceFitting place

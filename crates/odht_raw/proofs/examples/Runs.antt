@@ -2,13 +2,9 @@
 use Rattle.std.proofs.Common.{◌≡◌, ◌<◌, ◌⊎◌, ℕ, inl, List, [], ◌∷◌, Option, Some, None, Result, Ok, Err, All, length, refl, subst, arith, lit≤}
 use Rattle.std.specs.Prelude.{true, ⊤}
 use Rattle.std.specs.List.{slice_range}
-use Rattle.std.proofs.lemmas.List.Elements.{All-nil}
-use Rattle.odht_base.specs.Table.{Table}
-use Rattle.odht_base.specs.Valid.{IsImage, IsPairOf}
+use Rattle.odht_raw.proofs.lemmas.Below.{All-nil, some_same}
+use Rattle.odht_raw.specs.Words.{Coding, Error, IsImage, IsPairOf, Table}
 use Rattle.odht_base.proofs.examples.Configs.{direct_config, pair32}
-use Rattle.odht_base.proofs.lemmas.Options.{some_same}
-use Rattle.odht_header.specs.Coding.{Coding}
-use Rattle.odht_header.specs.declared.error.Error.{Error}
 use Rattle.odht_header.proofs.examples.Apart.{unequal}
 use Rattle.odht_raw.specs.DynParts.{HasLengthsOf}
 use Rattle.odht_raw.specs.Frame.{IsAccepted}

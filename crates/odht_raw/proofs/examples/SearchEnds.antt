@@ -2,12 +2,9 @@
 use Rattle.std.proofs.lemmas.Bool.{cases_lt, false_from_ne_true}
 use Rattle.std.proofs.Common.{◌≡◌, ◌<◌, ◌+◌, ◌%◌, ◌==◌, ◌||◌, ℕ, zero, suc, inl, inr, refl, sym, Bool, true, true≢false, List, [], ◌∷◌, replicate, set, slice_index, lit<, arith, eq-eqb}
 use Rattle.std.specs.List.{range_with_len, list_all}
-use Rattle.odht_base.specs.Bytes.{overwritten_at}
-use Rattle.odht_base.specs.Numbers.{le_bytes}
-use Rattle.odht_base.specs.Decoded.{slot_key, slot_value, counts_as_free}
+use Rattle.odht_raw.specs.Words.{counts_as_free, le_bytes, lists_differ, overwritten_at, slot_key, slot_value}
 use Rattle.odht_base.proofs.examples.Configs.{direct_config}
 use Rattle.odht_raw.specs.Parts.{EntryBytes}
-use Rattle.odht_header.specs.Refusals.{lists_differ}
 use Rattle.odht_raw.specs.ControlBytes.{order_slot, Differs, GoesOn, GoesOnTo}
 use Rattle.odht_raw.specs.SearchEnds.{IsEnd, IsAfter, IsPlainEnd, IsEndAmong, IsBesideKey}
 use Rattle.odht_header.proofs.examples.Opened.{opened}

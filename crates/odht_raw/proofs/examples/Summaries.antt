@@ -1,13 +1,10 @@
 -- Worked examples: what the whole check knows of the slots that it has been through, and what it sees in a group.
 use Rattle.std.proofs.Common.{◌≡◌, ◌+◌, ℕ, refl, sym, subst, true, false, true≢false, inl, inr, arith, [], ◌∷◌, Option, Some, None, Err, replicate, set, lit<}
 use Rattle.std.specs.Prelude.{is_none}
-use Rattle.std.proofs.lemmas.Option.{none-some}
-use Rattle.odht_base.specs.Bytes.{overwritten_at}
+use Rattle.odht_raw.proofs.lemmas.Below.{contains_cases, none-some}
+use Rattle.odht_raw.specs.Words.{ControlMismatch, overwritten_at, slot_refusal_at, unreachable}
 use Rattle.odht_base.proofs.examples.Configs.{direct_config}
 use Rattle.odht_base.proofs.examples.Groups.{report, other_reports_refused}
-use Rattle.odht_base.proofs.lemmas.Pigeons.{contains_cases}
-use Rattle.odht_header.specs.Refusals.{slot_refusal_at, unreachable}
-use Rattle.odht_header.specs.declared.error.Error.TheVariants.{ControlMismatch}
 use Rattle.odht_header.proofs.examples.Apart.{unequal, unequal_lists, tested}
 use Rattle.odht_header.proofs.examples.Opened.{opened}
 use Rattle.odht_raw.specs.Checks.{IsGroupSearch}

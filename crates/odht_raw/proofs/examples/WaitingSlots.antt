@@ -1,22 +1,9 @@
 -- Worked examples: slots that wait in the search for an insert order, in the table with 15 in slot 15 and 31 in slot 0.
 use Rattle.std.proofs.Common.{◌≡◌, ◌<◌, ◌≤◌, ◌+◌, ◌%◌, ◌∙◌, inl, inr, ℕ, zero, suc, List, refl, true, false, true≢false, sym, ap, ap₂, subst, arith, [], ◌∷◌, replicate, length, get_or, All, AllPairs, Contains, lit<, lit≤}
-use Rattle.std.proofs.lemmas.Bool.{cases_lt}
-use Rattle.std.proofs.lemmas.List.Sorted.{IsPermutation-refl, IsPermutation-append_comm, length_permutation}
-use Rattle.odht_base.specs.Decoded.{decoded_cells}
-use Rattle.odht_base.specs.Format.{IsFormat}
-use Rattle.odht_base.specs.HashLaws.{un-lt}
-use Rattle.odht_base.specs.Image.{entries, controls}
-use Rattle.odht_base.specs.Made.{IsInsertOrder}
-use Rattle.odht_base.specs.Probe.{probe_slot}
-use Rattle.odht_base.specs.Ready.{IsSoFar}
-use Rattle.odht_base.specs.Table.{Table}
-use Rattle.odht_base.specs.Valid.{IsValid}
+use Rattle.odht_raw.proofs.lemmas.Below.{cases_lt, decoded_cells-parts, IsMade-IsInsertOrder, IsPermutation-append_comm, IsPermutation-refl, IsPlaced-tests, length_permutation, so_far_none}
+use Rattle.odht_raw.specs.Words.{controls, decoded_cells, entries, IsFormat, IsInsertOrder, IsSoFar, IsValid, probe_slot, Table, un-lt}
 use Rattle.odht_base.proofs.examples.Configs.{direct_config}
 use Rattle.odht_base.proofs.examples.InsertOrders.{fifteen_first, fifteen_slots, fifteen_so_far, zero_so_far_refused}
-use Rattle.odht_base.proofs.lemmas.MadeTables.{IsMade-IsInsertOrder}
-use Rattle.odht_base.proofs.lemmas.Parts.{decoded_cells-parts}
-use Rattle.odht_base.proofs.lemmas.Placed.{IsPlaced-tests}
-use Rattle.odht_base.proofs.lemmas.SoFar.{so_far_none}
 use Rattle.odht_raw.specs.Frontiers.{AreFrontiers}
 use Rattle.odht_raw.proofs.lemmas.Homes.{HasHomes}
 use Rattle.odht_raw.specs.Parts.{TableParts}

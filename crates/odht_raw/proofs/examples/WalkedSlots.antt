@@ -1,8 +1,6 @@
 -- Worked examples: the items of slots, as a walk over parts gives them.
 use Rattle.std.proofs.Common.{◌≡◌, ℕ, zero, suc, refl, arith, true≢false, List, [], ◌∷◌, lit<}
-use Rattle.odht_base.specs.Image.{entries, controls}
-use Rattle.odht_base.specs.Numbers.{le_bytes}
-use Rattle.odht_base.specs.Table.{Table}
+use Rattle.odht_raw.specs.Words.{controls, entries, le_bytes, Table}
 use Rattle.odht_base.proofs.examples.Configs.{direct_config}
 use Rattle.odht_raw.specs.Parts.{TableParts}
 use Rattle.odht_raw.specs.Walks.{Item, items_of, items_from, AreOccupied}

@@ -1,28 +1,11 @@
 -- Bytes whose header and length fit: what the header says; writes to the count and behind the header leave them so.
 use Rattle.std.proofs.Common.{◌≡◌, ◌<◌, ◌≤◌, ◌∙◌, ◌+◌, ◌*◌, ℕ, suc, not, sym, ap, subst, refl, List, [], ◌∷◌, ◌++◌, take, drop, set, cond, ltb, Bool, true, false, length, arith, length-set, get_or-take, lit<, lit≤, ltb-true, nat_lt}
-use Rattle.std.proofs.lemmas.List.{drop-take}
-use Rattle.std.proofs.Math.Nat.{mul-le-mul_right}
+use Rattle.odht_raw.proofs.lemmas.Below.{bytes_at-drop, bytes_at-take_front, drop-overwritten_at, drop-take, IsOpening, IsOpening-opening_refusal, IsSized, IsSized-IsPlaced, length-image, length-overwritten_at, mul-le-mul_right, num-le_bytes, opening_refusal-IsOpening, overwritten_at-single, slots_fit, take-overwritten_at}
 use Rattle.std.specs.Prelude.{slice_index}
 use Rattle.std.specs.Option.{option_or}
-use Rattle.odht_base.specs.Numbers.{num, le_bytes}
-use Rattle.odht_base.specs.Bytes.{bytes_at, overwritten_at}
-use Rattle.odht_base.specs.Format.{Format, entry_len}
-use Rattle.odht_base.specs.Load.{is_power_of_two, IsSlotCount}
-use Rattle.odht_base.specs.Table.{Table, slot_count, count}
-use Rattle.odht_base.specs.Image.{image, image_len, header_bytes, parts}
-use Rattle.odht_base.specs.Decoded.{header_slots}
-use Rattle.odht_base.specs.Writes.{with_count, tagged_at}
-use Rattle.odht_base.specs.Valid.{IsValidBytes}
-use Rattle.odht_base.proofs.lemmas.Numbers.{num-le_bytes}
-use Rattle.odht_base.proofs.lemmas.SlotCounts.{slots_fit}
-use Rattle.odht_base.proofs.lemmas.Fits.{IsSized, IsSized-IsPlaced}
-use Rattle.odht_base.proofs.lemmas.Image.{length-image}
-use Rattle.odht_base.proofs.lemmas.ByteRanges.{bytes_at-take_front, bytes_at-drop, length-overwritten_at, overwritten_at-single, take-overwritten_at, drop-overwritten_at}
-use Rattle.odht_header.specs.Refusals.{opening_refusal, header_refusal, first_of, differs, lists_differ, ◌gives◌}
+use Rattle.odht_raw.specs.Words.{bytes_at, count, differs, entry_len, first_of, Format, header_bytes, header_refusal, header_slots, image, image_len, is_power_of_two, IsSlotCount, IsValidBytes, le_bytes, lists_differ, num, opening_refusal, overwritten_at, parts, slot_count, SlotCountNotPowerOfTwo, SlotCountTooSmall, Table, tagged_at, TooShort, with_count, WrongLength, WrongSizeOf, WrongTag, WrongVersion, ◌gives◌}
 use Rattle.odht_raw.specs.Frame.{IsAccepted}
-use Rattle.odht_header.specs.declared.error.Error.TheVariants.{WrongTag, WrongVersion, WrongSizeOf, TooShort, SlotCountNotPowerOfTwo, SlotCountTooSmall, WrongLength}
 use Rattle.odht_header.specs.declared.error.Part.TheVariants.{EntryMetadata, EncodedKey, EncodedValue, Header}
-use Rattle.odht_header.proofs.lemmas.HeaderFits.{IsOpening, IsOpening-opening_refusal, opening_refusal-IsOpening}
 
 -- bytes with the same header except the count, and of the same length, have the same error
 pub opening_refusal-same : (F : Format) (B C : List ℕ) → length B ≡ length C → take 8 B ≡ take 8 C → take 16 (drop 16 B) ≡ take 16 (drop 16 C) → opening_refusal F B ≡ opening_refusal F C

@@ -2,28 +2,8 @@
 use Rattle.std.proofs.Common.{◌≡◌, ◌∙◌, ℕ, ◌+◌, ◌-◌, ◌*◌, ◌/◌, ◌<◌, ◌≤◌, inl, inr, sym, ap, refl, arith, true, false, true≢false, not, List, length, slice_get, get_or, min, Option, Some, None, is_some}
 use Rattle.std.specs.List.{range_with_len}
 use Rattle.std.specs.Option.{option_map_or}
-use Rattle.std.proofs.Math.Nat.{min-le_left, min-le_right, mod-lt}
-use Rattle.std.proofs.lemmas.Option.{slice_get-get_or}
-use Rattle.std.proofs.lemmas.Bool.{cases_lt, or_parts}
-use Rattle.std.proofs.lemmas.List.FromFn.{length-range_with_len, get_or-range_with_len}
-use Rattle.std.proofs.lemmas.List.Quantifiers.{position-Some}
-use Rattle.odht_base.specs.Bounds.{group_of, ends_within, first_longer}
-use Rattle.odht_base.specs.Bytes.{bytes_at}
-use Rattle.odht_base.specs.Decoded.{counts_as_free, entries_of, controls_of}
-use Rattle.odht_base.specs.Format.{Format, IsFormat, home}
-use Rattle.odht_base.specs.Groups.{first_free}
-use Rattle.odht_base.specs.Probe.{probe_slot}
-use Rattle.odht_base.specs.Search.{stops_at, reach, groups_read, search_order}
-use Rattle.odht_base.specs.Table.{Table, slot_count}
-use Rattle.odht_base.specs.Image.{entries, controls}
-use Rattle.odht_base.specs.Valid.{IsImage, IsPartsOf}
-use Rattle.odht_base.proofs.lemmas.ByteRanges.{length-bytes_at}
-use Rattle.odht_base.proofs.lemmas.FirstMatch.{find-None, position_none}
-use Rattle.odht_base.proofs.lemmas.Fits.{IsSized-IsPlaced}
-use Rattle.odht_base.proofs.lemmas.Image.{entries_of-image, controls_of-image}
-use Rattle.odht_base.proofs.lemmas.Parts.{counts_as_free-control_byte, length-controls}
-use Rattle.odht_base.proofs.lemmas.Orders.{length-order, get_or-order, probe_slot-lt}
-use Rattle.odht_header.proofs.lemmas.FirstErrors.{not-false}
+use Rattle.odht_raw.proofs.lemmas.Below.{cases_lt, controls_of-image, counts_as_free-control_byte, entries_of-image, find-None, get_or-order, get_or-range_with_len, IsSized-IsPlaced, length-bytes_at, length-controls, length-order, length-range_with_len, min-le_left, min-le_right, mod-lt, not-false, or_parts, position-Some, position_none, probe_slot-lt, slice_get-get_or}
+use Rattle.odht_raw.specs.Words.{bytes_at, controls, controls_of, counts_as_free, ends_within, entries, entries_of, first_free, first_longer, Format, group_of, groups_read, home, IsFormat, IsImage, IsPartsOf, probe_slot, reach, search_order, slot_count, stops_at, Table}
 use Rattle.odht_raw.specs.Parts.{EntryBytes}
 use Rattle.odht_raw.specs.SearchSteps.{Passed, slot_of}
 use Rattle.odht_raw.proofs.lemmas.Bounds.{goes_on}

@@ -2,21 +2,10 @@
 use Rattle.std.proofs.Common.{◌≡◌, ◌∙◌, ℕ, ◌+◌, ◌-◌, ◌*◌, ◌/◌, ◌%◌, ◌<◌, ◌≤◌, refl, sym, ap, arith, Bool, true, false, true≢false, not, List, length, length-drop, drop, get_or, min, Option, Some, None, is_some}
 use Rattle.std.specs.Prelude.{option_map}
 use Rattle.std.specs.Option.{option_or}
-use Rattle.std.proofs.Math.Nat.{mod-add-mod, mod-eq_of_lt}
-use Rattle.std.proofs.lemmas.List.{get_or-drop, get_or-take}
-use Rattle.std.proofs.lemmas.List.Quantifiers.{position-Some}
+use Rattle.odht_raw.proofs.lemmas.Below.{All-from_get_or, bytes_at-take, find_is, find_none, get_or-drop, get_or-range_with_len, get_or-take, length-bytes_at, length-range_with_len, list_any_at, list_any_none, mod-add-mod, mod-eq_of_lt, position-Some}
 use Rattle.std.specs.List.{range_with_len}
-use Rattle.std.proofs.lemmas.List.Elements.{All-from_get_or}
-use Rattle.std.proofs.lemmas.List.Folds.{list_any_at, list_any_none}
-use Rattle.std.proofs.lemmas.List.FromFn.{length-range_with_len, get_or-range_with_len}
-use Rattle.odht_base.specs.Bytes.{bytes_at}
-use Rattle.odht_base.specs.Decoded.{counts_as_free}
-use Rattle.odht_base.specs.Groups.{first_free, late_free}
-use Rattle.odht_base.specs.Probe.{probe_slot}
-use Rattle.odht_base.proofs.lemmas.ByteRanges.{bytes_at-take, length-bytes_at}
+use Rattle.odht_raw.specs.Words.{bytes_at, counts_as_free, ends_within, first_free, first_longer, group_of, late_free, probe_slot}
 use Rattle.odht_raw.proofs.lemmas.GroupLooks.{position-None}
-use Rattle.odht_base.proofs.lemmas.FirstMatch.{find_is, find_none}
-use Rattle.odht_base.specs.Bounds.{group_of, ends_within, first_longer}
 
 -- an index of a range is itself
 item : (n i : ℕ) → i < n → get_or (range_with_len 0 n) i 0 ≡ i

@@ -2,9 +2,7 @@
 use Rattle.std.proofs.Common.{◌≡◌, ◌≤◌, ◌∙◌, ◌+◌, ◌-◌, ◌*◌, ◌++◌, ℕ, sym, ap, List, take, drop, length, arith, append_assoc, length-take-le, length-drop, drop-drop, replicate}
 use borrow.Rule.Slice.PartMut.{put_mid}
 use Rattle.std.proofs.lemmas.List.{length-replicate}
-use Rattle.odht_base.specs.Bytes.{bytes_at, overwritten_at}
-use Rattle.odht_base.specs.Format.{Format, entry_len}
-use Rattle.odht_base.specs.Image.{image_len}
+use Rattle.odht_raw.specs.Words.{bytes_at, entry_len, Format, image_len, overwritten_at}
 use Rattle.odht_raw.specs.Parts.{IsZeros}
 use Rattle.odht_raw.proofs.lemmas.NewTables.{bytes_at-overwritten_at}
 

@@ -1,10 +1,7 @@
 -- Inserts that tell whether they add an entry: one more item, and one that is refused.
 use Rattle.std.proofs.Common.{◌≡◌, ◌<◌, ◌+◌, ◌-◌, ◌∙◌, ℕ, Bool, true, cond, sym, ap, subst, refl, List, length, Option, Some, None, Result, Ok, Err, slice_get}
 use Rattle.std.specs.Prelude.{is_none}
-use Rattle.odht_base.specs.Format.{Format}
-use Rattle.odht_base.specs.Table.{Pair, Table}
-use Rattle.odht_base.specs.Valid.{IsPairOf, IsPartsOf}
-use Rattle.odht_header.specs.declared.error.Error.{Error}
+use Rattle.odht_raw.specs.Words.{Error, Format, IsPairOf, IsPartsOf, Pair, Table}
 use Rattle.odht_raw.specs.DynParts.{bytes_coding}
 use Rattle.odht_raw.specs.Frame.{IsOnlyFull}
 use Rattle.odht_raw.specs.Runs.{IsRunTo, IsRefusedIn}

@@ -7,9 +7,7 @@ use Rattle.std.specs.Fmt.{◌++?◌, DisplaysOnOk}
 use Rattle.std.specs.List.{range_with_len}
 use Rattle.std.specs.declared.fmt.Error.{Error}
 use Rattle.std.specs.declared.fmt.Formatter.{Formatter}
-use Rattle.odht_base.specs.Format.{Format}
-use Rattle.odht_base.specs.Load.{max_items, percent_of}
-use Rattle.odht_base.specs.Decoded.{slot_key, slot_value, counts_as_free, header_count, header_slots, header_factor}
+use Rattle.odht_raw.specs.Words.{counts_as_free, Format, header_count, header_factor, header_slots, max_items, percent_of, slot_key, slot_value}
 use Rattle.odht_raw.specs.Parts.{TableParts}
 use Rattle.odht_raw.specs.Dumps.{DebugText, texts_in_turn, slot_text, slots_text, counts_text}
 

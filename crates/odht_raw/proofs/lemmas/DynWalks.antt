@@ -1,12 +1,8 @@
 -- What a walk over the slots of parts gives, where it reads the entries by the slots of a walk over entries of no bytes.
-use Rattle.std.proofs.Common.{All, ◌≡◌, ◌∙◌, ℕ, zero, suc, ◌+◌, ◌*◌, ◌-◌, ◌<◌, Bool, true, false, sym, ap, refl, arith, List, [], ◌∷◌, length, length-take, length-drop, map, drop, slice_index, Option, Some, None}
+use Rattle.std.proofs.Common.{All, ◌≡◌, ◌∙◌, ℕ, zero, suc, ◌+◌, ◌*◌, ◌-◌, ◌<◌, Bool, true, false, sym, ap, refl, arith, List, [], ◌∷◌, length, length-take, length-drop, map, drop, slice_index, Option}
 use Rattle.std.specs.List.{filter_map, cons_option, range_with_len}
-use Rattle.std.proofs.lemmas.List.{drop-map}
-use Rattle.std.proofs.lemmas.List.Elements.{All-cons}
-use Rattle.odht_base.specs.SlotWalks.{numbered}
-use Rattle.odht_base.specs.Table.{Pair, Cells}
-use Rattle.odht_base.specs.Decoded.{counts_as_free, slot_entry, slot_key, slot_value, decoded_cell, decoded_cells}
-use Rattle.odht_base.proofs.lemmas.PartsOf.{length-slot_entry}
+use Rattle.odht_raw.proofs.lemmas.Below.{All-cons, drop-map, length-slot_entry}
+use Rattle.odht_raw.specs.Words.{counts_as_free, decoded_cell, decoded_cells, numbered, Pair, slot_entry, slot_key, slot_value}
 use Rattle.odht_raw.specs.Checks.{cells_of}
 use Rattle.odht_raw.specs.Parts.{TableParts, entry_format}
 use Rattle.odht_raw.specs.DynParts.{HasLengthsOf, DynParts, parts_format, slot_pair, read_slot}
@@ -62,12 +58,6 @@ module _ {K V : Type 0} (f : List ℕ → K) (g : List ℕ → V) (S : DynParts)
 
   pub numbered-below : (i : ℕ) → All (λ (x : ℕ × Item K V). x.0 < S.parts.entries.slots) (numbered_from f g (entry_format 0 0) (bare S) i)
   numbered-below i = slots_below i (S.parts.entries.slots - i) (λ j h. omega (arith, h))
-
--- the pairs of numbered cells are those of the cells
-pub pairs-numbered : (i : ℕ) (cs : Cells) → map (λ (x : ℕ × Pair). x.1) (numbered i cs) ≡ filter_map (λ c. c) cs
-pairs-numbered i [] = refl
-pairs-numbered i (None ∷ cs) = pairs-numbered (i + 1) cs
-pairs-numbered i (Some p ∷ cs) = ap (λ xs. p ∷ xs) (pairs-numbered (i + 1) cs)
 
 -- each pair of the cells of parts has their lengths
 module _ (S : DynParts) (hash : List ℕ → ℕ) (long : length S.parts.entries.bytes ≡ S.parts.entries.slots * (S.key_len + S.value_len)) where

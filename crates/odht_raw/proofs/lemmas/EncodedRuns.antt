@@ -2,12 +2,8 @@
 use Rattle.std.proofs.Common.{◌≡◌, ◌∙◌, ◌-◌, ℕ, inl, inr, sym, ap, subst, refl, arith, length, List, [], ◌∷◌, ◌++◌, map, drop, take, Option, Some, None, Ok, Err, slice_get}
 use Rattle.std.specs.Prelude.{option_map, ⊤}
 use Rattle.std.specs.List.{slice_range}
-use Rattle.std.proofs.lemmas.List.{take-map, drop-map, length-map}
-use Rattle.std.proofs.lemmas.Option.{slice_get-map}
-use Rattle.odht_base.specs.Table.{Pair}
-use Rattle.odht_header.specs.Coding.{Coding, encoded}
-use Rattle.odht_header.specs.declared.error.Error.{Error}
-use Rattle.odht_header.specs.declared.error.Error.TheVariants.{Full}
+use Rattle.odht_raw.proofs.lemmas.Below.{drop-map, length-map, slice_get-map, take-map}
+use Rattle.odht_raw.specs.Words.{Coding, encoded, Error, Full, Pair}
 use Rattle.odht_raw.specs.DynParts.{bytes_coding}
 use Rattle.odht_raw.specs.Frame.{IsFramed}
 use Rattle.odht_raw.specs.Runs.{encoded_all, IsFramedRun, IsAllPlaced, IsStoppedAt, IsListRun, IsEncodedRun}

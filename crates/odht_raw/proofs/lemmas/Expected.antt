@@ -2,32 +2,15 @@
 use Rattle.std.proofs.Common.{◌≡◌, ◌∙◌, ◌+◌, ◌-◌, ◌%◌, ◌<◌, ◌≤◌, ◌||◌, inl, inr, ℕ, Bool, true, false, true≢false, sym, ap, subst, refl, arith, bytes_eq, List, [], ◌∷◌, length, slice_get, slice_index, get_or, Option, Some, None, All}
 use Rattle.std.specs.Prelude.{is_none, is_some, if◌then◌else◌}
 use Rattle.std.specs.Option.{option_map_or}
-use Rattle.std.proofs.lemmas.Bool.{cases_eq, or_parts, or_from}
-use Rattle.std.proofs.lemmas.List.Elements.{All-head, All-tail}
-use Rattle.std.proofs.lemmas.Nat.Gcd.{dvd_of_mod-eq-zero, le_of_dvd}
-use Rattle.odht_base.specs.Bytes.{bytes_at}
-use Rattle.odht_base.specs.Format.{Format, IsFormat, home, tag}
-use Rattle.odht_base.specs.Groups.{IsReport, first_free}
-use Rattle.odht_base.specs.Insert.{place, place_all}
-use Rattle.odht_base.specs.Load.{IsSlotCount}
-use Rattle.odht_base.specs.Probe.{probe_slot}
-use Rattle.odht_base.specs.Search.{search_end, stops_at}
-use Rattle.odht_base.specs.Decoded.{counts_as_free}
-use Rattle.odht_base.specs.Table.{Pair, Table, slot_count, cell_at, is_free, has_key}
-use Rattle.odht_base.specs.Valid.{HoldsPair, IsPairOf, IsPartsOf, IsPlaced}
-use Rattle.odht_base.proofs.lemmas.ByteRanges.{length-bytes_at}
-use Rattle.odht_base.proofs.lemmas.Grown.{slot_count-place_all}
-use Rattle.odht_base.proofs.lemmas.Keys.{key_pair}
-use Rattle.odht_base.proofs.lemmas.Lookups.{search_end-at}
-use Rattle.odht_base.proofs.lemmas.Options.{some_same, and_then_some}
-use Rattle.odht_base.proofs.lemmas.Orders.{find-order_some}
-use Rattle.odht_base.proofs.lemmas.Places.{written, written_here, written_other, place-written, place-IsPlaced}
+use Rattle.odht_raw.proofs.lemmas.Below.{All-head, All-tail, and_then_some, cases_eq, dvd_of_mod-eq-zero, find-order_some, index-bytes_at, key_pair, le_of_dvd, length-bytes_at, or_from, or_parts, place-IsPlaced, place-written, search_end-at, slot_count-place_all, some_same, written, written_here, written_other}
+use Rattle.odht_raw.specs.Words.{bytes_at, cell_at, counts_as_free, first_free, Format, has_key, HoldsPair, home, is_free, IsFormat, IsPairOf, IsPartsOf, IsPlaced, IsReport, IsSlotCount, Pair, place, place_all, probe_slot, search_end, slot_count, stops_at, Table, tag}
 use Rattle.odht_raw.specs.SearchResults.{answer}
+use Rattle.odht_raw.specs.DynParts.{AreWhole, DynParts}
 use Rattle.odht_raw.specs.Expected.{IsExpected, EndsIfFree, IsAhead}
 use Rattle.odht_raw.specs.Parts.{EntryBytes}
 use Rattle.odht_raw.specs.SearchSteps.{IsGroupAt}
 use Rattle.odht_raw.specs.declared.raw_table.search_result.Search.TheVariants.{Found, Free, Neither}
-use Rattle.odht_raw.proofs.lemmas.GroupLooks.{index-bytes_at, taken-all, look_free}
+use Rattle.odht_raw.proofs.lemmas.GroupLooks.{taken-all, look_free}
 use Rattle.odht_raw.proofs.lemmas.GroupSearches.{IsGroupAt-group}
 use Rattle.odht_raw.proofs.lemmas.PartCells.{slots_are, byte_is}
 use Rattle.odht_raw.proofs.lemmas.ProbeSteps.{at_home}
@@ -176,3 +159,7 @@ expected_run F P Q ps k i ok fit e expected low free =
 abbrev pub AreAheadBefore : (ℕ → Type 0) → Format → List ℕ → List (List ℕ × List ℕ) → ℕ → ℕ → List (ℕ × ℕ) → Type 0
 AreAheadBefore fits F ctrl items from n ahead =
     (i : ℕ) (k v : List ℕ) → i < n → slice_get items (from + i) ≡ Some (k, v) → fits (from + i) → IsAhead F ctrl k (get_or ahead i (0, 0))
+
+-- the control bytes have as many slots as the parts
+pub whole_slots : (ml : ℕ) (S : DynParts) → AreWhole ml S → length S.parts.control - 16 ≡ S.parts.entries.slots
+whole_slots ml S whole = omega (arith, whole.mirrored)

@@ -1,17 +1,8 @@
 -- The first look of a search: what its answer says about where the search ends.
 use Rattle.std.proofs.Common.{◌≡◌, ◌∙◌, ◌+◌, ◌*◌, ◌%◌, ◌<◌, ℕ, sym, ap, subst, arith, refl, List, length, Option, Some, None, Contains, true, true≢false}
 use Rattle.std.specs.Prelude.{is_some}
-use Rattle.std.proofs.Math.Nat.{mod-lt, mod-eq_of_lt}
-use Rattle.odht_base.specs.Format.{Format, IsFormat, home, tag}
-use Rattle.odht_base.specs.Groups.{equal, first_free, IsReport}
-use Rattle.odht_base.specs.Load.{IsSlotCount}
-use Rattle.odht_base.specs.Map.{map_of}
-use Rattle.odht_base.specs.Decoded.{counts_as_free, slot_key}
-use Rattle.odht_base.specs.Table.{Table}
-use Rattle.odht_base.specs.Valid.{IsPartsOf}
-use Rattle.odht_base.proofs.lemmas.ByteRanges.{length-bytes_at}
-use Rattle.odht_base.proofs.lemmas.MarkedPositions.{report_from_equal}
-use Rattle.odht_base.proofs.lemmas.Orders.{probe_slot-group}
+use Rattle.odht_raw.proofs.lemmas.Below.{length-bytes_at, mod-eq_of_lt, mod-lt, probe_slot-group, report_from_equal}
+use Rattle.odht_raw.specs.Words.{counts_as_free, equal, first_free, Format, home, IsFormat, IsPartsOf, IsReport, IsSlotCount, map_of, slot_key, Table, tag}
 use Rattle.odht_raw.specs.SearchResults.{answer}
 use Rattle.odht_raw.specs.ControlBytes.{order_slot}
 use Rattle.odht_raw.specs.FirstLooks.{home_group}

@@ -2,10 +2,7 @@
 use Rattle.std.proofs.Common.{◌≡◌, ◌∙◌, ◌-◌, ◌<◌, ℕ, List, Option, Some, None, Result, Ok, Err, ap, refl, subst, sym, length}
 use Rattle.std.specs.Prelude.{option_map, ⊤}
 use Rattle.std.specs.Result.{result_map_both}
-use Rattle.odht_base.specs.Format.{Format}
-use Rattle.odht_base.specs.Table.{Pair, Table}
-use Rattle.odht_header.specs.declared.error.Error.{Error}
-use Rattle.odht_header.specs.declared.error.Error.TheVariants.{Full}
+use Rattle.odht_raw.specs.Words.{Error, Format, Full, Pair, Table}
 use Rattle.odht_raw.specs.Formers.{with_former}
 use Rattle.odht_raw.specs.Parts.{stored_in}
 use Rattle.odht_raw.specs.SearchEnds.{IsEnd}

@@ -1,28 +1,13 @@
 -- A search for the first free slot: what a group reports, and where it ends in a placed table without the key.
 use Rattle.std.proofs.Common.{false, true, ◌≡◌, ℕ, ◌+◌, ◌-◌, ◌*◌, ◌%◌, ◌<◌, ◌≤◌, inl, inr, sym, ap, ◌∙◌, subst, refl, arith, List, length, slice_index, IsTrue, Some, None}
-use Rattle.std.proofs.lemmas.Bool.{cases_lt, or_from, or_left}
-use Rattle.std.proofs.lemmas.List.Quantifiers.{position-Some}
-use Rattle.odht_base.specs.Bytes.{bytes_at}
-use Rattle.odht_base.specs.Format.{Format, IsFormat, home}
-use Rattle.odht_base.specs.Groups.{first_free}
-use Rattle.odht_base.specs.Load.{IsSlotCount}
-use Rattle.odht_base.specs.Map.{map_of}
-use Rattle.odht_base.specs.Probe.{probe_slot}
-use Rattle.odht_base.specs.Search.{stops_at}
-use Rattle.odht_base.specs.Decoded.{counts_as_free}
-use Rattle.odht_base.specs.Table.{Table, slot_count, is_free}
-use Rattle.odht_base.specs.Valid.{IsPartsOf}
-use Rattle.odht_base.proofs.lemmas.ByteRanges.{length-bytes_at}
-use Rattle.odht_base.proofs.lemmas.Lookups.{search_end-at}
-use Rattle.odht_base.proofs.lemmas.Orders.{probe_slot-lt}
-use Rattle.odht_base.proofs.lemmas.Pairs.{has_key-None}
-use Rattle.odht_base.proofs.lemmas.Parts.{slice_index-mirror, counts_as_free-control_byte}
+use Rattle.odht_raw.proofs.lemmas.Below.{cases_lt, counts_as_free-control_byte, has_key-None, index-bytes_at, length-bytes_at, or_from, or_left, position-Some, probe_slot-lt, search_end-at, slice_index-mirror}
+use Rattle.odht_raw.specs.Words.{bytes_at, counts_as_free, first_free, Format, home, is_free, IsFormat, IsPartsOf, IsSlotCount, map_of, probe_slot, slot_count, stops_at, Table}
 use Rattle.odht_raw.specs.SearchResults.{answer}
 use Rattle.odht_raw.specs.Frame.{CountsAsFree, CountsAsOccupied, HasNoFree, EachCountsAsOccupied}
 use Rattle.odht_raw.specs.FreeSlots.{IsFirstFree, IsFirstFreeByte}
 use Rattle.odht_raw.specs.SearchSteps.{slot_of, Passed}
 use Rattle.odht_raw.specs.declared.raw_table.search_result.Search.TheVariants.{Free, Neither}
-use Rattle.odht_raw.proofs.lemmas.GroupLooks.{index-bytes_at, no_free-more, position-None}
+use Rattle.odht_raw.proofs.lemmas.GroupLooks.{no_free-more, position-None}
 use Rattle.odht_raw.proofs.lemmas.GroupSearches.{OccupiedBefore, group-byte}
 use Rattle.odht_raw.proofs.lemmas.PartCells.{slots_are, byte_is}
 use Rattle.odht_raw.proofs.lemmas.PlainSearch.{no_end}

@@ -1,11 +1,7 @@
 -- The slots before a slot that waits, in the probe order of its home, a group at a time.
 use Rattle.std.proofs.Common.{◌≡◌, ◌<◌, ◌≤◌, ◌+◌, ◌-◌, ◌*◌, ◌/◌, ◌%◌, ◌∙◌, inl, inr, ℕ, sym, ap, subst, List, arith, Contains}
-use Rattle.std.proofs.Math.Nat.{mod-eq_of_lt, add-mod_right}
-use Rattle.std.proofs.lemmas.Bool.{cases_lt}
-use Rattle.odht_base.specs.Load.{IsSlotCount}
-use Rattle.odht_base.specs.Probe.{probe_slot}
-use Rattle.odht_base.proofs.lemmas.Orders.{probe_slot-lt}
-use Rattle.odht_base.proofs.lemmas.SlotCounts.{sixteens}
+use Rattle.odht_raw.proofs.lemmas.Below.{add-mod_right, cases_lt, mod-eq_of_lt, probe_slot-lt, sixteens}
+use Rattle.odht_raw.specs.Words.{IsSlotCount, probe_slot}
 use Rattle.odht_raw.specs.Waiting.{waiting, WaitsBehind, IsLeft, IsFrontier, IsUnblocked}
 use Rattle.odht_raw.proofs.lemmas.KeyPositions.{behind-slot, behind-only, group_position, later_position}
 use Rattle.odht_raw.proofs.lemmas.WaitingRanges.{behind_left}

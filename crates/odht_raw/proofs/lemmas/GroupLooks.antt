@@ -1,31 +1,10 @@
 -- A look at some positions of the probe order: the matches that are taken in turn, then the first free slot.
-use Rattle.std.proofs.Common.{◌≡◌, ◌⊎◌, ℕ, zero, suc, ◌+◌, ◌-◌, ◌*◌, ◌/◌, ◌%◌, ◌<◌, ◌≤◌, inl, inr, sym, ap, ◌∙◌, subst, refl, arith, true, false, true≢false, List, [], ◌∷◌, length, drop, slice_get, slice_index, Contains, Option, Some, None, leb-true, lt-ltb, get_or, get_or-take, get_or-drop, position, Bool, add-mul, mul-le-mul_right}
-use Rattle.std.proofs.Math.Nat.{div-mul-le_self, div-mul_cancel}
-use Rattle.std.proofs.lemmas.Nat.Gcd.{dvd_of_mod-eq-zero}
+use Rattle.std.proofs.Common.{◌≡◌, ◌⊎◌, ℕ, zero, suc, ◌+◌, ◌-◌, ◌*◌, ◌/◌, ◌%◌, ◌<◌, ◌≤◌, inl, inr, sym, ap, ◌∙◌, subst, refl, arith, true, false, true≢false, List, [], ◌∷◌, length, drop, slice_get, slice_index, Contains, Option, Some, None, leb-true, lt-ltb, get_or, position, Bool, add-mul, mul-le-mul_right}
+use Rattle.odht_raw.proofs.lemmas.Below.{AllArrive-IsPlaced, AllPairs-from_increasing, cases_lt, contains_cases, counts_as_free-control_byte, div-mul-le_self, div-mul_cancel, dvd_of_mod-eq-zero, fails_before_first, false_from_ne_true, find-order_some, index-bytes_at, key_pair, length-bytes_at, none-some, or_from, or_left, position-order, position-Some, probe_slot-apart, probe_slot-lt, search_end-at, some_same}
 use Rattle.std.specs.List.{position_or_len}
 use Rattle.std.specs.List.Sorted.{IsStrictlyIncreasing}
 use Rattle.std.specs.Prelude.{is_some, IfSome, IsFalse}
-use Rattle.std.proofs.lemmas.Bool.{or_from, or_left, false_from_ne_true, cases_lt}
-use Rattle.std.proofs.lemmas.List.Kept.{AllPairs-from_increasing}
-use Rattle.std.proofs.lemmas.List.Quantifiers.{position-Some}
-use Rattle.std.proofs.lemmas.List.Sums.{fails_before_first}
-use Rattle.std.proofs.lemmas.Option.{none-some}
-use Rattle.odht_base.specs.Bytes.{bytes_at}
-use Rattle.odht_base.specs.Format.{Format, IsFormat, home, tag}
-use Rattle.odht_base.proofs.lemmas.ByteRanges.{length-bytes_at}
-use Rattle.odht_base.specs.Groups.{IsReport, first_free}
-use Rattle.odht_base.specs.Image.{controls, control_byte}
-use Rattle.odht_base.specs.Load.{IsSlotCount}
-use Rattle.odht_base.specs.Search.{search_end, reach, stops_at}
-use Rattle.odht_base.specs.Decoded.{counts_as_free, slot_key}
-use Rattle.odht_base.specs.Table.{Table, slot_count, cell_at, is_free, has_key}
-use Rattle.odht_base.specs.Valid.{IsPartsOf}
-use Rattle.odht_base.proofs.lemmas.Keys.{key_pair}
-use Rattle.odht_base.proofs.lemmas.Lookups.{AllArrive-IsPlaced, search_end-at}
-use Rattle.odht_base.proofs.lemmas.Options.{some_same}
-use Rattle.odht_base.proofs.lemmas.Pigeons.{contains_cases}
-use Rattle.odht_base.proofs.lemmas.Orders.{probe_slot-apart, probe_slot-lt, find-order_some, position-order}
-use Rattle.odht_base.proofs.lemmas.Parts.{counts_as_free-control_byte}
+use Rattle.odht_raw.specs.Words.{bytes_at, cell_at, control_byte, controls, counts_as_free, first_free, Format, has_key, home, is_free, IsFormat, IsPartsOf, IsReport, IsSlotCount, reach, search_end, slot_count, slot_key, stops_at, Table, tag}
 use Rattle.odht_raw.specs.SearchResults.{answer}
 use Rattle.odht_raw.specs.ControlBytes.{HasNoFree, IsOther}
 use Rattle.odht_raw.specs.Parts.{EntryBytes}
@@ -34,10 +13,6 @@ use Rattle.odht_raw.specs.SearchSteps.{slot_of, Passed, IsGroupAt, EndsWithin, I
 use Rattle.odht_raw.specs.declared.raw_table.search_result.Search.{Search}
 use Rattle.odht_raw.specs.declared.raw_table.search_result.Search.TheVariants.{Found, Free, Neither}
 use Rattle.odht_raw.proofs.lemmas.PartCells.{byte_is as control_is, key_is, cell_occupied}
-
--- byte i of some bytes at an offset
-pub index-bytes_at : (bs : List ℕ) (at n i : ℕ) → i < n → slice_index (bytes_at bs at n) i ≡ slice_index bs (at + i)
-index-bytes_at bs at n i l = get_or-take (at + n - at) (drop at bs) i 0 (omega arith) ∙ get_or-drop at bs i 0
 
 -- ---- matches that are taken in turn
 -- of the matches `all` those of `left` are not taken, and of each other T holds
@@ -111,27 +86,13 @@ among-pieces T bs b n size before here =
 pub no_free-more : (bs : List ℕ) (n size : ℕ) → HasNoFree bs (n * size) → HasNoFree (bytes_at bs (n * size) size) size → HasNoFree bs ((n + 1) * size)
 no_free-more bs n size before here = among-pieces (λ x c. counts_as_free c ≡ false) bs 0 n size before here
 
--- ---- matches that rise
--- the rest of them rises
-pub rising-drop : (xs : List ℕ) → IsStrictlyIncreasing xs → IsStrictlyIncreasing (drop 1 xs)
-rising-drop [] h k l = h k l
-rising-drop (x ∷ xs) h k l =
-    let e : suc k + 1 ≡ suc (k + 1) = omega arith in
-    subst (λ n. slice_index xs k < slice_index (x ∷ xs) n) e (h (suc k) (omega (arith, l)))
-
--- the first is the least
-rising-least : (xs : List ℕ) (x i : ℕ) → IsStrictlyIncreasing xs → Some x ≡ slice_get xs 0 → Contains xs i → x ≤ i
-rising-least [] x i h e c = absurd (none-some x (sym e))
-rising-least (y ∷ xs) x i h e (zero, l, is) = omega (arith, some_same x y e, is)
-rising-least (y ∷ xs) x i h e (suc m, l, is) = omega (arith, some_same x y e, is, AllPairs-from_increasing (y ∷ xs) h 0 (suc m) i (omega arith) l)
-
 -- before the first that is left no byte is the tag with the key in its slot
 pub other-before : (F : Format) (E : EntryBytes) (bs : List ℕ) (b : ℕ) (k all left : List ℕ) (x : ℕ) → IsReport bs (tag F k) all
     → IsTaken all left (λ i. slot_key F E.bytes ((b + i) % E.slots) ≡ k → ⊥) → IsStrictlyIncreasing left → Some x ≡ slice_get left 0 → IsOtherAmong F E bs b k x
 other-before F E bs b k all left x report taken rising e j l is same =
     let inside = (report.occupied x (taken-first all left _ x taken e)).0 in
     elim (taken.others j (report.complete j (omega arith) is)) [
-      | inl more ↦ omega (arith, rising-least left x j rising e more)
+      | inl more ↦ omega (arith, rising-first left x j rising e more)
       | inr gone ↦ gone same
     ]
 

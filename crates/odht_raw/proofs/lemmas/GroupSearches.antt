@@ -1,27 +1,14 @@
 -- A search by groups on parts: where it is at each group, and what follows at its end.
 use Rattle.std.proofs.Common.{false, ◌≡◌, ℕ, ◌+◌, ◌-◌, ◌/◌, ◌%◌, ◌<◌, ◌≤◌, inl, inr, sym, ap, ◌∙◌, subst, arith, List, length, slice_index, IsTrue}
 use Rattle.std.specs.Prelude.{IsFalse}
-use Rattle.std.proofs.Math.Nat.{mod-eq_of_lt, add-mod_right}
-use Rattle.std.proofs.lemmas.Bool.{cases_lt}
-use Rattle.odht_base.specs.Bytes.{bytes_at}
-use Rattle.odht_base.specs.Format.{Format, IsFormat, home}
-use Rattle.odht_base.specs.Image.{controls, control_byte}
-use Rattle.odht_base.specs.Load.{IsSlotCount}
-use Rattle.odht_base.specs.Probe.{probe_slot}
-use Rattle.odht_base.specs.Search.{reach, groups_read}
-use Rattle.odht_base.specs.Decoded.{counts_as_free}
-use Rattle.odht_base.specs.Table.{Table, Cells, slot_count, cell_at}
-use Rattle.odht_base.specs.Valid.{IsPartsOf}
-use Rattle.odht_base.proofs.lemmas.ByteRanges.{length-bytes_at}
-use Rattle.odht_base.proofs.lemmas.Orders.{probe_slot-lt, probe_slot-onto, position-order_none}
-use Rattle.odht_base.proofs.lemmas.Parts.{slice_index-controls, slice_index-mirror}
+use Rattle.odht_raw.proofs.lemmas.Below.{add-mod_right, cases_lt, index-bytes_at, length-bytes_at, mod-eq_of_lt, position-order_none, probe_slot-lt, probe_slot-onto, slice_index-controls, slice_index-mirror}
+use Rattle.odht_raw.specs.Words.{bytes_at, cell_at, Cells, control_byte, controls, counts_as_free, Format, groups_read, home, IsFormat, IsPartsOf, IsSlotCount, probe_slot, reach, slot_count, Table}
 use Rattle.odht_raw.specs.ControlBytes.{OfSlot, CountsAsFree, CountsAsOccupied, HasNoFree, EachCountsAsOccupied, order_slot, IsOther, Differs, GoesOn, GoesOnTo, IsMissing}
 use Rattle.odht_raw.specs.SearchEnds.{Among, IsOtherAmong, GoesOnAmong, IsEnd, IsEndAmong, IsAfter}
 use Rattle.odht_raw.specs.Parts.{EntryBytes}
 use Rattle.odht_raw.specs.SearchSteps.{slot_of, Passed, IsGroupAt, EndsWithin}
 use Rattle.odht_raw.specs.declared.raw_table.search_result.Search.{Search}
 use Rattle.odht_raw.specs.declared.raw_table.search_result.Search.TheVariants.{Found, Free, Neither}
-use Rattle.odht_raw.proofs.lemmas.GroupLooks.{index-bytes_at}
 use Rattle.odht_raw.proofs.lemmas.PartCells.{slots_are}
 use Rattle.odht_raw.proofs.lemmas.ProbeSteps.{probe_slot-step}
 

@@ -2,8 +2,7 @@
 --     HasHomes F T         keys of the format F have homes among the slots of T: these are a slot count, and there are
 --                          control bytes with their mirror
 use Rattle.std.proofs.Common.{◌≡◌, ◌+◌, ◌≤◌, ◌<◌, ◌^◌, ℕ, List, length, All}
-use Rattle.odht_base.specs.Format.{Format, IsFormat, format_of}
-use Rattle.odht_base.specs.Load.{IsSlotCount}
+use Rattle.odht_raw.specs.Words.{Format, format_of, IsFormat, IsSlotCount}
 use Rattle.odht_header.proofs.lemmas.Formats.{IsFormat-format_of}
 use Rattle.odht_raw.specs.Parts.{TableParts, IsTableParts}
 

@@ -1,18 +1,9 @@
 -- The bytes of a valid table are never rejected by a view.
 use Rattle.std.proofs.Common.{◌≡◌, ◌<◌, ◌∙◌, ◌-◌, min, ℕ, sym, ap, refl, List, Option, Some, None, Result, Ok, Err, IsOk, is_none, length, slice_index, arith}
 use Rattle.std.specs.Result.{result_err}
-use Rattle.odht_base.specs.Format.{Format, IsFormat, tag}
-use Rattle.odht_base.specs.Table.{Pair, Table, slot_count, cell_at, is_free}
-use Rattle.odht_base.specs.Image.{control_byte, entries, controls, image}
-use Rattle.odht_base.specs.Valid.{IsPlaced, IsImage}
-use Rattle.odht_base.specs.Decoded.{counts_as_free, slot_key}
-use Rattle.odht_base.proofs.lemmas.Fits.{HasLengths, HasLengths-HasPairsOf, IsSized-IsPlaced}
-use Rattle.odht_base.proofs.lemmas.Image.{entries_of-image, controls_of-image}
-use Rattle.odht_base.proofs.lemmas.Parts.{length-controls, slice_index-controls, counts_as_free-control_byte, slot_key-entries, slot_entry-free}
-use Rattle.odht_header.specs.declared.error.Error.{Error}
-use Rattle.odht_header.specs.Refusals.{hashes_refusal_at, hashes_refusal, view_refusal}
+use Rattle.odht_raw.specs.Words.{cell_at, control_byte, controls, counts_as_free, entries, Error, Format, hashes_refusal, hashes_refusal_at, image, is_free, IsFormat, IsImage, IsPlaced, Pair, slot_count, slot_key, Table, tag, view_refusal}
+use Rattle.odht_raw.proofs.lemmas.Below.{controls_of-image, counts_as_free-control_byte, entries_of-image, false-differs, HasLengths, HasLengths-HasPairsOf, IsSized-IsPlaced, length-controls, None-gives, slice_index-controls, slot_entry-free, slot_key-entries}
 use Rattle.odht_raw.proofs.lemmas.Accepted.{IsAccepted-image}
-use Rattle.odht_header.proofs.lemmas.FirstErrors.{None-gives, false-differs}
 use Rattle.odht_raw.proofs.lemmas.Openings.{view_refusal-slots}
 use Rattle.odht_raw.proofs.lemmas.SlotChecks.{zero_entry_passes, occupied_refusal, hashes_refusal-None}
 

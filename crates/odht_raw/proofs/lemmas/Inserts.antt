@@ -1,16 +1,7 @@
 -- What the writes of an insert leave where its search ended, on the parts of a placed table.
 use Rattle.std.proofs.Common.{◌≡◌, ◌∙◌, ◌+◌, ◌*◌, ◌++◌, ℕ, sym, ap, List, Some}
-use Rattle.odht_base.specs.Numbers.{IsBytes}
-use Rattle.odht_base.specs.Bytes.{overwritten_at}
-use Rattle.odht_base.specs.Format.{Format, entry_len, tag}
-use Rattle.odht_base.specs.Table.{Pair, Table}
-use Rattle.odht_base.specs.Valid.{IsPairOf, IsPartsOf}
-use Rattle.odht_base.specs.Decoded.{slot_value}
-use Rattle.odht_base.specs.Writes.{tagged}
-use Rattle.odht_base.proofs.lemmas.Fits.{HasLengths-HasPairsOf}
-use Rattle.odht_base.proofs.lemmas.Parts.{slot_value-entries}
-use Rattle.odht_base.proofs.lemmas.Places.{written, place-IsPlaced}
-use Rattle.odht_base.proofs.lemmas.Writes.{overwritten_at-entries, overwritten_at-entries_value, tagged-controls, controls-set_value}
+use Rattle.odht_raw.specs.Words.{entry_len, Format, IsBytes, IsPairOf, IsPartsOf, overwritten_at, Pair, slot_value, Table, tag, tagged}
+use Rattle.odht_raw.proofs.lemmas.Below.{controls-set_value, HasLengths-HasPairsOf, overwritten_at-entries, overwritten_at-entries_value, place-IsPlaced, slot_value-entries, tagged-controls, written}
 use Rattle.odht_raw.proofs.lemmas.Lookups.{IsFoundAt, IsFreeAt}
 
 module _ (F : Format) (P : Table) (es ctrl : List ℕ) (h : IsPartsOf F P es ctrl) (k : List ℕ) (i : ℕ) where

@@ -1,10 +1,7 @@
 -- Items that are slices of bytes, as the lists of their bytes.
 use Rattle.std.proofs.Common.{◌≡◌, ◌∙◌, ◌<◌, ◌==◌, ℕ, Bor, List, inl, inr, true, true≢false, sym, ap, subst, arith, length, map, Some, slice_get, get_or}
 use Rattle.std.specs.Prelude.{option_map}
-use Rattle.std.proofs.lemmas.Bool.Decides.{eqb_tells}
-use Rattle.std.proofs.lemmas.List.{length-map}
-use Rattle.std.proofs.lemmas.Option.{slice_get-map, slice_get-get_or}
-use Rattle.odht_base.proofs.lemmas.Options.{some_same}
+use Rattle.odht_raw.proofs.lemmas.Below.{eqb_tells, length-map, slice_get-get_or, slice_get-map, some_same}
 use Rattle.odht_raw.specs.DynParts.{HasLengthsOf}
 use Rattle.odht_raw.specs.Runs.{HasLengthsAt}
 

@@ -2,29 +2,12 @@
 --     joined H n es ctrl   the bytes of the header H with the item count n, the entries es and the control bytes ctrl
 use Rattle.std.proofs.Common.{◌≡◌, ◌<◌, ◌≤◌, ◌+◌, ◌-◌, ◌*◌, ◌^◌, ◌∙◌, ◌++◌, ℕ, sym, ap, subst, refl, List, [], ◌∷◌, Option, Some, None, Result, Ok, Err, take, drop, set, length, All, Bool, true, false, cond, ltb, arith, lit≤, length-drop, append_assoc, length-append, take_at, drop_at, length-set}
 use Rattle.std.specs.Prelude.{option_map}
-use Rattle.std.proofs.lemmas.List.{take-append-le, drop-append-le}
-use Rattle.odht_base.specs.Bytes.{bytes_at, overwritten_at}
-use Rattle.odht_base.specs.Format.{Format, entry_len, tag}
-use Rattle.odht_base.specs.Image.{header_bytes, image}
-use Rattle.odht_base.specs.Load.{max_items}
-use Rattle.odht_base.specs.Numbers.{num, le_bytes}
-use Rattle.odht_base.specs.Decoded.{header_slots, header_count, header_factor, entries_of, controls_of, slot_key, slot_value}
-use Rattle.odht_base.specs.Table.{Pair, Table, slot_count, count}
-use Rattle.odht_base.specs.Insert.{place}
-use Rattle.odht_base.specs.Valid.{IsPairOf, IsPlaced, IsValid}
-use Rattle.odht_base.specs.Writes.{with_count, with_value, with_pair, tagged}
-use Rattle.odht_base.proofs.lemmas.ByteRanges.{bytes_at-between, bytes_at-take_front, bytes_at-drop, drop-overwritten_at, take-overwritten_at, length-overwritten_at, length-bytes_at, All-bytes_at}
-use Rattle.odht_base.proofs.lemmas.Grown.{place-IsInsert, slot_count-place_all}
-use Rattle.odht_base.proofs.lemmas.Numbers.{num-le_bytes, le_bytes-num_at}
-use Rattle.odht_base.proofs.lemmas.PartsOf.{slot_within}
-use Rattle.odht_base.proofs.lemmas.InsertRuns.{factor-run}
-use Rattle.odht_base.proofs.lemmas.Writes.{with_count-append, with_value-append, with_pair-append}
-use Rattle.odht_header.specs.Coding.{Coding, encoded}
+use Rattle.odht_raw.proofs.lemmas.Below.{All-bytes_at, bytes_at-between, bytes_at-drop, bytes_at-take_front, drop-append-le, drop-overwritten_at, factor-run, le_bytes-num_at, length-bytes_at, length-overwritten_at, num-le_bytes, place-IsInsert, slot_count-place_all, slot_within, take-append-le, take-overwritten_at, with_count-append, with_pair-append, with_value-append}
+use Rattle.odht_raw.specs.Words.{bytes_at, Coding, controls_of, count, encoded, entries_of, entry_len, Error, Format, header_bytes, header_count, header_factor, header_slots, image, IsPairOf, IsPlaced, IsValid, le_bytes, max_items, num, overwritten_at, Pair, place, slot_count, slot_key, slot_value, Table, tag, tagged, with_count, with_pair, with_value}
 use Rattle.odht_raw.specs.Frame.{IsAccepted, header_maximum, InsertFrame, PartsFrame, IsAbsent, EachCountsAsOccupied, CountsAsFree, IsMissing}
 use Rattle.odht_raw.specs.Parts.{stored_in}
 use Rattle.odht_raw.specs.Steps.{StepFrame}
 use Rattle.odht_raw.specs.Runs.{IsFramedRun, IsPartsRun, ArePartsOfRun, IsAllPlaced, count_after}
-use Rattle.odht_header.specs.declared.error.Error.{Error}
 use Rattle.odht_raw.proofs.lemmas.NewTables.{bytes_at-overwritten_at, overwritten_at-same}
 use Rattle.odht_raw.proofs.lemmas.Accepted.{opening_refusal-same}
 

@@ -1,9 +1,6 @@
 -- Frontiers are kept: the first ones, and that they stay where fewer slots wait.
 use Rattle.std.proofs.Common.{◌≡◌, ◌≢◌, ◌<◌, ◌+◌, ◌-◌, ◌^◌, ◌∙◌, inl, inr, ℕ, sym, ap, subst, List, length, get_or, set, drop, replicate, arith, Contains, IsPermutation, get_or-set_other, get_or-set_same}
-use Rattle.std.proofs.lemmas.Bool.{cases_order}
-use Rattle.std.proofs.lemmas.List.{get_or-drop, length-drop, length-set}
-use Rattle.std.proofs.lemmas.List.Sorted.{Contains-permutation, IsPermutation-sym}
-use Rattle.std.proofs.lemmas.List.Elements.{All-replicate}
+use Rattle.odht_raw.proofs.lemmas.Below.{All-replicate, cases_order, Contains-permutation, get_or-drop, IsPermutation-sym, length-drop, length-set}
 use Rattle.odht_base.specs.Load.{IsSlotCount}
 use Rattle.odht_raw.specs.Frontiers.{AreFrontiers}
 use Rattle.odht_raw.specs.Waiting.{waiting, IsFrontier}

@@ -2,21 +2,9 @@
 -- bytes and mirror are right.
 use Rattle.std.proofs.Common.{◌≡◌, ℕ, ◌+◌, ◌-◌, ◌%◌, ◌<◌, ◌≤◌, ◌||◌, inl, inr, sym, ap, ◌∙◌, subst, refl, arith, Bool, true, false, cond, true≢false, List, Option, Some, None, is_none, length, slice_index, Contains, bytes_eq, eq-eqb, eqb-true}
 use Rattle.std.specs.Option.{unwrap_or}
-use Rattle.std.proofs.Math.Nat.{mod-eq_of_lt, add-mod_right}
-use Rattle.std.proofs.lemmas.Bool.{cases_lt, or_from, or_left, or_right, false_from_ne_true}
-use Rattle.std.proofs.lemmas.List.Quantifiers.{position-Some}
-use Rattle.odht_base.specs.Bytes.{bytes_at}
-use Rattle.odht_base.specs.Format.{Format, home, tag}
-use Rattle.odht_base.specs.Groups.{IsReport, first_free}
-use Rattle.odht_base.specs.Load.{IsSlotCount}
-use Rattle.odht_base.specs.Probe.{probe_slot}
-use Rattle.odht_base.specs.Search.{search_end, stops_at, is_at}
-use Rattle.odht_base.specs.Decoded.{counts_as_free, slot_key, slot_value, decoded_cells}
-use Rattle.odht_base.specs.Table.{Pair, Cells, has_key}
-use Rattle.odht_base.proofs.lemmas.Keys.{same_bytes, key_itself}
-use Rattle.odht_base.proofs.lemmas.Lookups.{search_end-at}
-use Rattle.odht_base.proofs.lemmas.Orders.{probe_slot-apart, find-order_some}
-use Rattle.odht_raw.proofs.lemmas.GroupLooks.{index-bytes_at, position-None}
+use Rattle.odht_raw.proofs.lemmas.Below.{add-mod_right, cases_lt, false_from_ne_true, find-order_some, index-bytes_at, key_itself, mod-eq_of_lt, or_from, or_left, or_right, position-Some, probe_slot-apart, same_bytes, search_end-at}
+use Rattle.odht_raw.specs.Words.{bytes_at, Cells, counts_as_free, decoded_cells, first_free, Format, has_key, home, is_at, IsReport, IsSlotCount, Pair, probe_slot, search_end, slot_key, slot_value, stops_at, tag}
+use Rattle.odht_raw.proofs.lemmas.GroupLooks.{position-None}
 use Rattle.odht_raw.proofs.lemmas.SlotFits.{IsMirrored, length-decoded_cells, cell_at-decoded_cells}
 
 -- ---- the cells that parts decode to

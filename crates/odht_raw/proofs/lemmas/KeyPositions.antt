@@ -1,15 +1,7 @@
 -- The search for the key of a slot, a group at a time: the slot's position in the probe order, and what the groups say.
 use Rattle.std.proofs.Common.{◌≡◌, ℕ, ◌+◌, ◌-◌, ◌*◌, ◌%◌, ◌<◌, ◌≤◌, ◌↔◌, inl, inr, sym, ap, ◌∙◌, subst, arith, Bool, true, false, true≢false, IsTrue, List, length, refl, ◌^◌, bit_and, pow-add}
-use Rattle.std.proofs.Math.Nat.{mod-eq_of_lt, add-mod_right, mod-mod_of_dvd, mul-mod_right, add-mul-mod_self_left}
-use Rattle.std.proofs.lemmas.Bool.{cases_lt}
-use Rattle.std.proofs.lemmas.Nat.Gcd.{dvd_of_mod-eq-zero}
-use Rattle.odht_base.specs.Format.{Format, home}
-use Rattle.odht_base.specs.Load.{IsSlotCount}
-use Rattle.odht_base.specs.Probe.{probe_slot}
-use Rattle.odht_base.specs.Search.{search_end, stops_at, is_at}
-use Rattle.odht_base.specs.Table.{Cells}
-use Rattle.odht_base.proofs.lemmas.SlotCounts.{exponent, few_slots, bit_and-slots}
-use Rattle.odht_base.proofs.lemmas.Orders.{probe_slot-lt, probe_slot-group, probe_slot-onto}
+use Rattle.odht_raw.proofs.lemmas.Below.{add-mod_right, add-mul-mod_self_left, bit_and-slots, cases_lt, dvd_of_mod-eq-zero, exponent, few_slots, mod-eq_of_lt, mod-mod_of_dvd, mul-mod_right, probe_slot-group, probe_slot-lt, probe_slot-onto}
+use Rattle.odht_raw.specs.Words.{Cells, Format, home, is_at, IsSlotCount, probe_slot, search_end, stops_at}
 use Rattle.odht_raw.proofs.lemmas.KeyPasses.{ends_there, ends_elsewhere}
 use Rattle.odht_raw.proofs.lemmas.ProbeSteps.{probe_slot-step}
 

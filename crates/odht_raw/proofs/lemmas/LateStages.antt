@@ -2,16 +2,10 @@
 use Rattle.std.proofs.Common.{◌≡◌, ◌∙◌, ℕ, sym, ap, List, take, drop, length, Option, Some, None, option_map}
 use Rattle.std.specs.List.{filter_map}
 use Rattle.std.specs.Option.{option_or}
-use Rattle.std.proofs.lemmas.List.{take-append-drop}
-use Rattle.odht_base.specs.Format.{Format}
-use Rattle.odht_base.specs.Decoded.{entries_of, controls_of, decoded_cells}
+use Rattle.odht_raw.proofs.lemmas.Below.{first_of-behind, IsPassed, last-first, option_or-first, option_or-None, option_or-second, take-append-drop, two-first}
+use Rattle.odht_raw.specs.Words.{controls_of, count_refusal, decoded_cells, entries_of, Error, factor_refusal, first_of, Format, late_refusal_by, late_refusals, longer_refusal, mirror_refusal, padding_refusal, reach_refusal, room_refusal, slots_refusal, Unreachable}
 use Rattle.odht_raw.specs.Checks.{decoded_count}
 use Rattle.odht_raw.specs.Parts.{TableParts}
-use Rattle.odht_header.specs.Refusals.{first_of, factor_refusal, padding_refusal, slots_refusal, mirror_refusal, count_refusal, room_refusal, reach_refusal, longer_refusal, late_refusals, late_refusal_by}
-use Rattle.odht_header.specs.declared.error.Error.{Error}
-use Rattle.odht_header.specs.declared.error.Error.TheVariants.{Unreachable}
-use Rattle.odht_header.proofs.lemmas.FirstErrors.{option_or-None, option_or-first, option_or-second, two-first, last-first}
-use Rattle.odht_header.proofs.lemmas.HeaderChecks.{IsPassed, first_of-behind}
 
 -- its error once the first k stages have passed
 pub past_late : (F : Format) (o : Option ℕ) (B : List ℕ) (k : ℕ) → IsPassed (take k (late_refusals F o B)) → late_refusal_by F o B ≡ first_of (drop k (late_refusals F o B))

@@ -1,7 +1,6 @@
 -- The last slot that a pass has left to wait.
 use Rattle.std.proofs.Common.{◌≡◌, ◌<◌, ◌≤◌, ◌≢◌, ◌+◌, ◌-◌, ◌^◌, ◌∙◌, inl, inr, ℕ, ap, List, length, get_or, set, arith, Contains, get_or-set_other, get_or-set_same}
-use Rattle.std.proofs.lemmas.Bool.{cases_lt, cases_order}
-use Rattle.std.proofs.lemmas.List.{get_or_default}
+use Rattle.odht_raw.proofs.lemmas.Below.{cases_lt, cases_order, get_or_default}
 use Rattle.odht_raw.specs.Waiting.{waiting, slot_of, AreRising, IsLeft}
 use Rattle.odht_raw.proofs.lemmas.PlacedFirst.{slot_of_waiting}
 use Rattle.odht_raw.proofs.lemmas.WaitingSlots.{slot_of-waiting, slots_rise}

@@ -1,28 +1,18 @@
 -- The bytes of a table cut into header, entries and control bytes, and what they are once a list was inserted.
 --     IsCut F B H es ctrl  the accepted bytes B are the header H, the entries es and the control bytes ctrl
 use Rattle.std.proofs.Common.{◌≡◌, ◌<◌, ◌≤◌, ◌+◌, ◌-◌, ◌*◌, ◌^◌, ◌∙◌, ◌++◌, ℕ, sym, ap, ap₂, subst, List, take, drop, length, All, arith, lit≤, refl, append_assoc, length-append, length-take, length-drop, take_at, drop_at, take-append-drop, Ok, Err}
-use Rattle.std.proofs.lemmas.List.{take-take}
-use Rattle.std.proofs.lemmas.List.Elements.{All-take}
-use Rattle.odht_base.specs.Bytes.{bytes_at}
-use Rattle.odht_base.specs.Format.{Format, entry_len}
-use Rattle.odht_base.specs.Image.{header_bytes, entries, controls, image}
-use Rattle.odht_base.specs.Load.{max_items}
-use Rattle.odht_base.specs.Numbers.{num}
-use Rattle.odht_base.specs.Decoded.{header_slots, header_count, header_factor}
-use Rattle.odht_base.specs.Table.{Pair, Table, slot_count, count}
-use Rattle.odht_base.specs.Valid.{IsImage, IsPairOf, IsPartsOf}
-use Rattle.odht_base.specs.Writes.{with_count}
-use Rattle.odht_base.proofs.lemmas.ByteRanges.{bytes_at-take_front}
-use Rattle.odht_base.proofs.lemmas.Fits.{IsSized-IsPlaced}
-use Rattle.odht_base.proofs.lemmas.Image.{header_count-image, header_slots-image, header_factor-image}
-use Rattle.odht_base.proofs.lemmas.Parts.{length-header_bytes, length-entries}
-use Rattle.odht_header.specs.Coding.{Coding, encoded}
+use Rattle.odht_raw.proofs.lemmas.Below.{All-take, bytes_at-between, bytes_at-take_front, header_count-image, header_factor-image, header_slots-image, IsSized-IsPlaced, length-entries, length-header_bytes, take-take}
+use Rattle.odht_raw.specs.Words.{bytes_at, Coding, controls, controls_of, count, encoded, entries, entries_of, entry_len, Format, Full, header_bytes, header_count, header_factor, header_slots, image, IsImage, IsPairOf, IsPartsOf, IsSlotCount, max_items, num, Pair, slot_count, Table, with_count}
+use Rattle.odht_raw.specs.EndWrites.{IsKeyEnd}
 use Rattle.odht_raw.specs.Frame.{IsAccepted, InsertFrame, header_maximum}
+use Rattle.odht_raw.specs.PartLengths.{ArePairLengths, ArePartLengths}
+use Rattle.odht_raw.specs.Parts.{stored_in}
+use Rattle.odht_raw.specs.Searches.{IsSearchEnd}
+use Rattle.odht_raw.specs.declared.raw_table.search_result.Search.{Search}
 use Rattle.odht_raw.specs.Steps.{StepFrame}
 use Rattle.odht_raw.specs.Runs.{IsFramedRun, IsPartsRun, ArePartsOfRun, IsAllPlaced, IsRefusedIn, IsStoppedAt}
-use Rattle.odht_raw.proofs.lemmas.Accepted.{accepted_len}
+use Rattle.odht_raw.proofs.lemmas.Accepted.{accepted_len, accepted_slots}
 use Rattle.odht_raw.proofs.lemmas.JoinedRuns.{joined, IsJoinedRun, run_joined, step_joined, length-with_count, with_count-by_header, accepted_joined, placed_joined}
-use Rattle.odht_header.specs.declared.error.Error.TheVariants.{Full}
 
 pub record IsCut (F : Format) (B H es ctrl : List ℕ) : Type 0 where
   pub accepted : IsAccepted F B
@@ -57,6 +47,46 @@ cut_accepted F B is at here T C H E t c h e =
       long = ap length e ∙ length-drop 32 T ∙ omega (arith, table, here) ∙ ap (λ s. s * entry_len F) (sym slots);
       mirrored = ap length c ∙ length-drop at B ∙ omega (arith, all, here, slots);
     }
+
+-- the bytes are as long as slots and entries of these numbers need
+pub cut_len : (F : Format) (B : List ℕ) → IsAccepted F B → (s e : ℕ) → s ≡ header_slots B → e ≡ entry_len F → length B ≡ 32 + s * e + (s + 16)
+cut_len F B is s e slots size =
+    let all = accepted_len F B is in
+    let same : s * e ≡ header_slots B * entry_len F = λ i. slots i * size i in
+    omega (arith, all, same, slots)
+
+module _ (F : Format) (B H es ctrl : List ℕ) (cut : IsCut F B H es ctrl) where
+  -- the parts of a cut are those of the bytes
+  pub cut-entries : entries_of F B ≡ es
+  cut-entries =
+      ap (λ b. bytes_at b 32 (header_slots B * entry_len F)) cut.whole
+      ∙ bytes_at-between H es ctrl 32 (header_slots B * entry_len F) cut.head (cut.long ∙ ap (λ s. s * entry_len F) cut.slots)
+
+  pub cut-controls : controls_of F B ≡ ctrl
+  cut-controls =
+      let long : length es ≡ header_slots B * entry_len F = cut.long ∙ ap (λ s. s * entry_len F) cut.slots in
+      let front : length (H ++ es) ≡ 32 + header_slots B * entry_len F = length-append H es ∙ omega (arith, cut.head, long) in
+      ap (drop (32 + header_slots B * entry_len F)) (cut.whole ∙ sym (append_assoc H es ctrl)) ∙ drop_at (H ++ es) ctrl (32 + header_slots B * entry_len F) front
+
+  -- so a search in the bytes ends where it does in them
+  pub cut-end : (k : List ℕ) (r : Search × ℕ) → IsKeyEnd F B k r → IsSearchEnd F (stored_in es ctrl) ctrl k r.0
+  cut-end k r at = subst (λ (x : List ℕ × List ℕ). IsSearchEnd F (stored_in x.0 x.1) x.1 k r.0) (λ i. (cut-entries i, cut-controls i)) at.end
+
+  -- with as many new entries and control bytes they are as long
+  pub cut-length : (es' ctrl' : List ℕ) → length es' ≡ length es → length ctrl' ≡ length ctrl → length (H ++ es' ++ ctrl') ≡ length B
+  cut-length es' ctrl' e c =
+      omega (arith, length-append (H ++ es') ctrl', length-append H es', e, c, ap length cut.whole, length-append H (es ++ ctrl), length-append es ctrl)
+
+  -- there are as many slots as the header says
+  pub cut-slots : length ctrl - 16 ≡ header_slots B
+  cut-slots = omega (arith, cut.mirrored, cut.slots)
+
+  pub cut-lengths : (m kl vl : ℕ) → entry_len F ≡ kl + vl → ArePairLengths m kl vl → ArePartLengths m kl vl (length es) (length ctrl)
+  cut-lengths m kl vl size pair = record {
+    pair = pair;
+    slots = subst IsSlotCount (sym cut-slots) (accepted_slots F B cut.accepted);
+    entries = cut.long ∙ (λ i. (cut.slots ∙ sym cut-slots) i * size i);
+  }
 
 -- the header of a cut has the maximum of the bytes
 pub cut-maximum : (F : Format) (B H es ctrl : List ℕ) → IsCut F B H es ctrl → header_maximum H ≡ header_maximum B

@@ -2,20 +2,11 @@
 use Rattle.std.proofs.Common.{◌≡◌, ◌<◌, ◌≤◌, ◌+◌, ◌^◌, ◌∙◌, inl, inr, ℕ, zero, suc, Bool, true, false, not, cond, nat_lt, sym, ap, ap₂, subst, refl, List, [], ◌∷◌, ◌++◌, Option, Some, None, map, filter, length, take, drop, set, slice_index, slice_get, Contains, append_assoc, lt-ltb, le-ltb, le-leb, arith}
 use Rattle.std.specs.Prelude.{is_some, is_none}
 use Rattle.std.specs.List.{range_with_len}
-use Rattle.std.proofs.lemmas.Bool.{cases_lt, lt-leb}
-use Rattle.std.proofs.lemmas.List.{take_all, take-append-le, take_more_set, length-take-le, length-take, length-map, length-set, map-append}
-use Rattle.std.proofs.lemmas.List.Elements.{filter-append}
-use Rattle.std.proofs.lemmas.Simd.{map-map}
+use Rattle.odht_raw.proofs.lemmas.Below.{cases_lt, filter-append, index-bytes_at, length-bytes_at, length-map, length-occupied, length-set, length-take, length-take-le, lt-leb, map-append, map-map, take-append-le, take_all, take_more_set}
 use native.Mathlib.Decide.{dec_le}
-use Rattle.odht_base.specs.Bytes.{bytes_at}
-use Rattle.odht_base.specs.Decoded.{counts_as_free}
+use Rattle.odht_raw.specs.Words.{bytes_at, cell_at, count, counts_as_free, is_free, occupied, Pair, slot_count, Table}
 use Rattle.odht_base.specs.Groups.{occupied as occupied_of}
-use Rattle.odht_base.specs.Made.{occupied}
-use Rattle.odht_base.specs.Table.{Pair, Table, slot_count, cell_at, is_free, count}
-use Rattle.odht_base.proofs.lemmas.ByteRanges.{length-bytes_at}
-use Rattle.odht_base.proofs.lemmas.OccupiedSlots.{length-occupied}
 use Rattle.odht_raw.specs.Waiting.{waiting}
-use Rattle.odht_raw.proofs.lemmas.GroupLooks.{index-bytes_at}
 use Rattle.odht_raw.proofs.lemmas.SpanLooks.{kept_low}
 use Rattle.odht_raw.proofs.lemmas.Walks.{range-append, list-first}
 

@@ -2,16 +2,8 @@
 use Rattle.std.proofs.Common.{◌≡◌, ◌<◌, ◌∙◌, ◌||◌, ℕ, Bool, true, false, true≢false, sym, ap, subst, refl, List, Option, Some, None}
 use Rattle.std.specs.Prelude.{is_none, option_map, option_and_then, if◌then◌else◌}
 use Rattle.std.specs.Option.{option_map_or}
-use Rattle.odht_base.specs.Format.{Format}
-use Rattle.odht_base.specs.Table.{Pair, Table, slot_count, cell_at, is_free, has_key}
-use Rattle.odht_base.specs.Search.{search_end}
-use Rattle.odht_base.specs.Insert.{place}
-use Rattle.odht_base.specs.Map.{map_of}
-use Rattle.odht_base.specs.Valid.{HoldsPair, IsPlaced}
-use Rattle.odht_base.proofs.lemmas.Keys.{key_pair, pair_key}
-use Rattle.odht_base.proofs.lemmas.SearchEnds.{search_end-IsTarget}
-use Rattle.odht_base.proofs.lemmas.Places.{written, place-at, place-search_end, is_free-target, map_of-holds}
-use Rattle.odht_base.proofs.lemmas.Lookups.{map_of-search_end}
+use Rattle.odht_raw.specs.Words.{cell_at, Format, has_key, HoldsPair, is_free, IsPlaced, map_of, Pair, place, search_end, slot_count, Table}
+use Rattle.odht_raw.proofs.lemmas.Below.{is_free-target, key_pair, map_of-holds, map_of-search_end, pair_key, place-at, place-search_end, search_end-IsTarget, written}
 use Rattle.odht_raw.specs.SearchResults.{answer, IsWherePlaced}
 use Rattle.odht_raw.specs.declared.raw_table.search_result.Search.{Search}
 use Rattle.odht_raw.specs.declared.raw_table.search_result.Search.TheVariants.{Found, Free, Neither}

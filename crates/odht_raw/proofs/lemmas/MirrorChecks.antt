@@ -1,9 +1,7 @@
 -- A look at the mirror, byte by byte: at its end, and at the first byte that differs.
 use Rattle.std.proofs.Common.{◌≡◌, ◌<◌, ◌+◌, ◌-◌, ℕ, not, ap, List, Some, None, length, slice_index, eqb-true}
-use Rattle.std.proofs.lemmas.Bool.{false_from_ne_true}
-use Rattle.odht_header.specs.declared.error.Error.TheVariants.{MirrorMismatch}
-use Rattle.odht_header.specs.Refusals.{mirror_refusal_at, mirror_refusal}
-use Rattle.odht_header.proofs.lemmas.FirstErrors.{None-first_slot, first_slot-at, gives-Some}
+use Rattle.odht_raw.proofs.lemmas.Below.{false_from_ne_true, first_slot-at, gives-Some, None-first_slot}
+use Rattle.odht_raw.specs.Words.{mirror_refusal, mirror_refusal_at, MirrorMismatch}
 
 -- the mirror has no error where no byte has one
 pub mirror_refusal-None : (ctrl : List ℕ) → ((i : ℕ) → i < 16 → mirror_refusal_at ctrl i ≡ None) → mirror_refusal ctrl ≡ None

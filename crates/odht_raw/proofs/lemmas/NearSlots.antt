@@ -1,15 +1,7 @@
 -- Slots that are placed in their order, as long as each is near its home: then it is ready.
 use Rattle.std.proofs.Common.{◌≡◌, ◌<◌, ◌≤◌, ◌+◌, ◌-◌, ◌%◌, ◌^◌, ◌∙◌, inl, inr, ℕ, zero, suc, sym, ap, subst, refl, List, [], ◌∷◌, ◌++◌, length, get_or, take, drop, arith, All, Contains, lt-ltb, le-ltb}
-use Rattle.std.proofs.lemmas.Bool.{cases_lt}
-use Rattle.std.proofs.lemmas.List.{get_or-take, get_or_default, length-take-le}
-use Rattle.std.proofs.lemmas.List.Elements.{All-head, All-tail}
-use Rattle.odht_base.specs.Format.{Format, IsFormat}
-use Rattle.odht_base.specs.Decoded.{slot_key}
-use Rattle.odht_base.specs.Load.{IsSlotCount}
-use Rattle.odht_base.specs.Ready.{IsReady}
-use Rattle.odht_base.specs.Table.{Pair, Table}
-use Rattle.odht_base.specs.Valid.{HoldsPair, IsPartsOf}
-use Rattle.odht_base.proofs.lemmas.SlotCounts.{few_slots}
+use Rattle.odht_raw.proofs.lemmas.Below.{All-head, All-tail, cases_lt, few_slots, get_or-take, get_or_default, length-take-le}
+use Rattle.odht_raw.specs.Words.{Format, HoldsPair, IsFormat, IsPartsOf, IsReady, IsSlotCount, Pair, slot_key, Table}
 use Rattle.odht_raw.specs.Parts.{TableParts}
 use Rattle.odht_raw.specs.Waiting.{waiting, placed_of, IsPending, IsLeft, IsUnblocked}
 use Rattle.odht_raw.proofs.lemmas.Frontiers.{unblocked_near, blocked_near}

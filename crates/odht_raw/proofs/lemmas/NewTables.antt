@@ -1,16 +1,7 @@
 -- What the writes of a new table leave.
 use Rattle.std.proofs.Common.{append_assoc, length-take, ◌≤◌, ◌≡◌, ◌∙◌, ◌+◌, ◌-◌, ◌*◌, ◌++◌, ℕ, sym, ap, subst, List, take, drop, replicate, length, arith, lit≤}
-use Rattle.std.proofs.lemmas.List.{length-replicate, replicate-append-replicate}
-use Rattle.odht_base.specs.Bytes.{bytes_at, overwritten_at}
-use Rattle.odht_base.specs.Format.{Format, entry_len}
-use Rattle.odht_base.specs.Load.{IsSlotCount}
-use Rattle.odht_base.specs.Table.{empty}
-use Rattle.odht_base.specs.Image.{header_bytes, image}
-use Rattle.odht_base.specs.Writes.{with_count}
-use Rattle.odht_base.proofs.lemmas.ByteRanges.{split_bytes_at, bytes_at-between}
-use Rattle.odht_base.proofs.lemmas.Fits.{IsSized-empty}
-use Rattle.odht_base.proofs.lemmas.Image.{image-empty}
-use Rattle.odht_base.proofs.lemmas.Writes.{with_count-append, with_count-header_bytes}
+use Rattle.odht_raw.proofs.lemmas.Below.{bytes_at-between, image-empty, IsSized-empty, length-replicate, replicate-append-replicate, split_bytes_at, with_count-append, with_count-header_bytes}
+use Rattle.odht_raw.specs.Words.{bytes_at, empty, entry_len, Format, header_bytes, image, IsSlotCount, overwritten_at, with_count}
 use Rattle.std.specs.Prelude.{None}
 use Rattle.odht_raw.specs.Frame.{IsAccepted}
 use Rattle.odht_raw.proofs.lemmas.Accepted.{IsAccepted-image, IsAccepted-with_count}

@@ -1,11 +1,7 @@
 -- Which error bytes give, stage by stage: when they are opened, and then by the whole check.
 use Rattle.std.proofs.Common.{Option, ◌≡◌, ◌<◌, ◌≤◌, ◌∙◌, List, ℕ, Some, None, length, lt-ltb, le-ltb}
-use Rattle.odht_base.specs.Format.{Format}
-use Rattle.odht_base.specs.Decoded.{entries_of, controls_of}
-use Rattle.odht_header.specs.declared.error.Error.{Error}
-use Rattle.odht_header.specs.declared.error.Error.TheVariants.{TooShort}
+use Rattle.odht_raw.specs.Words.{check_refusal_by, controls_of, entries_of, Error, Format, hashes_refusal, header_refusal, late_refusal_by, opening_refusal, TooShort, view_refusal}
 use Rattle.odht_raw.specs.Frame.{IsAccepted}
-use Rattle.odht_header.specs.Refusals.{header_refusal, opening_refusal, hashes_refusal, view_refusal, late_refusal_by, check_refusal_by}
 use Rattle.odht_header.proofs.lemmas.FirstErrors.{option_or-None, option_or-first, option_or-second, gives-Some, None-gives}
 
 module _ (F : Format) (B : List ℕ) where

@@ -1,11 +1,7 @@
 -- The cells of a placed table, as its parts decode to them.
 use Rattle.std.proofs.Common.{◌≡◌, ◌<◌, ◌∙◌, ◌+◌, ℕ, false, true≢false, sym, ap, refl, List, Option, Some, None, is_none, length, slice_index, arith}
-use Rattle.odht_base.specs.Format.{Format, IsFormat}
-use Rattle.odht_base.specs.Table.{Pair, Table, slot_count, cell_at, is_free}
-use Rattle.odht_base.specs.Valid.{IsPartsOf}
-use Rattle.odht_base.specs.Decoded.{counts_as_free, slot_key, slot_value}
-use Rattle.odht_base.proofs.lemmas.Fits.{HasLengths, HasLengths-HasPairsOf}
-use Rattle.odht_base.proofs.lemmas.Parts.{length-controls, slice_index-controls, counts_as_free-control_byte, slot_key-entries, slot_value-entries}
+use Rattle.odht_raw.specs.Words.{cell_at, counts_as_free, Format, is_free, IsFormat, IsPartsOf, Pair, slot_count, slot_key, slot_value, Table}
+use Rattle.odht_raw.proofs.lemmas.Below.{counts_as_free-control_byte, HasLengths, HasLengths-HasPairsOf, length-controls, slice_index-controls, slot_key-entries, slot_value-entries}
 
 module _ (F : Format) (f : IsFormat F) (P : Table) (es ctrl : List ℕ) (h : IsPartsOf F P es ctrl) where
   -- there are as many slots as control bytes without the mirror

@@ -2,10 +2,7 @@
 use Rattle.std.proofs.Common.{◌≡◌, ℕ, ◌+◌, ◌%◌, ◌<◌, ◌≤◌, subst, arith, List, length, slice_get, slice_index, Contains, refl, false, [], ◌∷◌}
 use Rattle.std.specs.List.Sorted.{IsStrictlyIncreasing}
 use Rattle.std.specs.Option.{unwrap_or}
-use Rattle.odht_base.specs.Bytes.{bytes_at}
-use Rattle.odht_base.specs.Format.{Format, tag}
-use Rattle.odht_base.specs.Groups.{GroupMatches}
-use Rattle.odht_base.specs.Decoded.{counts_as_free, slot_key}
+use Rattle.odht_raw.specs.Words.{bytes_at, counts_as_free, Format, GroupMatches, slot_key, tag}
 use Rattle.odht_base.proofs.lemmas.ByteRanges.{length-bytes_at}
 use Rattle.odht_raw.specs.Checks.{IsFitting, ArePassed, IsGroupSearch}
 use Rattle.odht_raw.specs.Parts.{TableParts}

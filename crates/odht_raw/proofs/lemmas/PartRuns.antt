@@ -1,26 +1,14 @@
 -- Items inserted in turn into the parts of a table: one more item.
 use Rattle.std.proofs.Common.{◌≡◌, ◌<◌, ◌≤◌, ◌+◌, ◌-◌, ◌∙◌, ◌++◌, ℕ, cond, sym, ap, subst, refl, List, [], ◌∷◌, Option, Some, None, Result, Ok, Err, take, drop, length, slice_get, All, arith, length-drop, get_or, get_or-drop}
-use Rattle.std.proofs.Math.Seq.{take-add}
-use Rattle.std.proofs.lemmas.List.{take_more, map-append}
-use Rattle.std.proofs.lemmas.List.Elements.{All-append, All-cons, All-nil}
-use Rattle.std.proofs.lemmas.Option.{slice_get-get_or}
+use Rattle.odht_raw.proofs.lemmas.Below.{All-append, All-cons, All-nil, count-place, map-append, run-push, slice_get-get_or, some_same, take-add, take_more}
 use Rattle.std.specs.Prelude.{is_none, option_map, option_and_then, IfOk}
 use Rattle.std.specs.List.{slice_range}
 use Rattle.std.specs.Result.{result_map_both}
-use Rattle.odht_base.specs.Format.{Format}
-use Rattle.odht_base.specs.Insert.{place}
-use Rattle.odht_base.specs.Map.{map_of}
-use Rattle.odht_base.specs.Table.{Pair, Table, count}
-use Rattle.odht_base.specs.Valid.{IsPairOf, IsPartsOf}
-use Rattle.odht_base.proofs.lemmas.Options.{some_same}
-use Rattle.odht_base.proofs.lemmas.Places.{count-place}
-use Rattle.odht_base.proofs.lemmas.InsertRuns.{run-push}
-use Rattle.odht_header.specs.Coding.{Coding, encoded}
+use Rattle.odht_raw.specs.Words.{Coding, count, encoded, Error, Format, IsPairOf, IsPartsOf, map_of, Pair, place, Table}
 use Rattle.odht_raw.specs.Frame.{PartsFrame, IsPartsFramed}
 use Rattle.odht_raw.specs.Steps.{IsStepFramed}
 use Rattle.odht_raw.specs.PartsInserts.{AnswersFormer, ArePartsPlaced}
 use Rattle.odht_raw.specs.Runs.{encoded_all, count_after, IsPartsRun, ArePartsOfRun, IsRunTo, IsRefusedIn}
-use Rattle.odht_header.specs.declared.error.Error.{Error}
 use Rattle.odht_raw.proofs.lemmas.RunsInTurn.{range-append, encoded-append, run_then, placed_then}
 use Rattle.odht_raw.proofs.lemmas.Steps.{step_added, step_accepted}
 

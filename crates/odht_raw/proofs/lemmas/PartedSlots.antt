@@ -2,12 +2,7 @@
 -- sorted behind them.
 use Rattle.std.proofs.Common.{◌≡◌, ◌≢◌, ◌<◌, ◌≤◌, ◌+◌, ◌-◌, ◌^◌, ◌∙◌, inl, inr, ℕ, sym, ap, subst, refl, List, ◌++◌, ◌∷◌, [], length, get_or, set, take, drop, arith, All, AllPairs, IsPermutation, IsSorted}
 use Rattle.std.specs.Ordering.{nat_cmp}
-use Rattle.std.proofs.lemmas.Bool.{cases_lt}
-use Rattle.std.proofs.lemmas.List.Edits.{swap_is}
-use Rattle.std.proofs.lemmas.List.{get_or_default, get_or-set_other, get_or-set_same, length-set, get_or-take, get_or-drop, length-append, length-drop, length-take-le}
-use Rattle.std.proofs.lemmas.List.Elements.{All-contains, Contains-append_cases, Contains-get_or}
-use Rattle.std.proofs.lemmas.List.Sorted.{Contains-permutation, IsPermutation-refl, IsPermutation-sym, IsPermutation-trans, length_permutation}
-use Rattle.odht_base.proofs.lemmas.Pigeons.{IsApart}
+use Rattle.odht_raw.proofs.lemmas.Below.{All-contains, cases_lt, Contains-append_cases, Contains-get_or, Contains-permutation, get_or-drop, get_or-set_other, get_or-set_same, get_or-take, get_or_default, IsApart, IsPermutation-refl, IsPermutation-sym, IsPermutation-trans, length-append, length-drop, length-set, length-take-le, length_permutation, swap_is}
 use Rattle.odht_raw.specs.Waiting.{slot_of, placed_of, AreRising}
 use Rattle.odht_raw.proofs.lemmas.PlacedFirst.{waiting_of, slot_of_placed, placed_low, placed_and_waiting}
 use Rattle.odht_raw.proofs.lemmas.RisingLists.{apart_moved, rising_append, rising_if_sorted}

@@ -1,7 +1,6 @@
 -- A search that passed each position.
 use Rattle.std.proofs.Common.{◌≡◌, ℕ, ◌+◌, List, length}
-use Rattle.odht_base.specs.Format.{Format, IsFormat}
-use Rattle.odht_base.specs.Load.{IsSlotCount}
+use Rattle.odht_raw.specs.Words.{Format, IsFormat, IsSlotCount}
 use Rattle.odht_raw.specs.Parts.{EntryBytes}
 use Rattle.odht_raw.specs.Searches.{IsPassed, IsSearchEnd}
 use Rattle.odht_raw.specs.declared.raw_table.search_result.Search.TheVariants.{Neither}

@@ -1,21 +1,9 @@
 -- The search for an insert order from its start, where all slots wait, to its end.
 use Rattle.std.proofs.Common.{◌≡◌, ◌<◌, ◌≤◌, ◌+◌, ◌-◌, ◌^◌, ◌∙◌, ◌++◌, ℕ, suc, sym, ap, subst, refl, List, [], ◌∷◌, length, map, take, drop, get_or, arith, All, AllPairs, IsPermutation, is_some}
 use Rattle.std.specs.List.{range_with_len}
-use Rattle.std.proofs.lemmas.List.{append-nil, append_assoc, get_or-map, length-map, take_all, take_at, drop_all, drop_at, length-drop, take-append-drop, length-take-le, length-append}
-use Rattle.std.proofs.lemmas.List.Elements.{Contains-get_or}
-use Rattle.std.proofs.lemmas.List.FromFn.{length-range_with_len, get_or-range_with_len}
-use Rattle.std.proofs.lemmas.List.Kept.{AllPairs-filter}
-use Rattle.std.proofs.lemmas.List.Sorted.{IsPermutation-refl}
+use Rattle.odht_raw.proofs.lemmas.Below.{AllPairs-filter, append-nil, append_assoc, cell_at-within, Contains-get_or, drop_all, drop_at, get_or-map, get_or-range_with_len, IsPermutation-refl, length-append, length-drop, length-map, length-range_with_len, length-take-le, not_made_if_fewer, occupied-Contains, order_if_all, so_far_none, take-append-drop, take_all, take_at}
 use borrow.Rule.Slice.PartMut.{put_mid}
-use Rattle.odht_base.specs.Format.{Format}
-use Rattle.odht_base.specs.Made.{occupied, IsMade, IsInsertOrder}
-use Rattle.odht_base.specs.Ready.{IsSoFar, IsStuck}
-use Rattle.odht_base.specs.Table.{Table, slot_count, cell_at}
-use Rattle.odht_base.proofs.lemmas.OccupiedSlots.{occupied-Contains}
-use Rattle.odht_base.proofs.lemmas.InsertOrders.{order_if_all}
-use Rattle.odht_base.proofs.lemmas.Keys.{cell_at-within}
-use Rattle.odht_base.proofs.lemmas.MadeTables.{not_made_if_fewer}
-use Rattle.odht_base.proofs.lemmas.SoFar.{so_far_none}
+use Rattle.odht_raw.specs.Words.{cell_at, Format, IsInsertOrder, IsMade, IsSoFar, IsStuck, occupied, slot_count, Table}
 use Rattle.odht_raw.specs.Parts.{TableParts}
 use Rattle.odht_raw.specs.Waiting.{waiting, slot_of, placed_of, IsWaiting, IsPending, AreWholeParts}
 use Rattle.odht_raw.proofs.lemmas.PlacedFirst.{none_placed}

@@ -1,19 +1,8 @@
 -- The occupied slots of a table while one pass goes through those that wait, and the list that is sorted after it.
 use Rattle.std.proofs.Common.{◌≡◌, ◌<◌, ◌≤◌, ◌+◌, ◌-◌, ◌*◌, ◌^◌, ◌∙◌, inl, inr, ℕ, zero, suc, Bool, true, false, not, cond, nat_lt, sym, ap, subst, refl, List, [], ◌∷◌, ◌++◌, length, get_or, take, drop, set, map, filter, arith, All, AllPairs, Contains, IsPermutation, below_more, ltb-true, ltb-false, lt-ltb, le-ltb}
-use Rattle.std.proofs.lemmas.Bool.{cases_order, not-true}
-use Rattle.std.proofs.lemmas.List.{append-nil, append_assoc, drop_at, drop_more, drop-drop, drop-set-lt, get_or-drop, get_or-map, get_or_append_left, get_or-append-add, get_or_default, length-append, length-map, length_push, map-append, map-set, nil_from_length, set-get_or, take_at}
-use Rattle.std.proofs.lemmas.List.Elements.{All-drop, All-filter, All-from_get_or, All-head, All-set, All-tail, Contains-append_cases, Contains-append_right, filter_passes}
-use Rattle.std.proofs.lemmas.List.Kept.{AllPairs-filter}
-use Rattle.std.proofs.lemmas.List.Sorted.{Contains-permutation, IsPermutation-append_right, IsPermutation-filter_both, IsPermutation-map, IsPermutation-sym, IsPermutation-trans}
-use Rattle.std.proofs.lemmas.Nat.{mod_low}
-use Rattle.odht_base.specs.Format.{Format}
-use Rattle.odht_base.specs.Made.{occupied}
-use Rattle.odht_base.specs.Ready.{IsReady, IsSoFar, IsStuck}
-use Rattle.odht_base.specs.Table.{Pair, Table}
-use Rattle.odht_base.specs.Valid.{HoldsPair}
-use Rattle.odht_base.proofs.lemmas.OccupiedSlots.{occupied-Contains}
-use Rattle.odht_base.proofs.lemmas.ReadySlots.{stuck_if_none}
-use Rattle.odht_base.proofs.lemmas.SoFar.{so_far_push}
+use Rattle.odht_raw.proofs.lemmas.Below.{All-drop, All-filter, All-from_get_or, All-head, All-set, All-tail, AllPairs-filter, append-nil, append_assoc, cases_order, Contains-append_cases, Contains-append_right, Contains-permutation, drop-drop, drop-set-lt, drop_at, drop_more, filter_passes, get_or-append-add, get_or-drop, get_or-map, get_or_append_left, get_or_default, IsPermutation-append_right, IsPermutation-filter_both, IsPermutation-map, IsPermutation-sym, IsPermutation-trans, length-append, length-map, length_push, map-append, map-set, mod_low, nil_from_length, occupied-Contains, set-get_or, so_far_push, stuck_if_none, take_at}
+use Rattle.std.proofs.lemmas.Bool.{not-true}
+use Rattle.odht_raw.specs.Words.{Format, HoldsPair, IsReady, IsSoFar, IsStuck, occupied, Pair, Table}
 use Rattle.odht_raw.specs.Waiting.{slot_of, placed_of, IsWaiting, AreRising, IsPending}
 use Rattle.odht_raw.proofs.lemmas.ReadyPositions.{placed_listed, pending_apart}
 use Rattle.odht_raw.proofs.lemmas.WaitingSlots.{SlotsRise, slots_rise}

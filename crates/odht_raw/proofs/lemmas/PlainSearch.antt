@@ -1,17 +1,9 @@
 -- A search slot by slot on the parts of a placed table.
 use Rattle.std.proofs.Common.{◌≡◌, ◌<◌, ◌∙◌, ◌+◌, ◌%◌, inl, inr, ℕ, true, false, true≢false, sym, ap, subst, refl, List, Option, Some, None, length, arith}
 use Rattle.std.specs.Prelude.{slice_index, is_none}
-use Rattle.std.proofs.lemmas.Bool.{cases_lt, or_left, or_right, or_from, false_from_ne_true}
-use Rattle.odht_base.specs.Format.{Format, IsFormat, home}
-use Rattle.odht_base.specs.Probe.{probe_slot}
-use Rattle.odht_base.specs.Table.{Pair, Table, slot_count, cell_at, is_free, has_key}
-use Rattle.odht_base.specs.Search.{search_end, stops_at}
-use Rattle.odht_base.specs.Valid.{IsPartsOf}
-use Rattle.odht_base.specs.Decoded.{counts_as_free, slot_key}
-use Rattle.odht_base.proofs.lemmas.Keys.{pair_key, same_bytes}
-use Rattle.odht_base.proofs.lemmas.Lookups.{search_end-at, search_end-nowhere}
+use Rattle.odht_raw.proofs.lemmas.Below.{cases_lt, false_from_ne_true, or_from, or_left, or_right, pair_key, probe_slot-lt, same_bytes, search_end-at, search_end-nowhere}
+use Rattle.odht_raw.specs.Words.{cell_at, counts_as_free, Format, has_key, home, is_free, IsFormat, IsPartsOf, Pair, probe_slot, search_end, slot_count, slot_key, stops_at, Table}
 use Rattle.odht_raw.proofs.lemmas.PartCells.{slots_are, byte_is, key_is}
-use Rattle.odht_base.proofs.lemmas.Orders.{probe_slot-lt}
 use Rattle.odht_raw.specs.ControlBytes.{order_slot}
 use Rattle.odht_raw.specs.Parts.{EntryBytes}
 use Rattle.odht_raw.specs.SearchEnds.{IsEnd, IsPlainEnd}

@@ -2,25 +2,11 @@
 use Rattle.std.proofs.Common.{◌≡◌, ◌<◌, ◌≤◌, ◌∙◌, ℕ, not, nat_lt, sym, ap, subst, List, [], ◌∷◌, Ok, Err, Some, None, Result, take, ◌++◌, length, arith, length-append, get_or-take, lit<, ltb-false, le-ltb, lt-ltb}
 use Rattle.std.specs.Prelude.{slice_index, IfOk, IsOk}
 use Rattle.std.specs.Result.{result_err}
-use Rattle.std.proofs.lemmas.List.{length-take-le}
-use Rattle.std.proofs.Math.Seq.{take-append_seam}
-use Rattle.odht_base.specs.Bytes.{bytes_at}
-use Rattle.odht_base.specs.Format.{Format, IsFormat}
-use Rattle.odht_base.specs.Load.{is_power_of_two}
-use Rattle.odht_base.specs.Image.{image_len}
-use Rattle.odht_base.specs.Numbers.{num}
-use Rattle.odht_base.specs.Decoded.{header_slots, entries_of, controls_of}
-use Rattle.odht_base.specs.Valid.{IsValidBytes}
-use Rattle.odht_base.proofs.lemmas.ByteRanges.{bytes_at-take_front}
-use Rattle.odht_header.specs.declared.error.Error.{Error}
-use Rattle.odht_header.specs.declared.error.Error.TheVariants.{TooShort, WrongTag, WrongVersion, WrongSizeOf, SlotCountNotPowerOfTwo, SlotCountTooSmall}
+use Rattle.odht_raw.proofs.lemmas.Below.{bytes_at-take_front, false-differs, front_header_refusal-fields, gives-None, gives-Some, header_refusal-fields, IsOpening-opening_refusal, length-take-le, None-gives, None-option_or, option_or-first, option_or-None, option_or-second, take-append_seam}
+use Rattle.odht_raw.specs.Words.{bytes_at, controls_of, differs, entries_of, Error, field_refusal, first_of, Format, front_header_refusal, hashes_refusal, header_slots, image_len, is_power_of_two, IsFormat, IsValidBytes, lists_differ, num, prefix_refusal, SlotCountNotPowerOfTwo, SlotCountTooSmall, TooShort, view_refusal, WrongSizeOf, WrongTag, WrongVersion, ◌gives◌}
 use Rattle.odht_header.specs.declared.error.Part.TheVariants.{EntryMetadata, EncodedKey, EncodedValue, Header}
-use Rattle.odht_header.specs.Refusals.{◌gives◌, first_of, differs, lists_differ, field_refusal, front_header_refusal, prefix_refusal, hashes_refusal, view_refusal}
-use Rattle.odht_header.proofs.lemmas.FirstErrors.{option_or-None, None-option_or, option_or-first, option_or-second, gives-None, gives-Some, None-gives, false-differs}
-use Rattle.odht_header.proofs.lemmas.HeaderChecks.{header_refusal-fields, front_header_refusal-fields}
 use Rattle.odht_raw.specs.Frame.{IsAccepted}
 use Rattle.odht_raw.specs.Prefixes.{IsFront, front_refusal}
-use Rattle.odht_header.proofs.lemmas.HeaderFits.{IsOpening-opening_refusal}
 use Rattle.odht_raw.proofs.lemmas.Accepted.{IsAccepted-IsValidBytes}
 use Rattle.odht_raw.proofs.lemmas.Openings.{opening_refusal-header, view_refusal-slots}
 use Rattle.odht_raw.proofs.lemmas.ImagesOpen.{IsOk-none, view_refusal-image}

@@ -1,12 +1,7 @@
 -- The positions of the probe order, a piece of a group at a time.
 use Rattle.std.proofs.Common.{inl, inr, mul-le-mul_left, ◌≡◌, ℕ, zero, suc, ◌+◌, ◌-◌, ◌*◌, ◌/◌, ◌%◌, ◌^◌, ◌<◌, ◌≤◌, refl, sym, ap, ◌∙◌, arith, bit_and}
-use Rattle.std.proofs.Math.Nat.{add-mod_right, mod-add-mod, mod-mod_of_dvd, mod-eq_of_lt, zero-mod}
-use Rattle.std.proofs.lemmas.Nat.Gcd.{dvd_of_mod-eq-zero}
-use Rattle.std.proofs.lemmas.Bool.{cases_lt}
-use Rattle.odht_base.specs.Load.{IsSlotCount}
-use Rattle.odht_base.specs.Probe.{probe_slot}
-use Rattle.odht_base.proofs.lemmas.Orders.{probe_slot-group, probe_slot-lt}
-use Rattle.odht_base.proofs.lemmas.SlotCounts.{bit_and-slots, few_slots}
+use Rattle.odht_raw.proofs.lemmas.Below.{add-mod_right, bit_and-slots, cases_lt, dvd_of_mod-eq-zero, few_slots, mod-add-mod, mod-eq_of_lt, mod-mod_of_dvd, probe_slot-group, probe_slot-lt, zero-mod}
+use Rattle.odht_raw.specs.Words.{IsSlotCount, probe_slot}
 use Rattle.odht_raw.specs.ProbeSeqs.{IsProbe}
 
 -- the mask of a slot count is a remainder

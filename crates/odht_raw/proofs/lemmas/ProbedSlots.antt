@@ -1,9 +1,7 @@
 -- The slot at a position of a probe order, computed in 64 bits.
 use Rattle.std.proofs.Common.{◌≡◌, ◌+◌, ◌-◌, ◌*◌, ◌/◌, ◌%◌, ◌^◌, ◌∙◌, ℕ, bit_and, sym, ap, arith, pow-add}
-use Rattle.std.proofs.Math.Nat.{mod-add-mod, mod-mod_of_dvd, dvd-mul_right}
-use Rattle.odht_base.specs.Load.{IsSlotCount}
-use Rattle.odht_base.specs.Probe.{probe_slot}
-use Rattle.odht_base.proofs.lemmas.SlotCounts.{bit_and-slots, exponent}
+use Rattle.odht_raw.proofs.lemmas.Below.{bit_and-slots, dvd-mul_right, exponent, mod-add-mod, mod-mod_of_dvd}
+use Rattle.odht_raw.specs.Words.{IsSlotCount, probe_slot}
 
 -- sums that wrap leave the same remainder
 module _ (h x i s : ℕ) (c : IsSlotCount s) where

@@ -2,14 +2,8 @@
 use Rattle.std.proofs.Common.{arith, ◌≡◌, ◌∙◌, ℕ, ◌+◌, ◌*◌, ◌/◌, ◌%◌, ◌<◌, ◌≤◌, refl, sym, ap, subst, List, length, take, drop, take-take, mul-le-mul_right, Some, None}
 use Rattle.std.specs.Prelude.{Result, IfErr}
 use Rattle.std.specs.Result.{IsErrAnd}
-use Rattle.std.proofs.lemmas.Result.{err_from_is_err_and}
-use Rattle.odht_base.specs.Bytes.{bytes_at}
-use Rattle.odht_base.specs.Format.{Format, IsFormat}
-use Rattle.odht_base.specs.Load.{IsSlotCount}
-use Rattle.odht_base.specs.Table.{Table}
-use Rattle.odht_base.specs.Valid.{IsPartsOf}
-use Rattle.odht_base.proofs.lemmas.ByteRanges.{bytes_at-bytes_at, bytes_at-take, length-bytes_at}
-use Rattle.odht_base.proofs.lemmas.SlotCounts.{few_slots}
+use Rattle.odht_raw.proofs.lemmas.Below.{bytes_at-bytes_at, bytes_at-take, err_from_is_err_and, few_slots, length-bytes_at}
+use Rattle.odht_raw.specs.Words.{bytes_at, Format, IsFormat, IsPartsOf, IsSlotCount, Table}
 use Rattle.odht_raw.specs.ControlBytes.{order_slot}
 use Rattle.odht_raw.specs.Parts.{EntryBytes}
 use Rattle.odht_raw.specs.Reads.{entry_size, read_key, read_entries, read_controls, read_groups, IsHeldBy}

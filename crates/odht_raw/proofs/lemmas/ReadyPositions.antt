@@ -1,19 +1,7 @@
 -- When a slot is ready, by the slots that wait: no slot before it in the probe order of its key waits.
 use Rattle.std.proofs.Common.{◌≡◌, ◌<◌, ◌≤◌, ◌+◌, ◌^◌, ◌%◌, ◌∙◌, ◌++◌, inl, inr, ℕ, true, false, true≢false, sym, ap, subst, refl, List, length, map, get_or, arith, All, Contains, nat_lt, lt-ltb, ltb-true, Option, None, Some, is_none}
-use Rattle.std.proofs.lemmas.Bool.{cases_lt, cases_order}
-use Rattle.std.proofs.lemmas.List.{get_or-map, get_or_default, length-map, length-append, get_or_append_left, get_or-append-add}
-use Rattle.std.proofs.lemmas.List.Elements.{All-filter, Contains-append_left, Contains-append_right, Contains-append_cases, Contains-get_or, All-contains, filter_passes}
-use Rattle.std.proofs.lemmas.List.Sorted.{Contains-permutation}
-use Rattle.odht_base.specs.Format.{Format, IsFormat, home}
-use Rattle.odht_base.specs.Made.{occupied}
-use Rattle.odht_base.specs.Probe.{probe_slot}
-use Rattle.odht_base.specs.Ready.{IsReady}
-use Rattle.odht_base.specs.Table.{Pair, Table, slot_count, cell_at}
-use Rattle.odht_base.specs.Decoded.{slot_key}
-use Rattle.odht_base.specs.Valid.{HoldsPair, IsPlaced, IsPartsOf}
-use Rattle.odht_base.proofs.lemmas.OccupiedSlots.{contains_filter, occupied-Contains, occupied-apart}
-use Rattle.odht_base.proofs.lemmas.Pigeons.{IsApart}
-use Rattle.odht_base.proofs.lemmas.Orders.{probe_slot-lt}
+use Rattle.odht_raw.proofs.lemmas.Below.{All-contains, All-filter, cases_lt, cases_order, Contains-append_cases, Contains-append_left, Contains-append_right, Contains-get_or, Contains-permutation, contains_filter, filter_passes, get_or-append-add, get_or-map, get_or_append_left, get_or_default, IsApart, length-append, length-map, occupied-apart, occupied-Contains, probe_slot-lt}
+use Rattle.odht_raw.specs.Words.{cell_at, Format, HoldsPair, home, IsFormat, IsPartsOf, IsPlaced, IsReady, occupied, Pair, probe_slot, slot_count, slot_key, Table}
 use Rattle.odht_raw.proofs.lemmas.PartCells.{slots_are, key_is}
 use Rattle.odht_raw.proofs.lemmas.RisingLists.{apart_moved}
 use Rattle.odht_raw.specs.Waiting.{waiting, slot_of, placed_of, AreRising, IsPending, IsUnblocked}

@@ -1,12 +1,7 @@
 -- Lists of different items, and lists of numbers that rise, which are known by their items.
 use Rattle.std.proofs.Common.{◌≡◌, ◌<◌, ◌≤◌, ◌-◌, ◌∙◌, inl, inr, ℕ, suc, sym, ap, subst, refl, List, [], ◌∷◌, ◌++◌, length, get_or, remove, arith, All, AllPairs, Contains, IsPermutation, IsSorted}
 use Rattle.std.specs.Ordering.{nat_cmp}
-use Rattle.std.proofs.lemmas.Bool.{cases_lt}
-use Rattle.std.proofs.lemmas.List.{get_or_default, get_or_append_left, get_or-append_right, length-append}
-use Rattle.std.proofs.lemmas.List.Edits.{get_or-remove_below}
-use Rattle.std.proofs.lemmas.List.Elements.{Contains-get_or}
-use Rattle.std.proofs.lemmas.List.Sorted.{IsNonDecreasingBy-from_sort, IsPermutation-remove, Contains-permutation, length_permutation}
-use Rattle.odht_base.proofs.lemmas.Pigeons.{IsApart, contains_cases, pigeons_fit}
+use Rattle.odht_raw.proofs.lemmas.Below.{cases_lt, Contains-get_or, Contains-permutation, contains_cases, get_or-append_right, get_or-remove_below, get_or_append_left, get_or_default, IsApart, IsNonDecreasingBy-from_sort, IsPermutation-remove, length-append, length_permutation, pigeons_fit}
 
 -- a list whose items are those of a list of different ones, in another order, is of different ones too
 pub apart_moved : {X : Type 0} (xs ys : List X) → IsPermutation xs ys → IsApart xs → IsApart ys

@@ -1,14 +1,9 @@
 -- Two runs of inserts, the second behind the first, are one; and the same of pieces of a list.
 use Rattle.std.proofs.Common.{◌≡◌, ◌∙◌, ◌+◌, ◌-◌, ◌≤◌, ◌++◌, ℕ, sym, ap, subst, arith, List, [], ◌∷◌, Ok, take, drop, append_assoc}
-use Rattle.std.proofs.Math.Seq.{take-add}
-use Rattle.std.proofs.lemmas.List.{append-nil, drop-drop, map-append}
+use Rattle.odht_raw.proofs.lemmas.Below.{append-nil, drop-drop, map-append, run-append, take-add}
 use Rattle.std.specs.List.{slice_range}
 use Rattle.std.specs.Prelude.{option_and_then}
-use Rattle.odht_base.specs.Format.{Format}
-use Rattle.odht_base.specs.Insert.{place, place_all}
-use Rattle.odht_base.specs.Table.{Pair, Table}
-use Rattle.odht_base.proofs.lemmas.InsertRuns.{run-append}
-use Rattle.odht_header.specs.Coding.{Coding, encoded}
+use Rattle.odht_raw.specs.Words.{Coding, encoded, Format, Pair, place, place_all, Table}
 use Rattle.odht_raw.specs.Runs.{encoded_all, count_after, IsPartsRun, ArePartsOfRun}
 use Rattle.odht_raw.proofs.lemmas.JoinedRuns.{count_after-add}
 

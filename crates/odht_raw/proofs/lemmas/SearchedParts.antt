@@ -1,8 +1,10 @@
 -- The search for a key in parts that are read to be written, and the value where it ends.
-use Rattle.std.proofs.Common.{◌≡◌, ◌∙◌, ◌-◌, ◌<◌, ℕ, List, Option, ap, refl, subst, sym, length}
+use Rattle.std.proofs.Common.{◌≡◌, ◌∙◌, ◌-◌, ◌<◌, ℕ, List, Option, ap, arith, refl, subst, sym, length}
 use Rattle.std.specs.Prelude.{option_map, ⊤}
-use Rattle.odht_base.specs.Format.{format_of, tag as key_tag}
-use Rattle.odht_raw.specs.DynParts.{DynParts, dynamic_parts, parts_format}
+use Rattle.odht_raw.specs.Words.{controls_of, entries_of, Format, format_of, header_slots, tag as key_tag}
+use Rattle.odht_raw.specs.Dumps.{parts_of}
+use Rattle.odht_raw.specs.DynParts.{AreWhole, DynParts, dynamic_parts, parts_format}
+use Rattle.odht_raw.specs.EndWrites.{IsKeyEnd}
 use Rattle.odht_raw.specs.Formers.{former_of}
 use Rattle.odht_raw.specs.Parts.{stored_in}
 use Rattle.odht_raw.specs.SearchEnds.{IsEnd}
@@ -33,3 +35,14 @@ module _ (kl vl : ℕ) (h : List ℕ → ℕ) (es ctrl : List ℕ) (S : DynParts
   pub former : {V : Type 0} (f : List ℕ → V) (r : Search) (o : Option V) → o ≡ option_map f (former_of (parts_format S h) S.parts.entries.bytes r)
       → o ≡ option_map f (former_of (format_of kl vl h) es r)
   former f r o at = at ∙ ap (λ (T : DynParts). option_map f (former_of (parts_format T h) T.parts.entries.bytes r)) is
+
+-- in the parts of some bytes a search ends where it does in the bytes
+pub key_end : (kl vl : ℕ) (h : List ℕ → ℕ) (B : List ℕ) (S : DynParts) → S ≡ record { key_len = kl; value_len = vl; parts = parts_of (format_of kl vl h) B } → (m : ℕ) → AreWhole m S
+    → (k : List ℕ) (r : Search × ℕ) → IsSearchEnd (parts_format S h) S.parts.entries S.parts.control k r.0 → r.1 ≡ key_tag (parts_format S h) k → IsKeyEnd (format_of kl vl h) B k r
+key_end kl vl h B S is m whole k r end tag =
+    let F : Format = format_of kl vl h in
+    let slots : header_slots B ≡ length (controls_of F B) - 16 = omega (arith, (subst (AreWhole m) is whole).mirrored) in
+    record {
+      end = subst (λ s. IsSearchEnd F (record { slots = s; bytes = entries_of F B }) (controls_of F B) k r.0) slots (subst (λ (T : DynParts). IsSearchEnd (parts_format T h) T.parts.entries T.parts.control k r.0) is end);
+      tag = tag ∙ ap (λ (T : DynParts). key_tag (parts_format T h) k) is;
+    }

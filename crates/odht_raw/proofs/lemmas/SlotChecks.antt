@@ -1,13 +1,8 @@
 -- Which error a view gives for one slot, by whether the slot counts as free.
 use Rattle.std.proofs.Common.{◌≡◌, ◌<◌, ◌∙◌, ◌-◌, ◌==◌, ℕ, zero, suc, Bool, true, false, min, not, ◌&&◌, ap, refl, List, [], ◌∷◌, Some, None, length, replicate, slice_index, eqb-true, if◌then◌else◌}
 use Rattle.std.specs.List.{list_all}
-use Rattle.std.proofs.lemmas.Bool.{and_parts, false_from_ne_true}
-use Rattle.odht_base.specs.Format.{Format, tag}
-use Rattle.odht_base.specs.Decoded.{slot_entry, slot_key, counts_as_free}
-use Rattle.odht_header.specs.declared.error.Error.{Error}
-use Rattle.odht_header.specs.declared.error.Error.TheVariants.{NonZeroEmpty, ControlMismatch}
-use Rattle.odht_header.specs.Refusals.{◌gives◌, differs, first_of, first_slot, hashes_refusal_at, hashes_refusal}
-use Rattle.odht_header.proofs.lemmas.FirstErrors.{None-first_slot, first_slot-at}
+use Rattle.odht_raw.proofs.lemmas.Below.{and_parts, false_from_ne_true, first_slot-at, None-first_slot}
+use Rattle.odht_raw.specs.Words.{ControlMismatch, counts_as_free, differs, Error, first_of, first_slot, Format, hashes_refusal, hashes_refusal_at, NonZeroEmpty, slot_entry, slot_key, tag, ◌gives◌}
 
 abbrev pub is_zero : ℕ → Bool
 is_zero x = x == 0

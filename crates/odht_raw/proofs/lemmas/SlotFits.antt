@@ -6,20 +6,9 @@
 --     AllFound F es ctrl      each occupied slot is where the search for its key ends
 use Rattle.std.proofs.Common.{◌≡◌, ◌<◌, ◌≤◌, ◌∙◌, ◌+◌, ◌-◌, ◌*◌, ◌++◌, ◌==◌, ℕ, zero, suc, Bool, true, false, cond, not, sym, ap, ap₂, subst, refl, List, Some, None, map, take, drop, replicate, length, get_or, slice_index, arith, zero-add, zero-mul, eq-eqb, drop-drop, length-drop, length-take-le, take-append-drop}
 use Rattle.std.specs.List.{flat_map, list_all, range_with_len}
-use Rattle.std.proofs.lemmas.List.{length-map, get_or-map, get_or-take, get_or-drop, ext_get_or, nil_from_length}
-use Rattle.std.proofs.lemmas.List.Folds.{flat_map-map}
-use Rattle.std.proofs.lemmas.List.FromFn.{length-map-range_with_len, get_or-map-range_with_len}
-use Rattle.odht_base.specs.Format.{Format, entry_len, tag}
-use Rattle.odht_base.specs.Image.{entry_bytes, control_byte, entries, controls}
-use Rattle.odht_base.specs.Search.{search_end, is_at}
-use Rattle.odht_base.specs.Decoded.{slot_entry, slot_key, slot_value, counts_as_free, decoded_cell, decoded_cells}
-use Rattle.odht_base.specs.Table.{cell_at}
-use Rattle.odht_base.proofs.lemmas.ByteRanges.{bytes_at-take}
-use Rattle.odht_base.proofs.lemmas.PartsOf.{length-slot_entry}
-use Rattle.odht_base.proofs.lemmas.Placed.{is_at-true}
-use Rattle.odht_header.specs.Refusals.{slot_refusal_at, mirror_refusal_at, slots_refusal, mirror_refusal, reach_refusal, unreachable, non_zero_empty, bad_free_control, control_mismatch}
-use Rattle.odht_header.specs.declared.error.Error.TheVariants.{NonZeroEmpty, BadFreeControl, ControlMismatch}
-use Rattle.odht_header.proofs.lemmas.FirstErrors.{option_or-None, None-option_or, gives-None, None-gives, gives_both-None, None-gives_both, not-true, not-false, differs-false, false-differs, first_slot-None, None-first_slot}
+use Rattle.odht_raw.proofs.lemmas.Below.{bytes_at-take, differs-false, ext_get_or, false-differs, first_slot-None, flat_map-map, get_or-drop, get_or-map, get_or-map-range_with_len, get_or-take, gives-None, gives_both-None, is_at-true, length-map, length-map-range_with_len, length-slot_entry, nil_from_length, None-first_slot, None-gives, None-gives_both, None-option_or, not-false, option_or-None}
+use Rattle.odht_raw.specs.Words.{bad_free_control, BadFreeControl, cell_at, control_byte, control_mismatch, ControlMismatch, controls, counts_as_free, decoded_cell, decoded_cells, entries, entry_bytes, entry_len, Format, is_at, mirror_refusal, mirror_refusal_at, non_zero_empty, NonZeroEmpty, reach_refusal, search_end, slot_entry, slot_key, slot_refusal_at, slot_value, slots_refusal, tag, unreachable}
+use Rattle.odht_header.proofs.lemmas.FirstErrors.{not-true}
 use Rattle.odht_raw.proofs.lemmas.SlotChecks.{zeros-list_all}
 
 pub record IsSlotFit (F : Format) (es ctrl : List ℕ) (i : ℕ) : Type 0 where

@@ -3,18 +3,11 @@ use Rattle.std.proofs.Common.{◌≡◌, ◌<◌, ◌≤◌, ◌∙◌, ◌+◌,
 use Rattle.std.specs.List.{range_with_len, filter_map, cons_option, list_all}
 use Rattle.std.specs.Option.{option_or}
 use Rattle.std.specs.Prelude.{is_some}
-use Rattle.std.proofs.lemmas.Bool.{cases_lt}
-use Rattle.odht_base.specs.Format.{Format, entry_len, tag}
-use Rattle.odht_base.specs.Search.{search_end, is_at}
-use Rattle.odht_base.specs.Decoded.{counts_as_free, decoded_cell, decoded_cells, slot_entry, slot_key, slot_value}
-use Rattle.odht_base.specs.Table.{Pair}
+use Rattle.odht_raw.proofs.lemmas.Below.{cases_lt, first_slot-at, gives-Some, None-first_slot, None-gives, None-option_or, option_or-first, option_or-second}
+use Rattle.odht_raw.specs.Words.{bad_free_control, BadFreeControl, ControlMismatch, counts_as_free, decoded_cell, decoded_cells, differs, entry_len, Error, first_of, Format, hashes_refusal_at, is_at, mirror_refusal, NonZeroEmpty, Pair, reach_refusal, search_end, slot_entry, slot_key, slot_refusal_at, slot_value, slots_refusal, tag, Unreachable, unreachable, ◌gives◌}
 use Rattle.odht_raw.specs.Checks.{cells_of, decoded_count, IsFitting}
 use Rattle.odht_raw.specs.Parts.{TableParts}
 use Rattle.odht_raw.specs.Summaries.{IsSummary, IsFirstUnreachable, occupied_before, HaveNoError, AreRight, AreFree}
-use Rattle.odht_header.specs.declared.error.Error.{Error}
-use Rattle.odht_header.specs.declared.error.Error.TheVariants.{NonZeroEmpty, BadFreeControl, ControlMismatch, Unreachable}
-use Rattle.odht_header.specs.Refusals.{◌gives◌, differs, first_of, hashes_refusal_at, bad_free_control, slot_refusal_at, slots_refusal, mirror_refusal, unreachable, reach_refusal}
-use Rattle.odht_header.proofs.lemmas.FirstErrors.{option_or-first, option_or-second, None-option_or, None-gives, gives-Some, None-first_slot, first_slot-at}
 use Rattle.odht_raw.proofs.lemmas.SlotChecks.{is_zero, zero_entry_passes}
 
 -- ---- one slot

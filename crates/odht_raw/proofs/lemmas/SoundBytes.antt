@@ -1,28 +1,10 @@
 -- Bytes for which the check has no error, part by part; such bytes are those of the valid table that they decode to.
 --     IsSound F B   the header and the length of B fit, and so does all that the whole check looks at beyond them
 use Rattle.std.proofs.Common.{◌≡◌, ◌<◌, ◌≤◌, ◌∙◌, ◌+◌, ◌-◌, ◌*◌, ◌++◌, ℕ, suc, Bool, true, false, cond, sym, ap, ap₂, subst, subst₂, refl, List, [], ◌∷◌, Option, Some, None, drop, length, slice_index, arith, All, length-drop, length-take-le, drop-cons, ltb-false, le-ltb}
-use Rattle.std.proofs.lemmas.List.Elements.{All-take, All-drop}
-use Rattle.std.proofs.lemmas.Option.{none-some}
-use Rattle.odht_base.specs.Bytes.{bytes_at}
-use Rattle.odht_base.specs.Format.{Format, entry_len}
-use Rattle.odht_base.specs.HashLaws.{num-lt}
-use Rattle.odht_base.specs.Image.{header_bytes, parts, image}
-use Rattle.odht_base.specs.Load.{max_items, IsSlotCount}
-use Rattle.odht_base.specs.Numbers.{num, le_bytes, IsBytes}
-use Rattle.odht_base.specs.Search.{search_end}
-use Rattle.odht_base.specs.Decoded.{header_count, header_slots, header_factor, entries_of, controls_of, slot_entry, slot_key, slot_value, counts_as_free, decoded_cell, decoded_cells, decoded_table}
-use Rattle.odht_base.specs.Table.{Pair, Table, cell_at, slot_count, count}
-use Rattle.odht_base.specs.Valid.{HasPairsOf, IsPlaced, IsValid, IsValidBytes}
-use Rattle.odht_base.proofs.lemmas.ByteRanges.{length-bytes_at, drop-bytes_at, All-bytes_at}
-use Rattle.odht_base.proofs.lemmas.Keys.{cell_at-within}
-use Rattle.odht_base.proofs.lemmas.Numbers.{le_bytes-num_at}
-use Rattle.odht_base.proofs.lemmas.Options.{some_same}
-use Rattle.odht_base.proofs.lemmas.PartsOf.{length-slot_entry}
-use Rattle.odht_base.proofs.lemmas.Placed.{AllArrive, IsPlaced-AllArrive}
+use Rattle.odht_raw.proofs.lemmas.Below.{All-bytes_at, All-drop, All-take, AllArrive, cell_at-within, differs-false, drop-bytes_at, false-differs, false-lists_differ, gives-None, IsPlaced-AllArrive, le_bytes-num_at, length-bytes_at, length-slot_entry, lists_differ-false, None-gives, None-option_or, none-some, option_or-None, some_same}
+use Rattle.odht_raw.specs.Words.{bytes_at, cell_at, controls_of, count, count_refusal, counts_as_free, decoded_cell, decoded_cells, decoded_table, entries_of, entry_len, factor_refusal, Format, HasPairsOf, header_bytes, header_count, header_factor, header_slots, image, IsBytes, IsPlaced, IsSlotCount, IsValid, IsValidBytes, late_refusal_by, le_bytes, longer_refusal, max_items, mirror_refusal, num, num-lt, padding_refusal, Pair, parts, reach_refusal, room_refusal, search_end, slot_count, slot_entry, slot_key, slot_value, slots_refusal, Table}
 use Rattle.odht_raw.specs.Frame.{IsAccepted}
-use Rattle.odht_header.specs.Refusals.{factor_refusal, padding_refusal, slots_refusal, mirror_refusal, count_refusal, room_refusal, reach_refusal, longer_refusal, late_refusal_by}
 use Rattle.odht_raw.proofs.lemmas.Accepted.{accepted_opening, accepted_slots, accepted_len}
-use Rattle.odht_header.proofs.lemmas.FirstErrors.{option_or-None, None-option_or, gives-None, None-gives, differs-false, false-differs, lists_differ-false, false-lists_differ}
 use Rattle.odht_raw.proofs.lemmas.SlotFits.{AllFit, IsMirrored, AllFound, AllFit-slots_refusal, slots_refusal-AllFit, IsMirrored-mirror_refusal, mirror_refusal-IsMirrored, search_end-unreachable, unreachable-search_end, unreachable-reach_refusal, reach_refusal-unreachable, length-decoded_cells, cell_at-decoded_cells, entries-decoded_cells, controls-decoded_cells}
 
 pub record IsSound (F : Format) (B : List ℕ) : Type 0 where

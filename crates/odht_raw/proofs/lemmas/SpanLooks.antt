@@ -1,23 +1,13 @@
 -- A look at a span of slots: first at the free ones, which have no error, and then at the others in turn.
 use Rattle.std.proofs.Common.{◌≡◌, ◌∙◌, ℕ, zero, suc, ◌+◌, ◌-◌, ◌<◌, ◌≤◌, Bool, true, false, true≢false, cond, nat_lt, List, ◌∷◌, length, filter, drop, slice_get, slice_index, Contains, Option, Some, None, inl, inr, refl, sym, ap, ap₂, subst, arith}
 use Rattle.std.specs.List.{range_with_len}
-use Rattle.std.proofs.lemmas.List.FromFn.{length-range_with_len, get_or-range_with_len}
-use Rattle.std.proofs.lemmas.Option.{none-some}
-use Rattle.std.proofs.lemmas.Bool.{cases_eq}
+use Rattle.odht_raw.proofs.lemmas.Below.{cases_eq, contains_cases, contains_filter, get_or-range_with_len, index-bytes_at, length-bytes_at, length-range_with_len, none-some, some_same}
 use native.Mathlib.Decide.{dec_le}
 use borrow.Author.Tests.{le-leb, lt-leb, lt-ltb, le-ltb}
-use Rattle.odht_base.specs.Bytes.{bytes_at}
-use Rattle.odht_base.specs.Format.{Format}
-use Rattle.odht_base.specs.Groups.{free_in, occupied as occupied_of}
-use Rattle.odht_base.specs.Decoded.{counts_as_free}
-use Rattle.odht_base.proofs.lemmas.ByteRanges.{length-bytes_at}
-use Rattle.odht_base.proofs.lemmas.OccupiedSlots.{contains_filter}
-use Rattle.odht_base.proofs.lemmas.Options.{some_same}
-use Rattle.odht_base.proofs.lemmas.Pigeons.{contains_cases}
+use Rattle.odht_raw.specs.Words.{bytes_at, counts_as_free, Format, free_in, slot_refusal_at}
+use Rattle.odht_base.specs.Groups.{occupied as occupied_of}
 use Rattle.odht_raw.specs.Parts.{TableParts}
 use Rattle.odht_raw.specs.Summaries.{IsSummary, AreRight}
-use Rattle.odht_raw.proofs.lemmas.GroupLooks.{index-bytes_at}
-use Rattle.odht_header.specs.Refusals.{slot_refusal_at}
 use Rattle.odht_raw.proofs.lemmas.SlotSummary.{summary_run}
 
 -- ---- numbers of a range that are kept

@@ -2,29 +2,14 @@
 use Rattle.std.proofs.Common.{◌≡◌, ◌<◌, ◌+◌, ◌-◌, ◌∙◌, ℕ, true, true≢false, inl, inr, sym, ap, subst, refl, arith, List, [], length, slice_index, Option, Some, None, Result, Ok, Err}
 use Rattle.std.specs.Prelude.{option_map, is_none, ◌↔◌}
 use Rattle.std.specs.Result.{result_map_both}
-use Rattle.std.proofs.lemmas.Bool.{cases_order}
-use Rattle.std.proofs.lemmas.Option.{none-some}
-use Rattle.odht_base.specs.Format.{Format, IsFormat, home, tag}
-use Rattle.odht_base.specs.Image.{control_byte}
-use Rattle.odht_base.specs.Insert.{place}
-use Rattle.odht_base.specs.Map.{map_of}
-use Rattle.odht_base.specs.Probe.{probe_slot}
-use Rattle.odht_base.specs.Decoded.{slot_value}
-use Rattle.odht_base.specs.Table.{Pair, Table, slot_count, cell_at, is_free, count}
-use Rattle.odht_base.specs.Valid.{IsPartsOf, IsReached}
-use Rattle.odht_base.proofs.lemmas.Counts.{free_cell}
-use Rattle.odht_base.proofs.lemmas.Orders.{probe_slot-lt}
-use Rattle.odht_base.proofs.lemmas.Pairs.{value_in-Some}
-use Rattle.odht_base.proofs.lemmas.Parts.{slice_index-controls, slice_index-mirror}
-use Rattle.odht_base.proofs.lemmas.Places.{place-None}
+use Rattle.odht_raw.proofs.lemmas.Below.{cases_order, free_cell, none-some, place-None, probe_slot-lt, slice_index-controls, slice_index-mirror, value_in-Some}
+use Rattle.odht_raw.specs.Words.{cell_at, control_byte, count, Error, Format, Full, home, is_free, IsFormat, IsPartsOf, IsReached, map_of, Pair, place, probe_slot, slot_count, slot_value, Table, tag}
 use Rattle.odht_raw.specs.ControlBytes.{CountsAsFree, GoesOn, EachCountsAsOccupied, IsMissing, order_slot}
 use Rattle.odht_raw.specs.Frame.{PartsFrame, IsPartsFramed}
 use Rattle.odht_raw.specs.Parts.{stored_in}
 use Rattle.odht_raw.specs.PartsInserts.{AnswersFormer, IsPartsInsert, IsInsertChange}
 use Rattle.odht_raw.specs.SearchSteps.{slot_of}
 use Rattle.odht_raw.specs.Steps.{StepFrame, IsStepFramed, IsStepChange}
-use Rattle.odht_header.specs.declared.error.Error.{Error}
-use Rattle.odht_header.specs.declared.error.Error.TheVariants.{Full}
 use Rattle.odht_raw.proofs.lemmas.FreeSearches.{is_free_slot, is_occupied_slot, no_free-answer}
 use Rattle.odht_raw.proofs.lemmas.Lookups.{answer-Neither}
 use Rattle.odht_raw.proofs.lemmas.PartCells.{slots_are, key_is}

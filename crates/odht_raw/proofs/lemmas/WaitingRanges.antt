@@ -1,9 +1,7 @@
 -- Whether one of some adjacent slots waits, by a list of slots that rises.
 use Rattle.std.proofs.Common.{◌≡◌, ◌<◌, ◌≤◌, ◌+◌, ◌-◌, ◌%◌, ◌^◌, ◌↔◌, ◌∙◌, inl, inr, ℕ, true, false, sym, ap, subst, List, length, get_or, ltb, arith, Contains}
 use Rattle.std.specs.List.Sorted.{IsPartitionPoint}
-use Rattle.std.proofs.Math.Nat.{mod-eq_of_lt, add-mod_right}
-use Rattle.std.proofs.lemmas.Bool.{cases_lt, cases_order, ltb-true, ltb-false}
-use Rattle.std.proofs.lemmas.List.{get_or_default}
+use Rattle.odht_raw.proofs.lemmas.Below.{add-mod_right, cases_lt, cases_order, get_or_default, ltb-false, ltb-true, mod-eq_of_lt}
 use Rattle.odht_raw.specs.Waiting.{waiting, slot_of, AreRising, WaitsWithin, WaitsBehind, IsLeft}
 use Rattle.odht_raw.proofs.lemmas.PlacedFirst.{slot_of_waiting}
 use Rattle.odht_raw.proofs.lemmas.WaitingSlots.{slot_of-waiting, slots_rise}

@@ -1,10 +1,7 @@
 -- Slots that wait to be placed, as they are listed: a list of slots that rises.
 use Rattle.std.proofs.Common.{◌≡◌, ◌<◌, ◌^◌, ◌∙◌, inl, inr, ℕ, ap, List, AllPairs, slice_index, ltb, arith}
 use Rattle.std.specs.List.Sorted.{IsPartitionedBy}
-use Rattle.std.proofs.lemmas.Bool.{cases_lt}
-use Rattle.std.proofs.lemmas.List.{length-map, get_or-map}
-use Rattle.std.proofs.lemmas.List.Sorted.{IsPartitionedBy-ltb, IsNonDecreasingBy-from_default}
-use Rattle.std.proofs.Math.Nat.{add-mod_left, mod-eq_of_lt}
+use Rattle.odht_raw.proofs.lemmas.Below.{add-mod_left, cases_lt, get_or-map, IsNonDecreasingBy-from_default, IsPartitionedBy-ltb, length-map, mod-eq_of_lt}
 use Rattle.odht_raw.specs.Waiting.{waiting, slot_of, AreRising}
 
 -- the slot of one that waits

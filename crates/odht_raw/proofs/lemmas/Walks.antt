@@ -1,25 +1,14 @@
 -- A walk over the slots, sixteen at a time, and what it gives of a table's bytes.
 use Rattle.std.proofs.Common.{All, ◌≡◌, ℕ, zero, suc, ◌+◌, ◌-◌, ◌<◌, ◌≤◌, ◌∙◌, ◌++◌, Bool, true, false, min, inl, inr, sym, ap, subst, refl, arith, List, [], ◌∷◌, length, map, drop, slice_index, slice_get, Option, Some, None, nat_lt, lt-ltb, le-ltb, le-leb, ltb-true}
-use Rattle.std.proofs.lemmas.Bool.{lt-leb, cases_lt}
+use Rattle.odht_raw.proofs.lemmas.Below.{All-filter, All-head, All-tail, cases_lt, decoded_table-image, drop-map, filter_map-append, filter_passes, get_or-range_with_len, length-range_with_len, lt-leb, none-some, occupied-positions, positions_of, same_Some, walk-IsPairOf}
 use Rattle.std.specs.Prelude.{slice_index_or}
 use native.Mathlib.Decide.{dec_lt}
-use Rattle.std.proofs.lemmas.List.{drop-map}
-use Rattle.std.proofs.lemmas.Option.{none-some, same_Some}
-use Rattle.std.proofs.lemmas.List.Elements.{All-head, All-tail, All-filter, filter_passes, filter_map-append}
 use Rattle.std.specs.Prelude.{option_map}
 use Rattle.std.specs.List.{filter_map, cons_option, range_with_len}
-use Rattle.std.proofs.lemmas.List.FromFn.{length-range_with_len, get_or-range_with_len}
-use Rattle.odht_base.specs.Format.{Format, IsFormat, format_of}
-use Rattle.odht_base.specs.SlotWalks.{numbered, slots_from}
-use Rattle.odht_base.specs.Table.{Pair, Cells, Table, walk}
-use Rattle.odht_base.specs.Decoded.{counts_as_free, slot_key, slot_value, decoded_cell, decoded_cells, decoded_table, entries_of, controls_of, decoded_pairs}
-use Rattle.odht_base.specs.Valid.{IsImage, IsPairOf, IsPlaced}
+use Rattle.odht_raw.specs.Words.{Cells, controls_of, counts_as_free, decoded_cell, decoded_cells, decoded_pairs, decoded_table, entries_of, Format, format_of, IsFormat, IsImage, IsPairOf, IsPlaced, numbered, Pair, slot_key, slot_value, slots_from, Table, walk}
 use Rattle.odht_base.specs.Groups.{occupied}
-use Rattle.odht_base.proofs.lemmas.DistinctKeys.{walk-IsPairOf}
-use Rattle.odht_base.proofs.lemmas.Image.{decoded_table-image}
-use Rattle.odht_base.proofs.lemmas.MarkedPositions.{positions_of, occupied-positions}
 use Rattle.odht_raw.specs.Parts.{TableParts, entry_format}
-use Rattle.odht_raw.specs.declared.raw_table.entries.Entry.{Entry}
+use Rattle.odht_raw.specs.declared.raw_table.stored.Entry.{Entry}
 use Rattle.odht_raw.specs.Walks.{Item, item, slot_item, slot_numbered, items_of, items_from, numbered_of, numbered_from, AreOccupied, decoded_items, decoded_numbered, stored}
 
 -- ---- slots by groups

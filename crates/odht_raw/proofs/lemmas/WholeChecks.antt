@@ -2,25 +2,9 @@
 use Rattle.std.proofs.Common.{◌≡◌, ◌<◌, ◌≤◌, ◌∙◌, ◌+◌, ◌-◌, ◌==◌, ℕ, true≢false, sym, ap, ap₂, subst, subst₂, refl, List, [], ◌∷◌, Option, Some, None, option_map, is_none, All, length, slice_index, arith}
 use Rattle.std.specs.List.{list_all}
 use Rattle.std.specs.Prelude.{Result, IsOk, MatchOption, ◌↔◌}
-use Rattle.odht_base.specs.Bytes.{bytes_at}
-use Rattle.odht_base.specs.Format.{Format, IsFormat, entry_len, tag}
-use Rattle.odht_base.specs.Image.{control_byte, image}
-use Rattle.odht_base.specs.Load.{max_items}
-use Rattle.odht_base.specs.Search.{search_end}
-use Rattle.odht_base.specs.Decoded.{slot_entry, slot_key, counts_as_free, decoded_cells, entries_of, controls_of}
-use Rattle.odht_base.specs.Table.{Pair, Table, slot_count, count, cell_at}
-use Rattle.odht_base.specs.Valid.{IsPartsOf, IsValid, IsValidBytes}
-use Rattle.odht_base.proofs.lemmas.Fits.{HasLengths-IsPlaced, IsSized-IsPlaced}
-use Rattle.odht_base.proofs.lemmas.Image.{header_slots-image, header_count-image, header_factor-image, entries_of-image, controls_of-image, decoded_table-image}
-use Rattle.odht_base.proofs.lemmas.Lookups.{AllArrive-IsPlaced}
-use Rattle.odht_base.proofs.lemmas.Parts.{length-controls, slice_index-controls, slice_index-mirror, slot_entry-free, decoded_cells-parts}
+use Rattle.odht_raw.specs.Words.{bytes_at, cell_at, check_refusal, checked, control_byte, controls_of, count, counts_as_free, decoded_cells, entries_of, entry_len, Error, first_longer, Format, image, IsFormat, IsPartsOf, IsValid, IsValidBytes, late_refusal_by, longer_refusal, max_items, Pair, search_end, SearchTooLong, slot_count, slot_entry, slot_key, Table, tag, view_refusal}
+use Rattle.odht_raw.proofs.lemmas.Below.{AllArrive-IsPlaced, checked-IsOk, controls_of-image, decoded_cells-parts, decoded_table-image, entries_of-image, HasLengths-IsPlaced, header_count-image, header_factor-image, header_slots-image, IsOk-checked, IsSized-IsPlaced, length-controls, none-some, slice_index-controls, slice_index-mirror, slot_entry-free}
 use Rattle.odht_raw.specs.Frame.{IsAccepted}
-use Rattle.std.proofs.lemmas.Option.{none-some}
-use Rattle.odht_base.specs.Bounds.{first_longer}
-use Rattle.odht_header.specs.declared.error.Error.{Error}
-use Rattle.odht_header.specs.declared.error.Error.TheVariants.{SearchTooLong}
-use Rattle.odht_header.specs.Refusals.{checked, view_refusal, longer_refusal, late_refusal_by, check_refusal}
-use Rattle.odht_header.proofs.lemmas.FirstErrors.{IsOk-checked, checked-IsOk}
 use Rattle.odht_raw.proofs.lemmas.Accepted.{IsAccepted-image}
 use Rattle.odht_raw.proofs.lemmas.ImagesOpen.{view_refusal-image}
 use Rattle.odht_raw.proofs.lemmas.Openings.{check_refusal-late}

@@ -1,10 +1,6 @@
 -- The rest of a search from its first position on is a whole search, and a whole search in a new scan counts its groups.
 use Rattle.std.proofs.Common.{◌≡◌, arith, List, ℕ}
-use Rattle.odht_base.specs.Format.{Format}
-use Rattle.odht_base.specs.Load.{IsSlotCount}
-use Rattle.odht_base.specs.Search.{groups_read}
-use Rattle.odht_base.specs.Table.{Table}
-use Rattle.odht_base.specs.Valid.{IsPartsOf}
+use Rattle.odht_raw.specs.Words.{Format, groups_read, IsPartsOf, IsSlotCount, Table}
 use Rattle.odht_base.proofs.lemmas.SlotCounts.{few_slots}
 use Rattle.odht_raw.specs.Parts.{EntryBytes, ReadGroups}
 use Rattle.odht_raw.specs.ProbeSeqs.{ProbePosition, place_of}

@@ -1,17 +1,13 @@
 //! The bytes of a table in a store: opening and reading.
 ghost use Rattle.std.specs.Prelude.{◌≡◌, ◌+◌, ◌<◌, ◌^◌, All, length, IfOk, IsOk};
-ghost use Rattle.odht_base.specs.Load.{IsSlotCount};
-ghost use Rattle.odht_base.specs.Format.{format_of};
-ghost use Rattle.odht_base.specs.Table.{Table};
-ghost use Rattle.odht_base.specs.Image.{image_len};
-ghost use Rattle.odht_base.specs.Valid.{IsImage, IsPartsOf};
-ghost use Rattle.odht_base.specs.Decoded.{header_slots, entries_of, controls_of};
+ghost use Rattle.odht_raw.specs.Words.{controls_of, entries_of, format_of, header_slots, image_len};
+ghost use Rattle.odht_raw.specs.Words.{IsImage, IsPartsOf, IsSlotCount, opening_refusal, Table};
+ghost use Rattle.odht_raw.specs.Words.{view_refusal};
 ghost use Rattle.std.specs.Result.{result_err};
 ghost use Rattle.odht_raw.specs.Dumps.{parts_of};
 ghost use Rattle.odht_raw.specs.Frame.{IsAccepted};
-ghost use Rattle.odht_header.specs.Refusals.{opening_refusal, view_refusal};
 
-use super::cuts::cut;
+use super::opening::cut;
 use super::{Entries, EntryMetadata, Header, check_by_header, check_opening_in};
 use crate::bytes::{ByteArray, ByteStore};
 use crate::config::{Coded, Config};
@@ -20,11 +16,9 @@ use crate::layout::{Fixed, Layout};
 use crate::raw_table::RawTable;
 use std::marker::{Model, PhantomData};
 
-mod clearing;
-mod inserts;
 mod writing;
 
-pub(super) use inserts::write_count;
+pub(super) use writing::write_count;
 
 /// A store of the bytes of a table, whose header and length fit. In a contract it is the store.
 #[derive(Drop)]

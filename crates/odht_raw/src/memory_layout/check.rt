@@ -1,11 +1,8 @@
 //! The whole check of the bytes of a table. The lengths of keys and values are types or numbers.
 ghost use Rattle.std.specs.Prelude.{◌≡◌, ◌≤◌, ◌↔◌, IsOk, MatchOption, None, Some};
-ghost use Rattle.odht_base.specs.Valid.{IsValidBytes};
-ghost use Rattle.odht_base.specs.Bounds.{first_longer};
-ghost use Rattle.odht_base.specs.Decoded.{controls_of, entries_of};
-ghost use Rattle.odht_base.specs.Format.{format_of};
-ghost use Rattle.odht_header.specs.Refusals.{checked, late_refusal, check_refusal};
-ghost use Rattle.odht_header.specs.Refusals.{late_refusal_by, check_refusal_by};
+ghost use Rattle.odht_raw.specs.Words.{check_refusal, check_refusal_by, checked, controls_of};
+ghost use Rattle.odht_raw.specs.Words.{entries_of, first_longer, format_of, IsValidBytes};
+ghost use Rattle.odht_raw.specs.Words.{late_refusal, late_refusal_by};
 ghost use Rattle.odht_raw.specs.DynParts.{parts_format};
 ghost use Rattle.odht_raw.specs.Frame.{IsAccepted};
 ghost use Rattle.odht_raw.specs.PartLengths.{ArePairLengths};

@@ -1,10 +1,7 @@
 //! Inserts into the bytes of a table: the parts are written, and last the item count. The lengths
 //! of keys and values are types or numbers.
 ghost use Rattle.std.specs.Prelude.{◌≡◌, ◌≤◌, ◌<◌, length, map, option_map, IfOk, ⊤};
-ghost use Rattle.odht_base.specs.Decoded.{header_slots};
-ghost use Rattle.odht_base.specs.Format.{format_of};
-ghost use Rattle.odht_base.specs.Table.{Table};
-ghost use Rattle.odht_base.specs.Valid.{IsImage};
+ghost use Rattle.odht_raw.specs.Words.{format_of, header_slots, IsImage, Table};
 ghost use Rattle.odht_raw.specs.EndWrites.{IsKeyEnd, IsEndWrite};
 ghost use Rattle.odht_raw.specs.FormerWrites.{IsOneInto};
 ghost use Rattle.odht_raw.specs.Formers.{former_of};
@@ -16,14 +13,13 @@ ghost use Rattle.odht_raw.specs.SearchResults.{MatchSearchResult};
 ghost use Rattle.odht_raw.specs.DynParts.{bytes_coding, parts_format};
 
 use super::allocation::{prove_bytes, write_count};
-use super::cuts::cut;
-use super::{HEADER_SIZE, Header};
+use super::opening::cut;
+use super::{HEADER_SIZE, Header, parts_in};
 use crate::bytes::ByteArray;
 use crate::config::{Coded, Config};
-use crate::encoded_items::{EncodedItems, ItemBytes};
 use crate::error::Error;
 use crate::hash::HashFn;
-use crate::items::encode_pair;
+use crate::items::{EncodedItems, ItemBytes, encode_pair};
 use crate::layout::{Fixed, Layout, Lengths};
 use crate::raw_table::{Parts, Search, ShortBytes, insert_run, is_found, write_at_end};
 use crate::swisstable_group_query::Group;
@@ -97,8 +93,8 @@ pub fn insert_dynamic<H: HashFn>(
     ensures accepted { IsAccepted (format_of layout.key_len layout.value_len H.hash) bytes.new }
     ensures len { length bytes.new ≡ length bytes.old }
 {
-    let slots = Header::of(bytes).slot_count();
-    let parts = cut::<Layout, H>(&*bytes, slots, layout);
+    let parts = parts_in::<Layout, H>(&*bytes, layout);
+    let slots = parts.len();
     let end = parts.insert_end(key);
     let former = parts.short_value_at(end.0);
     if insert_in::<Layout, H>(bytes, slots, layout, key, value, end) {
@@ -128,8 +124,8 @@ pub fn insert_dynamic_into<H: HashFn>(
     ensures accepted { IsAccepted (format_of layout.key_len layout.value_len H.hash) bytes.new }
     ensures len { length bytes.new ≡ length bytes.old }
 {
-    let slots = Header::of(bytes).slot_count();
-    let parts = cut::<Layout, H>(&*bytes, slots, layout);
+    let parts = parts_in::<Layout, H>(&*bytes, layout);
+    let slots = parts.len();
     let end = parts.insert_end(key);
     let had = parts.copy_value_at(end.0, former);
     let written = insert_in::<Layout, H>(bytes, slots, layout, key, value, end);

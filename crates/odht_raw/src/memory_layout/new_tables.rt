@@ -2,12 +2,8 @@
 //! types or numbers.
 ghost use Rattle.std.specs.Prelude.{◌≡◌, ◌*◌, ◌≤◌, ◌^◌, ◌↔◌, ◌⊎◌, length, replicate, IfOk, OnErr};
 ghost use Rattle.std.specs.Prelude.{ℕ, List};
-ghost use Rattle.odht_base.specs.Bytes.{bytes_at, overwritten_at};
-ghost use Rattle.odht_base.specs.Load.{IsSlotCount};
-ghost use Rattle.odht_base.specs.Format.{entry_len, format_of};
-ghost use Rattle.odht_base.specs.Table.{empty};
-ghost use Rattle.odht_base.specs.Image.{image, image_len};
-ghost use Rattle.odht_base.specs.Writes.{with_count};
+ghost use Rattle.odht_raw.specs.Words.{bytes_at, empty, entry_len, format_of, image, image_len};
+ghost use Rattle.odht_raw.specs.Words.{IsSlotCount, overwritten_at, with_count};
 ghost use Rattle.odht_raw.specs.Parts.{IsZeros, entry_format};
 
 use super::{Allocation, HEADER_SIZE, bytes_needed};

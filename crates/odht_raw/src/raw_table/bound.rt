@@ -1,13 +1,8 @@
 //! How many groups a search may read, computed only from control bytes.
 ghost use Rattle.std.specs.Prelude.{◌≡◌, ◌-◌, ◌<◌, ◌≤◌, ◌↔◌, ℕ, List, IsTrue, IfSome, None, false};
 ghost use Rattle.std.specs.Prelude.{length};
-ghost use Rattle.odht_base.specs.Format.{format_of};
-ghost use Rattle.odht_base.specs.Load.{IsSlotCount};
-ghost use Rattle.odht_base.specs.Search.{groups_read};
-ghost use Rattle.odht_base.specs.Table.{Table};
-ghost use Rattle.odht_base.specs.Valid.{IsPartsOf};
-ghost use Rattle.odht_header.specs.Refusals.{longer_refusal};
-ghost use Rattle.odht_base.specs.Bounds.{ends_within, first_longer, AreWithin};
+ghost use Rattle.odht_raw.specs.Words.{AreWithin, ends_within, first_longer, format_of};
+ghost use Rattle.odht_raw.specs.Words.{groups_read, IsPartsOf, IsSlotCount, longer_refusal, Table};
 ghost use Rattle.odht_raw.specs.DynParts.{parts_format};
 
 use super::{EntryMetadata, GroupProbe, Parts, RawTable, slot_count_of};

@@ -3,17 +3,14 @@
 ghost use Rattle.std.specs.Prelude.{◌≡◌, ◌%◌, ◌/◌, ◌^◌, ◌<◌, ◌≤◌, ◌↔◌, ◌-◌, IfOk};
 ghost use Rattle.std.specs.Prelude.{◌+◌, ℕ, Contains, IsTrue, None, option_map, length};
 ghost use Rattle.std.specs.Result.{result_err};
-ghost use Rattle.odht_base.specs.Bytes.{bytes_at};
-ghost use Rattle.odht_base.specs.Format.{tag as key_tag};
-ghost use Rattle.odht_base.specs.Groups.{free_in, occupied};
-ghost use Rattle.odht_base.specs.Decoded.{slot_key};
-ghost use Rattle.odht_base.specs.Load.{IsSlotCount};
+ghost use Rattle.odht_raw.specs.Words.{bad_free_control, bytes_at, checked, free_in, IsSlotCount};
+ghost use Rattle.odht_raw.specs.Words.{mirror_refusal, reach_refusal, slot_key, slots_refusal};
+ghost use Rattle.odht_raw.specs.Words.{tag as key_tag};
+ghost use Rattle.odht_base.specs.Groups.{occupied};
 ghost use Rattle.odht_raw.specs.Checks.{decoded_count, IsFitting, ArePassed, IsGroupSearch};
 ghost use Rattle.odht_raw.specs.Checks.{IsHashAt, IsReachAnswer};
 ghost use Rattle.odht_raw.specs.DynParts.{parts_format};
 ghost use Rattle.odht_raw.specs.Summaries.{IsSummaryOf, IsFirstError, HaveNoError, AreFree, AreRight};
-ghost use Rattle.odht_header.specs.Refusals.{checked, bad_free_control, slots_refusal};
-ghost use Rattle.odht_header.specs.Refusals.{mirror_refusal, reach_refusal};
 
 use super::slot_checks::{check_key, check_slot};
 use super::{EntryMetadata, FREE, GroupProbe, Parts, is_empty_or_deleted, slot_count_of, tag_of};

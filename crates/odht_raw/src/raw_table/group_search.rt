@@ -1,16 +1,19 @@
-//! The search by groups of control bytes along the probe order.
-ghost use Rattle.std.specs.Prelude.{◌≡◌, ◌+◌, ◌<◌, ◌≤◌, length};
-ghost use Rattle.odht_base.specs.Load.{IsSlotCount};
-ghost use Rattle.odht_base.specs.Format.{format_of};
+//! The search by groups of control bytes along the probe order, for a key or for the first slot that
+//! counts as free.
+ghost use Rattle.std.specs.Prelude.{◌≡◌, ◌+◌, ◌<◌, ◌≤◌, length, ◌-◌, MatchOption};
+ghost use Rattle.odht_raw.specs.Words.{format_of, IsSlotCount};
 ghost use Rattle.odht_raw.specs.PartLengths.{AreSearchLengths};
 ghost use Rattle.odht_raw.specs.Parts.{hashed_by};
 ghost use Rattle.odht_raw.specs.ProbeSeqs.{place_of};
 ghost use Rattle.odht_raw.specs.SearchSteps.{IsGroupLook, IsTag};
-ghost use Rattle.odht_raw.specs.Searches.{IsRest, IsSearch, IsSearchEnd};
-ghost use Rattle.odht_raw.specs.Searches.{IsUnderWay, IsPassed};
+ghost use Rattle.odht_raw.specs.Searches.{IsRest, IsSearch, IsSearchEnd, IsUnderWay, IsPassed};
 ghost use Rattle.odht_raw.specs.Stored.{IsSought, stored_format};
+ghost use Rattle.odht_raw.specs.Frame.{HasNoFree, EachCountsAsOccupied};
+ghost use Rattle.odht_raw.specs.FreeSlots.{IsFirstFree, IsFirstFreeByte};
 
-use super::{Entries, EntryMetadata, ProbeSeq, Scan, Search, Stored, tag_of};
+use super::{
+    Entries, EntryMetadata, GroupProbe, ProbeSeq, Scan, Search, Stored, is_empty_or_deleted, tag_of,
+};
 use crate::bytes::ByteArray;
 use crate::hash::HashFn;
 use crate::layout::{Fixed, Lengths};
@@ -211,4 +214,72 @@ fn search_piece<L: Lengths, H: HashFn, Q: Group>(
         Some(index) => Some(Search::Free((start + index) & mask)),
         None => None,
     }
+}
+
+/// The first slot of the probe order of a hash that counts as free, by its control byte or its
+/// mirror; None where each slot counts as occupied. Matches of the tag are not used, and no key is
+/// compared.
+///
+/// The home slot's own byte is read first: a load of sixteen bytes has to wait for a byte that was
+/// just written, a load of this byte alone does not. All this holds for every group search.
+#[inline]
+pub(super) fn first_free<Q: Group>(control: &[EntryMetadata], hash: u32) -> Option<usize>
+    requires { IsSlotCount (length control.now - 16) }
+    ensures { let slots = length control.now - 16
+        in MatchOption result (EachCountsAsOccupied control.now slots)
+        (IsFirstFree control.now hash slots) }
+{
+    let mask = control.len() - REFERENCE_GROUP_SIZE - 1;
+    let home = hash as usize & mask;
+    if is_empty_or_deleted(control[home]) {
+        return Some(home);
+    }
+    first_free_by_groups::<Q>(control, hash, mask)
+}
+
+// `first_free` group by group. The mask is the slot count less one.
+//
+// In one function with the look at the home slot, tables that grow took up to a hundredth more
+// instructions.
+#[inline]
+fn first_free_by_groups<Q: Group>(
+    control: &[EntryMetadata],
+    hash: u32,
+    mask: usize,
+) -> Option<usize>
+    requires slots { IsSlotCount (mask + 1) }
+    requires control { length control.now ≡ mask + 1 + 16 }
+    ensures { MatchOption result (EachCountsAsOccupied control.now (mask + 1))
+        (IsFirstFree control.now hash (mask + 1)) }
+{
+    let tag = tag_of(hash);
+    let mut probe = GroupProbe::new(control, mask + 1, hash as usize);
+    'groups: loop {
+        let start = probe.start();
+        if let Some(index) = first_free_of_group::<Q>(probe.read(), tag) {
+            return Some((start + index) & mask);
+        }
+        if probe.is_last() {
+            return None;
+        }
+        probe.advance();
+    }
+}
+
+// The index of the first of sixteen control bytes that counts as free, searched in pieces of the
+// group search's size. The tag does not matter.
+#[inline]
+fn first_free_of_group<Q: Group>(bytes: &[EntryMetadata], tag: u8) -> Option<usize>
+    requires len { length bytes.now ≡ 16 }
+    requires small { tag < 128 }
+    ensures { MatchOption result (HasNoFree bytes.now 16) (IsFirstFreeByte bytes.now) }
+{
+    for piece in 0..REFERENCE_GROUP_SIZE / Q::SIZE {
+        let at = piece * Q::SIZE;
+        let group = Q::of(&bytes[at..at + Q::SIZE], tag);
+        if let Some(index) = group.first_empty() {
+            return Some(at + index);
+        }
+    }
+    None
 }

@@ -2,10 +2,7 @@
 ghost use Rattle.std.specs.Prelude.{◌≡◌, ◌≤◌, ◌<◌, ◌+◌, ◌^◌, ◌%◌, ◌↔◌, ℕ, List, ◌++◌, length, drop};
 ghost use Rattle.std.specs.Prelude.{slice_index};
 ghost use Rattle.std.specs.Prelude.{IsTrue, All, AllPairs, IsPermutation};
-ghost use Rattle.odht_base.specs.Load.{IsSlotCount};
-ghost use Rattle.odht_base.specs.Ready.{IsReady};
-ghost use Rattle.odht_base.specs.Table.{Table, Pair};
-ghost use Rattle.odht_base.specs.Valid.{HoldsPair, IsPartsOf};
+ghost use Rattle.odht_raw.specs.Words.{HoldsPair, IsPartsOf, IsReady, IsSlotCount, Pair, Table};
 ghost use Rattle.odht_raw.specs.DynParts.{parts_format};
 ghost use Rattle.odht_raw.specs.Frontiers.{AreFrontiers};
 ghost use Rattle.odht_raw.specs.Waiting.{placed_of, IsWaiting, AreRising, IsPending};
@@ -13,7 +10,7 @@ ghost use Rattle.odht_raw.specs.Waiting.{IsWhole, IsOrderAnswer, AreListed, IsBe
 ghost use Rattle.odht_raw.specs.Waiting.{IsLeft, IsNext, IsFrontier, IsUnblocked, WaitsWithin, WaitsBehind};
 
 use super::Parts;
-use super::waiting::{WAITING, list_occupied};
+use super::orders::WAITING;
 use crate::hash::HashFn;
 use crate::layout::Lengths;
 use crate::swisstable_group_query::REFERENCE_GROUP_SIZE;
@@ -34,35 +31,12 @@ struct Frontier {
     position: usize,
 }
 
-/// `RawTable::insert_order` of any parts.
-///
-/// A slot waits until all slots before it in the probe order of its key are placed. A pass goes
-/// through the waiting slots in slot order, and places each that waits for no slot by then. At its
-/// end the slots that still wait are sorted. Passes are made until no slot waits, or a pass places
-/// none: at most `n + 1` passes, if `n` slots wait for one with a higher index.
-///
-/// In a pass a slot in the first group of its probe order and not below its home takes one step.
-/// Any other takes one or two binary searches among the waiting slots for each group up to its own.
-/// Groups that were passed before from the same home are skipped: `FRONTIERS` homes are kept.
-///
-/// The slots before the first one that is not near its home are placed in turn, before any frontier
-/// is needed.
-pub(super) fn find_order<L: Lengths, H: HashFn>(table: &Parts<'_, L, H>, out: &mut [usize]) -> bool
-    requires whole { IsWhole (parts_format table.now H.hash) table.now.parts (length out.old) }
-    ensures { let F = parts_format table.now H.hash
-        in IsOrderAnswer F table.now.parts (length out.old) out.new result }
-{
-    list_occupied(table.controls(), table.len(), out);
-    let near = place_near(table, out);
-    if near == out.len() {
-        return true;
-    }
-    place_others(table, out, near)
-}
-
-// Places slots in their order, as long as each is near its home. None that waits is before it in
-// the probe order of its key then, so that it is ready. Returns how many were placed.
-fn place_near<L: Lengths, H: HashFn>(table: &Parts<'_, L, H>, slots: &mut [usize]) -> usize
+/// Places slots in their order, as long as each is near its home. None that waits is before it in
+/// the probe order of its key then, so that it is ready. Returns how many were placed.
+pub(super) fn place_near<L: Lengths, H: HashFn>(
+    table: &Parts<'_, L, H>,
+    slots: &mut [usize],
+) -> usize
     requires whole { IsWhole (parts_format table.now H.hash) table.now.parts (length slots.old) }
     requires begun { IsBegun (parts_format table.now H.hash) table.now.parts slots.old 0 }
     ensures begun { IsBegun (parts_format table.now H.hash) table.now.parts slots.new result }
@@ -79,12 +53,20 @@ fn place_near<L: Lengths, H: HashFn>(table: &Parts<'_, L, H>, slots: &mut [usize
     slots.len()
 }
 
-// `insert_order` of the slots that still wait, where the first `placed` are placed.
-//
+/// `Parts::insert_order` of the slots that still wait, where the first `placed` are placed.
+///
+/// A slot waits until all slots before it in the probe order of its key are placed. A pass goes
+/// through the waiting slots in slot order, and places each that waits for no slot by then. At its
+/// end the slots that still wait are sorted. Passes are made until no slot waits, or a pass places
+/// none: at most `n + 1` passes, if `n` slots wait for one with a higher index.
+///
+/// In a pass a slot in the first group of its probe order and not below its home takes one step.
+/// Any other takes one or two binary searches among the waiting slots for each group up to its own.
+/// Groups that were passed before from the same home are skipped: `FRONTIERS` homes are kept.
 // It is a call of its own, since it sets the frontiers up, and most tables with few pairs need
 // none.
 #[inline(never)]
-fn place_others<L: Lengths, H: HashFn>(
+pub(super) fn place_others<L: Lengths, H: HashFn>(
     table: &Parts<'_, L, H>,
     out: &mut [usize],
     placed: usize,

@@ -1,13 +1,10 @@
 //! The parts of a table, borrowed to be read. The lengths of keys and values are types or numbers.
 ghost use Rattle.std.specs.Prelude.{◌≡◌, ◌+◌, ◌-◌, ◌*◌, ◌^◌, ◌<◌, ◌≤◌, ◌↔◌, All, drop, length};
-ghost use Rattle.std.specs.Prelude.{slice_index, IfSome, IsTrue, ⊤, ℕ, List};
+ghost use Rattle.std.specs.Prelude.{slice_index, IfSome, IsTrue, ⊤, ℕ, List, is_some, option_map};
 ghost use Rattle.std.specs.List.{filter_map};
 ghost use Rattle.std.specs.Option.{option_copied};
-ghost use Rattle.odht_base.specs.Decoded.{slot_entry, slot_key, slot_value};
-ghost use Rattle.odht_base.specs.Format.{tag as key_tag};
-ghost use Rattle.odht_base.specs.Load.{IsSlotCount};
-ghost use Rattle.odht_base.specs.SlotWalks.{numbered};
-ghost use Rattle.odht_header.specs.Refusals.{checked, hashes_refusal};
+ghost use Rattle.odht_raw.specs.Words.{IsSlotCount, numbered, slot_entry, slot_key, slot_value};
+ghost use Rattle.odht_raw.specs.Words.{tag as key_tag};
 ghost use Rattle.odht_raw.specs.Checks.{cells_of};
 ghost use Rattle.odht_raw.specs.Finds.{IsFind, IsCountedFind};
 ghost use Rattle.odht_raw.specs.Formers.{former_of};
@@ -17,13 +14,13 @@ ghost use Rattle.odht_raw.specs.SearchResults.{MatchSearchResult};
 ghost use Rattle.odht_raw.specs.Searches.{IsSearchEnd};
 ghost use Rattle.odht_raw.specs.DynParts.{HasLengthsOf, parts_format, dynamic_parts, AreWhole};
 ghost use Rattle.odht_raw.specs.DynParts.{parts_with, stored_of};
+ghost use Rattle.odht_raw.specs.FormerWrites.{value_or};
 
 use super::group_search::search_stored;
-use super::slot_checks::check_hashes;
-use super::{EntryMetadata, PartPairs, PartSlots, Scan, Search, Stored, tag_of};
-use crate::error::Error;
+use super::{EntryMetadata, PartPairs, PartSlots, Scan, Search, ShortBytes, Stored, tag_of};
+use crate::bytes::ByteArray;
 use crate::hash::HashFn;
-use crate::layout::{Layout, Lengths};
+use crate::layout::{Fixed, Layout, Lengths};
 use crate::swisstable_group_query::{Group, GroupQuery};
 use std::marker::{Model, PhantomData};
 
@@ -194,18 +191,6 @@ impl<'a, L: Lengths, H: HashFn> Parts<'a, L, H> {
         self.stored.key(slot)
     }
 
-    /// `key` of a slot that may come from a list of the caller's (see `Stored::listed_key`).
-    #[inline(always)]
-    pub(super) fn listed_key(&self, slot: usize) -> &'a [u8]
-        requires { slot < self.now.parts.entries.slots }
-        ensures value { let F = entry_format self.now.key_len self.now.value_len
-            in result.now ≡ slot_key F self.now.parts.entries.bytes slot }
-        ensures len { length result.now ≡ self.now.key_len }
-        ensures hashes { H.MIN_LEN ≤ length result.now }
-    {
-        self.stored.listed_key(slot)
-    }
-
     /// The value of a slot.
     #[inline(always)]
     pub fn value(&self, slot: usize) -> &'a [u8]
@@ -320,17 +305,60 @@ impl<'a, L: Lengths, H: HashFn> Parts<'a, L, H> {
         }
     }
 
-    /// Checks the first `slots_to_check` slots, or all where there are fewer, and returns the
-    /// first error: `NonZeroEmpty` of a slot that counts as free, `ControlMismatch` of any other.
-    ///
-    /// A mismatch can mean that the bytes were written with another hash function.
+    /// Where the search for a key that is inserted ends, and the key's tag. Keys of some lengths
+    /// have a copy of the search each, as in [`Parts::find_counted`].
     #[inline(always)]
-    pub fn sanity_check_hashes(&self, slots_to_check: usize) -> Result<(), Error>
-        ensures { let F = parts_format self.now H.hash
-            in result ≡ checked
-            (hashes_refusal F self.now.parts.entries.bytes self.now.parts.control slots_to_check) }
+    pub(crate) fn insert_end(&self, key: &[u8]) -> (Search, u8)
+        requires { length key.now ≡ self.now.key_len }
+        ensures end { IsSearchEnd (parts_format self.now H.hash) self.now.parts.entries
+            self.now.parts.control key.now result.0 }
+        ensures tag { result.1 ≡ key_tag (parts_format self.now H.hash) key.now }
     {
-        check_hashes(self, slots_to_check)
+        match key.len() {
+            4 => self.search_end::<GroupQuery>(&key[..4]),
+            8 => self.search_end::<GroupQuery>(&key[..8]),
+            16 => self.search_end::<GroupQuery>(&key[..16]),
+            20 => self.search_end::<GroupQuery>(&key[..20]),
+            32 => self.search_end::<GroupQuery>(&key[..32]),
+            _ => self.search_end::<GroupQuery>(key),
+        }
+    }
+
+    /// Copies the value of the key that an insert searched for to `to`, where the search found it.
+    /// Returns whether it did.
+    #[inline(always)]
+    pub(crate) fn copy_value_at(&self, end: Search, to: &mut [u8]) -> bool
+        requires slot { MatchSearchResult end (λ slot. slot < self.now.parts.entries.slots)
+            (λ _. ⊤) ⊤ }
+        requires len { length to.old ≡ self.now.value_len }
+        ensures told { let F = parts_format self.now H.hash
+            in result ≡ is_some (former_of F self.now.parts.entries.bytes end) }
+        ensures bytes { let F = parts_format self.now H.hash
+            in to.new ≡ value_or (former_of F self.now.parts.entries.bytes end) to.old }
+    {
+        match self.value_at(end) {
+            Some(value) => {
+                to.copy_from_slice(value);
+                true
+            }
+            None => false,
+        }
+    }
+
+    /// The value of the key that an insert searched for, by value, where the search found it.
+    #[inline(always)]
+    pub(crate) fn short_value_at(&self, end: Search) -> Option<ShortBytes>
+        requires { MatchSearchResult end (λ slot. slot < self.now.parts.entries.slots)
+            (λ _. ⊤) ⊤ }
+        ensures { let F = parts_format self.now H.hash
+            in result ≡ former_of F self.now.parts.entries.bytes end }
+    {
+        // Its lengths are used: a value has at most 255 bytes.
+        let _ = self.len();
+        match self.value_at(end) {
+            Some(value) => Some(ShortBytes::of(value)),
+            None => None,
+        }
     }
 }
 
@@ -350,4 +378,21 @@ pub(super) fn read_parts<'a, L: Lengths, H: HashFn>(
         entries.now control.now }
 {
     Parts::of(control, Stored::new(entries, slots, lengths))
+}
+
+impl<'a, K: ByteArray, V: ByteArray, H: HashFn> Parts<'a, Fixed<K, V>, H> {
+    /// The value of the key that an insert searched for, where the search found it.
+    #[inline(always)]
+    pub(crate) fn typed_value_at(&self, end: Search) -> Option<V>
+        requires slot { MatchSearchResult end (λ slot. slot < self.now.parts.entries.slots)
+            (λ _. ⊤) ⊤ }
+        requires len { self.now.value_len ≡ V.LEN }
+        ensures { let F = parts_format self.now H.hash
+            in result ≡ option_map V.of_bytes (former_of F self.now.parts.entries.bytes end) }
+    {
+        match self.value_at(end) {
+            Some(value) => Some(V::from_slice(value)),
+            None => None,
+        }
+    }
 }

@@ -2,10 +2,7 @@
 //! of the searches by groups. They are the reference of the tests; no call of the library uses
 //! them.
 ghost use Rattle.std.specs.Prelude.{◌≡◌, ◌<◌, length};
-ghost use Rattle.odht_base.specs.Load.{IsSlotCount};
-ghost use Rattle.odht_base.specs.Format.{format_of};
-ghost use Rattle.odht_base.specs.Table.{Pair, Table};
-ghost use Rattle.odht_base.specs.Valid.{IsPartsOf};
+ghost use Rattle.odht_raw.specs.Words.{format_of, IsPartsOf, IsSlotCount, Pair, Table};
 ghost use Rattle.odht_raw.specs.SearchResults.{answer};
 ghost use Rattle.odht_raw.specs.PartLengths.{AreSearchLengths, ArePartLengths};
 ghost use Rattle.odht_raw.specs.PartsInserts.{IsPartsInsert, IsInsertChange};

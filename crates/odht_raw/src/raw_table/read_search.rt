@@ -1,8 +1,7 @@
 //! The search in the parts of a table that are read by position, such as those of a file.
 ghost use Rattle.std.specs.Prelude.{◌≡◌, ◌↔◌, ℕ, ◌/◌, ◌<◌, ◌≤◌, List, length, IfErr, IfOk, IsTrue};
 ghost use Rattle.std.specs.Prelude.{IfSome};
-ghost use Rattle.odht_base.specs.Format.{format_of};
-ghost use Rattle.odht_base.specs.Load.{IsSlotCount};
+ghost use Rattle.odht_raw.specs.Words.{format_of, IsSlotCount};
 ghost use Rattle.odht_raw.specs.Reads.{read_entries, read_groups, read_key};
 ghost use Rattle.odht_raw.specs.Reads.{IsPlaceFitting, IsHeldBy};
 ghost use Rattle.odht_raw.specs.SearchSteps.{IsGroupLook};

@@ -1,22 +1,19 @@
 //! Inserts of items in turn into the parts of a table, eight at a time where the table is large.
 //! The lengths of keys and values are types or numbers.
 ghost use Rattle.std.specs.Prelude.{◌≡◌, ◌+◌, ◌-◌, ◌≤◌, length};
-ghost use Rattle.odht_base.specs.Format.{format_of};
-ghost use Rattle.odht_base.specs.Table.{Pair};
-ghost use Rattle.odht_base.specs.Valid.{IsPairOf};
+ghost use Rattle.odht_raw.specs.Words.{format_of, IsPairOf, Pair};
 ghost use Rattle.odht_raw.specs.DynParts.{bytes_coding, parts_format};
 ghost use Rattle.odht_raw.specs.Expected.{AreAhead};
-ghost use Rattle.odht_raw.specs.PartLengths.{ArePairLengths, ArePartLengths};
+ghost use Rattle.odht_raw.specs.PartLengths.{ArePartLengths};
 ghost use Rattle.odht_raw.specs.Runs.{CanRun, IsRun, IsRunUpTo};
 ghost use Rattle.odht_raw.specs.SearchResults.{answer};
 ghost use Rattle.odht_raw.specs.Steps.{IsCountedStep, IsTaggedEnd};
-ghost use Rattle.odht_raw.specs.Stored.{AreLengths};
 
 use super::parts::read_parts;
 use super::writes::write_at_end;
 use super::{EntryMetadata, Parts, Search};
-use crate::encoded_items::EncodedItems;
 use crate::hash::HashFn;
+use crate::items::EncodedItems;
 use crate::layout::Lengths;
 use crate::memory_layout::prove_bytes;
 use crate::swisstable_group_query::GroupQuery;
@@ -31,10 +28,6 @@ const LARGE: usize = 1 << 20;
 /// Inserts the items from index `from` on in turn, with room for `room` new entries, and stops at
 /// the first item that does not fit or is rejected with `Full`. Returns the index after the last
 /// item that was inserted, and how many entries were added.
-///
-/// Each item costs a search. In tables of 2^20 slots and more the group at the home slot may be
-/// read ahead, for eight keys in turn: these keys are encoded twice, and a new key whose slot was
-/// seen free then needs no further search.
 // It takes the items by value: the address of the list goes to no function that is not inlined,
 // and so the compiler keeps the list in registers.
 #[inline(always)]
@@ -47,12 +40,9 @@ pub(crate) fn insert_run<L: Lengths, H: HashFn, I: EncodedItems>(
     from: usize,
     room: usize,
 ) -> (usize, usize)
-    requires pair { ArePairLengths H.MIN_LEN (L.key_len lengths) (L.value_len lengths) }
     requires slots { slots ≡ length control.old - 16 }
-    requires can { CanRun (bytes_coding (format_of (L.key_len lengths) (L.value_len lengths)
-        H.hash)) (entries.old, control.old) (I.items items) from }
-    requires lengths { AreLengths (L.key_len lengths) (L.value_len lengths) (I.key_len items)
-        (I.value_len items) }
+    requires can { CanRun H.MIN_LEN (L.key_len lengths) (L.value_len lengths) (I.key_len items)
+        (I.value_len items) (entries.old, control.old) (I.items items) from }
     ensures { let F = format_of (L.key_len lengths) (L.value_len lengths) H.hash
         in IsRun (I.fits items) (bytes_coding F) room (entries.old, control.old) (I.items items)
         from result (entries.new, control.new) }
@@ -74,12 +64,9 @@ fn insert_in_turn<L: Lengths, H: HashFn, I: EncodedItems>(
     from: usize,
     room: usize,
 ) -> (usize, usize)
-    requires pair { ArePairLengths H.MIN_LEN (L.key_len lengths) (L.value_len lengths) }
     requires slots { slots ≡ length control.old - 16 }
-    requires can { CanRun (bytes_coding (format_of (L.key_len lengths) (L.value_len lengths)
-        H.hash)) (entries.old, control.old) (I.items items.now) from }
-    requires lengths { AreLengths (L.key_len lengths) (L.value_len lengths) (I.key_len items.now)
-        (I.value_len items.now) }
+    requires can { CanRun H.MIN_LEN (L.key_len lengths) (L.value_len lengths) (I.key_len items.now)
+        (I.value_len items.now) (entries.old, control.old) (I.items items.now) from }
     ensures { let F = format_of (L.key_len lengths) (L.value_len lengths) H.hash
         in IsRun (I.fits items.now) (bytes_coding F) room (entries.old, control.old)
         (I.items items.now) from result (entries.new, control.new) }
@@ -116,12 +103,9 @@ fn insert_in_batches<L: Lengths, H: HashFn, I: EncodedItems>(
     from: usize,
     room: usize,
 ) -> (usize, usize)
-    requires pair { ArePairLengths H.MIN_LEN (L.key_len lengths) (L.value_len lengths) }
     requires slots { slots ≡ length control.old - 16 }
-    requires can { CanRun (bytes_coding (format_of (L.key_len lengths) (L.value_len lengths)
-        H.hash)) (entries.old, control.old) (I.items items) from }
-    requires lengths { AreLengths (L.key_len lengths) (L.value_len lengths) (I.key_len items)
-        (I.value_len items) }
+    requires can { CanRun H.MIN_LEN (L.key_len lengths) (L.value_len lengths) (I.key_len items)
+        (I.value_len items) (entries.old, control.old) (I.items items) from }
     ensures { let F = format_of (L.key_len lengths) (L.value_len lengths) H.hash
         in IsRun (I.fits items) (bytes_coding F) room (entries.old, control.old) (I.items items)
         from result (entries.new, control.new) }
@@ -160,12 +144,9 @@ fn insert_batch<L: Lengths, H: HashFn, I: EncodedItems>(
     from: usize,
     room: usize,
 ) -> (usize, usize)
-    requires pair { ArePairLengths H.MIN_LEN (L.key_len lengths) (L.value_len lengths) }
     requires slots { slots ≡ length control.old - 16 }
-    requires can { CanRun (bytes_coding (format_of (L.key_len lengths) (L.value_len lengths)
-        H.hash)) (entries.old, control.old) (I.items items.now) (from + 8) }
-    requires lengths { AreLengths (L.key_len lengths) (L.value_len lengths) (I.key_len items.now)
-        (I.value_len items.now) }
+    requires can { CanRun H.MIN_LEN (L.key_len lengths) (L.value_len lengths) (I.key_len items.now)
+        (I.value_len items.now) (entries.old, control.old) (I.items items.now) (from + 8) }
     requires end { from + 8 ≤ usize.MAX }
     ensures { let F = format_of (L.key_len lengths) (L.value_len lengths) H.hash
         in IsRunUpTo (from + 8) (I.fits items.now) (bytes_coding F) room

@@ -1,7 +1,6 @@
 //! The control bytes of a table as a search reads them.
 ghost use Rattle.std.specs.Prelude.{◌≡◌, ◌+◌, ◌-◌, ◌<◌, min, length};
-ghost use Rattle.odht_base.specs.Bytes.{bytes_at};
-ghost use Rattle.odht_base.specs.Load.{IsSlotCount};
+ghost use Rattle.odht_raw.specs.Words.{bytes_at, IsSlotCount};
 
 use super::EntryMetadata;
 use std::marker::Model;

@@ -1,10 +1,12 @@
-//! The entries of a table, read from their bytes. The lengths of keys and values are types or
-//! numbers.
+//! The entries of a table, read from their bytes: with keys and values as bytes, whose lengths are
+//! types or numbers, and with keys and values as types; and a few bytes by value.
 ghost use Rattle.std.specs.Prelude.{◌≡◌, ◌↔◌, ◌+◌, ◌*◌, ◌<◌, ◌≤◌, length, IsTrue};
 ghost use Rattle.odht_base.specs.Decoded.{slot_entry, slot_key, slot_value};
-ghost use Rattle.odht_raw.specs.Stored.{stored, stored_format};
+ghost use Rattle.odht_raw.specs.Stored.{stored, stored_format, AreLengths};
+ghost use Rattle.odht_raw.specs.Parts.{entry_format};
 
-use crate::layout::Lengths;
+use crate::bytes::ByteArray;
+use crate::layout::{Fixed, Lengths};
 use std::marker::Model;
 
 /// The entries of a number of slots, key then value, slot by slot, read at any alignment. Keys and
@@ -137,5 +139,172 @@ impl<'a, L: Lengths> Stored<'a, L> {
     {
         let entry = self.entry(slot);
         self.lengths.is_same_key(&entry[..key.len()], key)
+    }
+}
+
+/// An entry: an encoded key and its encoded value, as a slot holds them.
+#[derive(Clone, Copy, PartialEq, Eq, Debug)]
+pub struct Entry<K: ByteArray, V: ByteArray> {
+    /// The encoded key.
+    pub key: K,
+    /// The encoded value.
+    pub value: V,
+}
+
+impl<K: ByteArray, V: ByteArray> Default for Entry<K, V> {
+    ghost use Rattle.odht_raw.specs.Parts.{IsZeros};
+
+    ghost is_default = { λ e. IsZeros K.LEN (K.bytes e.key) × IsZeros V.LEN (V.bytes e.value) };
+
+    /// The entry of a free slot: zeros.
+    #[inline]
+    fn default() -> Self {
+        Entry {
+            key: K::zeroed(),
+            value: V::zeroed(),
+        }
+    }
+}
+
+/// The entries of a number of slots, read from their bytes at any alignment.
+#[derive(Drop)]
+pub struct Entries<'a, K: ByteArray, V: ByteArray> {
+    stored: Stored<'a, Fixed<K, V>>,
+}
+
+impl<'a, K: ByteArray, V: ByteArray> Model for Entries<'a, K, V> {
+    ghost use Rattle.odht_raw.specs.Parts.{EntryBytes};
+    ghost use Rattle.odht_raw.specs.Stored.{AreLengths};
+
+    ghost Value = { EntryBytes };
+
+    ghost view = { λ e. e.stored.entries };
+
+    ghost invariant = { λ e. AreLengths K.LEN V.LEN e.stored.key_len e.stored.value_len };
+}
+
+impl<'a, K: ByteArray, V: ByteArray> Entries<'a, K, V> {
+    /// The entries of `slots` slots in `bytes`, key then value, slot by slot.
+    #[inline]
+    pub fn new(bytes: &'a [u8], slots: usize) -> Self
+        requires key { K.LEN ≤ 255 }
+        requires value { V.LEN ≤ 255 }
+        requires len { length bytes.now ≡ slots * (K.LEN + V.LEN) }
+        ensures { result ≡ record { slots = slots; bytes = bytes.now } }
+    {
+        Entries {
+            stored: Stored::new(bytes, slots, Fixed::new()),
+        }
+    }
+
+    // These entries, with keys and values as types.
+    #[inline(always)]
+    pub(crate) fn of(stored: Stored<'a, Fixed<K, V>>) -> Self
+        requires { AreLengths K.LEN V.LEN stored.key_len stored.value_len }
+        ensures { result ≡ stored.entry.entries }
+    {
+        Entries { stored }
+    }
+
+    // The same entries, with keys and values as bytes.
+    #[inline(always)]
+    pub(super) fn stored(&self) -> Stored<'a, Fixed<K, V>>
+        ensures { result ≡ stored K.LEN V.LEN self.now.slots self.now.bytes }
+    {
+        self.stored.copy()
+    }
+
+    /// How many slots there are.
+    #[inline]
+    pub fn len(&self) -> usize
+        ensures { result ≡ self.now.slots }
+    {
+        self.stored.slots()
+    }
+
+    /// The entry of a slot.
+    #[inline]
+    pub fn get(&self, slot: usize) -> Entry<K, V>
+        requires { slot < self.now.slots }
+        ensures key { result.key
+            ≡ K.of_bytes (slot_key (entry_format K.LEN V.LEN) self.now.bytes slot) }
+        ensures value { result.value
+            ≡ V.of_bytes (slot_value (entry_format K.LEN V.LEN) self.now.bytes slot) }
+        ensures key_bytes { K.bytes result.key
+            ≡ slot_key (entry_format K.LEN V.LEN) self.now.bytes slot }
+        ensures value_bytes { V.bytes result.value
+            ≡ slot_value (entry_format K.LEN V.LEN) self.now.bytes slot }
+    {
+        let stored = self.stored();
+        Entry {
+            key: K::from_slice(stored.key(slot)),
+            value: V::from_slice(stored.value(slot)),
+        }
+    }
+
+    // Whether the key of a slot is `key`.
+    #[inline(always)]
+    pub(super) fn is_at(&self, slot: usize, key: &K) -> bool
+        requires { slot < self.now.slots }
+        ensures { let stored_key = slot_key (entry_format K.LEN V.LEN) self.now.bytes slot
+            in IsTrue result ↔ (stored_key ≡ K.bytes key.now) }
+    {
+        self.stored().has_key(slot, key.as_slice())
+    }
+}
+
+/// At most 255 bytes by value, as a key or a value of a table has. No memory is allocated for
+/// them.
+///
+/// In a contract it is these bytes.
+#[derive(Clone, Copy)]
+pub struct ShortBytes {
+    bytes: [u8; 255],
+    len: usize,
+}
+
+impl Model for ShortBytes {
+    ghost use Rattle.std.specs.Prelude.{◌≡◌, ◌-◌, ◌≤◌, ◌++◌, ℕ, List, length, take, drop, replicate};
+    ghost use Rattle.std.proofs.Common.{◌∙◌, ap, sym, arith, length-take-le, take-append-drop};
+
+    ghost Value = { List ℕ };
+
+    ghost view = { λ s. take s.len s.bytes };
+
+    ghost invariant = { λ s. (s.len ≤ 255) × (length s.bytes ≡ 255)
+        × (drop s.len s.bytes ≡ replicate (255 - s.len) 0) };
+
+    ghost inverse = { λ l. record { bytes = l ++ replicate (255 - length l) 0; len = length l } };
+
+    ghost inverse_ok = { λ s h i.
+        let short = length-take-le s.len s.bytes (omega (arith, h.0, h.1)) in
+        record {
+          bytes = (ap (λ n. take s.len s.bytes ++ replicate (255 - n) 0) short
+              ∙ ap (λ r. take s.len s.bytes ++ r) (sym h.2)
+              ∙ take-append-drop s.len s.bytes) i;
+          len = short i;
+        } };
+}
+
+impl ShortBytes {
+    /// A copy of the bytes, of which there are at most 255.
+    #[inline(always)]
+    pub fn of(slice: &[u8]) -> Self
+        requires { length slice.now ≤ 255 }
+        ensures { result ≡ slice.now }
+    {
+        let mut bytes = [0; 255];
+        let len = slice.len();
+        bytes[..len].copy_from_slice(slice);
+        ShortBytes { bytes, len }
+    }
+
+    /// The bytes.
+    #[inline]
+    pub fn as_slice(&self) -> &[u8]
+        ensures { result.now ≡ self.now }
+    {
+        let bytes = &self.bytes;
+        &bytes[..self.len]
     }
 }

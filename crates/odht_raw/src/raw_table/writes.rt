@@ -5,13 +5,8 @@
 //! ended, before the write.
 ghost use Rattle.std.specs.Prelude.{◌≡◌, ◌+◌, ◌-◌, ◌*◌, ◌<◌, ◌++◌, ℕ, List, length, IsTrue, IsFalse};
 ghost use Rattle.std.specs.Prelude.{Some, None, ⊤, option_map};
-ghost use Rattle.odht_base.specs.Bytes.{overwritten_at};
-ghost use Rattle.odht_base.specs.Format.{Format, format_of};
-ghost use Rattle.odht_base.specs.Load.{IsSlotCount};
-ghost use Rattle.odht_base.specs.Numbers.{IsBytes};
-ghost use Rattle.odht_base.specs.Table.{Pair, Table};
-ghost use Rattle.odht_base.specs.Valid.{IsPartsOf};
-ghost use Rattle.odht_base.specs.Writes.{tagged};
+ghost use Rattle.odht_raw.specs.Words.{Format, format_of, IsBytes, IsPartsOf, IsSlotCount};
+ghost use Rattle.odht_raw.specs.Words.{overwritten_at, Pair, Table, tagged};
 ghost use Rattle.odht_raw.specs.Formers.{answered, former_of, write_result};
 ghost use Rattle.odht_raw.specs.PartLengths.{ArePairLengths, ArePartLengths};
 ghost use Rattle.odht_raw.specs.PartsInserts.{IsInsertAt};
@@ -19,7 +14,7 @@ ghost use Rattle.odht_raw.specs.PartsPlacings.{IsNewTo, IsNewPlacing, IsAddition
 ghost use Rattle.odht_raw.specs.SearchResults.{MatchSearchResult, answer};
 ghost use Rattle.odht_raw.specs.Steps.{IsStepWhere, IsTaggedEnd};
 
-use super::free_search::first_free;
+use super::group_search::first_free;
 use super::{EntryMetadata, Search, slot_count_of, tag_of};
 use crate::bytes::write_slice;
 use crate::error::Error;

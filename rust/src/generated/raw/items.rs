@@ -1,8 +1,10 @@
 // Generated from crates/odht_raw/src/items.rt by make generate.
-//! Lists of keys and values, whatever their form in memory.
+//! Lists of keys and values, whatever their form in memory, and the bytes as which they are stored.
 
 use crate::generated::raw::bytes::ByteArray;
 use crate::generated::raw::config::Config;
+use crate::generated::raw::layout::Layout;
+use std::marker::PhantomData;
 
 /// A list of keys and their values, each read where it is in memory.
 pub trait Items<K, V> {
@@ -66,4 +68,130 @@ pub(crate) fn encode_pair<C: Config>(
     let _ = key.as_slice();
     let _ = value.as_slice();
     (key, value)
+}
+
+/// A list of keys and values, each of which gives the bytes as which it is stored. Batches of
+/// inserts are written over it once, for items of types and for items that are bytes already.
+///
+/// In a contract the ghost member `items` is the bytes of the items, `key_len` and `value_len` are
+/// the lengths of the table, and `fits` says that the key and the value at an index have these.
+pub(crate) trait EncodedItems {
+    /// A key, from which its bytes are read.
+    type Key;
+
+    /// A value, from which its bytes are read.
+    type Value;
+
+    /// How many items there are.
+    fn count(&self) -> usize;
+
+    /// Whether the key and the value at an index have the lengths of the table. An item that does
+    /// not fit ends a list of inserts.
+    fn fits(&self, index: usize) -> bool;
+
+    /// The key at an index.
+    fn key(&self, index: usize) -> Self::Key;
+
+    /// The key and the value at an index.
+    fn pair(&self, index: usize) -> (Self::Key, Self::Value);
+
+    /// The bytes of a key.
+    fn key_bytes(key: &Self::Key) -> &[u8];
+
+    /// The bytes of a value.
+    fn value_bytes(value: &Self::Value) -> &[u8];
+}
+
+/// Items of a configuration, which are encoded where they are read. Each of them fits.
+pub(crate) struct Encoded<'a, C: Config, I> {
+    pub(crate) items: &'a I,
+    pub(crate) config: PhantomData<C>,
+}
+
+impl<'a, C: Config, I: Items<C::Key, C::Value>> EncodedItems for Encoded<'a, C, I> {
+    type Key = C::EncodedKey;
+
+    type Value = C::EncodedValue;
+
+    #[inline(always)]
+    fn count(&self) -> usize {
+        self.items.count()
+    }
+
+    #[inline(always)]
+    fn fits(&self, _index: usize) -> bool {
+        true
+    }
+
+    #[inline(always)]
+    fn key(&self, index: usize) -> C::EncodedKey {
+        let (key, _) = self.items.at(index);
+        let key = C::encode_key(key);
+        // To read it is what tells the prover how long it is.
+        let _ = key.as_slice();
+        key
+    }
+
+    #[inline(always)]
+    fn pair(&self, index: usize) -> (C::EncodedKey, C::EncodedValue) {
+        let (key, value) = self.items.at(index);
+        encode_pair::<C>(key, value)
+    }
+
+    #[inline(always)]
+    fn key_bytes(key: &C::EncodedKey) -> &[u8] {
+        key.as_slice()
+    }
+
+    #[inline(always)]
+    fn value_bytes(value: &C::EncodedValue) -> &[u8] {
+        value.as_slice()
+    }
+}
+
+/// Items that are bytes already, of any lengths, and the lengths of the table.
+pub(crate) struct ItemBytes<'a> {
+    pub(crate) layout: Layout,
+    pub(crate) items: &'a [(&'a [u8], &'a [u8])],
+}
+
+impl<'a> EncodedItems for ItemBytes<'a> {
+    type Key = &'a [u8];
+
+    type Value = &'a [u8];
+
+    #[inline(always)]
+    fn count(&self) -> usize {
+        self.items.len()
+    }
+
+    #[inline(always)]
+    fn fits(&self, index: usize) -> bool {
+        let items = self.items;
+        let (key, value) = items[index];
+        key.len() == self.layout.key_len as usize && value.len() == self.layout.value_len as usize
+    }
+
+    #[inline(always)]
+    fn key(&self, index: usize) -> &'a [u8] {
+        let items = self.items;
+        let (key, _) = items[index];
+        key
+    }
+
+    #[inline(always)]
+    fn pair(&self, index: usize) -> (&'a [u8], &'a [u8]) {
+        let items = self.items;
+        items[index]
+    }
+
+    #[inline(always)]
+    fn key_bytes<'k>(key: &'k &'a [u8]) -> &'k [u8] {
+        key
+    }
+
+    #[inline(always)]
+    fn value_bytes<'v>(value: &'v &'a [u8]) -> &'v [u8] {
+        value
+    }
 }

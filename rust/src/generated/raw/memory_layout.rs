@@ -5,11 +5,9 @@
 
 mod allocation;
 mod check;
-mod cuts;
 mod inserts;
 mod new_tables;
 mod opening;
-mod prefix;
 
 pub use crate::generated::header::header::{
     is_accepted, write_header, Header, HEADER_SIZE, LEAST_FACTOR,
@@ -21,8 +19,9 @@ pub use allocation::Allocation;
 pub use check::{
     check_all, check_all_within, check_dynamic, check_dynamic_within, check_parts, DEFAULT_GROUPS,
 };
-pub use cuts::{dynamic_parts, parts_in};
 pub use inserts::{insert_dynamic, insert_dynamic_into, insert_items_dynamic};
 pub use new_tables::{allocate, clear_entries, init_in_place, init_parts, write_empty};
-pub use opening::{check_by_header, check_opening, check_opening_in, stated_layout};
-pub use prefix::{dynamic_table_len, table_len};
+pub use opening::{
+    check_by_header, check_opening, check_opening_in, dynamic_parts, dynamic_table_len, parts_in,
+    stated_layout, table_len,
+};

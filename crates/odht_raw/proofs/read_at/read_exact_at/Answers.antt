@@ -1,8 +1,6 @@
 use Rattle.std.proofs.Common.{arith, ◌≡◌, ◌∙◌, ℕ, ◌+◌, ◌++◌, sym, ap, ap₂, length, take}
-use Rattle.std.proofs.Math.Seq.{take-append-add}
-use Rattle.std.proofs.lemmas.List.{length-take-le}
+use Rattle.odht_raw.proofs.lemmas.Below.{bytes_at-add, length-take-le, take-append-add}
 use Rattle.odht_base.specs.Bytes.{bytes_at}
-use Rattle.odht_base.proofs.lemmas.ByteRanges.{bytes_at-add}
 use Rattle.odht_raw.proofs.lemmas.PendingSlots.{ended, ended-length}
 use Rattle.odht_raw.proofs.read_at.read_exact_at.Goals as goal
 

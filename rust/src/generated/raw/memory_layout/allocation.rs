@@ -1,7 +1,7 @@
 // Generated from crates/odht_raw/src/memory_layout/allocation.rt by make generate.
 //! The bytes of a table in a store: opening and reading.
 
-use super::cuts::cut;
+use super::opening::cut;
 use super::{check_by_header, check_opening_in, Entries, EntryMetadata, Header};
 use crate::generated::raw::bytes::{ByteArray, ByteStore};
 use crate::generated::raw::config::Config;
@@ -10,11 +10,9 @@ use crate::generated::raw::layout::{Fixed, Layout};
 use crate::generated::raw::raw_table::RawTable;
 use std::marker::PhantomData;
 
-mod clearing;
-mod inserts;
 mod writing;
 
-pub(super) use inserts::write_count;
+pub(super) use writing::write_count;
 
 /// A store of the bytes of a table, whose header and length fit. In a contract it is the store.
 pub struct Allocation<C: Config, M: ByteStore> {

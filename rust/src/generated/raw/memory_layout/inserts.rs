@@ -3,14 +3,13 @@
 //! of keys and values are types or numbers.
 
 use super::allocation::{prove_bytes, write_count};
-use super::cuts::cut;
-use super::{Header, HEADER_SIZE};
+use super::opening::cut;
+use super::{parts_in, Header, HEADER_SIZE};
 use crate::generated::raw::bytes::ByteArray;
 use crate::generated::raw::config::Config;
-use crate::generated::raw::encoded_items::{EncodedItems, ItemBytes};
 use crate::generated::raw::error::Error;
 use crate::generated::raw::hash::HashFn;
-use crate::generated::raw::items::encode_pair;
+use crate::generated::raw::items::{encode_pair, EncodedItems, ItemBytes};
 use crate::generated::raw::layout::{Fixed, Layout, Lengths};
 use crate::generated::raw::raw_table::{
     insert_run, is_found, write_at_end, Parts, Search, ShortBytes,
@@ -62,9 +61,8 @@ pub fn insert_dynamic<H: HashFn>(
     key: &[u8],
     value: &[u8],
 ) -> Result<Option<ShortBytes>, Error> {
-    let slots = Header::of(bytes).slot_count();
-    crate::shim::slots::check::<&[u8]>(bytes.len(), slots, layout);
-    let parts = cut::<Layout, H>(&*bytes, slots, layout);
+    let parts = parts_in::<Layout, H>(&*bytes, layout);
+    let slots = parts.len();
     let end = parts.insert_end(key);
     let former = parts.short_value_at(end.0);
     if insert_in::<Layout, H>(bytes, slots, layout, key, value, end) {
@@ -84,9 +82,8 @@ pub fn insert_dynamic_into<H: HashFn>(
     value: &[u8],
     former: &mut [u8],
 ) -> Result<bool, Error> {
-    let slots = Header::of(bytes).slot_count();
-    crate::shim::slots::check::<&[u8]>(bytes.len(), slots, layout);
-    let parts = cut::<Layout, H>(&*bytes, slots, layout);
+    let parts = parts_in::<Layout, H>(&*bytes, layout);
+    let slots = parts.len();
     let end = parts.insert_end(key);
     let had = parts.copy_value_at(end.0, former);
     let written = insert_in::<Layout, H>(bytes, slots, layout, key, value, end);

@@ -1,7 +1,7 @@
 // Generated from crates/odht_raw/src/raw_table/insert_order.rt by make generate.
 //! An order of inserts that makes a table, found within the buffer that it is written to.
 
-use super::waiting::{list_occupied, WAITING};
+use super::orders::WAITING;
 use super::Parts;
 use crate::generated::raw::hash::HashFn;
 use crate::generated::raw::layout::Lengths;
@@ -23,34 +23,12 @@ struct Frontier {
     position: usize,
 }
 
-/// `RawTable::insert_order` of any parts.
-///
-/// A slot waits until all slots before it in the probe order of its key are placed. A pass goes
-/// through the waiting slots in slot order, and places each that waits for no slot by then. At its
-/// end the slots that still wait are sorted. Passes are made until no slot waits, or a pass places
-/// none: at most `n + 1` passes, if `n` slots wait for one with a higher index.
-///
-/// In a pass a slot in the first group of its probe order and not below its home takes one step.
-/// Any other takes one or two binary searches among the waiting slots for each group up to its own.
-/// Groups that were passed before from the same home are skipped: `FRONTIERS` homes are kept.
-///
-/// The slots before the first one that is not near its home are placed in turn, before any frontier
-/// is needed.
-pub(super) fn find_order<L: Lengths, H: HashFn>(
+/// Places slots in their order, as long as each is near its home. None that waits is before it in
+/// the probe order of its key then, so that it is ready. Returns how many were placed.
+pub(super) fn place_near<L: Lengths, H: HashFn>(
     table: &Parts<'_, L, H>,
-    out: &mut [usize],
-) -> bool {
-    list_occupied(table.controls(), table.len(), out);
-    let near = place_near(table, out);
-    if near == out.len() {
-        return true;
-    }
-    place_others(table, out, near)
-}
-
-// Places slots in their order, as long as each is near its home. None that waits is before it in
-// the probe order of its key then, so that it is ready. Returns how many were placed.
-fn place_near<L: Lengths, H: HashFn>(table: &Parts<'_, L, H>, slots: &mut [usize]) -> usize {
+    slots: &mut [usize],
+) -> usize {
     for at in 0..slots.len() {
         let slot = slots[at] - WAITING;
         if !is_near(slot, table.home_of(slot)) {
@@ -61,12 +39,20 @@ fn place_near<L: Lengths, H: HashFn>(table: &Parts<'_, L, H>, slots: &mut [usize
     slots.len()
 }
 
-// `insert_order` of the slots that still wait, where the first `placed` are placed.
-//
+/// `Parts::insert_order` of the slots that still wait, where the first `placed` are placed.
+///
+/// A slot waits until all slots before it in the probe order of its key are placed. A pass goes
+/// through the waiting slots in slot order, and places each that waits for no slot by then. At its
+/// end the slots that still wait are sorted. Passes are made until no slot waits, or a pass places
+/// none: at most `n + 1` passes, if `n` slots wait for one with a higher index.
+///
+/// In a pass a slot in the first group of its probe order and not below its home takes one step.
+/// Any other takes one or two binary searches among the waiting slots for each group up to its own.
+/// Groups that were passed before from the same home are skipped: `FRONTIERS` homes are kept.
 // It is a call of its own, since it sets the frontiers up, and most tables with few pairs need
 // none.
 #[inline(never)]
-fn place_others<L: Lengths, H: HashFn>(
+pub(super) fn place_others<L: Lengths, H: HashFn>(
     table: &Parts<'_, L, H>,
     out: &mut [usize],
     placed: usize,

@@ -2,11 +2,10 @@
 //! The parts of a table, borrowed to be read. The lengths of keys and values are types or numbers.
 
 use super::group_search::search_stored;
-use super::slot_checks::check_hashes;
-use super::{tag_of, EntryMetadata, PartPairs, PartSlots, Scan, Search, Stored};
-use crate::generated::raw::error::Error;
+use super::{tag_of, EntryMetadata, PartPairs, PartSlots, Scan, Search, ShortBytes, Stored};
+use crate::generated::raw::bytes::ByteArray;
 use crate::generated::raw::hash::HashFn;
-use crate::generated::raw::layout::{Layout, Lengths};
+use crate::generated::raw::layout::{Fixed, Layout, Lengths};
 use crate::generated::raw::swisstable_group_query::{Group, GroupQuery};
 use std::marker::PhantomData;
 
@@ -108,12 +107,6 @@ impl<'a, L: Lengths, H: HashFn> Parts<'a, L, H> {
         self.stored.key(slot)
     }
 
-    /// `key` of a slot that may come from a list of the caller's (see `Stored::listed_key`).
-    #[inline(always)]
-    pub(super) fn listed_key(&self, slot: usize) -> &'a [u8] {
-        self.stored.listed_key(slot)
-    }
-
     /// The value of a slot.
     #[inline(always)]
     pub fn value(&self, slot: usize) -> &'a [u8] {
@@ -189,13 +182,42 @@ impl<'a, L: Lengths, H: HashFn> Parts<'a, L, H> {
         }
     }
 
-    /// Checks the first `slots_to_check` slots, or all where there are fewer, and returns the
-    /// first error: `NonZeroEmpty` of a slot that counts as free, `ControlMismatch` of any other.
-    ///
-    /// A mismatch can mean that the bytes were written with another hash function.
+    /// Where the search for a key that is inserted ends, and the key's tag. Keys of some lengths
+    /// have a copy of the search each, as in [`Parts::find_counted`].
     #[inline(always)]
-    pub fn sanity_check_hashes(&self, slots_to_check: usize) -> Result<(), Error> {
-        check_hashes(self, slots_to_check)
+    pub(crate) fn insert_end(&self, key: &[u8]) -> (Search, u8) {
+        match key.len() {
+            4 => self.search_end::<GroupQuery>(&key[..4]),
+            8 => self.search_end::<GroupQuery>(&key[..8]),
+            16 => self.search_end::<GroupQuery>(&key[..16]),
+            20 => self.search_end::<GroupQuery>(&key[..20]),
+            32 => self.search_end::<GroupQuery>(&key[..32]),
+            _ => self.search_end::<GroupQuery>(key),
+        }
+    }
+
+    /// Copies the value of the key that an insert searched for to `to`, where the search found it.
+    /// Returns whether it did.
+    #[inline(always)]
+    pub(crate) fn copy_value_at(&self, end: Search, to: &mut [u8]) -> bool {
+        match self.value_at(end) {
+            Some(value) => {
+                to.copy_from_slice(value);
+                true
+            }
+            None => false,
+        }
+    }
+
+    /// The value of the key that an insert searched for, by value, where the search found it.
+    #[inline(always)]
+    pub(crate) fn short_value_at(&self, end: Search) -> Option<ShortBytes> {
+        // Its lengths are used: a value has at most 255 bytes.
+        let _ = self.len();
+        match self.value_at(end) {
+            Some(value) => Some(ShortBytes::of(value)),
+            None => None,
+        }
     }
 }
 
@@ -208,4 +230,15 @@ pub(super) fn read_parts<'a, L: Lengths, H: HashFn>(
     lengths: L,
 ) -> Parts<'a, L, H> {
     Parts::of(control, Stored::new(entries, slots, lengths))
+}
+
+impl<'a, K: ByteArray, V: ByteArray, H: HashFn> Parts<'a, Fixed<K, V>, H> {
+    /// The value of the key that an insert searched for, where the search found it.
+    #[inline(always)]
+    pub(crate) fn typed_value_at(&self, end: Search) -> Option<V> {
+        match self.value_at(end) {
+            Some(value) => Some(V::from_slice(value)),
+            None => None,
+        }
+    }
 }

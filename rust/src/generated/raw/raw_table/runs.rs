@@ -5,8 +5,8 @@
 use super::parts::read_parts;
 use super::writes::write_at_end;
 use super::{EntryMetadata, Parts, Search};
-use crate::generated::raw::encoded_items::EncodedItems;
 use crate::generated::raw::hash::HashFn;
+use crate::generated::raw::items::EncodedItems;
 use crate::generated::raw::layout::Lengths;
 use crate::generated::raw::memory_layout::prove_bytes;
 use crate::generated::raw::swisstable_group_query::GroupQuery;
@@ -21,10 +21,6 @@ const LARGE: usize = 1 << 20;
 /// Inserts the items from index `from` on in turn, with room for `room` new entries, and stops at
 /// the first item that does not fit or is rejected with `Full`. Returns the index after the last
 /// item that was inserted, and how many entries were added.
-///
-/// Each item costs a search. In tables of 2^20 slots and more the group at the home slot may be
-/// read ahead, for eight keys in turn: these keys are encoded twice, and a new key whose slot was
-/// seen free then needs no further search.
 // It takes the items by value: the address of the list goes to no function that is not inlined,
 // and so the compiler keeps the list in registers.
 #[inline(always)]

@@ -1,8 +1,9 @@
 // Generated from crates/odht_raw/src/raw_table/stored.rt by make generate.
-//! The entries of a table, read from their bytes. The lengths of keys and values are types or
-//! numbers.
+//! The entries of a table, read from their bytes: with keys and values as bytes, whose lengths are
+//! types or numbers, and with keys and values as types; and a few bytes by value.
 
-use crate::generated::raw::layout::Lengths;
+use crate::generated::raw::bytes::ByteArray;
+use crate::generated::raw::layout::{Fixed, Lengths};
 
 /// The entries of a number of slots, key then value, slot by slot, read at any alignment. Keys and
 /// values are bytes of the right length. A search reads entries only through it.
@@ -78,5 +79,94 @@ impl<'a, L: Lengths> Stored<'a, L> {
         let entry = self.entry(slot);
         self.lengths
             .is_same_key(&index!(entry[..key.len()], "length key.now ≡ self.now.key_len"), key)
+    }
+}
+
+/// An entry: an encoded key and its encoded value, as a slot holds them.
+#[derive(Clone, Copy, PartialEq, Eq, Debug)]
+pub struct Entry<K: ByteArray, V: ByteArray> {
+    /// The encoded key.
+    pub key: K,
+    /// The encoded value.
+    pub value: V,
+}
+
+impl<K: ByteArray, V: ByteArray> Default for Entry<K, V> {
+    /// The entry of a free slot: zeros.
+    #[inline]
+    fn default() -> Self {
+        Entry { key: K::zeroed(), value: V::zeroed() }
+    }
+}
+
+/// The entries of a number of slots, read from their bytes at any alignment.
+pub struct Entries<'a, K: ByteArray, V: ByteArray> {
+    stored: Stored<'a, Fixed<K, V>>,
+}
+
+impl<'a, K: ByteArray, V: ByteArray> Entries<'a, K, V> {
+    /// The entries of `slots` slots in `bytes`, key then value, slot by slot.
+    #[inline]
+    pub fn new(bytes: &'a [u8], slots: usize) -> Self {
+        Entries { stored: Stored::new(bytes, slots, Fixed::new()) }
+    }
+
+    // These entries, with keys and values as types.
+    #[inline(always)]
+    pub(crate) fn of(stored: Stored<'a, Fixed<K, V>>) -> Self {
+        Entries { stored }
+    }
+
+    // The same entries, with keys and values as bytes.
+    #[inline(always)]
+    pub(super) fn stored(&self) -> Stored<'a, Fixed<K, V>> {
+        self.stored.copy()
+    }
+
+    /// How many slots there are.
+    #[inline]
+    pub fn len(&self) -> usize {
+        self.stored.slots()
+    }
+
+    /// The entry of a slot.
+    #[inline]
+    pub fn get(&self, slot: usize) -> Entry<K, V> {
+        let stored = self.stored();
+        Entry { key: K::from_slice(stored.key(slot)), value: V::from_slice(stored.value(slot)) }
+    }
+
+    // Whether the key of a slot is `key`.
+    #[inline(always)]
+    pub(super) fn is_at(&self, slot: usize, key: &K) -> bool {
+        self.stored().has_key(slot, key.as_slice())
+    }
+}
+
+/// At most 255 bytes by value, as a key or a value of a table has. No memory is allocated for
+/// them.
+///
+/// In a contract it is these bytes.
+#[derive(Clone, Copy)]
+pub struct ShortBytes {
+    bytes: [u8; 255],
+    len: usize,
+}
+
+impl ShortBytes {
+    /// A copy of the bytes, of which there are at most 255.
+    #[inline(always)]
+    pub fn of(slice: &[u8]) -> Self {
+        let mut bytes = [0; 255];
+        let len = slice.len();
+        bytes[..len].copy_from_slice(slice);
+        ShortBytes { bytes, len }
+    }
+
+    /// The bytes.
+    #[inline]
+    pub fn as_slice(&self) -> &[u8] {
+        let bytes = &self.bytes;
+        &bytes[..self.len]
     }
 }

@@ -5,7 +5,7 @@
 //! It does not return the former value of the key. A caller that wants it reads it where the search
 //! ended, before the write.
 
-use super::free_search::first_free;
+use super::group_search::first_free;
 use super::{slot_count_of, tag_of, EntryMetadata, Search};
 use crate::generated::raw::bytes::write_slice;
 use crate::generated::raw::error::Error;

@@ -1,7 +1,6 @@
 use Rattle.std.proofs.Common.{ap, sym, ◌∙◌, ap₂, ◌≡◌, ◌<◌, Some, length, arith}
 use Rattle.std.specs.List.{zip, slice_get}
-use Rattle.std.proofs.lemmas.Slice.Zip.{length-zip, get_or-zip}
-use Rattle.std.proofs.lemmas.Option.{slice_get-get_or}
+use Rattle.odht_raw.proofs.lemmas.Below.{get_or-zip, length-zip, slice_get-get_or}
 use Rattle.odht_raw.proofs.items.ZippedItems.at.Given.{Over}
 use Rattle.odht_raw.proofs.items.ZippedItems.at.Goals as goal
 use Rattle.odht_raw.proofs.items.ZippedItems.at.Goals.{After-self}

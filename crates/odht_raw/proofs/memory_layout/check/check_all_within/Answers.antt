@@ -1,7 +1,6 @@
 use Rattle.std.proofs.Common.{rules, ◌≡◌, ◌∙◌, sym, ap, Err, Some, None}
 use Rattle.std.specs.Result.{result_err}
-use Rattle.odht_base.specs.Format.{Format, format_of}
-use Rattle.odht_header.specs.Refusals.{checked, view_refusal, late_refusal_by}
+use Rattle.odht_raw.specs.Words.{checked, Format, format_of, late_refusal_by, view_refusal}
 use Rattle.odht_raw.proofs.lemmas.Openings.{check_refusal-view, check_refusal-late}
 use Rattle.odht_raw.proofs.memory_layout.check.check_all_within.Goals as goal
 

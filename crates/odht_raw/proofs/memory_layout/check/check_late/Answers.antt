@@ -1,6 +1,5 @@
 use Rattle.std.proofs.Common.{rules, ◌≡◌, ◌∙◌, sym, ap, Err, None, is_some, option_map}
-use Rattle.odht_header.specs.declared.error.Error.TheVariants.{Unreachable}
-use Rattle.odht_header.specs.Refusals.{checked, mirror_refusal, longer_refusal}
+use Rattle.odht_raw.specs.Words.{checked, longer_refusal, mirror_refusal, Unreachable}
 use Rattle.odht_header.proofs.lemmas.FirstErrors.{Ok-checked, Err-checked, not-false}
 use Rattle.odht_raw.specs.DynParts.{parts_format}
 use Rattle.odht_raw.proofs.lemmas.LateStages.{factor_stage, padding_stage, slots_stage, mirror_stage, count_stage, longer_stage, reach_stage}

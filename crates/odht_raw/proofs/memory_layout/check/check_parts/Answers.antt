@@ -1,6 +1,5 @@
 use Rattle.std.proofs.Common.{◌≡◌, ◌∙◌}
-use Rattle.odht_base.specs.Format.{Format, format_of}
-use Rattle.odht_header.specs.Refusals.{checked, late_refusal_by}
+use Rattle.odht_raw.specs.Words.{checked, Format, format_of, late_refusal_by}
 use Rattle.odht_header.proofs.lemmas.Formats.{IsFormat-format_of}
 use Rattle.odht_raw.specs.DynParts.{parts_format}
 use Rattle.odht_raw.proofs.lemmas.WholeChecks.{checked_late}

@@ -1,15 +1,10 @@
-use Rattle.std.proofs.Common.{rules, ◌≡◌, ◌<◌, ◌≤◌, ◌+◌, ◌-◌, ◌*◌, ◌^◌, ◌∙◌, ℕ, List, length, inl, inr, sym, ap, subst, arith}
+use Rattle.std.proofs.Common.{rules, ◌≡◌, ◌<◌, ◌≤◌, ◌+◌, ◌-◌, ◌*◌, ◌^◌, ◌∙◌, ℕ, List, inl, inr, sym, ap, subst, refl, arith}
 use Rattle.std.specs.List.{slice_range}
-use Rattle.odht_base.specs.Format.{Format, format_of, entry_len}
-use Rattle.odht_base.specs.Load.{IsSlotCount, max_items}
-use Rattle.odht_base.specs.Decoded.{header_slots, header_count, header_factor}
-use Rattle.odht_base.specs.Writes.{with_count}
-use Rattle.odht_header.specs.Coding.{Coding}
+use Rattle.odht_raw.specs.Words.{Coding, entry_len, Format, format_of, header_count, header_factor, header_slots, max_items, with_count}
 use Rattle.odht_raw.specs.DynParts.{bytes_coding}
 use Rattle.odht_raw.specs.Frame.{header_maximum}
 use Rattle.odht_raw.specs.Runs.{encoded_all, IsRefusedIn}
-use Rattle.odht_raw.proofs.lemmas.Accepted.{accepted_len, accepted_slots}
-use Rattle.odht_raw.proofs.lemmas.ListWrites.{IsCut, cut_accepted, cut-image, list_framed, list_accepted, list_length, list_stopped, list_placed}
+use Rattle.odht_raw.proofs.lemmas.ListWrites.{IsCut, cut_accepted, cut-image, cut-lengths, cut-slots, cut_len, list_framed, list_accepted, list_length, list_stopped, list_placed}
 use Rattle.odht_raw.proofs.lemmas.PartRuns.{run_fits}
 use Rattle.odht_raw.proofs.memory_layout.inserts.insert_items_in.Given.{Over}
 use Rattle.odht_raw.proofs.memory_layout.inserts.insert_items_in.Goals as goal
@@ -21,23 +16,17 @@ format g lengths = format_of (g.L.Lengths.key_len lengths) (g.L.Lengths.value_le
 
 pub overflow_mul-at : goal.overflow_mul-at
 overflow_mul-at g c =
-    let slots : c.args.slots ≡ header_slots c.args.bytes.now = c.requires.slots in
-    let same : c.args.slots * c.entry_len.result ≡ header_slots c.args.bytes.now * entry_len (format g c.args.lengths) = λ i. slots i * c.entry_len.ensures i in
-    let long = accepted_len (format g c.args.lengths) c.args.bytes.now c.requires.accepted in
+    let all = cut_len (format g c.args.lengths) c.args.bytes.now c.requires.accepted c.args.slots c.entry_len.result c.requires.slots c.entry_len.ensures in
     search rules
 
 pub overflow_add-at : goal.overflow_add-at
 overflow_add-at g c =
-    let slots : c.args.slots ≡ header_slots c.args.bytes.now = c.requires.slots in
-    let same : c.args.slots * c.entry_len.result ≡ header_slots c.args.bytes.now * entry_len (format g c.args.lengths) = λ i. slots i * c.entry_len.ensures i in
-    let long = accepted_len (format g c.args.lengths) c.args.bytes.now c.requires.accepted in
+    let all = cut_len (format g c.args.lengths) c.args.bytes.now c.requires.accepted c.args.slots c.entry_len.result c.requires.slots c.entry_len.ensures in
     search rules
 
 pub split_at_mut-table-requires : goal.split_at_mut-table-requires
 split_at_mut-table-requires g c =
-    let slots : c.args.slots ≡ header_slots c.args.bytes.now = c.requires.slots in
-    let same : c.args.slots * c.entry_len.result ≡ header_slots c.args.bytes.now * entry_len (format g c.args.lengths) = λ i. slots i * c.entry_len.ensures i in
-    omega (arith, same, accepted_len (format g c.args.lengths) c.args.bytes.now c.requires.accepted)
+    omega (arith, cut_len (format g c.args.lengths) c.args.bytes.now c.requires.accepted c.args.slots c.entry_len.result c.requires.slots c.entry_len.ensures)
 
 -- header, entries and control bytes are those of the bytes
 cut : (g : Over) (c : After-split_at_mut-front g) → IsCut (format g c.args.lengths) c.args.bytes.now c.split_at_mut-front.result.0.now c.split_at_mut-front.result.1.now c.split_at_mut-table.result.1.now
@@ -52,20 +41,14 @@ of-header-requires g c = let cut = cut g (goal.at.of-header-requires g c).After-
 
 pub insert_run-end-requires-clause-slots : goal.insert_run-end-requires-clause-slots
 insert_run-end-requires-clause-slots g c =
-    let cut = cut g (goal.at.insert_run-end-requires-clause-slots g c).After-split_at_mut-front in
-    let slots : c.args.slots ≡ header_slots c.args.bytes.now = c.requires.slots in
-    omega (arith, slots, cut.mirrored, cut.slots)
+    c.requires.slots ∙ sym (cut-slots (format g c.args.lengths) c.args.bytes.now _ _ _ (cut g (goal.at.insert_run-end-requires-clause-slots g c).After-split_at_mut-front))
 
 pub insert_run-end-requires-clause-can : goal.insert_run-end-requires-clause-can
-insert_run-end-requires-clause-can g c =
-    let F = format g c.args.lengths in
-    let cut = cut g (goal.at.insert_run-end-requires-clause-can g c).After-split_at_mut-front in
-    let slots : length c.split_at_mut-table.result.1.now - 16 ≡ header_slots c.args.bytes.now = omega (arith, cut.mirrored, cut.slots) in
-    record {
-      slots = subst IsSlotCount (sym slots) (accepted_slots F c.args.bytes.now c.requires.accepted);
-      entries = cut.long ∙ ap (λ s. s * entry_len F) (cut.slots ∙ sym slots);
-      within = c.requires.from;
-    }
+insert_run-end-requires-clause-can g c = record {
+  parts = cut-lengths (format g c.args.lengths) c.args.bytes.now _ _ _ (cut g (goal.at.insert_run-end-requires-clause-can g c).After-split_at_mut-front) g.H.HashFn.MIN_LEN (g.L.Lengths.key_len c.args.lengths) (g.L.Lengths.value_len c.args.lengths) refl c.requires.pair;
+  lengths = c.requires.lengths;
+  within = c.requires.from;
+}
 
 pub returns : goal.returns
 returns g c =

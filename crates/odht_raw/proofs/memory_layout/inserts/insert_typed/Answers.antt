@@ -1,7 +1,5 @@
 use Rattle.std.proofs.Common.{◌∙◌, ap, subst, sym}
-use Rattle.odht_base.specs.Format.{Format, format_of}
-use Rattle.odht_base.specs.Image.{image_len}
-use Rattle.odht_base.specs.Load.{IsSlotCount}
+use Rattle.odht_raw.specs.Words.{Format, format_of, image_len, IsSlotCount}
 use Rattle.odht_raw.proofs.lemmas.Accepted.{accepted_len, accepted_slots}
 use Rattle.odht_raw.proofs.memory_layout.inserts.insert_typed.Goals as goal
 

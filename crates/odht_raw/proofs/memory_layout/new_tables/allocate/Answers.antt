@@ -1,9 +1,5 @@
 use Rattle.std.proofs.Common.{◌≡◌, ◌*◌, ◌∙◌, sym, ap, subst, arith, length, replicate, take_at}
-use Rattle.odht_base.specs.Bytes.{bytes_at}
-use Rattle.odht_base.specs.Format.{Format, format_of, entry_len}
-use Rattle.odht_base.specs.Image.{image, image_len}
-use Rattle.odht_base.specs.Table.{empty}
-use Rattle.odht_base.specs.Writes.{with_count}
+use Rattle.odht_raw.specs.Words.{bytes_at, empty, entry_len, Format, format_of, image, image_len, with_count}
 use Rattle.odht_raw.specs.Frame.{IsAccepted}
 use Rattle.odht_raw.proofs.lemmas.NewTables.{bytes_at-zeros, IsAccepted-new}
 use Rattle.odht_raw.proofs.memory_layout.new_tables.allocate.Given.{Over}

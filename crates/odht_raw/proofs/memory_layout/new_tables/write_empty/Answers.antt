@@ -1,8 +1,6 @@
 use Rattle.std.proofs.Common.{◌≡◌, ◌+◌, ◌*◌, ◌∙◌, ◌++◌, sym, ap, arith, append_assoc, length, replicate, take, drop}
-use Rattle.std.proofs.lemmas.List.{drop-take}
-use Rattle.odht_base.specs.Format.{Format, format_of, entry_len}
-use Rattle.odht_base.specs.Image.{header_bytes}
-use Rattle.odht_base.proofs.lemmas.ByteRanges.{bytes_at-take}
+use Rattle.odht_raw.proofs.lemmas.Below.{bytes_at-take, drop-take}
+use Rattle.odht_raw.specs.Words.{entry_len, Format, format_of, header_bytes}
 use Rattle.odht_raw.proofs.lemmas.NewTables.{bytes-new}
 use Rattle.odht_raw.proofs.memory_layout.new_tables.write_empty.Given.{Over}
 use Rattle.odht_raw.proofs.memory_layout.new_tables.write_empty.Goals.{After-entry_len}

@@ -1,6 +1,5 @@
 use Rattle.std.proofs.Common.{◌∙◌, ◌≤◌, sym, ap, arith, length}
-use Rattle.odht_base.specs.Format.{Format, format_of}
-use Rattle.odht_header.specs.Refusals.{checked, header_refusal}
+use Rattle.odht_raw.specs.Words.{checked, Format, format_of, header_refusal}
 use Rattle.odht_raw.proofs.lemmas.Openings.{opening_refusal-short, opening_refusal-header}
 use Rattle.odht_raw.proofs.memory_layout.opening.check_by_header.Goals as goal
 

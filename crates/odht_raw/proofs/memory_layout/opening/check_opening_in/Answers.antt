@@ -1,8 +1,7 @@
 use Rattle.std.proofs.Common.{rules, ◌≡◌, ◌∙◌, sym, ap, Err}
-use Rattle.odht_base.specs.Format.{Format, format_of}
+use Rattle.odht_raw.specs.Words.{checked, Format, format_of, hashes_refusal, opening_refusal}
 use Rattle.odht_raw.specs.Frame.{IsAccepted}
 use Rattle.odht_raw.specs.DynParts.{DynParts, parts_format}
-use Rattle.odht_header.specs.Refusals.{checked, opening_refusal, hashes_refusal}
 use Rattle.odht_header.proofs.lemmas.FirstErrors.{Ok-checked, Err-checked}
 use Rattle.odht_raw.proofs.lemmas.Openings.{view_refusal-opening, view_refusal-slots}
 use Rattle.odht_raw.proofs.memory_layout.opening.check_opening_in.Given.{Over}

@@ -1,7 +1,6 @@
 use Rattle.std.proofs.Common.{◌≡◌, ◌∙◌, slice_index, sym, ap}
 use Rattle.std.proofs.Output.{displays_on_ok_of_eq}
-use Rattle.odht_base.specs.Format.{Format}
-use Rattle.odht_base.specs.Decoded.{counts_as_free, slot_key, slot_value}
+use Rattle.odht_raw.specs.Words.{counts_as_free, Format, slot_key, slot_value}
 use Rattle.odht_raw.specs.Parts.{EntryBytes, TableParts, entry_format}
 use Rattle.odht_raw.specs.DynParts.{DynParts}
 use Rattle.odht_raw.specs.Dumps.{DebugText}

@@ -1,9 +1,6 @@
 use Rattle.std.proofs.Common.{◌≡◌, ◌∙◌, ◌+◌, ◌-◌, ◌*◌, ◌/◌, ◌<◌, ◌≤◌, ℕ, List, false, is_some, length, None, inl, inr, sym, ap, arith}
-use Rattle.std.proofs.Math.Nat.{mod-eq_of_lt, min-le_left, min-le_right, le-min}
-use Rattle.std.proofs.lemmas.Bool.{cases_lt}
-use Rattle.odht_base.specs.Bytes.{bytes_at}
-use Rattle.odht_base.specs.Groups.{first_free, late_free}
-use Rattle.odht_base.specs.Probe.{probe_slot}
+use Rattle.odht_raw.proofs.lemmas.Below.{cases_lt, le-min, min-le_left, min-le_right, mod-eq_of_lt}
+use Rattle.odht_raw.specs.Words.{bytes_at, first_free, late_free, probe_slot}
 use Rattle.odht_raw.proofs.lemmas.Bounds.{has_free, ends_at, goes_on, late-further, late-none, probe_slot-further}
 use Rattle.odht_raw.proofs.raw_table.bound.homes_within.Goals.{After-late_free}
 use Rattle.odht_raw.proofs.raw_table.bound.homes_within.Goals as goal

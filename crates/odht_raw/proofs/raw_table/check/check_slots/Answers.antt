@@ -1,9 +1,6 @@
 use Rattle.std.proofs.Common.{◌≡◌, ◌∙◌, ◌+◌, ◌-◌, ◌%◌, ◌<◌, ◌≤◌, Contains, length, min, sym, ap, subst, arith}
-use Rattle.odht_base.specs.Bytes.{bytes_at}
-use Rattle.odht_base.specs.Format.{Format}
-use Rattle.odht_base.specs.Groups.{free_in}
-use Rattle.odht_base.proofs.lemmas.ByteRanges.{length-bytes_at}
-use Rattle.odht_base.proofs.lemmas.SlotCounts.{sixteens}
+use Rattle.odht_raw.specs.Words.{bytes_at, Format, free_in}
+use Rattle.odht_raw.proofs.lemmas.Below.{length-bytes_at, sixteens}
 use Rattle.odht_raw.specs.DynParts.{parts_format}
 use Rattle.odht_raw.specs.Parts.{TableParts}
 use Rattle.odht_raw.specs.Summaries.{AreFree}

@@ -1,7 +1,6 @@
 use Rattle.std.proofs.Common.{◌≡◌, ◌∙◌, ◌+◌, ◌-◌, ◌%◌, ◌<◌, ◌≤◌, ℕ, List, true≢false, bit_and, sym, ap, subst, arith, refl, inl, inr, length, rules}
 use Rattle.std.specs.Option.{unwrap_or}
-use Rattle.odht_base.specs.Format.{Format}
-use Rattle.odht_base.specs.Decoded.{slot_key}
+use Rattle.odht_raw.specs.Words.{Format, slot_key}
 use Rattle.odht_base.proofs.lemmas.SlotCounts.{bit_and-slots}
 use Rattle.odht_raw.specs.DynParts.{parts_format}
 use Rattle.odht_raw.specs.Parts.{TableParts}

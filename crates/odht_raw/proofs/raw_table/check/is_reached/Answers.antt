@@ -2,10 +2,7 @@ use Rattle.std.proofs.Common.{◌≡◌, ◌∙◌, ℕ, Some, ◌+◌, ◌-◌,
 use Rattle.std.specs.Option.{unwrap_or}
 use Rattle.std.proofs.lemmas.Option.{get_or_from_slice_get, slice_get_within}
 use Rattle.std.specs.Prelude.{Contains, slice_index}
-use Rattle.odht_base.specs.Decoded.{slot_key}
-use Rattle.odht_base.specs.Bytes.{bytes_at}
-use Rattle.odht_base.specs.Format.{Format}
-use Rattle.odht_base.specs.Probe.{probe_slot}
+use Rattle.odht_raw.specs.Words.{bytes_at, Format, probe_slot, slot_key}
 use Rattle.odht_raw.specs.Checks.{cells_of, IsGroupSearch}
 use Rattle.odht_raw.specs.DynParts.{parts_format}
 use Rattle.odht_raw.specs.Parts.{TableParts}

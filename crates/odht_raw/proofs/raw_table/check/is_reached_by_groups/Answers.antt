@@ -1,10 +1,5 @@
 use Rattle.std.proofs.Common.{◌≡◌, ◌∙◌, ◌+◌, ◌-◌, ◌%◌, ◌<◌, ◌≤◌, ◌↔◌, ◌/◌, ◌^◌, ℕ, false, true≢false, IsTrue, bit_and, length, sym, ap, subst, subst₂, arith, refl, inl, inr}
-use Rattle.odht_base.specs.Bytes.{bytes_at}
-use Rattle.odht_base.specs.Format.{Format, tag}
-use Rattle.odht_base.specs.Load.{IsSlotCount}
-use Rattle.odht_base.specs.Probe.{probe_slot}
-use Rattle.odht_base.specs.Search.{stops_at}
-use Rattle.odht_base.specs.Decoded.{slot_key}
+use Rattle.odht_raw.specs.Words.{bytes_at, Format, IsSlotCount, probe_slot, slot_key, stops_at, tag}
 use Rattle.std.proofs.lemmas.Bool.{cases_lt}
 use Rattle.odht_raw.specs.Checks.{cells_of, IsGroupSearch}
 use Rattle.odht_raw.specs.DynParts.{parts_format}

@@ -1,9 +1,6 @@
 use Rattle.std.proofs.Common.{◌≡◌, ◌<◌, ◌-◌, ◌/◌, ◌^◌, ◌%◌, ℕ}
 use Rattle.std.specs.Prelude.{IsFalse}
-use Rattle.odht_base.specs.Bytes.{bytes_at}
-use Rattle.odht_base.specs.Probe.{probe_slot}
-use Rattle.odht_base.specs.Search.{stops_at}
-use Rattle.odht_base.specs.Decoded.{slot_key}
+use Rattle.odht_raw.specs.Words.{bytes_at, probe_slot, slot_key, stops_at}
 use Rattle.odht_raw.specs.Checks.{cells_of, IsFitting, IsGroupSearch}
 use Rattle.odht_raw.specs.DynParts.{parts_format}
 use Rattle.odht_raw.proofs.raw_table.check.is_reached_by_groups.Given as goal

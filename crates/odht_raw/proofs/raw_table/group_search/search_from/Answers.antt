@@ -1,11 +1,6 @@
 use Rattle.std.proofs.Common.{rules, ◌<◌, arith, refl, ◌≡◌, ◌∙◌, ℕ, ◌+◌, ◌-◌, ◌/◌, ◌≤◌, sym, ap, subst, List, min}
-use Rattle.odht_base.specs.Bytes.{bytes_at}
-use Rattle.odht_base.specs.Format.{Format}
-use Rattle.odht_base.specs.Load.{IsSlotCount}
-use Rattle.odht_base.specs.Probe.{probe_slot}
+use Rattle.odht_raw.specs.Words.{bytes_at, Format, IsPartsOf, IsSlotCount, probe_slot, Table}
 use Rattle.odht_base.proofs.lemmas.SlotCounts.{sixteens}
-use Rattle.odht_base.specs.Table.{Table}
-use Rattle.odht_base.specs.Valid.{IsPartsOf}
 use Rattle.odht_raw.specs.ControlBytes.{order_slot}
 use Rattle.odht_raw.specs.Parts.{EntryBytes, hashed_by}
 use Rattle.odht_raw.specs.SearchEnds.{GoesOnAmong}

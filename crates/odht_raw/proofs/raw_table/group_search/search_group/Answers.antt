@@ -1,10 +1,8 @@
 use Rattle.std.proofs.Common.{rules, arith, true≢false, ◌≡◌, ◌∙◌, ℕ, ◌+◌, ◌*◌, ◌/◌, ◌%◌, sym, ap, subst, List}
-use Rattle.odht_base.specs.Format.{Format}
+use Rattle.odht_raw.specs.Words.{bytes_at, counts_as_free, Format}
 use Rattle.odht_raw.specs.Parts.{hashed_by}
 use Rattle.odht_base.proofs.lemmas.SlotCounts.{few_slots}
-use Rattle.odht_base.specs.Bytes.{bytes_at}
 use Rattle.std.specs.Prelude.{IsFalse}
-use Rattle.odht_base.specs.Decoded.{counts_as_free}
 use Rattle.odht_raw.specs.ControlBytes.{IsOther}
 use Rattle.odht_raw.specs.SearchEnds.{GoesOnAmong}
 use Rattle.odht_raw.specs.SearchSteps.{IsLook, Passed}

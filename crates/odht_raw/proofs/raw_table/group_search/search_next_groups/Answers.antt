@@ -1,8 +1,7 @@
 use Rattle.std.proofs.Common.{rules, ◌≡◌, ◌∙◌, ◌+◌, ◌%◌, ◌<◌, ℕ, sym, ap, subst, arith, List}
 use Rattle.odht_base.specs.Format.{Format}
-use Rattle.odht_base.proofs.lemmas.SlotCounts.{sixteens}
+use Rattle.odht_raw.proofs.lemmas.Below.{IsFormat-format_of, sixteens}
 use Rattle.odht_raw.specs.Searches.{IsPassed}
-use Rattle.odht_header.proofs.lemmas.Formats.{IsFormat-format_of}
 use Rattle.odht_raw.proofs.lemmas.PassedSearches.{none-ends}
 use Rattle.odht_raw.specs.Parts.{hashed_by}
 use Rattle.odht_raw.specs.Stored.{stored_format}

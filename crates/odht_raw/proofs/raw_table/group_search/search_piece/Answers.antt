@@ -1,15 +1,11 @@
 use Rattle.std.proofs.Common.{rules, arith, ◌∙◌, ℕ, ◌+◌, ◌-◌, ◌<◌, sym, ap, subst, refl, inl, true≢false, bit_and, length, List}
-use Rattle.std.specs.List.Sorted.{IsStrictlyIncreasing}
-use Rattle.std.proofs.lemmas.List.Quantifiers.{position-Some}
-use Rattle.odht_base.specs.Format.{Format}
+use Rattle.odht_raw.proofs.lemmas.Below.{bit_and-slots, few_slots, position-Some}
+use Rattle.odht_raw.specs.Words.{counts_as_free, Format, IsReport, slot_key}
 use Rattle.odht_raw.specs.Parts.{hashed_by}
-use Rattle.odht_base.specs.Groups.{IsReport}
-use Rattle.odht_base.specs.Decoded.{counts_as_free, slot_key}
-use Rattle.odht_base.proofs.lemmas.SlotCounts.{bit_and-slots, few_slots}
 use Rattle.odht_raw.specs.SearchEnds.{IsOtherAmong}
 use Rattle.odht_raw.specs.SearchSteps.{EndsWithin, Passed}
 use Rattle.odht_raw.specs.declared.raw_table.search_result.Search.TheVariants.{Found, Free}
-use Rattle.odht_raw.proofs.lemmas.GroupLooks.{taken-first, taken-next, taken-all, position-None, rising-drop, other-before, look_found, look_free, look_on}
+use Rattle.odht_raw.proofs.lemmas.GroupLooks.{taken-first, taken-next, taken-all, position-None, rising-rest, other-before, look_found, look_free, look_on}
 use Rattle.odht_raw.specs.Stored.{stored_format}
 use Rattle.odht_raw.proofs.raw_table.group_search.search_piece.Given.{Over}
 use Rattle.odht_raw.proofs.raw_table.group_search.search_piece.Goals as goal
@@ -59,7 +55,7 @@ matches-preserved g c =
     let F : Format = hashed_by g.H.HashFn.hash (stored_format c.args.stored.now) in
     let masked = ap (λ n. bit_and (c.args.start + c.in-Some.index) (n - 1)) c.slots-mask.ensures ∙ bit_and-slots (c.args.start + c.in-Some.index) c.args.stored.now.entries.slots c.requires.slots in
     record {
-      rising = subst IsStrictlyIncreasing (sym c.drop_match.ensures.rest) (rising-drop _ c.matches.invariant.rising);
+      rising = rising-rest _ _ c.drop_match.ensures.rest c.matches.invariant.rising;
       same = c.drop_match.ensures.free ∙ c.matches.invariant.same;
       taken = taken-next _ _ _ _ c.in-Some.index c.matches.invariant.taken c.in-Some.ensures c.drop_match.ensures.rest
           (λ e. true≢false (sym (c.has_key.ensures.1 (ap (slot_key F c.args.stored.now.entries.bytes) masked ∙ e)) ∙ c.if-has_key.false));

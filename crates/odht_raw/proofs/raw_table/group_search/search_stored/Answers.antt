@@ -1,6 +1,5 @@
 use Rattle.std.proofs.Common.{◌≡◌, arith, ap, subst, List, ℕ}
-use Rattle.odht_base.specs.Format.{Format}
-use Rattle.odht_base.specs.Load.{IsSlotCount}
+use Rattle.odht_raw.specs.Words.{Format, IsSlotCount}
 use Rattle.odht_raw.specs.Parts.{hashed_by}
 use Rattle.odht_raw.proofs.lemmas.WholeSearches.{rest-IsSearch}
 use Rattle.odht_raw.specs.Stored.{stored_format}

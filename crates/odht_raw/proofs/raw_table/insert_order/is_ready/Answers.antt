@@ -1,6 +1,5 @@
 use Rattle.std.proofs.Common.{◌≡◌, ◌+◌, ◌-◌, ◌<◌, ◌≤◌, ◌^◌, ◌↔◌, IsTrue, sym, subst, arith, All}
-use Rattle.std.proofs.lemmas.Bool.{leb-true, le-leb}
-use Rattle.std.proofs.lemmas.List.{get_or_default}
+use Rattle.odht_raw.proofs.lemmas.Below.{get_or_default, le-leb, leb-true}
 use Rattle.odht_raw.specs.DynParts.{parts_format}
 use Rattle.odht_raw.specs.Waiting.{IsUnblocked}
 use Rattle.odht_raw.proofs.lemmas.Homes.{parts_homes}

@@ -1,9 +1,7 @@
-use Rattle.std.proofs.Common.{◌≡◌, ◌+◌, ◌-◌, ℕ, true≢false, List, ◌++◌, length, take, drop, sym, ap, subst, arith, refl, All}
-use Rattle.std.proofs.lemmas.List.{take_all, length-drop}
+use Rattle.std.proofs.Common.{◌≡◌, ◌+◌, ◌-◌, true≢false, ◌++◌, length, take, drop, sym, ap, subst, arith, refl, All}
+use Rattle.odht_raw.proofs.lemmas.Below.{IsMade-IsInsertOrder, length-drop, take_rest}
 use borrow.Rule.Slice.PartMut.{put_mid}
-use Rattle.odht_base.specs.Made.{IsInsertOrder}
-use Rattle.odht_base.specs.Table.{Table}
-use Rattle.odht_base.proofs.lemmas.MadeTables.{IsMade-IsInsertOrder}
+use Rattle.odht_raw.specs.Words.{IsInsertOrder, Table}
 use Rattle.odht_raw.specs.DynParts.{parts_format}
 use Rattle.odht_raw.specs.Frontiers.{AreFrontiers}
 use Rattle.odht_raw.specs.Waiting.{IsWaiting, IsPending, AreWholeParts}
@@ -18,13 +16,9 @@ loop-placed-init g c = record {
       c.requires.slots c.at-frontiers.ensures;
 }
 
--- what is left of a list behind its first slots
-rest : (xs : List ℕ) (n : ℕ) → take (length xs - n) (drop n xs) ≡ drop n xs
-rest xs n = take_all (length xs - n) (drop n xs) (omega (arith, length-drop n xs))
-
 pub place_ready-ready-requires-clause-frontiers : goal.place_ready-ready-requires-clause-frontiers
 place_ready-ready-requires-clause-frontiers g c =
-    subst (λ ns. AreFrontiers ns c.args.table.now.parts.entries.slots c.loop-placed.frontiers) (sym (rest c.loop-placed.out c.loop-placed.placed)) c.loop-placed.invariant.frontiers
+    subst (λ ns. AreFrontiers ns c.args.table.now.parts.entries.slots c.loop-placed.frontiers) (sym (take_rest c.loop-placed.out c.loop-placed.placed)) c.loop-placed.invariant.frontiers
 
 pub place_ready-ready-requires-clause-listed : goal.place_ready-ready-requires-clause-listed
 place_ready-ready-requires-clause-listed g c =
@@ -33,11 +27,11 @@ place_ready-ready-requires-clause-listed g c =
     let out = c.loop-placed.out in
     let n = c.loop-placed.placed in
     record {
-      waiting = subst (All (IsWaiting c.args.table.now.parts.entries.slots)) (sym (rest out n)) c.loop-placed.invariant.begun.waiting;
+      waiting = subst (All (IsWaiting c.args.table.now.parts.entries.slots)) (sym (take_rest out n)) c.loop-placed.invariant.begun.waiting;
       table = P;
       parts = whole.parts;
       done = take n out;
-      pending = subst (IsPending (parts_format c.args.table.now g.H.HashFn.hash) P (take n out)) (sym (rest out n))
+      pending = subst (IsPending (parts_format c.args.table.now g.H.HashFn.hash) P (take n out)) (sym (take_rest out n))
           (c.loop-placed.invariant.begun.pending P (subst (AreWholeParts (parts_format c.args.table.now g.H.HashFn.hash) P c.args.table.now.parts) (sym c.loop-placed.auto.out) whole));
     }
 
@@ -47,7 +41,7 @@ returns-then-ready-eq0 g c = record {
   made = λ P whole.
       let out = c.loop-placed.out in
       let n = c.loop-placed.placed in
-      let pending = subst (IsPending (parts_format c.args.table.now g.H.HashFn.hash) P (take n out)) (sym (rest out n))
+      let pending = subst (IsPending (parts_format c.args.table.now g.H.HashFn.hash) P (take n out)) (sym (take_rest out n))
       (c.loop-placed.invariant.begun.pending P (subst (AreWholeParts (parts_format c.args.table.now g.H.HashFn.hash) P c.args.table.now.parts) (sym c.loop-placed.auto.out) whole)) in
       let stuck = (c.place_ready-ready.ensures.pass P (take n out) whole.parts pending).stuck c.if-ready-eq0.true in (
         λ t. absurd (true≢false (sym t)),
@@ -69,10 +63,10 @@ loop-placed-preserved g c =
         waiting = subst (All (IsWaiting c.args.table.now.parts.entries.slots)) (sym (ended-drop out left n v.begun.within ready e.few)) e.waiting;
         pending = λ P whole.
             let same : length (put_mid n (length out - n) out left) ≡ length out =
-            omega (arith, ended-length out left n v.begun.within, c.place_ready-ready.auto.slots, ap length (rest out n), length-drop n out, v.begun.within) in
+            omega (arith, ended-length out left n v.begun.within, c.place_ready-ready.auto.slots, ap length (take_rest out n), length-drop n out, v.begun.within) in
             subst (λ done. IsPending (parts_format c.args.table.now g.H.HashFn.hash) P done (drop (n + ready) (put_mid n (length out - n) out left))) (sym (ended-take out left n v.begun.within ready e.few))
             (subst (IsPending (parts_format c.args.table.now g.H.HashFn.hash) P (take n out ++ take ready left)) (sym (ended-drop out left n v.begun.within ready e.few))
-            (e.pass P (take n out) whole.parts (subst (IsPending (parts_format c.args.table.now g.H.HashFn.hash) P (take n out)) (sym (rest out n))
+            (e.pass P (take n out) whole.parts (subst (IsPending (parts_format c.args.table.now g.H.HashFn.hash) P (take n out)) (sym (take_rest out n))
             (v.begun.pending P (subst (AreWholeParts (parts_format c.args.table.now g.H.HashFn.hash) P c.args.table.now.parts) same whole)))).pending);
       };
       frontiers = subst (λ ns. AreFrontiers ns c.args.table.now.parts.entries.slots c.place_ready-ready.new.frontiers) (sym (ended-drop out left n v.begun.within ready e.few)) e.frontiers;

@@ -1,6 +1,5 @@
 use Rattle.std.proofs.Common.{ℕ, List}
-use Rattle.odht_base.specs.Table.{Table}
-use Rattle.odht_base.specs.Valid.{IsPartsOf}
+use Rattle.odht_raw.specs.Words.{IsPartsOf, Table}
 use Rattle.odht_raw.specs.DynParts.{parts_format}
 use Rattle.odht_raw.specs.Frontiers.{AreFrontiers}
 use Rattle.odht_raw.specs.Waiting.{IsPending}

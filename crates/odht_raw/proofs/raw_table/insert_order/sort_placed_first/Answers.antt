@@ -1,6 +1,5 @@
-use Rattle.std.proofs.Common.{◌≡◌, ◌<◌, ◌≤◌, ◌-◌, ℕ, List, length, take, drop, sym, subst, arith, AllPairs, IsPermutation}
-use Rattle.std.proofs.lemmas.List.{take_all, length-drop}
-use Rattle.std.proofs.lemmas.List.Sorted.{IsPermutation-trans, IsPermutation-put_mid}
+use Rattle.std.proofs.Common.{◌<◌, ◌≤◌, ◌-◌, length, sym, subst, arith, AllPairs, IsPermutation}
+use Rattle.odht_raw.proofs.lemmas.Below.{IsPermutation-put_mid, IsPermutation-trans, take_rest}
 use Rattle.odht_raw.proofs.lemmas.PartedSlots.{all_placed, parted_none, parted_waiting, parted_placed, parted_rises}
 use Rattle.odht_raw.proofs.lemmas.PendingSlots.{ended}
 use Rattle.odht_raw.proofs.raw_table.insert_order.sort_placed_first.Goals.{then-moved-lt-WAITING, else-moved-lt-WAITING}
@@ -26,15 +25,11 @@ returns-clause-permutation c =
     IsPermutation-trans _ _ _ c.loop-at.invariant.moved
     (IsPermutation-put_mid c.loop-at.front (length c.loop-at.slots - c.loop-at.front) c.loop-at.slots c.sort_unstable.new.self c.sort_unstable.ensures.permutation)
 
--- what is left of a list behind its first items
-rest : (xs : List ℕ) (n : ℕ) → take (length xs - n) (drop n xs) ≡ drop n xs
-rest xs n = take_all (length xs - n) (drop n xs) (omega (arith, length-drop n xs))
-
 pub returns-clause-rising : goal.returns-clause-rising
 returns-clause-rising c rise =
     let ns = c.loop-at.slots in
     let n = c.loop-at.front in
     let few : n ≤ length ns = omega (arith, c.loop-at.invariant.few, c.loop-at.auto.at-end, c.loop-at.auto.slots) in
-    let moved = subst (λ xs. IsPermutation xs c.sort_unstable.new.self) (rest ns n) c.sort_unstable.ensures.permutation in
+    let moved = subst (λ xs. IsPermutation xs c.sort_unstable.new.self) (take_rest ns n) c.sort_unstable.ensures.permutation in
     subst (AllPairs (λ a b. a < b)) (sym (ended ns c.sort_unstable.new.self n few))
     (parted_rises c.loop-at.invariant (omega (arith, c.loop-at-test.false, c.loop-at.auto.slots)) few c.sort_unstable.new.self moved c.sort_unstable.ensures.sorted rise)

@@ -1,6 +1,5 @@
 use Rattle.std.proofs.Common.{◌/◌, ◌^◌, ◌≡◌, ◌∙◌, ap, arith, subst, sym}
-use Rattle.odht_base.specs.Format.{Format, format_of}
-use Rattle.odht_base.specs.Table.{Pair}
+use Rattle.odht_raw.specs.Words.{Format, format_of, Pair}
 use Rattle.odht_raw.specs.DynParts.{DynParts}
 use Rattle.odht_raw.specs.Parts.{stored_in}
 use Rattle.odht_raw.specs.PartsInserts.{IsInsertAt, IsInsertChange, IsPartsInsert}

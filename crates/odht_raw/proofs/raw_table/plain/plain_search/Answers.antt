@@ -1,13 +1,7 @@
 use Rattle.std.proofs.Common.{◌≡◌, ◌∙◌, ℕ, ◌<◌, ◌%◌, inl, inr, sym, ap, subst, true≢false, false, arith}
 use Rattle.std.specs.Prelude.{slice_index}
-use Rattle.std.proofs.lemmas.Bool.{cases_lt}
-use Rattle.odht_base.specs.Probe.{probe_slot}
-use Rattle.odht_base.specs.Decoded.{counts_as_free, slot_key}
-use Rattle.odht_base.specs.Format.{Format, format_of}
-use Rattle.odht_base.specs.Load.{IsSlotCount}
-use Rattle.odht_base.proofs.lemmas.Orders.{probe_slot-onto}
-use Rattle.odht_base.proofs.lemmas.SlotCounts.{bit_and-slots}
-use Rattle.odht_header.proofs.lemmas.Formats.{IsFormat-format_of}
+use Rattle.odht_raw.proofs.lemmas.Below.{bit_and-slots, cases_lt, IsFormat-format_of, probe_slot-onto}
+use Rattle.odht_raw.specs.Words.{counts_as_free, Format, format_of, IsSlotCount, probe_slot, slot_key}
 use Rattle.odht_raw.proofs.lemmas.PlainSearch.{free_end, key_end, passed_on, no_end}
 use Rattle.odht_raw.proofs.raw_table.plain.plain_search.Given.{Over}
 use Rattle.odht_raw.proofs.raw_table.plain.plain_search.Goals.{After-probed_slot-slot}

@@ -1,10 +1,6 @@
 use Rattle.std.proofs.Common.{ℕ, ◌<◌, ◌%◌, ◌≡◌}
 use Rattle.std.specs.Prelude.{slice_index, IsFalse}
-use Rattle.odht_base.specs.Format.{format_of}
-use Rattle.odht_base.specs.Probe.{probe_slot}
-use Rattle.odht_base.specs.Decoded.{counts_as_free, slot_key}
-use Rattle.odht_base.specs.Table.{Table}
-use Rattle.odht_base.specs.Valid.{IsPartsOf}
+use Rattle.odht_raw.specs.Words.{counts_as_free, format_of, IsPartsOf, probe_slot, slot_key, Table}
 use Rattle.odht_raw.specs.SearchSteps.{Passed}
 use Rattle.odht_raw.proofs.raw_table.plain.plain_search.Given as goal
 

@@ -1,9 +1,8 @@
 use Rattle.std.proofs.Common.{arith, ◌≡◌, ◌∙◌, ◌+◌, ◌-◌, ◌++◌, [], ◌∷◌, sym, ap, ap₂, subst, map}
 use Rattle.std.specs.List.{range_with_len}
 use Rattle.std.specs.Prelude.{IsPermutation}
-use Rattle.std.proofs.lemmas.List.FromFn.{map-range_with_len_more}
+use Rattle.odht_raw.proofs.lemmas.Below.{map-range_with_len_more, order-IsPermutation}
 use Rattle.odht_base.specs.Probe.{probe_slot, order}
-use Rattle.odht_base.proofs.lemmas.Orders.{order-IsPermutation}
 use Rattle.odht_raw.proofs.raw_table.probe_seq.probe_order.Goals as goal
 use Rattle.odht_raw.proofs.raw_table.probe_seq.probe_order.Goals.{then-position-slots, else-position-slots}
 

@@ -1,16 +1,12 @@
 use Rattle.std.proofs.Common.{rules, arith, ◌∙◌, ℕ, ◌+◌, ◌<◌, sym, ap, subst, refl, inl, true≢false, length, List}
-use Rattle.std.specs.List.Sorted.{IsStrictlyIncreasing}
-use Rattle.std.proofs.lemmas.List.Quantifiers.{position-Some}
-use Rattle.odht_base.specs.Format.{Format, format_of}
-use Rattle.odht_base.specs.Groups.{IsReport}
-use Rattle.odht_base.specs.Decoded.{counts_as_free, slot_key}
-use Rattle.odht_base.proofs.lemmas.SlotCounts.{bit_and-slots, few_slots}
+use Rattle.odht_raw.proofs.lemmas.Below.{bit_and-slots, few_slots, position-Some}
+use Rattle.odht_raw.specs.Words.{counts_as_free, Format, format_of, IsReport, slot_key}
 use Rattle.odht_raw.specs.Reads.{read_entries, read_key}
 use Rattle.odht_raw.specs.SearchEnds.{IsOtherAmong}
 use Rattle.odht_raw.specs.SearchSteps.{EndsWithin, Passed}
 use Rattle.odht_raw.specs.declared.raw_table.read_search.ReadPlace.{ReadPlace}
 use Rattle.odht_raw.specs.declared.raw_table.search_result.Search.TheVariants.{Found, Free}
-use Rattle.odht_raw.proofs.lemmas.GroupLooks.{taken-first, taken-next, taken-all, position-None, rising-drop, other-before, look_found, look_free, look_on}
+use Rattle.odht_raw.proofs.lemmas.GroupLooks.{taken-first, taken-next, taken-all, position-None, rising-rest, other-before, look_found, look_free, look_on}
 use Rattle.odht_raw.proofs.raw_table.read_search.look_at_read.Given.{Over}
 use Rattle.odht_raw.proofs.raw_table.read_search.look_at_read.Goals as goal
 use Rattle.odht_raw.proofs.raw_table.read_search.look_at_read.Goals.{After-first_empty}
@@ -38,7 +34,7 @@ pub matches-preserved : goal.matches-preserved
 matches-preserved g c =
     let masked = bit_and-slots (c.args.start + c.in-Some.index) c.args.place.now.slots c.requires.at.slots in
     record {
-      rising = subst IsStrictlyIncreasing (sym c.drop_match.ensures.rest) (rising-drop _ c.matches.invariant.rising);
+      rising = rising-rest _ _ c.drop_match.ensures.rest c.matches.invariant.rising;
       same = c.drop_match.ensures.free ∙ c.matches.invariant.same;
       part = taken-next _ _ _ _ c.in-Some.index c.matches.invariant.part c.in-Some.ensures c.drop_match.ensures.rest tt;
       taken = λ B h. taken-next _ _ _ _ c.in-Some.index (c.matches.invariant.taken B h) c.in-Some.ensures c.drop_match.ensures.rest

@@ -1,6 +1,5 @@
 use Rattle.std.proofs.Common.{rules, arith, ◌≡◌, ◌∙◌, ◌+◌, ◌*◌, ◌/◌, ◌%◌, ◌≤◌, ap, subst}
-use Rattle.odht_base.specs.Format.{Format, format_of, home, IsFormat}
-use Rattle.odht_base.specs.Probe.{probe_slot}
+use Rattle.odht_raw.specs.Words.{Format, format_of, home, IsFormat, probe_slot}
 use Rattle.odht_base.proofs.lemmas.SlotCounts.{sixteens}
 use Rattle.odht_raw.proofs.lemmas.ProbedSlots.{group_begins}
 use Rattle.odht_raw.specs.SearchSteps.{IsGroupLook}

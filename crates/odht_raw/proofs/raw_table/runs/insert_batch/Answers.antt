@@ -1,9 +1,7 @@
 use Rattle.std.proofs.Common.{◌≡◌, ◌+◌, ◌∙◌, ℕ, List, Some, get_or, inl, inr, sym, ap, subst, refl, cond, arith, slice_get}
 use Rattle.std.specs.List.{slice_range}
 use Rattle.std.proofs.lemmas.Option.{slice_get-get_or}
-use Rattle.odht_base.specs.Format.{Format, format_of}
-use Rattle.odht_base.specs.Table.{Table}
-use Rattle.odht_base.specs.Valid.{IsPartsOf}
+use Rattle.odht_raw.specs.Words.{Format, format_of, IsPartsOf, Table}
 use Rattle.odht_raw.specs.DynParts.{DynParts, bytes_coding, parts_format}
 use Rattle.odht_raw.specs.Expected.{AreAhead, IsAhead, EndsIfFree}
 use Rattle.odht_raw.specs.Runs.{encoded_all, IsRunTo}

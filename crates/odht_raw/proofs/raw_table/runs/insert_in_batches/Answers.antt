@@ -1,6 +1,5 @@
 use Rattle.std.proofs.Common.{◌≡◌, ◌+◌, ◌-◌, ℕ, List, inl, inr, arith}
-use Rattle.odht_base.specs.Format.{format_of}
-use Rattle.odht_header.specs.Coding.{Coding}
+use Rattle.odht_raw.specs.Words.{Coding, format_of}
 use Rattle.odht_raw.specs.DynParts.{bytes_coding}
 use Rattle.odht_raw.proofs.lemmas.PartRuns.{refused_room, run_to_none, run_to_then}
 use Rattle.odht_raw.proofs.raw_table.runs.insert_in_batches.Given.{Over}

@@ -1,6 +1,5 @@
 use Rattle.std.proofs.Common.{rules, true, ◌≤◌, ◌≡◌, ◌+◌, ◌-◌, ◌<◌, ◌∙◌, ℕ, Some, inl, inr, sym, ap, subst, cond, arith, length, slice_get}
-use Rattle.odht_base.specs.Format.{Format, format_of}
-use Rattle.odht_base.specs.Table.{Pair, Table}
+use Rattle.odht_raw.specs.Words.{Format, format_of, Pair, Table}
 use Rattle.odht_raw.specs.DynParts.{bytes_coding}
 use Rattle.odht_raw.specs.Runs.{IsRunTo}
 use Rattle.odht_raw.specs.SearchResults.{answer}

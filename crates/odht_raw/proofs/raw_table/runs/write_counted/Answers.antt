@@ -1,8 +1,7 @@
 use Rattle.std.proofs.Common.{◌≡◌, ◌∙◌, Bool, true, false, ℕ, List, Option, Some, refl, sym, ap}
 use Rattle.std.specs.Bool.{then_some}
 use Rattle.std.specs.Prelude.{is_none}
-use Rattle.odht_base.specs.Format.{Format, format_of}
-use Rattle.odht_base.specs.Table.{Pair, Table}
+use Rattle.odht_raw.specs.Words.{Format, format_of, Pair, Table}
 use Rattle.odht_raw.specs.Formers.{answered, former_of, write_result}
 use Rattle.odht_raw.specs.Steps.{adds, IsCountedStep, IsStepWhere}
 use Rattle.odht_raw.specs.declared.raw_table.search_result.Search.{Search}

@@ -1,7 +1,6 @@
 use Rattle.std.proofs.Common.{◌≡◌, ◌∙◌, sym, ap, true, true≢false, replicate, slice_index}
 use Rattle.std.specs.Result.{result_err}
-use Rattle.odht_base.specs.Decoded.{counts_as_free}
-use Rattle.odht_header.specs.Refusals.{checked}
+use Rattle.odht_raw.specs.Words.{checked, counts_as_free}
 use Rattle.odht_raw.specs.DynParts.{parts_format}
 use Rattle.odht_raw.proofs.lemmas.SlotChecks.{zero_entry_passes, other_entry_refusal}
 use Rattle.odht_raw.proofs.raw_table.slot_checks.check_slot.Given.{Over}

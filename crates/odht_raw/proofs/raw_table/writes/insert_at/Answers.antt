@@ -1,10 +1,7 @@
 use Rattle.std.proofs.Common.{◌≡◌, ◌∙◌, ◌-◌, ◌<◌, ℕ, List, Option, Result, Ok, Err, arith, sym, ap, subst, length}
 use Rattle.std.specs.Prelude.{option_map}
-use Rattle.odht_base.specs.Format.{Format, format_of}
-use Rattle.odht_base.specs.Table.{Pair}
+use Rattle.odht_raw.specs.Words.{Error, Format, format_of, Full, Pair}
 use Rattle.odht_header.proofs.lemmas.Formats.{IsFormat-format_of}
-use Rattle.odht_header.specs.declared.error.Error.{Error}
-use Rattle.odht_header.specs.declared.error.Error.TheVariants.{Full}
 use Rattle.odht_raw.specs.Formers.{former_of, with_former, write_result}
 use Rattle.odht_raw.specs.PartsInserts.{IsInsertAt}
 use Rattle.odht_raw.specs.SearchResults.{answer}

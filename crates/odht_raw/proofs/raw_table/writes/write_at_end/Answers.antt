@@ -1,20 +1,12 @@
 use Rattle.std.proofs.Common.{rules, arith, ℕ, List, ◌≡◌, ◌≤◌, ◌<◌, ◌+◌, ◌*◌, ◌-◌, length, subst, ◌∙◌, sym, ap, Option, Some, None, Result, Ok, Err, refl}
 use Rattle.std.specs.Prelude.{option_map}
-use Rattle.odht_base.specs.Bytes.{overwritten_at}
-use Rattle.odht_base.specs.Format.{Format, format_of, entry_len, tag as key_tag}
-use Rattle.odht_base.specs.Table.{Pair}
-use Rattle.odht_base.specs.Valid.{IsPartsOf, IsPairOf}
-use Rattle.odht_base.proofs.lemmas.Places.{written}
-use Rattle.odht_base.proofs.lemmas.PartsOf.{slot_within}
-use Rattle.odht_base.specs.Decoded.{slot_value}
-use Rattle.odht_base.specs.Writes.{tagged}
+use Rattle.odht_raw.specs.Words.{entry_len, Error, Format, format_of, Full, IsPairOf, IsPartsOf, overwritten_at, Pair, slot_value, tag as key_tag, tagged}
+use Rattle.odht_raw.proofs.lemmas.Below.{slot_within, written}
 use Rattle.odht_raw.specs.Frame.{PartsFrame}
 use Rattle.odht_raw.specs.Parts.{stored_in}
 use Rattle.odht_raw.specs.Steps.{StepFrame}
 use Rattle.odht_raw.specs.Formers.{former_of}
 use Rattle.odht_raw.specs.SearchEnds.{IsAfter, IsEnd}
-use Rattle.odht_header.specs.declared.error.Error.{Error}
-use Rattle.odht_header.specs.declared.error.Error.TheVariants.{Full}
 use Rattle.odht_raw.specs.declared.raw_table.search_result.Search.{Search}
 use Rattle.odht_raw.specs.declared.raw_table.search_result.Search.TheVariants.{Found, Free}
 use Rattle.odht_raw.proofs.lemmas.GroupSearches.{missing-free, missing-neither}

@@ -1,13 +1,8 @@
 use Rattle.std.proofs.Common.{arith, ◌-◌, ◌/◌, ◌^◌, ◌≡◌, ◌∙◌, ℕ, sym, ap, subst, refl, length, Ok}
-use Rattle.std.proofs.lemmas.Option.{none-some}
-use Rattle.odht_base.specs.Format.{Format, format_of, tag as key_tag}
-use Rattle.odht_base.specs.Table.{Pair}
-use Rattle.odht_base.specs.Valid.{IsPairOf, IsPartsOf}
-use Rattle.odht_base.specs.Writes.{tagged}
-use Rattle.odht_base.proofs.lemmas.Places.{written, place-None}
+use Rattle.odht_raw.proofs.lemmas.Below.{IsFormat-format_of, none-some, place-None, written}
+use Rattle.odht_raw.specs.Words.{Format, format_of, IsPairOf, IsPartsOf, Pair, tag as key_tag, tagged}
 use Rattle.odht_raw.specs.FreeSlots.{IsFirstFree}
 use Rattle.odht_raw.specs.PartsPlacings.{PlacingFrame}
-use Rattle.odht_header.proofs.lemmas.Formats.{IsFormat-format_of}
 use Rattle.odht_raw.proofs.lemmas.FreeSearches.{first_free-answer, no_free-answer}
 use Rattle.odht_raw.proofs.lemmas.Inserts.{free_parts}
 use Rattle.odht_raw.proofs.lemmas.Lookups.{answer-Free, answer-Neither}

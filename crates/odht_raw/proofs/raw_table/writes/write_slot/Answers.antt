@@ -1,7 +1,6 @@
 use Rattle.std.proofs.Common.{◌≡◌, ◌∙◌, ◌+◌, ◌*◌, ◌<◌, ◌≤◌, ◌++◌, ℕ, List, ap, length, arith}
 use Rattle.odht_base.specs.Bytes.{overwritten_at}
-use Rattle.odht_base.proofs.lemmas.ByteRanges.{length-overwritten_at, overwritten_at-twice}
-use Rattle.odht_base.proofs.lemmas.PartsOf.{slot_within}
+use Rattle.odht_raw.proofs.lemmas.Below.{length-overwritten_at, overwritten_at-twice, slot_within}
 use Rattle.odht_raw.proofs.raw_table.writes.write_slot.Given.{Over}
 use Rattle.odht_raw.proofs.raw_table.writes.write_slot.Goals.{After-write_slice-2}
 use Rattle.odht_raw.proofs.raw_table.writes.write_slot.Goals as goal

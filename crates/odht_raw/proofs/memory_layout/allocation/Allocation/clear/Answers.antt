@@ -1,9 +1,5 @@
 use Rattle.std.proofs.Common.{◌≡◌, ◌∙◌, sym, ap, subst, length, arith}
-use Rattle.odht_base.specs.Decoded.{header_slots, header_factor}
-use Rattle.odht_base.specs.Format.{Format, format_of}
-use Rattle.odht_base.specs.Image.{image}
-use Rattle.odht_base.specs.Load.{IsSlotCount}
-use Rattle.odht_base.specs.Table.{empty}
+use Rattle.odht_raw.specs.Words.{empty, Format, format_of, header_factor, header_slots, image, IsSlotCount}
 use Rattle.odht_raw.specs.Frame.{IsAccepted}
 use Rattle.odht_raw.proofs.lemmas.Accepted.{accepted_slots}
 use Rattle.odht_raw.proofs.lemmas.Borrows.{borrowed-bytes}

@@ -1,10 +1,5 @@
 use Rattle.std.proofs.Common.{rules, ◌≡◌, ◌∙◌, ap, sym, subst}
-use Rattle.odht_base.specs.Format.{Format, format_of}
-use Rattle.odht_base.specs.Load.{IsSlotCount}
-use Rattle.odht_base.specs.Image.{image_len}
-use Rattle.odht_base.specs.Decoded.{header_slots, entries_of, controls_of}
-use Rattle.odht_base.proofs.lemmas.Fits.{IsSized-IsPlaced}
-use Rattle.odht_base.proofs.lemmas.Image.{entries_of-image, controls_of-image}
+use Rattle.odht_raw.specs.Words.{Format, format_of, header_slots, image_len, IsImage, IsSlotCount}
 use Rattle.odht_raw.proofs.lemmas.Accepted.{accepted_opening, accepted_len, accepted_slots}
 use Rattle.odht_raw.proofs.memory_layout.allocation.Allocation.data_slices.Given.{Over}
 use Rattle.odht_raw.proofs.memory_layout.allocation.Allocation.data_slices.Goals.{After-slot_count-slots}
@@ -34,18 +29,8 @@ cut-parts-requires-clause-long g c =
     let long = accepted_len (format g) (g.M.ByteStore.bytes c.self.inside.store) c.self.invariant.0 in
     rw (c.bytes-bytes.ensures) (long ∙ ap (image_len (format g)) (ap header_slots (sym c.bytes-bytes.ensures) ∙ sym (slots_are g (goal.at.cut-parts-requires-clause-long g c).After-slot_count-slots)))
 
-pub returns-clause-control : goal.returns-clause-control
-returns-clause-control g c = search rules
-
-pub returns-clause-entries : goal.returns-clause-entries
-returns-clause-entries g c = search rules
-
 pub returns-clause-parts : goal.returns-clause-parts
 returns-clause-parts g c P is =
-    let F = format g in
-    let sized = IsSized-IsPlaced F P is.valid.placed in
-    record {
-      placed = is.valid.placed;
-      entries_are = returns-clause-entries g c ∙ ap (entries_of F) is.bytes ∙ entries_of-image F P sized;
-      controls_are = returns-clause-control g c ∙ ap (controls_of F) is.bytes ∙ controls_of-image F P sized;
-    }
+    let image = subst (IsImage (format g) P) (ap g.M.ByteStore.bytes (sym c.self.view_is) ∙ sym c.bytes-bytes.ensures) is in
+    let parts = c.cut-parts.ensures.on_valid P image in
+    search rules

@@ -1,9 +1,7 @@
 use Rattle.std.proofs.Common.{rules, ◌≡◌, ◌∙◌, ◌<◌, ◌^◌, sym, ap, subst, length, Err}
 use Rattle.std.specs.Result.{result_err}
-use Rattle.odht_base.specs.Format.{Format, format_of}
-use Rattle.odht_header.specs.Refusals.{checked, view_refusal}
-use Rattle.odht_header.proofs.lemmas.FirstErrors.{Ok-checked, Err-checked}
-use Rattle.odht_header.proofs.lemmas.Formats.{IsFormat-format_of}
+use Rattle.odht_raw.specs.Words.{checked, Format, format_of, view_refusal}
+use Rattle.odht_raw.proofs.lemmas.Below.{Err-checked, IsFormat-format_of, Ok-checked}
 use Rattle.odht_raw.proofs.lemmas.ImagesOpen.{image_is_accepted}
 use Rattle.odht_raw.proofs.lemmas.Openings.{view_refusal-accepted}
 use Rattle.odht_raw.proofs.memory_layout.allocation.Allocation.from_raw_bytes.Given.{Over}

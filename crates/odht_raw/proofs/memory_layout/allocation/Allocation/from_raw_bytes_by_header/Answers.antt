@@ -1,7 +1,6 @@
 use Rattle.std.proofs.Common.{rules, ◌≡◌, ◌∙◌, ◌<◌, ◌^◌, sym, ap, subst, length, Err}
 use Rattle.std.specs.Result.{result_err}
-use Rattle.odht_base.specs.Format.{Format, format_of}
-use Rattle.odht_header.specs.Refusals.{checked, opening_refusal}
+use Rattle.odht_raw.specs.Words.{checked, Format, format_of, opening_refusal}
 use Rattle.odht_header.proofs.lemmas.FirstErrors.{Ok-checked, Err-checked}
 use Rattle.odht_raw.proofs.memory_layout.allocation.Allocation.from_raw_bytes_by_header.Given.{Over}
 use Rattle.odht_raw.proofs.memory_layout.allocation.Allocation.from_raw_bytes_by_header.Goals.{After-check_by_header}

@@ -1,7 +1,5 @@
 use Rattle.std.proofs.Common.{◌≡◌, ◌<◌, ◌^◌, ap, subst, length}
-use Rattle.odht_base.specs.Format.{format_of}
-use Rattle.odht_base.specs.Image.{image_len}
-use Rattle.odht_base.specs.Decoded.{header_slots}
+use Rattle.odht_raw.specs.Words.{format_of, header_slots, image_len}
 use Rattle.odht_raw.specs.Frame.{IsAccepted}
 use Rattle.odht_raw.proofs.lemmas.Accepted.{accepted_opening, accepted_len}
 use Rattle.odht_raw.proofs.memory_layout.allocation.Allocation.header.Goals as goal

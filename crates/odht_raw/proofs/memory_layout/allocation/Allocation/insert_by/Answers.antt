@@ -1,8 +1,6 @@
 use Rattle.std.proofs.Common.{◌≡◌, ◌∙◌, ℕ, List, length, sym, ap, subst, arith}
 use Rattle.std.specs.Prelude.{IfOk}
-use Rattle.odht_base.specs.Format.{Format, format_of}
-use Rattle.odht_base.specs.Valid.{IsImage}
-use Rattle.odht_header.specs.Coding.{Coding, coding_of}
+use Rattle.odht_raw.specs.Words.{Coding, coding_of, Format, format_of, IsImage}
 use Rattle.odht_raw.specs.Frame.{IsAccepted, IsFramed}
 use Rattle.odht_raw.specs.Runs.{IsOnePlaced}
 use Rattle.odht_raw.proofs.lemmas.Accepted.{accepted_opening}

@@ -1,6 +1,5 @@
 use Rattle.std.proofs.Common.{◌≡◌, ◌∙◌, ℕ, List, length, sym, ap, subst, arith}
-use Rattle.odht_base.specs.Format.{Format, format_of}
-use Rattle.odht_header.specs.Coding.{Coding, coding_of}
+use Rattle.odht_raw.specs.Words.{Coding, coding_of, Format, format_of}
 use Rattle.odht_raw.specs.Frame.{IsAccepted}
 use Rattle.odht_raw.specs.Runs.{IsListRun}
 use Rattle.odht_raw.proofs.lemmas.Accepted.{accepted_opening}

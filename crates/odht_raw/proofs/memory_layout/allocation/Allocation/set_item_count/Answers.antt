@@ -1,7 +1,5 @@
 use Rattle.std.proofs.Common.{◌≡◌, ◌∙◌, ap, sym, subst, arith}
-use Rattle.odht_base.specs.Bytes.{overwritten_at}
-use Rattle.odht_base.specs.Format.{format_of}
-use Rattle.odht_base.specs.Writes.{with_count}
+use Rattle.odht_raw.specs.Words.{format_of, overwritten_at, with_count}
 use Rattle.odht_raw.specs.Frame.{IsAccepted}
 use Rattle.odht_raw.proofs.lemmas.Accepted.{accepted_opening, IsAccepted-with_count}
 use Rattle.odht_header.proofs.lemmas.HeaderWrites.{le_bytes-w64}

@@ -1,16 +1,10 @@
 use Rattle.std.proofs.Common.{◌≡◌, ◌+◌, ◌*◌, ◌≤◌, ◌∙◌, ◌++◌, List, ℕ, ap, sym, subst, arith, length, length-append, append_assoc}
-use Rattle.odht_base.specs.Bytes.{overwritten_at}
-use Rattle.odht_base.specs.Decoded.{header_slots}
-use Rattle.odht_base.specs.Format.{Format, format_of, entry_len}
-use Rattle.odht_base.specs.Load.{IsSlotCount}
-use Rattle.odht_base.specs.Table.{Pair}
-use Rattle.odht_base.specs.Writes.{with_entry, with_tag}
-use Rattle.odht_base.proofs.lemmas.ByteRanges.{length-overwritten_at}
-use Rattle.odht_base.proofs.lemmas.Writes.{with_entry-append, with_tag-append}
+use Rattle.odht_raw.specs.Words.{entry_len, Format, format_of, header_slots, IsSlotCount, overwritten_at, Pair, with_entry, with_tag}
+use Rattle.odht_raw.proofs.lemmas.Below.{length-overwritten_at, with_entry-append, with_tag-append}
 use Rattle.odht_raw.specs.Frame.{IsAccepted}
 use Rattle.odht_raw.proofs.lemmas.Accepted.{accepted_opening, accepted_len, accepted_slots, accepted_entry, accepted_control, accepted_mirror, IsAccepted-overwritten_at, IsAccepted-tagged_at}
 use Rattle.odht_raw.proofs.lemmas.Borrows.{borrowed-bytes, borrowed-same}
-use Rattle.odht_raw.proofs.lemmas.ListWrites.{IsCut, cut_accepted}
+use Rattle.odht_raw.proofs.lemmas.ListWrites.{IsCut, cut_accepted, cut-length}
 use Rattle.odht_raw.proofs.memory_layout.allocation.Allocation.write_entry.Given.{Over}
 use Rattle.odht_raw.proofs.memory_layout.allocation.Allocation.write_entry.Goals as goal
 use Rattle.odht_raw.proofs.memory_layout.allocation.Allocation.write_entry.Goals.{After-split_at_mut-entries, After-write_slot}
@@ -35,16 +29,15 @@ split_at_mut-table-requires g c =
 accepted : (g : Over) (c : After-split_at_mut-entries g) → IsAccepted (format g) c.bytes_mut-bytes.result.now
 accepted g c = subst (IsAccepted (format g)) (sym c.bytes_mut-bytes.ensures.value) c.self.invariant.0
 
--- header, entries and control bytes are those of the bytes
-cut : (g : Over) (c : After-split_at_mut-entries g) → IsCut (format g) c.bytes_mut-bytes.result.now c.split_at_mut-entries.result.0.now c.split_at_mut-entries.result.1.now c.split_at_mut-table.result.1.now
-cut g c =
-    let slots : c.slot_count-slots.result ≡ header_slots c.bytes_mut-bytes.result.now = c.slot_count-slots.ensures ∙ ap header_slots c.of.ensures in
-    cut_accepted (format g) c.bytes_mut-bytes.result.now (accepted g c) c.entry_at.result (c.entry_at.ensures ∙ ap (λ s. 32 + s * entry_len (format g)) slots) _ _ _ _
-    c.split_at_mut-table.ensures.front c.split_at_mut-table.ensures.back c.split_at_mut-entries.ensures.front c.split_at_mut-entries.ensures.back
-
 -- the slot count is that of the header
 slots_are : (g : Over) (c : After-split_at_mut-entries g) → c.slot_count-slots.result ≡ header_slots c.bytes_mut-bytes.result.now
 slots_are g c = c.slot_count-slots.ensures ∙ ap header_slots c.of.ensures
+
+-- header, entries and control bytes are those of the bytes
+cut : (g : Over) (c : After-split_at_mut-entries g) → IsCut (format g) c.bytes_mut-bytes.result.now c.split_at_mut-entries.result.0.now c.split_at_mut-entries.result.1.now c.split_at_mut-table.result.1.now
+cut g c =
+    cut_accepted (format g) c.bytes_mut-bytes.result.now (accepted g c) c.entry_at.result (c.entry_at.ensures ∙ ap (λ s. 32 + s * entry_len (format g)) (slots_are g c)) _ _ _ _
+    c.split_at_mut-table.ensures.front c.split_at_mut-table.ensures.back c.split_at_mut-entries.ensures.front c.split_at_mut-entries.ensures.back
 
 pub write_slot-requires-clause-slots : goal.write_slot-requires-clause-slots
 write_slot-requires-clause-slots g c =
@@ -54,14 +47,12 @@ write_slot-requires-clause-slots g c =
 pub write_slot-requires-clause-control : goal.write_slot-requires-clause-control
 write_slot-requires-clause-control g c =
     let at = (goal.at.write_slot-requires-clause-control g c).After-split_at_mut-entries in
-    let cut = cut g at in
-    omega (arith, cut.mirrored, cut.slots, slots_are g at)
+    omega (arith, (cut g at).mirrored, (cut g at).slots, slots_are g at)
 
 pub write_slot-requires-clause-entries : goal.write_slot-requires-clause-entries
 write_slot-requires-clause-entries g c =
     let at = (goal.at.write_slot-requires-clause-entries g c).After-split_at_mut-entries in
-    let cut = cut g at in
-    cut.long ∙ ap (λ s. s * entry_len (format g)) (cut.slots ∙ sym (slots_are g at))
+    (cut g at).long ∙ ap (λ s. s * entry_len (format g)) ((cut g at).slots ∙ sym (slots_are g at))
 
 pub write_slot-requires-clause-slot : goal.write_slot-requires-clause-slot
 write_slot-requires-clause-slot g c =
@@ -106,21 +97,8 @@ module _ (g : Over) (c : After-write_slot g)
       ∙ sym (with_tag-append F s H es' ctrl c.args.slot c.args.tag cut.head long' mirrored)
       ∙ ap (λ D. with_tag F s D c.args.slot c.args.tag) (sym entry)
 
-  same_length : length (c.split_at_mut-entries.result.0.now ++ c.write_slot.new.entries ++ c.write_slot.new.control) ≡ length c.bytes_mut-bytes.result.now
-  same_length =
-      let H = c.split_at_mut-entries.result.0.now in
-      let new = length-append H c.write_slot.new.entries in
-      let old = length-append c.split_at_mut-entries.result.1.now c.split_at_mut-table.result.1.now in
-      omega (
-        arith,
-        length-append (H ++ c.write_slot.new.entries) c.write_slot.new.control,
-        new,
-        length-append H (c.split_at_mut-entries.result.1.now ++ c.split_at_mut-table.result.1.now),
-        old,
-        ap length cut.whole,
-        c.write_slot.auto.entries,
-        c.write_slot.auto.control,
-      )
+  same_length : length joined ≡ length c.bytes_mut-bytes.result.now
+  same_length = cut-length (format g) _ _ _ _ cut c.write_slot.new.entries c.write_slot.new.control c.write_slot.auto.entries c.write_slot.auto.control
 
   -- the store has them
   same : g.M.ByteStore.bytes (g.M.ByteStoreMut.after_borrow c.self.inside.store joined) ≡ joined

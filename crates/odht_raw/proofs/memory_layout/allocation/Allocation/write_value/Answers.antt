@@ -1,6 +1,5 @@
 use Rattle.std.proofs.Common.{◌≡◌, ◌∙◌, ap, ◌+◌, ◌*◌, ◌<◌, ◌≤◌, sym, subst, arith, length}
-use Rattle.odht_base.specs.Format.{format_of, entry_len}
-use Rattle.odht_base.specs.Decoded.{header_slots}
+use Rattle.odht_raw.specs.Words.{entry_len, format_of, header_slots}
 use Rattle.odht_raw.specs.Frame.{IsAccepted}
 use Rattle.odht_raw.proofs.lemmas.Accepted.{accepted_entry, IsAccepted-overwritten_at}
 use Rattle.odht_raw.proofs.memory_layout.allocation.Allocation.write_value.Given.{Over}

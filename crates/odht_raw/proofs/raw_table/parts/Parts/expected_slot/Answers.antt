@@ -1,21 +1,11 @@
 use Rattle.std.proofs.Common.{rules, ◌≡◌, ◌∙◌, ◌-◌, ◌+◌, ◌<◌, ◌%◌, ◌/◌, ◌^◌, ℕ, List, Some, sym, ap, subst, arith, length, bit_and}
-use Rattle.odht_base.specs.Bytes.{bytes_at}
-use Rattle.odht_base.specs.Format.{Format, IsFormat, home, tag}
-use Rattle.odht_base.specs.Groups.{IsReport, first_free}
-use Rattle.odht_base.specs.Load.{IsSlotCount}
-use Rattle.odht_base.specs.Table.{Table}
-use Rattle.odht_base.specs.Valid.{IsPartsOf}
-use Rattle.odht_base.proofs.lemmas.SlotCounts.{bit_and-slots}
+use Rattle.odht_raw.specs.Words.{bytes_at, first_free, Format, home, IsFormat, IsPartsOf, IsReport, IsSlotCount, Table, tag}
+use Rattle.odht_raw.proofs.lemmas.Below.{bit_and-slots, IsFormat-format_of}
 use Rattle.odht_raw.specs.DynParts.{AreWhole, DynParts, parts_format}
 use Rattle.odht_raw.specs.Expected.{IsExpected}
 use Rattle.odht_raw.specs.declared.raw_table.search_result.Search.TheVariants.{Free}
-use Rattle.odht_raw.proofs.lemmas.Expected.{size_fits, no_match, home_free, no_slot}
-use Rattle.odht_header.proofs.lemmas.Formats.{IsFormat-format_of}
+use Rattle.odht_raw.proofs.lemmas.Expected.{home_free, no_match, no_slot, size_fits, whole_slots}
 use Rattle.odht_raw.proofs.raw_table.parts.Parts.expected_slot.Goals as goal
-
--- the control bytes have as many slots as the parts
-slots_are : (ml : ℕ) (S : DynParts) → AreWhole ml S → length S.parts.control - 16 ≡ S.parts.entries.slots
-slots_are ml S whole = omega (arith, whole.mirrored)
 
 -- the home is one of the slots
 home_low : (hash s : ℕ) → IsSlotCount s → bit_and hash (s - 1) < s
@@ -47,7 +37,7 @@ slice_bounds-of-end g c =
 unexpected : (ml : ℕ) (S : DynParts) (h : List ℕ → ℕ) (k : List ℕ) (n : ℕ) → IsFormat (parts_format S h) → AreWhole ml S → n ≡ S.parts.entries.slots
     → (P : Table) (es : List ℕ) → IsPartsOf (parts_format S h) P es S.parts.control → IsExpected (parts_format S h) P k n
 unexpected ml S h k n f whole is P es parts =
-    let same = slots_are ml S whole in
+    let same = whole_slots ml S whole in
     subst (IsExpected (parts_format S h) P k) (same ∙ sym is) (no_slot (parts_format S h) P es S.parts.control k f parts (subst IsSlotCount (sym same) whole.slots))
 
 pub returns-then-is_some : goal.returns-then-is_some
@@ -65,7 +55,7 @@ returns-in-Some g c =
     let k : List ℕ = c.args.key.now in
     let ctrl = S.parts.control in
     let s : ℕ = length ctrl - 16 in
-    let same : s ≡ S.parts.entries.slots = slots_are g.H.HashFn.MIN_LEN S whole in
+    let same : s ≡ S.parts.entries.slots = whole_slots g.H.HashFn.MIN_LEN S whole in
     let count : IsSlotCount s = subst IsSlotCount (sym same) whole.slots in
     let long : c.len-slots.result ≡ s = c.len-slots.ensures.value ∙ sym same in
     let hash = c.hash-hash.ensures in

@@ -1,11 +1,8 @@
-use Rattle.std.proofs.Common.{◌≡◌, ◌∙◌, ◌+◌, ◌-◌, ◌%◌, ◌<◌, ℕ, List, bit_and, slice_get, length, sym, ap, subst, arith, Option, Some, None, Contains, false, refl, true≢false}
-use Rattle.odht_base.specs.Format.{Format, IsFormat, home, tag}
-use Rattle.odht_base.specs.Groups.{first_free}
-use Rattle.odht_base.specs.Load.{IsSlotCount}
-use Rattle.odht_base.specs.Decoded.{slot_key, slot_value}
+use Rattle.std.proofs.Common.{◌≡◌, ◌∙◌, ◌+◌, ◌-◌, ◌%◌, ◌<◌, ℕ, List, bit_and, slice_get, length, sym, ap, subst, arith, Some, Contains, true≢false}
+use Rattle.odht_raw.proofs.lemmas.BoundedSearches.{is_none}
+use Rattle.odht_raw.specs.Words.{first_free, Format, home, IsFormat, IsSlotCount, slot_key, slot_value, tag}
 use Rattle.std.specs.Prelude.{option_map, is_some}
-use Rattle.std.proofs.Math.Nat.{mod-lt}
-use Rattle.odht_base.proofs.lemmas.SlotCounts.{bit_and-slots, few_slots}
+use Rattle.odht_raw.proofs.lemmas.Below.{bit_and-slots, few_slots, IsFormat-format_of, mod-lt}
 use Rattle.odht_raw.specs.FirstLooks.{FirstLookOf, first_look_of, home_group}
 use Rattle.odht_raw.specs.Parts.{TableParts, hashed_by}
 use Rattle.odht_raw.specs.Stored.{StoredEntries, stored_format}
@@ -13,7 +10,6 @@ use Rattle.odht_raw.specs.Searches.{IsPassed}
 use Rattle.odht_raw.proofs.lemmas.GroupLooks.{taken-first, taken-next, taken-all}
 use Rattle.odht_raw.proofs.lemmas.Inserts.{found_value}
 use Rattle.odht_raw.proofs.lemmas.Lookups.{answer-Found}
-use Rattle.odht_header.proofs.lemmas.Formats.{IsFormat-format_of}
 use Rattle.odht_raw.proofs.lemmas.FirstLooks.{matches, home-lt, match-lt, first_look-found, first_look-absent, first_look-passes}
 use Rattle.odht_raw.specs.DynParts.{parts_format}
 use Rattle.odht_raw.proofs.raw_table.parts.Parts.find_from.Given.{Over}
@@ -70,11 +66,6 @@ module _ (g : Over) (c : After-first_match g) where
   -- the match that comes next
   next : (i : ℕ) → Some i ≡ slice_get c.matches.group.matches 0 → Contains (matches F T k count mirrored small) i
   next i e = subst (λ xs. Contains xs i) listed (taken-first _ _ _ i c.matches.invariant.taken e)
-
--- none is none
-none_free : (o : Option ℕ) → is_some o ≡ false → o ≡ None
-none_free None e = refl
-none_free (Some i) e = absurd (true≢false e)
 
 pub overflow_add-slot : goal.overflow_add-slot
 overflow_add-slot g c =
@@ -135,6 +126,6 @@ search_next_groups-requires-clause-first g c =
     let F = F g at in
     let taken = taken-all _ _ _ c.matches.invariant.taken (sym c.in_default.is ∙ c.first_match.ensures) in
     let others = λ (i : ℕ) (m : Contains (matches F (T g at) (k g at) (count g at) (mirrored g at) (small g at)) i). taken i (subst (λ xs. Contains xs i) (sym (listed g at)) m) in
-    let none = none_free (first_free (home_group F (T g at) (k g at))) (ap is_some (sym (free g at)) ∙ ap is_some (sym c.matches.invariant.same) ∙ sym c.any_empty.ensures ∙ c.if-any_empty.false) in
+    let none = is_none (first_free (home_group F (T g at) (k g at))) (ap is_some (sym (free g at)) ∙ ap is_some (sym c.matches.invariant.same) ∙ sym c.any_empty.ensures ∙ c.if-any_empty.false) in
     subst (λ (x : StoredEntries × List ℕ). IsPassed (hashed_by g.H.HashFn.hash (stored_format x.0)) x.0.entries x.1 (k g at) 16)
     (λ i. (sym c.stored-stored.ensures i, sym c.controls.ensures.value i)) (first_look-passes F (T g at) (k g at) (count g at) (mirrored g at) (small g at) (fits g at) others none)

@@ -1,6 +1,5 @@
 use Rattle.std.proofs.Common.{◌≡◌, ◌+◌, ◌%◌, length}
-use Rattle.odht_base.specs.Format.{home}
-use Rattle.odht_base.specs.Decoded.{slot_key}
+use Rattle.odht_raw.specs.Words.{home, slot_key}
 use Rattle.odht_raw.proofs.lemmas.GroupLooks.{IsTaken}
 use Rattle.odht_raw.specs.DynParts.{parts_format}
 use Rattle.odht_raw.proofs.raw_table.parts.Parts.find_from.Given as goal

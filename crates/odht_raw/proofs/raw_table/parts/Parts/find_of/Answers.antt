@@ -1,10 +1,6 @@
 use Rattle.std.proofs.Common.{◌≡◌, ◌∙◌, ℕ, List, arith, refl, sym, ap, subst, Some, None}
 use Rattle.std.specs.Prelude.{option_map}
-use Rattle.odht_base.specs.Format.{Format}
-use Rattle.odht_base.specs.Map.{map_of}
-use Rattle.odht_base.specs.Search.{groups_read}
-use Rattle.odht_base.specs.Table.{Table}
-use Rattle.odht_base.specs.Valid.{IsPartsOf}
+use Rattle.odht_raw.specs.Words.{Format, groups_read, IsPartsOf, map_of, Table}
 use Rattle.odht_raw.specs.Finds.{IsCountedFind}
 use Rattle.odht_raw.specs.Parts.{TableParts, ReadGroups, hashed_by}
 use Rattle.odht_raw.specs.Stored.{StoredEntries, stored_format}

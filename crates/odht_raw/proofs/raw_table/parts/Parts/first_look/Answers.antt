@@ -1,8 +1,5 @@
 use Rattle.std.proofs.Common.{◌≡◌, ◌∙◌, ◌-◌, ◌%◌, ◌^◌, ◌/◌, ℕ, List, bit_and, ap}
-use Rattle.odht_base.specs.Bytes.{bytes_at}
-use Rattle.odht_base.specs.Format.{Format, home, tag}
-use Rattle.odht_base.specs.Groups.{equal, first_free}
-use Rattle.odht_base.specs.Load.{IsSlotCount}
+use Rattle.odht_raw.specs.Words.{bytes_at, equal, first_free, Format, home, IsSlotCount, tag}
 use Rattle.odht_base.proofs.lemmas.SlotCounts.{bit_and-slots}
 use Rattle.odht_raw.specs.FirstLooks.{home_group}
 use Rattle.odht_raw.specs.Parts.{TableParts}

@@ -1,6 +1,5 @@
 use Rattle.std.proofs.Common.{◌≡◌, ◌∙◌, ◌-◌, ap, sym, subst, not, length, arith}
-use Rattle.odht_base.specs.Bounds.{first_longer}
-use Rattle.odht_base.specs.Load.{IsSlotCount}
+use Rattle.odht_raw.specs.Words.{first_longer, IsSlotCount}
 use Rattle.odht_header.proofs.lemmas.Formats.{IsFormat-format_of}
 use Rattle.odht_raw.specs.DynParts.{parts_format}
 use Rattle.odht_raw.proofs.lemmas.BoundedSearches.{bounded, is_none}

@@ -1,6 +1,5 @@
 use Rattle.std.proofs.Common.{◌≡◌, sym, subst, refl}
-use Rattle.odht_base.specs.Format.{Format, format_of}
-use Rattle.odht_base.specs.Table.{Pair}
+use Rattle.odht_raw.specs.Words.{Format, format_of, Pair}
 use Rattle.odht_raw.specs.PartsPlacings.{IsAddition, IsNewPlacing, IsNewTo}
 use Rattle.odht_raw.proofs.raw_table.table_mut.RawTableMut.place_by.Goals as goal
 

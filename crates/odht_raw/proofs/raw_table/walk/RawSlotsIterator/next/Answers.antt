@@ -1,12 +1,10 @@
 use Rattle.std.proofs.Common.{arith, ◌≡◌, ◌∙◌, ◌+◌, ◌-◌, ◌++◌, ◌<◌, ◌≤◌, ◌^◌, ℕ, Fits, w64, List, [], ◌∷◌, suc, sym, ap, subst, map, take, length, length-take, slice_index, get_or-take, min}
+use Rattle.odht_raw.proofs.lemmas.Below.{index-bytes_at}
 use Rattle.std.specs.Bool.{IsFalse}
-use Rattle.odht_base.specs.Bytes.{bytes_at}
-use Rattle.odht_base.specs.Decoded.{counts_as_free}
-use Rattle.odht_base.specs.Format.{Format}
+use Rattle.odht_raw.specs.Words.{bytes_at, counts_as_free, Format}
 use Rattle.odht_base.proofs.lemmas.ByteRanges.{length-bytes_at}
 use Rattle.odht_raw.specs.Parts.{TableParts, entry_format}
 use Rattle.odht_raw.specs.Walks.{numbered_of, numbered_from, AreOccupied}
-use Rattle.odht_raw.proofs.lemmas.GroupLooks.{index-bytes_at}
 use Rattle.odht_raw.proofs.lemmas.Walks.{list-none, list-first, occupied-All, numbered_of-first, numbered_from-group}
 use Rattle.odht_raw.proofs.raw_table.walk.RawSlotsIterator.next.Given.{Over}
 use Rattle.odht_raw.proofs.raw_table.walk.RawSlotsIterator.next.Goals.{In-Some}
