@@ -1,8 +1,8 @@
 -- Worked examples: what the calls answer that build a table of one pair.
-use Rattle.std.proofs.Common.{◌∙◌, ℕ, refl, sym, ap, lit≤, length, List, [], ◌∷◌, replicate}
+use Rattle.std.proofs.Common.{◌∙◌, ℕ, refl, sym, ap, length, List, [], ◌∷◌, replicate}
 use Rattle.odht_header.proofs.examples.Opened.{opened}
 use Rattle.odht_calls.specs.Builds.{BuildAnswers, BuildGrowingAnswers}
-use Rattle.odht_calls.proofs.examples.AfterInserts.{roomy_bytes, one_built, only_built, one_grown, only_grown}
+use Rattle.odht_calls.proofs.examples.AfterInserts.{roomy_bytes, only_built, only_grown}
 use Rattle.odht_calls.proofs.examples.Inits.{seven, one_fits}
 use Rattle.odht_base.proofs.examples.Numbers.{zero_percent_refused}
 use Rattle.odht_header.proofs.examples.Apart.{unequal, unequal_lists}
@@ -12,23 +12,6 @@ use Rattle.odht_calls.proofs.examples.Tables.{direct_coding, one_bytes}
 -- the bytes of the caller
 abbrev nines : List ℕ
 nines = replicate 192 9
-
--- a table, which takes all bytes
-pub one_build : BuildAnswers direct_coding (5 ∷ []) (7 ∷ []) 7 nines 4 0 one_bytes 192
-unfolding opened
-one_build = record {
-  lengths = λ other. absurd (other refl);
-  percent = λ long other. absurd (other seven);
-  built = record {
-    built = λ is. one_built;
-    fits = λ is. lit≤ tt;
-    rest = λ is. refl;
-    needed = λ is. absurd (unequal 0 36 refl is);
-    too_small = λ is. absurd (unequal 0 36 refl is);
-  };
-  refused = λ long ok undone roomy. absurd (undone refl);
-  capacity = λ is. absurd (unequal 0 20 refl is);
-}
 
 -- arrays of two lengths are not answered with another status
 pub build_lengths_status_refused : BuildAnswers direct_coding (5 ∷ []) [] 7 nines 4 19 nines 4 → ⊥
@@ -84,21 +67,6 @@ pub build_capacity_refused : BuildAnswers direct_coding (5 ∷ []) (7 ∷ []) 7 
 build_capacity_refused h = one_fits (h.capacity refl)
 
 -- ---- BuildGrowingAnswers
--- a table, which takes all bytes
-pub one_growing : BuildGrowingAnswers direct_coding (5 ∷ []) (7 ∷ []) nines 4 0 roomy_bytes 192
-unfolding opened
-one_growing = record {
-  lengths = λ other. absurd (other refl);
-  built = record {
-    built = λ is. one_grown;
-    fits = λ is. lit≤ tt;
-    rest = λ is. refl;
-    needed = λ is. absurd (unequal 0 36 refl is);
-    too_small = λ is. absurd (unequal 0 36 refl is);
-  };
-  refused = λ long undone roomy. absurd (undone refl);
-}
-
 -- arrays of two lengths are not answered with another status
 pub growing_lengths_status_refused : BuildGrowingAnswers direct_coding (5 ∷ []) [] nines 4 19 nines 4 → ⊥
 growing_lengths_status_refused h = unequal 19 35 refl (h.lengths (unequal 0 1 refl)).0

@@ -1,44 +1,12 @@
 -- Worked examples: what lookups of many keys answer, here of one key, into the arrays 9 ∷ [] and 3 ∷ [].
-use Rattle.std.proofs.Common.{◌≡◌, ℕ, zero, suc, refl, [], ◌∷◌, Option, Some, None, IfSome, lit<, slice_get, subst}
-use Rattle.std.proofs.lemmas.Option.{none-some}
-use Rattle.odht_base.specs.Numbers.{le_bytes}
-use Rattle.odht_base.specs.Table.{Table}
+use Rattle.std.proofs.Common.{ℕ, refl, [], ◌∷◌, Option, Some, None, IfSome}
 use Rattle.odht_base.proofs.lemmas.Options.{some_same}
-use Rattle.odht_header.specs.Coding.{value_for, HasStored}
+use Rattle.odht_header.specs.Coding.{HasStored}
 use Rattle.odht_header.specs.declared.error.Error.TheVariants.{TooShort}
 use Rattle.odht_header.proofs.examples.Opened.{opened}
 use Rattle.odht_calls.specs.Reads.{IsGotAt, GetAllAnswers}
-use Rattle.odht_calls.proofs.lemmas.Opened.{never_refused}
 use Rattle.odht_header.proofs.examples.Apart.{unequal, unequal_lists}
-use Rattle.odht_calls.proofs.examples.Tables.{direct_coding, one_item, one_bytes, miscounted, one_image, accepted_bytes, same_table, not_stored}
-
--- ---- what holds
--- the key 5 of a valid table has the value 7, and is reported as found
-pub present_all : GetAllAnswers direct_coding one_bytes (5 ∷ []) (9 ∷ []) (3 ∷ []) 0 (7 ∷ []) (1 ∷ [])
-unfolding opened
-present_all = record {
-  lengths = λ other. absurd (other (refl, refl));
-  refused = λ e long is. never_refused direct_coding.format one_item one_bytes e one_image is;
-  accepted = λ long is. refl;
-  on_valid = λ P i k long is at. valid P (same_table one_item P one_bytes one_image is) i k at;
-  on_any = λ i k long is at. any i k at;
-}
-  where
-    valid : (P : Table) → one_item ≡ P → (i k : ℕ) → slice_get (5 ∷ []) i ≡ Some k
-        → IsGotAt (value_for direct_coding P k) (slice_get (9 ∷ []) i) (slice_get (1 ∷ []) i) (slice_get (7 ∷ []) i)
-    valid P same zero k at =
-        subst (λ T. IsGotAt (value_for direct_coding T k) (Some 9) (Some 1) (Some 7)) same
-        (subst (λ x. IsGotAt (value_for direct_coding one_item x) (Some 9) (Some 1) (Some 7))
-        (some_same 5 k at) (refl, refl))
-    valid P same (suc i) k at = absurd (none-some k at)
-
-    any : (i k : ℕ) → slice_get (5 ∷ []) i ≡ Some k
-        → (o : Option ℕ) × IsGotAt o (slice_get (9 ∷ []) i) (slice_get (1 ∷ []) i) (slice_get (7 ∷ []) i)
-        × IfSome o (HasStored direct_coding one_bytes k)
-    any zero k at =
-        let stored : HasStored direct_coding one_bytes 5 7 = (le_bytes 4 7, refl, (5, lit< tt, refl, refl)) in
-        (Some 7, (refl, refl), subst (λ x. HasStored direct_coding one_bytes x 7) (some_same 5 k at) stored)
-    any (suc i) k at = absurd (none-some k at)
+use Rattle.odht_calls.proofs.examples.Tables.{direct_coding, one_item, one_bytes, miscounted, one_image, accepted_bytes, not_stored}
 
 -- ---- lengths
 -- arrays of two lengths are not answered with ODHT_OK

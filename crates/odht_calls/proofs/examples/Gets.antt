@@ -1,20 +1,14 @@
 -- Worked examples: what lookups answer.
-use Rattle.std.proofs.Common.{ℕ, refl, [], Option, Some, None, IfSome, lit<, subst}
-use Rattle.odht_base.specs.Numbers.{le_bytes}
+use Rattle.std.proofs.Common.{ℕ, refl, [], Option, Some, None, IfSome}
 use Rattle.odht_base.proofs.lemmas.Options.{some_same}
-use Rattle.odht_header.specs.Coding.{value_for, HasStored}
+use Rattle.odht_header.specs.Coding.{HasStored}
 use Rattle.odht_header.specs.declared.error.Error.TheVariants.{TooShort}
 use Rattle.odht_header.proofs.examples.Opened.{opened}
 use Rattle.odht_calls.specs.Reads.{IsGot, IsGotAt, GetAnswers}
-use Rattle.odht_calls.proofs.lemmas.Opened.{never_refused}
 use Rattle.odht_header.proofs.examples.Apart.{unequal}
-use Rattle.odht_calls.proofs.examples.Tables.{direct_coding, one_item, one_bytes, miscounted, one_image, accepted_bytes, same_table, not_stored}
+use Rattle.odht_calls.proofs.examples.Tables.{direct_coding, one_item, one_bytes, miscounted, one_image, accepted_bytes, not_stored}
 
 -- ---- IsGot
--- an absent key leaves the value 9, and a present one writes its value 7
-pub got : IsGot {V = ℕ} None 9 32 9 × IsGot {V = ℕ} (Some 7) 9 0 7
-got = ((refl, refl), (refl, refl))
-
 -- an absent key is not answered with ODHT_OK
 pub absent_as_done_refused : IsGot {V = ℕ} None 9 0 9 → ⊥
 absent_as_done_refused h = unequal 0 32 refl h.0
@@ -32,10 +26,6 @@ pub present_unwritten_refused : IsGot {V = ℕ} (Some 7) 9 0 9 → ⊥
 present_unwritten_refused h = unequal 9 7 refl h.1
 
 -- ---- IsGotAt
--- the same of a key among many, with 0 or 1 in the array of what was found
-pub got_at : IsGotAt {V = ℕ} None (Some 9) (Some 0) (Some 9) × IsGotAt {V = ℕ} (Some 7) (Some 9) (Some 1) (Some 7)
-got_at = ((refl, refl), (refl, refl))
-
 -- an absent key is not reported as found
 pub absent_as_found_refused : IsGotAt {V = ℕ} None (Some 9) (Some 1) (Some 9) → ⊥
 absent_as_found_refused h = unequal 1 0 refl (some_same 1 0 h.0)
@@ -53,16 +43,6 @@ pub present_unwritten_at_refused : IsGotAt {V = ℕ} (Some 7) (Some 9) (Some 1) 
 present_unwritten_at_refused h = unequal 9 7 refl (some_same 9 7 h.1)
 
 -- ---- GetAnswers
--- the key 5 of a valid table has the value 7
-pub present_answers : GetAnswers direct_coding one_bytes 5 9 0 7
-unfolding opened
-present_answers = record {
-  refused = λ e is. never_refused direct_coding.format one_item one_bytes e one_image is;
-  on_valid = λ P is. subst (λ T. IsGot (value_for direct_coding T 5) 9 0 7)
-      (same_table one_item P one_bytes one_image is) (refl, refl);
-  on_any = λ is. (Some 7, (refl, refl), (le_bytes 4 7, refl, (5, lit< tt, refl, refl)));
-}
-
 -- an error is not answered with another status
 pub refusal_status_refused : GetAnswers direct_coding [] 5 9 2 9 → ⊥
 unfolding opened

@@ -2,25 +2,21 @@
 --     grown_item, grown_bytes  the table into which that of one item grows: thirty-two slots, of which slot 5 has the
 --                              pair; and its 336 bytes
 --     weak                     the bytes of no items, with a load factor of 654 in the header; a growth rejects them
---     crowded                  the same, with 2 ^ 63 items in the header
---     nines, filled            bytes of a caller, one more than are needed; and what a growth leaves of them
-use Rattle.std.proofs.Common.{◌≡◌, ◌∙◌, ◌++◌, ℕ, List, [], ◌∷◌, refl, sym, ap, subst, lit≤, lit<, replicate, set, Some, None}
+--     nines, inserted          bytes of a caller, one more than are needed; and what a growth leaves of them
+use Rattle.std.proofs.Common.{◌≡◌, ◌∙◌, ◌++◌, ℕ, List, [], ◌∷◌, refl, sym, ap, lit≤, lit<, replicate, set, Some, None}
 use Rattle.odht_base.specs.Bytes.{overwritten_at}
 use Rattle.odht_base.specs.Image.{image}
 use Rattle.odht_base.specs.Insert.{grown}
 use Rattle.odht_base.specs.Load.{factor_of}
 use Rattle.odht_base.specs.Table.{Table}
-use Rattle.odht_base.specs.Valid.{IsImage}
 use Rattle.odht_base.proofs.examples.Configs.{direct_config, pair32}
 use Rattle.odht_base.proofs.lemmas.Options.{some_same}
-use Rattle.odht_base.proofs.lemmas.Placed.{IsPlaced-tests}
-use Rattle.odht_header.specs.declared.error.Error.TheVariants.{TooShort, LoadFactorTooSmall, Capacity}
+use Rattle.odht_header.specs.declared.error.Error.TheVariants.{TooShort, LoadFactorTooSmall}
 use Rattle.odht_header.proofs.examples.Apart.{unequal, unequal_lists}
 use Rattle.odht_header.proofs.examples.Opened.{opened}
 use Rattle.odht.specs.Growths.{grown_len, IsGrownImage}
 use Rattle.odht_calls.specs.Grows.{growth_refusal, GrowAnswers, IsGrownFrom, IsGrownInto}
-use Rattle.odht_calls.proofs.examples.Tables.{direct_coding, no_bytes, one_item, one_bytes, miscounted, one_image, same_table}
-use Rattle.odht_calls.proofs.lemmas.Grown.{refused_grow, done_grow}
+use Rattle.odht_calls.proofs.examples.Tables.{direct_coding, no_bytes, one_item, one_bytes, miscounted, one_image}
 use Rattle.odht_calls.proofs.lemmas.Refused.{not_none}
 
 abbrev grown_item : Table
@@ -35,9 +31,6 @@ other_grown = image direct_config (record { factor = factor_of 7; cells = set (r
 abbrev weak : List ℕ
 weak = overwritten_at no_bytes 28 (142 ∷ 2 ∷ [])
 
-abbrev crowded : List ℕ
-crowded = overwritten_at no_bytes 15 (128 ∷ [])
-
 abbrev nines : List ℕ
 nines = replicate 337 9
 
@@ -49,32 +42,11 @@ grows : grown direct_config one_item ≡ Some grown_item
 unfolding opened
 grows = refl
 
-grown_item_image : IsImage direct_config grown_item grown_bytes
-unfolding opened
-grown_item_image = record {
-  valid = record {
-    placed = IsPlaced-tests direct_config grown_item (record { power = refl; least = lit≤ tt }) refl refl;
-    factor_low = lit≤ tt;
-    factor_high = lit≤ tt;
-    room = lit≤ tt;
-  };
-  bytes = refl;
-}
-
 -- and into no other
 only_grown : (T : List ℕ) → IsGrownImage direct_config one_item T → T ≡ grown_bytes
 only_grown T h = h.2.bytes ∙ ap (image direct_config) (some_same h.0 grown_item (sym h.1 ∙ grows))
 
 -- ---- IsGrownFrom
-pub one_grown : IsGrownFrom direct_config one_bytes grown_bytes
-unfolding opened
-one_grown = record {
-  accepted = refl;
-  count = refl;
-  factor = refl;
-  on_valid = λ P image. subst (λ (X : Table). IsGrownImage direct_config X grown_bytes) (same_table one_item P one_bytes one_image image) (grown_item, grows, grown_item_image);
-}
-
 -- no bytes are grown
 pub nothing_grown_refused : IsGrownFrom direct_config one_bytes [] → ⊥
 unfolding opened
@@ -96,10 +68,6 @@ unfolding opened
 other_table_refused h = unequal_lists other_grown grown_bytes refl (only_grown other_grown (h.on_valid one_item one_image))
 
 -- ---- IsGrownInto
-pub one_grown_into : IsGrownInto direct_config one_bytes 336 nines inserted
-unfolding opened
-one_grown_into = record { table = one_grown; rest = refl }
-
 -- what is unchanged is no table
 pub unwritten_refused : IsGrownInto direct_config one_bytes 336 nines nines → ⊥
 unfolding opened
@@ -111,21 +79,6 @@ unfolding opened
 behind_grown_refused h = unequal_lists (7 ∷ []) (9 ∷ []) refl h.rest
 
 -- ---- GrowAnswers
--- a small load factor is an error, and the buffers are unchanged
-pub weak_grow : GrowAnswers direct_coding weak (9 ∷ []) 4 10 (9 ∷ []) 4
-unfolding opened growth_refusal
-weak_grow = refused_grow direct_coding.format weak (9 ∷ []) 4 (LoadFactorTooSmall 654) 10 refl refl
-
--- and so are too many items
-pub crowded_grow : GrowAnswers direct_coding crowded (9 ∷ []) 4 20 (9 ∷ []) 4
-unfolding opened growth_refusal grown_len
-crowded_grow = refused_grow direct_coding.format crowded (9 ∷ []) 4 Capacity 20 refl refl
-
--- the table fits 337 bytes, and the last one is unchanged
-pub one_grow : GrowAnswers direct_coding one_bytes nines 4 0 inserted 336
-unfolding opened growth_refusal grown_len
-one_grow = done_grow direct_coding.format one_bytes nines 4 336 refl refl inserted (lit≤ tt) one_grown_into
-
 -- an error is not answered with another status
 pub grow_status_refused : GrowAnswers direct_coding weak (9 ∷ []) 4 20 (9 ∷ []) 4 → ⊥
 unfolding opened growth_refusal

@@ -1,22 +1,12 @@
 -- Worked examples: how a table is copied into bytes of the caller, here into up to three bytes. The bytes 1
 -- and 2 take the part of a table.
-use Rattle.std.proofs.Common.{◌≡◌, ◌≤◌, ◌<◌, ◌∙◌, ℕ, refl, sym, ap, arith, lit≤, List, [], ◌∷◌, length}
+use Rattle.std.proofs.Common.{◌≡◌, ◌≤◌, ◌<◌, ◌∙◌, ℕ, refl, sym, ap, arith, List, [], ◌∷◌, length}
 use Rattle.odht_calls.specs.Builds.{IsHandedOut}
 use Rattle.odht_header.proofs.examples.Apart.{unequal, unequal_lists}
 
 -- the bytes that take the part of a table
 abbrev AreOneTwo : List ℕ → Type 0
 AreOneTwo B = B ≡ 1 ∷ 2 ∷ []
-
--- both fit three bytes, and the third is unchanged
-pub copied : IsHandedOut AreOneTwo (9 ∷ 9 ∷ 9 ∷ []) 0 (1 ∷ 2 ∷ 9 ∷ []) 2
-copied = record {
-  built = λ is. refl;
-  fits = λ is. lit≤ tt;
-  rest = λ is. refl;
-  needed = λ is. absurd (unequal 0 36 refl is);
-  too_small = λ is. absurd (unequal 0 36 refl is);
-}
 
 -- no other bytes are copied
 pub other_copied_refused : IsHandedOut AreOneTwo (9 ∷ 9 ∷ 9 ∷ []) 0 (1 ∷ 3 ∷ 9 ∷ []) 2 → ⊥

@@ -1,7 +1,7 @@
 -- Worked examples: what the calls answer that ask for the length of a new table, and that make one.
 use Rattle.std.proofs.Common.{◌≤◌, ◌^◌, ◌-◌, ◌∙◌, ℕ, refl, sym, ap, arith, lit≤, lit<, List, [], ◌∷◌, replicate}
 use Rattle.std.proofs.lemmas.Option.{none-some}
-use Rattle.odht_base.specs.Image.{image, image_len}
+use Rattle.odht_base.specs.Image.{image}
 use Rattle.odht_base.specs.Load.{factor_of, IsPercent}
 use Rattle.odht_base.proofs.examples.Configs.{direct_config}
 use Rattle.odht_base.proofs.lemmas.Options.{some_same}
@@ -11,7 +11,7 @@ use Rattle.odht_header.proofs.examples.Opened.{opened}
 use Rattle.odht_calls.specs.Writes.{BytesNeededAnswers, InitAnswers}
 use Rattle.odht_base.proofs.examples.Numbers.{zero_percent_refused}
 use Rattle.odht_header.proofs.examples.Apart.{unequal, unequal_lists}
-use Rattle.odht_calls.proofs.examples.Tables.{direct_coding, no_items, no_bytes, one_bytes, no_image}
+use Rattle.odht_calls.proofs.examples.Tables.{direct_coding, no_items, no_bytes, one_bytes}
 
 -- 7 percent is a load factor
 pub seven : IsPercent 7
@@ -36,15 +36,6 @@ unfolding opened
 too_many_items s is = absurd (none-some s is)
 
 -- ---- BytesNeededAnswers
--- one item at 7 percent: sixteen slots, and 192 bytes
-pub one_needed : BytesNeededAnswers direct_coding 1 7 9 0 192
-unfolding opened
-one_needed = record {
-  percent = λ other. absurd (other seven);
-  needed = λ slots ok is small. (refl, ap (image_len direct_config) (some_same 16 slots is));
-  capacity = λ ok large. absurd (one_fits large);
-}
-
 -- no percent is not answered with ODHT_OK
 pub needed_percent_status_refused : BytesNeededAnswers direct_coding 1 0 9 0 9 → ⊥
 needed_percent_status_refused h = unequal 0 34 refl (h.percent zero_percent_refused).0
@@ -75,15 +66,6 @@ needed_capacity_written_refused h = unequal 192 9 refl (h.capacity hundred too_m
 -- 192 bytes that are no table
 abbrev ones : List ℕ
 ones = replicate 192 1
-
--- a new table for one item
-pub made_init : InitAnswers direct_coding 1 7 ones 0 no_bytes
-unfolding opened new_refusal
-made_init = record {
-  percent = λ other. absurd (other seven);
-  refused = λ e ok is. absurd (none-some e is);
-  made = λ ok none. (refl, (no_items, refl, no_image));
-}
 
 -- no percent is not answered with ODHT_OK
 pub init_percent_status_refused : InitAnswers direct_coding 1 0 ones 0 ones → ⊥

@@ -1,14 +1,11 @@
 -- Worked examples: what a call answers that inserts pairs in turn.
-use Rattle.std.proofs.Common.{◌≡◌, ◌∙◌, ℕ, refl, sym, ap, arith, List, [], ◌∷◌, lit<, subst, Option, option_map, Result, Ok, Err}
+use Rattle.std.proofs.Common.{◌≡◌, ◌∙◌, ℕ, refl, sym, ap, arith, List, [], ◌∷◌, lit<, Option, option_map, Result, Ok, Err}
 use Rattle.odht_base.specs.Bytes.{overwritten_at}
 use Rattle.odht_base.specs.Image.{image}
-use Rattle.odht_base.specs.Insert.{insert_view}
 use Rattle.odht_base.specs.Decoded.{controls_of}
-use Rattle.odht_base.specs.Table.{Pair, Table}
-use Rattle.odht_base.proofs.examples.Configs.{direct_config, pair32}
-use Rattle.odht_base.proofs.lemmas.FreshRuns.{insert_view-PlacesBelow}
+use Rattle.odht_base.specs.Table.{Pair}
+use Rattle.odht_base.proofs.examples.Configs.{direct_config}
 use Rattle.odht_base.proofs.lemmas.Options.{some_same}
-use Rattle.odht_base.proofs.lemmas.TableInserts.{insert_view-IsInsert}
 use Rattle.odht_header.specs.declared.error.Error.TheVariants.{TooShort, Full}
 use Rattle.odht_header.specs.declared.error.Error.{Error}
 use Rattle.odht_header.specs.Coding.{encoded}
@@ -16,35 +13,10 @@ use Rattle.odht_raw.specs.Frame.{InsertFrame}
 use Rattle.odht_raw.proofs.examples.FrameRefusals.{free_slot_refused}
 use Rattle.odht_header.proofs.examples.Opened.{opened}
 use Rattle.std.specs.Result.{result_map_both}
-use Rattle.odht.specs.Lists.{IsAfterInserts}
-use Rattle.odht.proofs.lemmas.ListInserts.{inserted_more}
 use Rattle.odht_calls.specs.Writes.{InsertAllAnswers}
-use Rattle.odht_calls.proofs.lemmas.Inserted.{accepted_insert_all}
-use Rattle.odht_calls.proofs.examples.Runs.{one_run, unchanged, misplaced}
+use Rattle.odht_calls.proofs.examples.Runs.{unchanged, misplaced}
 use Rattle.odht_header.proofs.examples.Apart.{unequal, unequal_lists}
-use Rattle.odht_calls.proofs.examples.Tables.{direct_coding, no_items, one_item, no_bytes, one_bytes, miscounted, no_image, one_image, accepted_bytes, same_table}
-
--- one pair into a valid table
-one_inserted : IsAfterInserts direct_config (insert_view direct_config) no_items (pair32 5 7 ∷ []) one_bytes
-unfolding opened
-one_inserted =
-    let none : IsAfterInserts direct_config (insert_view direct_config) no_items [] no_bytes = (
-    record { table = no_items; runs = refl; image = no_image; maps = λ k. refl; stays = λ room. ((refl, refl), omega arith) }) in
-    inserted_more direct_config (insert_view direct_config) (insert_view-IsInsert direct_config)
-    (insert_view-PlacesBelow direct_config) no_items [] (pair32 5 7) no_bytes one_bytes none one_item refl one_image
-
--- of each table that is the one without items
-inserted_from : (P : Table) → no_items ≡ P
-    → IsAfterInserts direct_config (insert_view direct_config) P (pair32 5 7 ∷ []) one_bytes
-inserted_from P same =
-    subst (λ T. IsAfterInserts direct_config (insert_view direct_config) T (pair32 5 7 ∷ []) one_bytes) same one_inserted
-
--- one pair is inserted
-pub one_insert_all : InsertAllAnswers direct_coding no_bytes (5 ∷ []) (7 ∷ []) 9 0 one_bytes 1
-unfolding opened
-one_insert_all =
-    accepted_insert_all direct_coding no_bytes one_bytes (5 ∷ []) (7 ∷ []) 9 1 refl refl one_run
-    (λ P is. inserted_from P (same_table no_items P no_bytes no_image is)) refl
+use Rattle.odht_calls.proofs.examples.Tables.{direct_coding, no_items, one_item, no_bytes, one_bytes, miscounted, no_image, accepted_bytes}
 
 -- arrays of two lengths are not answered with ODHT_OK
 pub all_lengths_status_refused : InsertAllAnswers direct_coding no_bytes (5 ∷ []) [] 9 0 no_bytes 9 → ⊥

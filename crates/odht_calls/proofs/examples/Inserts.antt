@@ -1,5 +1,5 @@
 -- Worked examples: what an insert answers.
-use Rattle.std.proofs.Common.{◌≡◌, ◌∙◌, ℕ, refl, ap, inl, List, [], ◌∷◌, Option, None, Some, Result, Ok, Err, lit<, subst}
+use Rattle.std.proofs.Common.{◌≡◌, ◌∙◌, ℕ, refl, ap, List, [], ◌∷◌, Option, None, Some, Result, Ok, Err}
 use Rattle.odht_base.proofs.examples.Configs.{direct_config}
 use Rattle.odht_base.specs.Numbers.{le_bytes}
 use Rattle.odht_base.specs.Table.{Pair}
@@ -9,15 +9,10 @@ use Rattle.odht_header.specs.declared.error.Error.TheVariants.{TooShort, Full}
 use Rattle.odht_header.proofs.examples.Opened.{opened}
 use Rattle.odht_calls.specs.Statuses.{status_of}
 use Rattle.odht_calls.specs.Writes.{IsFormer, IsAnswered, IsAfterInsert, InsertAnswers}
-use Rattle.odht_calls.proofs.lemmas.Opened.{never_refused}
 use Rattle.odht_header.proofs.examples.Apart.{unequal, unequal_lists}
-use Rattle.odht_calls.proofs.examples.Tables.{direct_coding, no_items, one_item, no_bytes, one_bytes, other_bytes, miscounted, no_image, one_image, other_image, accepted_bytes, same_table}
+use Rattle.odht_calls.proofs.examples.Tables.{direct_coding, no_items, one_item, no_bytes, one_bytes, other_bytes, miscounted, no_image, accepted_bytes}
 
 -- ---- IsFormer
--- a new key leaves the value 9, and one that was there writes the value 7 that it had
-pub formers : IsFormer {V = ℕ} None 9 0 9 × IsFormer {V = ℕ} (Some 7) 9 33 7
-formers = ((refl, refl), (refl, refl))
-
 -- a new key is not answered with ODHT_REPLACED
 pub new_as_replaced_refused : IsFormer {V = ℕ} None 9 33 9 → ⊥
 new_as_replaced_refused h = unequal 33 0 refl h.0
@@ -35,12 +30,6 @@ pub replaced_unwritten_refused : IsFormer {V = ℕ} (Some 7) 9 33 9 → ⊥
 replaced_unwritten_refused h = unequal 9 7 refl h.1
 
 -- ---- IsAnswered
--- an insert, one of a key that was there, and an error
-pub answers : IsAnswered {V = ℕ} (Ok None) 9 0 9
-    × IsAnswered {V = ℕ} (Ok (Some 7)) 9 33 7
-    × IsAnswered {V = ℕ} (Err Full) 9 18 9
-answers = ((refl, refl), (refl, refl), (refl, refl))
-
 -- an insert is not answered as one of a key that was there
 pub answered_as_replaced_refused : IsAnswered {V = ℕ} (Ok None) 9 33 9 → ⊥
 answered_as_replaced_refused h = unequal 33 0 refl h.0
@@ -54,21 +43,6 @@ pub answered_written_refused : IsAnswered {V = ℕ} (Err Full) 9 18 7 → ⊥
 answered_written_refused h = unequal 7 9 refl h.1
 
 -- ---- IsAfterInsert
--- a new key
-pub insert_new : IsAfterInsert direct_coding no_items 5 7 one_bytes 9 0 9
-unfolding opened
-insert_new = (one_image, (refl, refl))
-
--- a key that was there, though the table is full
-pub insert_again : IsAfterInsert direct_coding one_item 5 8 other_bytes 9 33 7
-unfolding opened
-insert_again = (other_image, (refl, refl))
-
--- another key into the full table
-pub insert_full : IsAfterInsert direct_coding one_item 6 8 one_bytes 9 18 9
-unfolding opened
-insert_full = (one_image, refl, refl)
-
 -- a new key is written
 pub insert_unwritten_refused : IsAfterInsert direct_coding no_items 5 7 no_bytes 9 0 9 → ⊥
 unfolding opened
@@ -100,16 +74,6 @@ unfolding opened
 insert_full_value_refused h = unequal 7 9 refl h.2
 
 -- ---- InsertAnswers
--- a new key into a valid table
-pub new_insert : InsertAnswers direct_coding no_bytes 5 7 9 0 one_bytes 9
-unfolding opened
-new_insert = record {
-  refused = λ e is. never_refused direct_config no_items no_bytes e no_image is;
-  on_valid = λ P is. subst (λ T. IsAfterInsert direct_coding T 5 7 one_bytes 9 0 9)
-      (same_table no_items P no_bytes no_image is) insert_new;
-  on_any = λ is. (Ok None, (refl, refl), (Ok None, refl, InsertFrame.added 5 (lit< tt) (inl refl) (lit< tt)));
-}
-
 -- an error is not answered with another status
 pub insert_status_refused : InsertAnswers direct_coding [] 5 7 9 2 [] 9 → ⊥
 unfolding opened

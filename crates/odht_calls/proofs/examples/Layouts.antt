@@ -1,20 +1,13 @@
 -- Worked examples: layouts, and calls with them.
-use Rattle.std.proofs.Common.{◌≡◌, ℕ, List, Option, ap, refl, subst, sym, lit≤, arith, Some, None}
-use Rattle.odht_base.specs.Table.{Table}
-use Rattle.odht_base.specs.Valid.{IsImage}
-use Rattle.odht_header.specs.Coding.{Coding, HasStored, value_for}
+use Rattle.std.proofs.Common.{◌≡◌, ℕ, List, Option, ap, arith, Some, None}
+use Rattle.odht_header.specs.Coding.{Coding}
 use Rattle.odht_calls.specs.declared.any.AnyLayout.{AnyLayout}
 use Rattle.odht_calls.specs.Layouts.{IsLayout, IsFoundBy, ViewContainsAnswers, DynAnswers, AnyAnswers, LayoutAnswers}
-use Rattle.odht_calls.proofs.lemmas.Layouts.{by_none}
 
 abbrev layout : ℕ → ℕ → ℕ → AnyLayout
 layout key value hash = record { key_len = key; value_len = value; hash = hash }
 
 -- ---- IsLayout
--- keys of any length go with the hash function of rustc-hash and with XXH64, of four bytes and more with that of hashes
-pub layouts : IsLayout (layout 0 0 0) × IsLayout (layout 4 255 1) × IsLayout (layout 0 0 2)
-layouts = (record { hash = lit≤ tt; key = lit≤ tt }, record { hash = lit≤ tt; key = lit≤ tt }, record { hash = lit≤ tt; key = lit≤ tt })
-
 -- no hash function has the number 3
 pub other_hash_refused : IsLayout (layout 8 4 3) → ⊥
 other_hash_refused h = absurd (omega (arith, h.hash))
@@ -24,20 +17,12 @@ pub short_key_refused : IsLayout (layout 3 4 1) → ⊥
 short_key_refused h = absurd (omega (arith, h.key))
 
 -- ---- IsFoundBy
--- a key that has a value is answered with ODHT_OK, and another one with ODHT_ABSENT
-pub found_by : IsFoundBy {V = ℕ} (Some 7) 0 × IsFoundBy {V = ℕ} None 32
-found_by = (refl, refl)
-
--- and not the other way round
+-- an absent key is not answered with ODHT_OK
 pub absent_as_found_refused : IsFoundBy {V = ℕ} None 0 → ⊥
 absent_as_found_refused h = absurd (omega (arith, h))
 
 -- ---- ViewContainsAnswers
--- a key that is stored, and that the table of valid bytes has, is answered with ODHT_OK
-pub found_in_view : (c : Coding ℕ ℕ) (B : List ℕ) (k v : ℕ) → HasStored c B k v → ((P : Table) → IsImage c.format P B → value_for c P k ≡ Some v) → ViewContainsAnswers c B k 0
-found_in_view c B k v stored has = record { on_valid = λ P is. subst (λ o. IsFoundBy o 0) (sym (has P is)) refl; on_any = (Some v, refl, stored) }
-
--- and no key is answered with another status than ODHT_OK and ODHT_ABSENT
+-- no key is answered with another status than ODHT_OK and ODHT_ABSENT
 pub other_status_in_view_refused : (c : Coding ℕ ℕ) (B : List ℕ) (k : ℕ) → ViewContainsAnswers c B k 35 → ⊥
 other_status_in_view_refused c B k h = go h.on_any.0 h.on_any.1
   where
@@ -50,19 +35,11 @@ other_status_in_view_refused c B k h = go h.on_any.0 h.on_any.1
 abbrev IsLong : ℕ → ℕ → Type 0
 IsLong found said = found ≡ said
 
--- a layout that is none is answered with ODHT_BAD_LAYOUT, whatever the call answers otherwise
-pub bad_layout_answers : (A : Coding (List ℕ) (List ℕ) → Type 0) → AnyAnswers (layout 3 4 1) 38 (Unit {0}) A
-bad_layout_answers A = by_none _ _ _ A (λ h. absurd (omega (arith, h.0))) (λ h. absurd (omega (arith, h.1))) (λ h. absurd (omega (arith, h.0))) refl tt
-
--- and not as if it were one
+-- a layout that is none is not answered as if it were one
 pub bad_layout_done_refused : (A : Coding (List ℕ) (List ℕ) → Type 0) → AnyAnswers (layout 3 4 1) 0 (Unit {0}) A → ⊥
 bad_layout_done_refused A h = absurd (let status = (h.layout short_key_refused).0 in omega (arith, status))
 
--- lengths that do not fit are answered with ODHT_BAD_LENGTHS
-pub bad_lengths_answer : (A : Type 0) → DynAnswers (IsLong 7 8) 35 (Unit {0}) A
-bad_lengths_answer A = record { lengths = λ other. (refl, tt); answers = λ long. absurd (omega (arith, long)) }
-
--- and not with ODHT_OK
+-- lengths that do not fit are not answered with ODHT_OK
 pub bad_lengths_done_refused : (A : Type 0) → DynAnswers (IsLong 7 8) 0 (Unit {0}) A → ⊥
 bad_lengths_done_refused A h = absurd (let status = (h.lengths (λ long. absurd (omega (arith, long)))).0 in omega (arith, status))
 

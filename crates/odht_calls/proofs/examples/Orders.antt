@@ -3,23 +3,19 @@
 --     padded                   the same bytes, where the padding is not zero
 --     unmade_bytes             the keys 0 and 1 each after the other, which no inserts make
 --     places                   an array of 48 elements
-use Rattle.std.proofs.Common.{◌≡◌, ℕ, List, [], ◌∷◌, refl, subst, lit≤, inl, replicate}
+use Rattle.std.proofs.Common.{ℕ, List, [], ◌∷◌, refl, lit≤, inl, replicate}
 use Rattle.odht_base.specs.Bytes.{overwritten_at}
 use Rattle.odht_base.specs.Image.{image}
-use Rattle.odht_base.specs.Made.{IsMade, IsInsertOrder}
-use Rattle.odht_base.specs.Table.{Table, count}
 use Rattle.odht_base.specs.Valid.{IsImage}
 use Rattle.odht_base.proofs.examples.Configs.{direct_config}
-use Rattle.odht_base.proofs.examples.InsertOrders.{fifteen_first, fifteen_made, fifteen_order, slot_order_refused}
+use Rattle.odht_base.proofs.examples.InsertOrders.{fifteen_first, fifteen_made, slot_order_refused}
 use Rattle.odht_base.proofs.examples.Unmade.{unmade, unmade_valid, unmade_refused}
 use Rattle.odht_base.proofs.lemmas.Placed.{IsPlaced-tests}
 use Rattle.odht_header.specs.declared.error.Error.TheVariants.{NonZeroPadding}
 use Rattle.odht_header.proofs.examples.Apart.{unequal, unequal_lists}
-use Rattle.odht_header.proofs.examples.Invalid.{unmade_accepted}
 use Rattle.odht_header.proofs.examples.Opened.{opened}
 use Rattle.odht_calls.specs.Orders.{OrderAnswers, ScratchAnswers}
-use Rattle.odht_calls.proofs.examples.Tables.{direct_coding, same_table}
-use Rattle.odht_calls.proofs.lemmas.Ordered.{done_order, unmade_order}
+use Rattle.odht_calls.proofs.examples.Tables.{direct_coding}
 
 abbrev fifteen_bytes : List ℕ
 fifteen_bytes = image direct_config fifteen_first
@@ -48,27 +44,6 @@ fifteen_image = record {
 
 unmade_image : IsImage direct_config unmade unmade_bytes
 unmade_image = record { valid = unmade_valid; bytes = refl }
-
--- what is true of the table of these bytes
-of_fifteen : (X : Table → Type 0) → X fifteen_first → (P : Table) → IsImage direct_config P fifteen_bytes → X P
-of_fifteen X is P image = subst X (same_table fifteen_first P fifteen_bytes fifteen_image image) is
-
-of_unmade : (X : Table → Type 0) → X unmade → (P : Table) → IsImage direct_config P unmade_bytes → X P
-of_unmade X is P image = subst X (same_table unmade P unmade_bytes unmade_image image) is
-
--- the order of inserts is 15 and then 0
-pub fifteen_answer : OrderAnswers direct_coding fifteen_bytes (9 ∷ 9 ∷ []) 0 (15 ∷ 0 ∷ [])
-unfolding opened
-fifteen_answer =
-    done_order direct_coding.format fifteen_bytes (9 ∷ 9 ∷ []) refl (15 ∷ 0 ∷ []) (of_fifteen (λ P. 2 ≡ count P) refl)
-    (of_fifteen (IsMade direct_config) (inl fifteen_made.0)) (of_fifteen (λ P. IsInsertOrder direct_config P (15 ∷ 0 ∷ [])) fifteen_order)
-
--- and the other table has none
-pub unmade_answer : OrderAnswers direct_coding unmade_bytes places 37 places
-unfolding opened
-unmade_answer =
-    unmade_order direct_coding.format unmade_bytes places unmade_accepted.1 places (of_unmade (λ P. 48 ≡ count P) refl)
-    (of_unmade (λ P. IsMade direct_config P → ⊥) unmade_refused)
 
 -- what the whole check rejects is not answered with ODHT_OK
 pub order_status_refused : OrderAnswers direct_coding padded (9 ∷ 9 ∷ []) 0 (15 ∷ 0 ∷ []) → ⊥
@@ -108,10 +83,6 @@ order_other_status_refused h = unequal 36 37 refl ((h.unmade unmade unmade_image
 -- slot order is none of inserts here
 pub order_by_slots_refused : OrderAnswers direct_coding fifteen_bytes (9 ∷ 9 ∷ []) 0 (0 ∷ 15 ∷ []) → ⊥
 order_by_slots_refused h = slot_order_refused (h.order fifteen_first fifteen_image refl)
-
--- with two elements of scratch, which the search may write to
-pub scratch_answer : ScratchAnswers direct_coding fifteen_bytes (9 ∷ 9 ∷ []) (7 ∷ 7 ∷ []) 0 (15 ∷ 0 ∷ []) (1 ∷ 2 ∷ [])
-scratch_answer = record { order = fifteen_answer; unwritten = λ is_other is_known. absurd (is_other refl) }
 
 -- for bytes that the whole check rejects nothing is written to it
 pub scratch_written_refused : ScratchAnswers direct_coding padded (9 ∷ 9 ∷ []) (7 ∷ 7 ∷ []) 11 (9 ∷ 9 ∷ []) (7 ∷ 8 ∷ []) → ⊥

@@ -6,7 +6,6 @@ use Rattle.odht_header.proofs.examples.Apart.{unequal}
 use Rattle.odht_header.proofs.examples.Opened.{opened}
 use Rattle.odht_raw.specs.Prefixes.{IsFront}
 use Rattle.odht_calls.specs.Prefixes.{TableLenAnswers}
-use Rattle.odht_calls.proofs.lemmas.Prefixes.{answered_table_len}
 use Rattle.odht_calls.proofs.examples.Tables.{direct_coding, one_bytes}
 
 abbrev longer : List ℕ
@@ -17,11 +16,7 @@ front : IsFront direct_coding.format longer 192
 unfolding opened
 front = record { within = lit≤ tt; accepted = refl }
 
--- so that is the answer
-pub longer_len : TableLenAnswers direct_coding.format longer 9 0 192
-longer_len = answered_table_len direct_coding.format longer 9 192 front
-
--- and no other
+-- its length is no other
 pub one_less_refused : TableLenAnswers direct_coding.format longer 9 0 191 → ⊥
 one_less_refused h = unequal 191 192 refl (h.only 192 front).1
 

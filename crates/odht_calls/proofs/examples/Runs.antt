@@ -1,5 +1,5 @@
 -- Worked examples: what inserts in turn may do to bytes whose header and length are accepted.
-use Rattle.std.proofs.Common.{◌≡◌, ℕ, refl, sym, ap, inl, arith, List, [], ◌∷◌, Option, None, Some, Ok, Err, length, length-append, lit<, subst, map, slice_index}
+use Rattle.std.proofs.Common.{◌≡◌, ℕ, refl, sym, ap, arith, List, [], ◌∷◌, Option, Ok, Err, length, length-append, subst, map, slice_index}
 use Rattle.odht_base.specs.Numbers.{le_bytes}
 use Rattle.odht_base.specs.Table.{Pair}
 use Rattle.odht_base.specs.Writes.{with_pair, with_count}
@@ -13,24 +13,6 @@ use Rattle.odht_calls.proofs.examples.Tables.{direct_coding, no_bytes, one_bytes
 use Rattle.odht_base.specs.Decoded.{key_at}
 use Rattle.odht_header.specs.Refusals.{lists_differ}
 
--- no inserts
-pub no_run : IsFramedRun direct_coding no_bytes [] no_bytes
-no_run = IsFramedRun.start
-
--- one insert, of a new key
-pub one_run : IsFramedRun direct_coding no_bytes ((5, 7) ∷ []) one_bytes
-unfolding opened
-one_run =
-    IsFramedRun.accepted [] 5 7 None no_bytes one_bytes IsFramedRun.start
-    (Ok None, refl, InsertFrame.added 5 (lit< tt) (inl refl) (lit< tt))
-
--- and then one of the same key
-pub two_run : IsFramedRun direct_coding no_bytes ((5, 7) ∷ (5, 8) ∷ []) other_bytes
-unfolding opened
-two_run =
-    IsFramedRun.accepted ((5, 7) ∷ []) 5 8 (Some 7) one_bytes other_bytes one_run
-    (Ok (Some (le_bytes 4 7)), refl, InsertFrame.overwrote 5 (lit< tt) refl)
-
 -- a run of no inserts leaves the bytes unchanged
 pub unchanged : (B : List ℕ) {items : List (ℕ × ℕ)} {D : List ℕ}
     → IsFramedRun direct_coding B items D → length items ≡ 0 → D ≡ B
@@ -38,7 +20,7 @@ unchanged B IsFramedRun.start e = refl
 unchanged B (IsFramedRun.accepted items k v o C D run frame) e =
     absurd (omega (arith, e, length-append items ((k, v) ∷ [])))
 
--- so they write nothing
+-- so it writes nothing
 pub empty_run_refused : IsFramedRun direct_coding no_bytes [] one_bytes → ⊥
 unfolding opened
 empty_run_refused h = unequal_lists one_bytes no_bytes refl (unchanged no_bytes h refl)
@@ -65,13 +47,6 @@ run_refused h = started h refl
 -- bytes that are not valid may have the pair in another slot
 abbrev pub misplaced : List ℕ
 misplaced = with_count (with_pair direct_config 16 no_bytes 6 (pair32 5 7)) 1
-
--- which an insert may do, by the frame for accepted bytes
-pub misplaced_run : IsFramedRun direct_coding no_bytes ((5, 7) ∷ []) misplaced
-unfolding opened
-misplaced_run =
-    IsFramedRun.accepted [] 5 7 None no_bytes misplaced IsFramedRun.start
-    (Ok None, refl, InsertFrame.added 6 (lit< tt) (inl refl) (lit< tt))
 
 -- no slot takes another value than that of the pair
 other_value : (D : List ℕ) (o : Option (List ℕ)) → InsertFrame direct_config no_bytes (pair32 5 7) (Ok o) D

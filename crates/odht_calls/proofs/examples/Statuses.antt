@@ -58,10 +58,6 @@ pub status_or_ok_statuses : (status_or_ok None ≡ 0)
     × (status_or_ok (Some (TooShort 0)) ≡ 1)
 status_or_ok_statuses = (refl, refl, refl)
 
--- arrays of three elements belong to three keys, and those of none to no key
-pub equally_long : AreAsLong 3 3 3 × AreAsLong 0 0 0
-equally_long = ((refl, refl), (refl, refl))
-
 -- an array of two values does not
 pub short_values_refused : AreAsLong 3 2 3 → ⊥
 short_values_refused h = omega (arith, h.0)

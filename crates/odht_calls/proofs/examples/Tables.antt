@@ -4,14 +4,10 @@
 --     one_item, one_bytes      the same with the value 7 for the key 5, which is in slot 5
 --     other_item, other_bytes  the same with the value 8
 --     miscounted               the bytes of no items, with a header's count of five; they are accepted, and not valid
---     no_image, one_image, other_image   the three tables are valid
---     direct_format            the hash of four bytes fits 32 bits
---     same_table               bytes are those of one valid table
+--     no_image, one_image      the first two tables are valid
 --     not_stored               no slot of the bytes `miscounted` has the key 6
-use Rattle.std.proofs.Common.{◌≡◌, ◌≤◌, ◌∙◌, ℕ, refl, sym, List, ◌∷◌, [], Some, None, set, replicate, lit≤, subst}
+use Rattle.std.proofs.Common.{◌≤◌, ℕ, refl, List, ◌∷◌, [], Some, None, set, replicate, lit≤}
 use Rattle.odht_base.specs.Bytes.{overwritten_at}
-use Rattle.odht_base.specs.Format.{IsFormat}
-use Rattle.odht_base.specs.HashLaws.{un-lt}
 use Rattle.odht_base.specs.Image.{image}
 use Rattle.odht_base.specs.Load.{factor_of}
 use Rattle.odht_base.specs.Numbers.{num, le_bytes}
@@ -19,7 +15,6 @@ use Rattle.odht_base.specs.Decoded.{key_at}
 use Rattle.odht_base.specs.Table.{Table, empty}
 use Rattle.odht_base.specs.Valid.{IsImage}
 use Rattle.odht_base.proofs.examples.Configs.{direct_config, pair32}
-use Rattle.odht_base.proofs.lemmas.Image.{image-injective}
 use Rattle.odht_base.proofs.lemmas.Placed.{IsPlaced-tests}
 use Rattle.odht_base.proofs.lemmas.FreeSlots.{empty-IsValid}
 use Rattle.odht_header.specs.Coding.{Coding, HasStored}
@@ -79,37 +74,12 @@ one_image = record {
   bytes = refl;
 }
 
--- and with the other value
-pub other_image : IsImage direct_config other_item other_bytes
-unfolding opened
-other_image = record {
-  valid = record {
-    placed = IsPlaced-tests direct_config other_item (record { power = refl; least = lit≤ tt }) refl refl;
-    factor_low = lit≤ tt;
-    factor_high = lit≤ tt;
-    room = lit≤ tt;
-  };
-  bytes = refl;
-}
-
--- the header and the length of all three fit
+-- the header and the length of these bytes fit
 pub accepted_bytes : IsAccepted direct_config no_bytes
     × IsAccepted direct_config one_bytes
     × IsAccepted direct_config miscounted
 unfolding opened
 accepted_bytes = (refl, refl, refl)
-
--- the hash of four bytes fits 32 bits
-pub direct_format : IsFormat direct_config
-direct_format = record {
-  key_short = lit≤ tt;
-  value_short = lit≤ tt;
-  hash_small = λ b is. un-lt b (subst (λ n. 4 ≤ n) (sym is.len) (lit≤ tt)) is.each;
-}
-
--- so bytes are those of one valid table
-pub same_table : (P Q : Table) (B : List ℕ) → IsImage direct_config P B → IsImage direct_config Q B → P ≡ Q
-same_table P Q B p q = image-injective direct_config P Q direct_format p.valid q.valid (sym p.bytes ∙ q.bytes)
 
 -- no slot has the key 6
 pub not_stored : (v : ℕ) → HasStored direct_coding miscounted 6 v → ⊥

@@ -1,21 +1,16 @@
 -- Worked examples: calls on opened tables. Views are slices at the address 640, openings are of slices at 64.
 --     at640, at64      the slice of these bytes at either address
-use Rattle.std.proofs.Common.{◌≡◌, ◌∙◌, ℕ, zero, suc, refl, sym, List, [], ◌∷◌, Option, Some, None, IfSome, lit<, ap, length, slice_get, subst}
+use Rattle.std.proofs.Common.{ℕ, refl, sym, List, [], ◌∷◌, Option, Some, None, IfSome, ap, length}
 use Rattle.std.proofs.lemmas.Option.{none-some}
 use Rattle.std.specs.Borrow.{Bor}
-use Rattle.odht_base.specs.Decoded.{header_count}
-use Rattle.odht_base.specs.Numbers.{le_bytes}
-use Rattle.odht_base.specs.Table.{Table, count}
-use Rattle.odht_base.proofs.lemmas.Fits.{IsSized-IsPlaced}
-use Rattle.odht_base.proofs.lemmas.Image.{header_count-image}
 use Rattle.odht_base.proofs.lemmas.Options.{some_same}
-use Rattle.odht_header.specs.Coding.{value_for, HasStored}
+use Rattle.odht_header.specs.Coding.{HasStored}
 use Rattle.odht_header.proofs.examples.Apart.{unequal, unequal_lists}
 use Rattle.odht_header.proofs.examples.Opened.{opened}
-use Rattle.odht_calls.specs.Layouts.{AnyViewLenAnswers, any_coding}
+use Rattle.odht_calls.specs.Layouts.{AnyViewLenAnswers}
 use Rattle.odht_calls.specs.Reads.{IsGot, IsGotAt}
 use Rattle.odht_calls.specs.Views.{OpenViewAnswers, ViewGetAnswers, ViewGetAllAnswers, ViewLenAnswers}
-use Rattle.odht_calls.proofs.examples.Tables.{direct_coding, one_item, one_bytes, no_bytes, miscounted, one_image, same_table, not_stored}
+use Rattle.odht_calls.proofs.examples.Tables.{direct_coding, one_item, one_bytes, no_bytes, miscounted, one_image, not_stored}
 
 abbrev at640 : List ℕ → Bor (List ℕ)
 at640 B = record { ref_ptr = (640, length B); now = B }
@@ -24,16 +19,6 @@ abbrev at64 : List ℕ → Bor (List ℕ)
 at64 B = record { ref_ptr = (64, length B); now = B }
 
 -- ---- OpenViewAnswers
--- the bytes of a valid table open, and the view is the very slice
-pub one_opens : OpenViewAnswers direct_coding.format (at64 one_bytes) (at640 no_bytes) 0 (at64 one_bytes)
-unfolding opened
-one_opens = record {
-  status = refl;
-  opened = λ ok. refl;
-  accepted = λ ok. refl;
-  refused = λ other. absurd (other refl);
-}
-
 -- an error is not answered with ODHT_OK
 pub view_status_refused : OpenViewAnswers direct_coding.format (at64 []) (at640 no_bytes) 0 (at64 []) → ⊥
 unfolding opened
@@ -60,15 +45,6 @@ unfolding opened
 view_written_refused h = unequal_lists [] no_bytes refl (ap (λ b. b.now) (h.refused (unequal 1 0 refl)))
 
 -- ---- ViewGetAnswers
--- the key 5 of a valid table has the value 7
-pub view_present : ViewGetAnswers direct_coding one_bytes 5 9 0 7
-unfolding opened
-view_present = record {
-  on_valid = λ P is. subst (λ T. IsGot (value_for direct_coding T 5) 9 0 7)
-      (same_table one_item P one_bytes one_image is) (refl, refl);
-  on_any = (Some 7, (refl, refl), (le_bytes 4 7, refl, (5, lit< tt, refl, refl)));
-}
-
 -- a present key of a valid table is not answered as an absent one
 pub view_missed_refused : ViewGetAnswers direct_coding one_bytes 5 9 32 9 → ⊥
 unfolding opened
@@ -91,14 +67,6 @@ view_not_stored_refused h = go h.on_any
     go (Some v, answer, stored) = not_stored v stored
 
 -- ---- ViewLenAnswers
--- a valid table with one item
-pub view_one_len : ViewLenAnswers direct_coding one_bytes 1
-unfolding opened
-view_one_len = record {
-  by_header = refl;
-  on_valid = λ P is. subst (λ T. 1 ≡ count T) (same_table one_item P one_bytes one_image is) refl;
-}
-
 -- of bytes that are accepted and not valid, the number is that in the header
 pub view_recounted_refused : ViewLenAnswers direct_coding miscounted 0 → ⊥
 unfolding opened
@@ -110,44 +78,11 @@ unfolding opened
 view_uncounted_refused h = unequal 0 1 refl (h.on_valid one_item one_image)
 
 -- ---- AnyViewLenAnswers
--- whatever the layout, the number is that in the header, and of a valid table its count
-pub any_view_one_len : AnyViewLenAnswers one_bytes 1
-unfolding opened
-any_view_one_len l =
-    let F = (any_coding l).format in
-    record { by_header = refl; on_valid = λ P is. ap header_count is.bytes ∙ header_count-image F P (IsSized-IsPlaced F P is.valid.placed) }
-
 pub any_view_recounted_refused : AnyViewLenAnswers miscounted 0 → ⊥
 unfolding opened
 any_view_recounted_refused h = unequal 0 5 refl (h (record { key_len = 8; value_len = 4; hash = 0 })).by_header
 
 -- ---- ViewGetAllAnswers, here of one key, into the arrays 9 ∷ [] and 3 ∷ []
--- the key 5 of a valid table has the value 7, and is reported as found
-pub view_present_all : ViewGetAllAnswers direct_coding one_bytes (5 ∷ []) (9 ∷ []) (3 ∷ []) 0 (7 ∷ []) (1 ∷ [])
-unfolding opened
-view_present_all = record {
-  lengths = λ other. absurd (other (refl, refl));
-  looked_up = λ long. refl;
-  on_valid = λ P i k long is at. valid P (same_table one_item P one_bytes one_image is) i k at;
-  on_any = λ i k long at. any i k at;
-}
-  where
-    valid : (P : Table) → one_item ≡ P → (i k : ℕ) → slice_get (5 ∷ []) i ≡ Some k
-        → IsGotAt (value_for direct_coding P k) (slice_get (9 ∷ []) i) (slice_get (1 ∷ []) i) (slice_get (7 ∷ []) i)
-    valid P same zero k at =
-        subst (λ T. IsGotAt (value_for direct_coding T k) (Some 9) (Some 1) (Some 7)) same
-        (subst (λ x. IsGotAt (value_for direct_coding one_item x) (Some 9) (Some 1) (Some 7))
-        (some_same 5 k at) (refl, refl))
-    valid P same (suc i) k at = absurd (none-some k at)
-
-    any : (i k : ℕ) → slice_get (5 ∷ []) i ≡ Some k
-        → (o : Option ℕ) × IsGotAt o (slice_get (9 ∷ []) i) (slice_get (1 ∷ []) i) (slice_get (7 ∷ []) i)
-        × IfSome o (HasStored direct_coding one_bytes k)
-    any zero k at =
-        let stored : HasStored direct_coding one_bytes 5 7 = (le_bytes 4 7, refl, (5, lit< tt, refl, refl)) in
-        (Some 7, (refl, refl), subst (λ x. HasStored direct_coding one_bytes x 7) (some_same 5 k at) stored)
-    any (suc i) k at = absurd (none-some k at)
-
 -- arrays of two lengths are not answered with ODHT_OK
 pub view_lengths_status_refused : ViewGetAllAnswers direct_coding one_bytes (5 ∷ []) [] (3 ∷ []) 0 [] (3 ∷ []) → ⊥
 view_lengths_status_refused h = unequal 0 35 refl (h.lengths (λ long. unequal 0 1 refl long.0)).0

@@ -1,27 +1,16 @@
 -- Worked examples: what a call for the item count answers, and what a walk does, here into arrays of up to three
 -- elements.
-use Rattle.std.proofs.Common.{◌≡◌, ◌<◌, ◌≤◌, refl, ap, arith, length, true≢false, Some, None, [], ◌∷◌, lit<, lit≤, subst}
-use Rattle.odht_base.specs.Table.{Table, count}
+use Rattle.std.proofs.Common.{◌<◌, ◌≤◌, refl, ap, length, true≢false, Some, None, [], ◌∷◌, lit<, lit≤}
+use Rattle.odht_base.specs.Table.{Table}
 use Rattle.odht_base.proofs.examples.Configs.{pair32}
 use Rattle.odht_header.specs.declared.error.Error.TheVariants.{TooShort}
 use Rattle.odht_header.proofs.examples.Opened.{opened}
 use Rattle.odht_calls.specs.Reads.{LenAnswers}
 use Rattle.odht_calls.specs.Walks.{IsWalked, WalkAnswers}
-use Rattle.odht_calls.proofs.lemmas.Opened.{never_refused}
 use Rattle.odht_header.proofs.examples.Apart.{unequal, unequal_lists}
-use Rattle.odht_calls.proofs.examples.Tables.{direct_coding, one_item, one_bytes, miscounted, one_image, accepted_bytes, same_table}
+use Rattle.odht_calls.proofs.examples.Tables.{direct_coding, one_item, one_bytes, miscounted, one_image, accepted_bytes}
 
 -- ---- LenAnswers
--- a valid table with one item
-pub one_len : LenAnswers direct_coding one_bytes 9 0 1
-unfolding opened
-one_len = record {
-  status = refl;
-  refused = λ e is. never_refused direct_coding.format one_item one_bytes e one_image is;
-  by_header = λ is. refl;
-  on_valid = λ P is. subst (λ T. 1 ≡ count T) (same_table one_item P one_bytes one_image is) refl;
-}
-
 -- an error is not answered with ODHT_OK
 pub len_status_refused : LenAnswers direct_coding [] 9 0 9 → ⊥
 unfolding opened
@@ -46,30 +35,6 @@ len_uncounted_refused h = unequal 0 1 refl (h.on_valid one_item one_image)
 -- a table of four slots, of which slots 1 and 3 hold a pair
 abbrev two : Table
 two = record { factor = 65535; cells = None ∷ Some (pair32 1 2) ∷ None ∷ Some (pair32 3 4) ∷ [] }
-
--- both pairs fit arrays of three elements, whose last elements are unchanged
-pub walked_all : IsWalked direct_coding two 0 (9 ∷ 9 ∷ 9 ∷ []) (8 ∷ 8 ∷ 8 ∷ []) 0 4 (1 ∷ 3 ∷ 9 ∷ []) (2 ∷ 4 ∷ 8 ∷ []) 2
-unfolding opened
-walked_all = record {
-  known = refl;
-  keys = refl;
-  values = refl;
-  left = refl;
-  all = λ fits. (refl, refl);
-  more = λ less. let no : 3 < 2 = less in absurd (omega (arith, no));
-}
-
--- arrays of one element take the first pair, and slot 3 is the one to continue at
-pub walked_first : IsWalked direct_coding two 0 (9 ∷ []) (8 ∷ []) 36 3 (1 ∷ []) (2 ∷ []) 1
-unfolding opened
-walked_first = record {
-  known = refl;
-  keys = refl;
-  values = refl;
-  left = refl;
-  all = λ fits. let no : 2 ≤ 1 = fits in absurd (omega (arith, no));
-  more = λ less. (refl, refl);
-}
 
 -- the number of pairs is not less than the arrays take
 pub walked_fewer_refused : IsWalked direct_coding two 0 (9 ∷ 9 ∷ 9 ∷ []) (8 ∷ 8 ∷ 8 ∷ []) 0 4 (1 ∷ 9 ∷ 9 ∷ []) (2 ∷ 8 ∷ 8 ∷ []) 1
@@ -132,30 +97,6 @@ unfolding opened
 walked_cursor_early_refused h = true≢false (h.more (lit< tt)).1
 
 -- ---- WalkAnswers
--- the pair of a valid table with one item
-one_walked : IsWalked direct_coding one_item 0 (9 ∷ 9 ∷ []) (8 ∷ 8 ∷ []) 0 16 (5 ∷ 9 ∷ []) (7 ∷ 8 ∷ []) 1
-unfolding opened
-one_walked = record {
-  known = refl;
-  keys = refl;
-  values = refl;
-  left = refl;
-  all = λ fits. (refl, refl);
-  more = λ less. let no : 2 < 1 = less in absurd (omega (arith, no));
-}
-
--- and the walk over its bytes
-pub one_walk : WalkAnswers direct_coding one_bytes 0 (9 ∷ 9 ∷ []) (8 ∷ 8 ∷ []) 4 0 16 (5 ∷ 9 ∷ []) (7 ∷ 8 ∷ []) 1
-unfolding opened
-one_walk = record {
-  lengths = λ other. absurd (other refl);
-  refused = λ e long is. never_refused direct_coding.format one_item one_bytes e one_image is;
-  on_valid = λ P long is. subst
-      (λ T. IsWalked direct_coding T 0 (9 ∷ 9 ∷ []) (8 ∷ 8 ∷ []) 0 16 (5 ∷ 9 ∷ []) (7 ∷ 8 ∷ []) 1)
-      (same_table one_item P one_bytes one_image is) one_walked;
-  on_any = λ long is. one_walked;
-}
-
 -- arrays of two lengths are not answered with ODHT_OK
 pub walk_lengths_status_refused : WalkAnswers direct_coding one_bytes 2 (9 ∷ []) [] 4 0 2 (9 ∷ []) [] 4 → ⊥
 walk_lengths_status_refused h = unequal 0 35 refl (h.lengths (unequal 0 1 refl)).0
