@@ -14,8 +14,8 @@ pub mod Made
 pub mod Sizes
 -- the length of a table at the front of longer bytes
 pub mod Prefixes
--- iterators that are called until they end
-pub mod Drained
+-- a new table for as many pairs as there are
+pub mod NewBuilds
 -- tables that are handed out, and what the two calls answer that build one
 pub mod HandedOut
 -- walks into arrays
@@ -24,8 +24,6 @@ pub mod Walked
 pub mod Inserted
 -- what the call for an order of inserts answers
 pub mod Ordered
--- a new table for as many pairs as there are
-pub mod NewBuilds
 -- the errors of a growth, and what the call answers
 pub mod Grown
 -- calls for dynamic tables

@@ -25,5 +25,3 @@ pub mod Grows
 pub mod Layouts
 -- keys and values that lie one after the other in bytes
 pub mod Pieces
--- the status of an insert that tells whether the key had a value
-pub mod InsertedStatus

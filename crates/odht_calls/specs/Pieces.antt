@@ -1,16 +1,15 @@
 -- Keys and values that lie one after the other in bytes, and the calls for dynamic tables that take or write them.
 --     pieces len n B       the first n pieces of B in turn, of len bytes each
 --     ArePieces kl vl n ks vs  ks are n keys of kl bytes, and vs are n values of vl bytes
---     Each of the calls answers what that of a shape does, of the keys and values that the bytes have (`Pieces..`), in
---     the format F:
---     PiecesWalkAnswers F B at n ks vs m s at' ks' vs' m'   a walk into bytes for n keys and n values
---     PiecesGetAllAnswers F B n ks vs fs s vs' fs'          lookups of n keys
---     PiecesViewGetAllAnswers F B n ks vs fs s vs' fs'      the same in an opened table
---     PiecesInsertAllAnswers F B n ks vs m s B' m'          inserts of n pairs in turn
---     PiecesBuildAnswers F n ks vs p out len s out' len'    a table of n pairs at p percent
---     PiecesBuildGrowingAnswers F n ks vs out len s out' len'   a table of n pairs that grows
---     Where there are more or fewer bytes it answers bad_lengths, and nothing is written (`Dyn..`); and before that,
---     where the layout l is none, bad_layout, and nothing is written (`Any..`).
+--     Each of the calls answers what that of a shape does, of the keys and values that the bytes have, in the format F;
+--     where there are more or fewer bytes it answers bad_lengths, and nothing is written:
+--     DynWalkAnswers F B at n ks vs m s at' ks' vs' m'   a walk into bytes for n keys and n values
+--     DynGetAllAnswers F B n ks vs fs s vs' fs'          lookups of n keys
+--     DynViewGetAllAnswers F B n ks vs fs s vs' fs'      the same in an opened table
+--     DynInsertAllAnswers F B n ks vs m s B' m'          inserts of n pairs in turn
+--     DynBuildAnswers F n ks vs p out len s out' len'    a table of n pairs at p percent
+--     DynBuildGrowingAnswers F n ks vs out len s out' len'   a table of n pairs that grows
+--     Before that, where the layout l is none, it answers bad_layout, and nothing is written (`Any..`).
 use Rattle.std.specs.Prelude.{◌≡◌, ℕ, ◌*◌, zero, suc, List, [], ◌∷◌, length, take, drop}
 use Rattle.odht_base.specs.Format.{Format}
 use Rattle.odht_raw.specs.DynParts.{bytes_coding}
@@ -31,79 +30,60 @@ pub record ArePieces (kl vl n : ℕ) (ks vs : List ℕ) : Type 0 where
   pub values : length vs ≡ n * vl
 
 -- ---- walks
-abbrev pub PiecesWalkAnswers : Format → List ℕ → ℕ → ℕ → List ℕ → List ℕ → ℕ → ℕ → ℕ → List ℕ → List ℕ → ℕ → Type 0
-PiecesWalkAnswers F B at n ks vs m s at' ks' vs' m' =
-    WalkAnswers (bytes_coding F) B at (pieces F.key_len n ks) (pieces F.value_len n vs) m s at' (pieces F.key_len n ks') (pieces F.value_len n vs') m'
-
 abbrev pub DynWalkAnswers : Format → List ℕ → ℕ → ℕ → List ℕ → List ℕ → ℕ → ℕ → ℕ → List ℕ → List ℕ → ℕ → Type 0
 DynWalkAnswers F B at n ks vs m s at' ks' vs' m' =
     DynAnswers (ArePieces F.key_len F.value_len n ks vs) s ((at' ≡ at) × (ks' ≡ ks) × (vs' ≡ vs) × (m' ≡ m))
-    (PiecesWalkAnswers F B at n ks vs m s at' ks' vs' m')
+    (WalkAnswers (bytes_coding F) B at (pieces F.key_len n ks) (pieces F.value_len n vs) m s at' (pieces F.key_len n ks') (pieces F.value_len n vs') m')
 
 abbrev pub AnyWalkAnswers : AnyLayout → List ℕ → ℕ → ℕ → List ℕ → List ℕ → ℕ → ℕ → ℕ → List ℕ → List ℕ → ℕ → Type 0
 AnyWalkAnswers l B at n ks vs m s at' ks' vs' m' =
     AnyAnswers l s ((at' ≡ at) × (ks' ≡ ks) × (vs' ≡ vs) × (m' ≡ m)) (λ c. DynWalkAnswers c.format B at n ks vs m s at' ks' vs' m')
 
 -- ---- lookups of many keys
-abbrev pub PiecesGetAllAnswers : Format → List ℕ → ℕ → List ℕ → List ℕ → List ℕ → ℕ → List ℕ → List ℕ → Type 0
-PiecesGetAllAnswers F B n ks vs fs s vs' fs' =
-    GetAllAnswers (bytes_coding F) B (pieces F.key_len n ks) (pieces F.value_len n vs) fs s (pieces F.value_len n vs') fs'
-
 abbrev pub DynGetAllAnswers : Format → List ℕ → ℕ → List ℕ → List ℕ → List ℕ → ℕ → List ℕ → List ℕ → Type 0
 DynGetAllAnswers F B n ks vs fs s vs' fs' =
-    DynAnswers (ArePieces F.key_len F.value_len n ks vs × (length fs ≡ n)) s ((vs' ≡ vs) × (fs' ≡ fs)) (PiecesGetAllAnswers F B n ks vs fs s vs' fs')
+    DynAnswers (ArePieces F.key_len F.value_len n ks vs × (length fs ≡ n)) s ((vs' ≡ vs) × (fs' ≡ fs))
+    (GetAllAnswers (bytes_coding F) B (pieces F.key_len n ks) (pieces F.value_len n vs) fs s (pieces F.value_len n vs') fs')
 
 abbrev pub AnyGetAllAnswers : AnyLayout → List ℕ → ℕ → List ℕ → List ℕ → List ℕ → ℕ → List ℕ → List ℕ → Type 0
 AnyGetAllAnswers l B n ks vs fs s vs' fs' =
     AnyAnswers l s ((vs' ≡ vs) × (fs' ≡ fs)) (λ c. DynGetAllAnswers c.format B n ks vs fs s vs' fs')
 
 -- ---- the same in an opened table
-abbrev pub PiecesViewGetAllAnswers : Format → List ℕ → ℕ → List ℕ → List ℕ → List ℕ → ℕ → List ℕ → List ℕ → Type 0
-PiecesViewGetAllAnswers F B n ks vs fs s vs' fs' =
-    ViewGetAllAnswers (bytes_coding F) B (pieces F.key_len n ks) (pieces F.value_len n vs) fs s (pieces F.value_len n vs') fs'
-
 abbrev pub DynViewGetAllAnswers : Format → List ℕ → ℕ → List ℕ → List ℕ → List ℕ → ℕ → List ℕ → List ℕ → Type 0
 DynViewGetAllAnswers F B n ks vs fs s vs' fs' =
-    DynAnswers (ArePieces F.key_len F.value_len n ks vs × (length fs ≡ n)) s ((vs' ≡ vs) × (fs' ≡ fs)) (PiecesViewGetAllAnswers F B n ks vs fs s vs' fs')
+    DynAnswers (ArePieces F.key_len F.value_len n ks vs × (length fs ≡ n)) s ((vs' ≡ vs) × (fs' ≡ fs))
+    (ViewGetAllAnswers (bytes_coding F) B (pieces F.key_len n ks) (pieces F.value_len n vs) fs s (pieces F.value_len n vs') fs')
 
 abbrev pub AnyViewGetAllAnswers : AnyLayout → List ℕ → ℕ → List ℕ → List ℕ → List ℕ → ℕ → List ℕ → List ℕ → Type 0
 AnyViewGetAllAnswers l B n ks vs fs s vs' fs' =
     AnyAnswers l s ((vs' ≡ vs) × (fs' ≡ fs)) (λ c. DynViewGetAllAnswers c.format B n ks vs fs s vs' fs')
 
 -- ---- inserts of many pairs
-abbrev pub PiecesInsertAllAnswers : Format → List ℕ → ℕ → List ℕ → List ℕ → ℕ → ℕ → List ℕ → ℕ → Type 0
-PiecesInsertAllAnswers F B n ks vs m s B' m' =
-    InsertAllAnswers (bytes_coding F) B (pieces F.key_len n ks) (pieces F.value_len n vs) m s B' m'
-
 abbrev pub DynInsertAllAnswers : Format → List ℕ → ℕ → List ℕ → List ℕ → ℕ → ℕ → List ℕ → ℕ → Type 0
 DynInsertAllAnswers F B n ks vs m s B' m' =
-    DynAnswers (ArePieces F.key_len F.value_len n ks vs) s ((B' ≡ B) × (m' ≡ m)) (PiecesInsertAllAnswers F B n ks vs m s B' m')
+    DynAnswers (ArePieces F.key_len F.value_len n ks vs) s ((B' ≡ B) × (m' ≡ m))
+    (InsertAllAnswers (bytes_coding F) B (pieces F.key_len n ks) (pieces F.value_len n vs) m s B' m')
 
 abbrev pub AnyInsertAllAnswers : AnyLayout → List ℕ → ℕ → List ℕ → List ℕ → ℕ → ℕ → List ℕ → ℕ → Type 0
 AnyInsertAllAnswers l B n ks vs m s B' m' =
     AnyAnswers l s ((B' ≡ B) × (m' ≡ m)) (λ c. DynInsertAllAnswers c.format B n ks vs m s B' m')
 
 -- ---- builds
-abbrev pub PiecesBuildAnswers : Format → ℕ → List ℕ → List ℕ → ℕ → List ℕ → ℕ → ℕ → List ℕ → ℕ → Type 0
-PiecesBuildAnswers F n ks vs p out len s out' len' =
-    BuildAnswers (bytes_coding F) (pieces F.key_len n ks) (pieces F.value_len n vs) p out len s out' len'
-
 abbrev pub DynBuildAnswers : Format → ℕ → List ℕ → List ℕ → ℕ → List ℕ → ℕ → ℕ → List ℕ → ℕ → Type 0
 DynBuildAnswers F n ks vs p out len s out' len' =
-    DynAnswers (ArePieces F.key_len F.value_len n ks vs) s ((out' ≡ out) × (len' ≡ len)) (PiecesBuildAnswers F n ks vs p out len s out' len')
+    DynAnswers (ArePieces F.key_len F.value_len n ks vs) s ((out' ≡ out) × (len' ≡ len))
+    (BuildAnswers (bytes_coding F) (pieces F.key_len n ks) (pieces F.value_len n vs) p out len s out' len')
 
 abbrev pub AnyBuildAnswers : AnyLayout → ℕ → List ℕ → List ℕ → ℕ → List ℕ → ℕ → ℕ → List ℕ → ℕ → Type 0
 AnyBuildAnswers l n ks vs p out len s out' len' =
     AnyAnswers l s ((out' ≡ out) × (len' ≡ len)) (λ c. DynBuildAnswers c.format n ks vs p out len s out' len')
 
 -- ---- builds of tables that grow
-abbrev pub PiecesBuildGrowingAnswers : Format → ℕ → List ℕ → List ℕ → List ℕ → ℕ → ℕ → List ℕ → ℕ → Type 0
-PiecesBuildGrowingAnswers F n ks vs out len s out' len' =
-    BuildGrowingAnswers (bytes_coding F) (pieces F.key_len n ks) (pieces F.value_len n vs) out len s out' len'
-
 abbrev pub DynBuildGrowingAnswers : Format → ℕ → List ℕ → List ℕ → List ℕ → ℕ → ℕ → List ℕ → ℕ → Type 0
 DynBuildGrowingAnswers F n ks vs out len s out' len' =
-    DynAnswers (ArePieces F.key_len F.value_len n ks vs) s ((out' ≡ out) × (len' ≡ len)) (PiecesBuildGrowingAnswers F n ks vs out len s out' len')
+    DynAnswers (ArePieces F.key_len F.value_len n ks vs) s ((out' ≡ out) × (len' ≡ len))
+    (BuildGrowingAnswers (bytes_coding F) (pieces F.key_len n ks) (pieces F.value_len n vs) out len s out' len')
 
 abbrev pub AnyBuildGrowingAnswers : AnyLayout → ℕ → List ℕ → List ℕ → List ℕ → ℕ → ℕ → List ℕ → ℕ → Type 0
 AnyBuildGrowingAnswers l n ks vs out len s out' len' =

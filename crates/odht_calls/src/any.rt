@@ -4,11 +4,9 @@ ghost use Rattle.std.specs.Prelude.{◌≡◌, ◌≤◌, ◌↔◌, IsTrue};
 ghost use Rattle.odht_raw.specs.PartLengths.{ArePairLengths};
 
 pub mod build;
-pub mod lists;
 mod pieces;
 pub mod read;
 pub mod view;
-pub mod walk;
 pub mod write;
 
 /// What a caller in C knows of a table: how many bytes a key and a value have, and the number of

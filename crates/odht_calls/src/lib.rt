@@ -4,12 +4,8 @@
 
 pub mod any;
 pub mod build;
-pub mod grow;
-mod lookups;
-pub mod order;
 pub mod places;
 pub mod read;
 pub mod status;
 pub mod view;
-pub mod walk;
 pub mod write;

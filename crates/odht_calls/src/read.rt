@@ -6,11 +6,13 @@ ghost use Rattle.odht_base.specs.Format.{format_of};
 ghost use Rattle.odht_header.specs.Refusals.{opening_refusal, view_refusal, check_refusal_by};
 ghost use Rattle.odht_header.specs.Refusals.{checked};
 ghost use Rattle.odht_raw.specs.PartLengths.{ArePairLengths};
-ghost use Rattle.odht_calls.specs.Statuses.{status_or_ok};
+ghost use Rattle.odht_calls.specs.Orders.{ScratchAnswersOf};
 ghost use Rattle.odht_calls.specs.Reads.{GetAnswers, GetAllAnswers, LenAnswersOf, SizesAnswers};
 ghost use Rattle.odht_calls.specs.Prefixes.{TableLenAnswers};
+ghost use Rattle.odht_calls.specs.Statuses.{status_or_ok};
+ghost use Rattle.odht_calls.specs.Walks.{WalkAnswers};
 
-use crate::status::{OK, status_of};
+use crate::status::{BAD_LENGTHS, OK, TOO_SMALL, UNMADE, status_of};
 use crate::view;
 use odht::HashTable;
 use odht::bytes::Borrowed;
@@ -21,6 +23,7 @@ use odht::layout::{Layout, Lengths};
 use odht::load::max_item_count_for;
 use odht::memory_layout::{
     Header, check_by_header, check_opening_in, check_parts, dynamic_table_len, is_accepted,
+    parts_in,
 };
 
 /// Opens the bytes by their header and length. Reads no slot.
@@ -78,6 +81,43 @@ pub fn get_all<C: Config>(
         Err(refused) => return status_of(&refused),
     };
     view::get_all(&table, keys, values, found)
+}
+
+/// Writes the keys and values in the slots from `cursor` on to the arrays, in slot order, as many
+/// as fit, and to `item_count` how many. `cursor` is then the slot of the first pair that did not
+/// fit (TOO_SMALL), or the slot count where none is left (OK). An error leaves everything
+/// unchanged.
+#[inline]
+pub fn walk<C: Config>(
+    bytes: &[u8],
+    cursor: &mut usize,
+    keys: &mut [C::Key],
+    values: &mut [C::Value],
+    item_count: &mut usize,
+) -> u32
+    requires { length values.old ≡ length keys.old }
+    ensures { WalkAnswers ⟦<C as Coded>⟧.coding bytes.now
+        cursor.old keys.old values.old item_count.old result cursor.new keys.new values.new
+        item_count.new }
+{
+    let table = match view::<C>(bytes) {
+        Ok(table) => table,
+        Err(refused) => return status_of(&refused),
+    };
+    let mut written = 0;
+    for (slot, (key, value)) in table.iter_from(*cursor) {
+        if written >= keys.len() {
+            *cursor = slot;
+            *item_count = written;
+            return TOO_SMALL;
+        }
+        keys[written] = key;
+        values[written] = value;
+        written += 1;
+    }
+    *cursor = Header::of(bytes).slot_count();
+    *item_count = written;
+    OK
 }
 
 /// The header of bytes whose header and length fit, or the first error. Reads no slot.
@@ -199,5 +239,36 @@ pub fn table_len<L: Lengths, H: HashFn>(lengths: L, bytes: &[u8], len: &mut usiz
             OK
         }
         Err(refused) => status_of(&refused),
+    }
+}
+
+/// Writes to `out` the occupied slots in an order in which inserts of their pairs make the table.
+/// UNMADE where there is none: what `out` then holds is unspecified. Errors of the whole check and
+/// BAD_LENGTHS leave `out` and `scratch` unchanged.
+///
+/// With three numbers of scratch for each slot, or more, it takes time in proportion to the slots,
+/// and to the groups that the longest search of each home reads; with fewer, the steps of
+/// `RawTable::insert_order`. What `scratch` then holds is unspecified.
+#[inline]
+pub fn insert_order<L: Lengths, H: HashFn>(
+    lengths: L,
+    bytes: &[u8],
+    out: &mut [usize],
+    scratch: &mut [usize],
+) -> u32
+    requires { ArePairLengths H.MIN_LEN (L.key_len lengths) (L.value_len lengths) }
+    ensures { let F = format_of (L.key_len lengths) (L.value_len lengths) H.hash
+        in ScratchAnswersOf F bytes.now out.old scratch.old result out.new scratch.new }
+{
+    if let Err(refused) = whole::<L, H>(lengths, bytes, None) {
+        return status_of(&refused);
+    }
+    if out.len() != Header::of(bytes).item_count() {
+        return BAD_LENGTHS;
+    }
+    if parts_in::<L, H>(bytes, lengths).insert_order_with(out, scratch) {
+        OK
+    } else {
+        UNMADE
     }
 }

@@ -1,20 +1,21 @@
 //! Opened tables as a caller in C keeps them, and for every configuration lookups that skip the
 //! header.
-ghost use Rattle.std.specs.Prelude.{◌≡◌, ◌≤◌, length};
+ghost use Rattle.std.specs.Prelude.{◌≡◌, ◌≤◌, length, min, set};
 ghost use Rattle.odht_base.specs.Format.{format_of};
 ghost use Rattle.odht_raw.specs.Frame.{IsAccepted};
 ghost use Rattle.odht_raw.specs.PartLengths.{ArePairLengths};
 ghost use Rattle.odht_calls.specs.Layouts.{AnyViewLenAnswers};
+ghost use Rattle.odht_calls.specs.Lookups.{flag_of, with_found};
 ghost use Rattle.odht_calls.specs.Views.{OpenViewAnswers, ViewGetAnswers, ViewGetAllAnswers};
 
-use crate::lookups::Arrays;
 use crate::status::{ABSENT, OK, status_of};
+use odht::HashTable;
 use odht::bytes::Borrowed;
 use odht::config::{Coded, Config};
 use odht::hash::HashFn;
 use odht::layout::Lengths;
+use odht::lookups::{self, Answers};
 use odht::memory_layout::{Header, check_opening_in};
-use odht::{HashTable, lookups};
 
 /// The bytes of an opened table, as C keeps them: a pointer and a length. The calls that read a
 /// view require that the header and the length of its bytes are accepted, and do not check it.
@@ -72,6 +73,34 @@ pub fn get<C: Config>(table: &HashTable<C, Borrowed<'_>>, key: &C::Key, value: &
             OK
         }
         None => ABSENT,
+    }
+}
+
+/// The arrays of a caller. At the index of a key that is found, its value is put in `values` and 1
+/// in `found`; at any other index 0 is put in `found`.
+#[derive(Drop)]
+struct Arrays<'v, 'f, V> {
+    values: &'v mut [V],
+    found: &'f mut [u8],
+}
+
+impl<'v, 'f, V: Drop> Answers<Option<V>> for Arrays<'v, 'f, V> {
+    ghost places = { λ s. min (length s.values.now) (length s.found.now) };
+
+    ghost after_put = { λ s i o. record s {
+      values = record s.values { now = with_found s.values.now i o };
+      found = record s.found { now = set s.found.now i (flag_of o) };
+    } };
+
+    #[inline(always)]
+    fn put(&mut self, index: usize, answer: Option<V>) {
+        match answer {
+            Some(value) => {
+                self.values[index] = value;
+                self.found[index] = 1;
+            }
+            None => self.found[index] = 0,
+        }
     }
 }
 

@@ -4,11 +4,14 @@ ghost use Rattle.std.specs.Prelude.{◌≡◌, length};
 ghost use Rattle.odht_base.specs.Format.{format_of};
 ghost use Rattle.odht_raw.specs.Frame.{IsAccepted};
 ghost use Rattle.odht_raw.specs.PartLengths.{ArePairLengths};
+ghost use Rattle.odht_calls.specs.Grows.{GrowAnswers};
 ghost use Rattle.odht_calls.specs.Writes.{BytesNeededAnswersOf, InitAnswersOf};
 ghost use Rattle.odht_calls.specs.Writes.{InsertAnswers, InsertAllAnswers};
 
 use crate::read::{refused, view};
-use crate::status::{BAD_PERCENT, CAPACITY, INIT_LENGTH, OK, REPLACED, status_of};
+use crate::status::{
+    BAD_PERCENT, CAPACITY, INIT_LENGTH, LOAD_FACTOR_TOO_SMALL, OK, REPLACED, TOO_SMALL, status_of,
+};
 use odht::HashTable;
 use odht::bytes::ByteStoreMut;
 use odht::config::{Coded, Config};
@@ -16,7 +19,7 @@ use odht::hash::HashFn;
 use odht::items::Zipped;
 use odht::layout::{Layout, Lengths};
 use odht::load::{Factor, Percent};
-use odht::memory_layout::{init_parts, is_accepted};
+use odht::memory_layout::{Header, LEAST_FACTOR, init_parts, is_accepted};
 
 /// Writes to `len` how many bytes a new table for that many items has. BAD_PERCENT and CAPACITY
 /// leave `len` unchanged.
@@ -129,4 +132,29 @@ pub fn insert_all<C: Config, M: ByteStoreMut>(
         Ok(()) => OK,
         Err(refused) => status_of(&refused),
     }
+}
+
+/// Writes the table that the one in `bytes` grows into to the front of `out`, and its length in
+/// bytes to `len`. TOO_SMALL leaves `out` unchanged, any other error leaves both unchanged.
+#[inline]
+pub fn grow<C: Config>(bytes: &[u8], out: &mut [u8], len: &mut usize) -> u32
+    ensures { GrowAnswers ⟦<C as Coded>⟧.coding bytes.now out.old len.old result out.new len.new }
+{
+    let table = match view::<C>(bytes) {
+        Ok(table) => table,
+        Err(refused) => return status_of(&refused),
+    };
+    let factor = Header::of(bytes).max_load_factor();
+    if factor.0 < LEAST_FACTOR {
+        return LOAD_FACTOR_TOO_SMALL;
+    }
+    let Some(needed) = table.grown_len() else {
+        return CAPACITY;
+    };
+    *len = needed;
+    if out.len() < needed {
+        return TOO_SMALL;
+    }
+    table.grow_into(&mut out[..needed]);
+    OK
 }

@@ -27,7 +27,7 @@ use odht::configs::Bytes20Set as Shape;
 use odht::layout::Fixed;
 use odht_calls::status::BAD_LENGTHS;
 use odht_calls::view::{self, View};
-use odht_calls::{build, grow, order, places, read, walk, write};
+use odht_calls::{build, places, read, write};
 use std::alloc::Global;
 
 // The lengths of keys and values, and the hash function.
@@ -264,7 +264,7 @@ pub extern "C" fn odht_b20_walk(
     if values.len() != keys.len() {
         return BAD_LENGTHS;
     }
-    walk::walk::<Shape>(bytes, cursor, keys, values, item_count)
+    read::walk::<Shape>(bytes, cursor, keys, values, item_count)
 }
 
 /// Opens the bytes as `open` does, makes `view` a view of them, and returns 0. Otherwise returns
@@ -334,7 +334,7 @@ pub extern "C" fn odht_b20_view_len(view: &View<'_>) -> usize
 pub extern "C" fn odht_b20_insert_order(bytes: &[u8], out: &mut [usize]) -> u32
     ensures { OrderAnswers ⟦<Shape as Coded>⟧.coding bytes.now out.old result out.new }
 {
-    order::insert_order::<Sizes, Hash>(Sizes::new(), bytes, out, &mut [])
+    read::insert_order::<Sizes, Hash>(Sizes::new(), bytes, out, &mut [])
 }
 
 /// Writes a larger copy of the table in `bytes` to the start of `out`, its length in bytes to
@@ -350,7 +350,7 @@ pub extern "C" fn odht_b20_grow(bytes: &[u8], out: &mut [u8], len: &mut usize) -
     ensures { GrowAnswers ⟦<Shape as Coded>⟧.coding bytes.now out.old len.old result out.new
         len.new }
 {
-    grow::grow::<Shape>(bytes, out, len)
+    write::grow::<Shape>(bytes, out, len)
 }
 
 /// Makes a table for the number of pairs at the start of `out`, and inserts the key and the value

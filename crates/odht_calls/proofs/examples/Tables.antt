@@ -6,7 +6,7 @@
 --     miscounted               the bytes of no items, with a header's count of five; they are accepted, and not valid
 --     no_image, one_image      the first two tables are valid
 --     not_stored               no slot of the bytes `miscounted` has the key 6
-use Rattle.std.proofs.Common.{◌≤◌, ℕ, refl, List, ◌∷◌, [], Some, None, set, replicate, lit≤}
+use Rattle.std.proofs.Common.{ℕ, refl, List, ◌∷◌, [], Some, None, set, replicate, lit≤}
 use Rattle.odht_base.specs.Bytes.{overwritten_at}
 use Rattle.odht_base.specs.Image.{image}
 use Rattle.odht_base.specs.Load.{factor_of}

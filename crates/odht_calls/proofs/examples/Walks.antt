@@ -1,6 +1,6 @@
 -- Worked examples: what a call for the item count answers, and what a walk does, here into arrays of up to three
 -- elements.
-use Rattle.std.proofs.Common.{◌<◌, ◌≤◌, refl, ap, length, true≢false, Some, None, [], ◌∷◌, lit<, lit≤}
+use Rattle.std.proofs.Common.{refl, ap, length, true≢false, Some, None, [], ◌∷◌, lit<, lit≤}
 use Rattle.odht_base.specs.Table.{Table}
 use Rattle.odht_base.proofs.examples.Configs.{pair32}
 use Rattle.odht_header.specs.declared.error.Error.TheVariants.{TooShort}

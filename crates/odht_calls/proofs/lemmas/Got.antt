@@ -12,7 +12,7 @@ use Rattle.odht_raw.specs.Parts.{EntryBytes, TableParts}
 use Rattle.odht_raw.specs.SearchEnds.{IsBesideKey}
 use Rattle.odht.specs.Lookups.{IsLookup, lookups_of, ArePut}
 use Rattle.odht.proofs.lemmas.Lookups.{slice_get-set_same, slice_get-set_other, stored_beside, puts-at}
-use Rattle.odht_calls.specs.declared.lookups.Arrays.{Arrays}
+use Rattle.odht_calls.specs.declared.view.Arrays.{Arrays}
 use Rattle.odht_calls.specs.Lookups.{flag_of, with_found}
 use Rattle.odht_calls.specs.Reads.{IsGotAt}
 use Rattle.odht_calls.specs.Statuses.{done}

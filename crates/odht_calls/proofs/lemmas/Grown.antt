@@ -51,9 +51,9 @@ pub written_front : (F : Format) (B T out : List ℕ) (n : ℕ) → length T ≡
 written_front F B T out n long from = record { table = subst (IsGrownFrom F B) (sym (take_at T (drop n out) n long)) from; rest = drop_at T (drop n out) n long }
 
 -- ---- what the call answers
-module _ (F : Format) (B out : List ℕ) (len : ℕ) where
+module _ {F : Format} {B out : List ℕ} {len : ℕ} where
   -- where it has an error
-  pub refused_grow : (a : Error) (s : ℕ) → growth_refusal F B ≡ Some a → s ≡ status_of a → GrowAnswersOf F B out len s out len
+  refused_grow : (a : Error) (s : ℕ) → growth_refusal F B ≡ Some a → s ≡ status_of a → GrowAnswersOf F B out len s out len
   refused_grow a s is status = record {
     refused = λ e other. (status ∙ known _ a e is other, refl, refl);
     short = λ n none. not_none _ a is none;
@@ -62,7 +62,7 @@ module _ (F : Format) (B out : List ℕ) (len : ℕ) where
 
   module _ (n : ℕ) (none : growth_refusal F B ≡ None) (is : grown_len F B ≡ Some n) where
     -- where the bytes are too few
-    pub short_grow : length out < n → GrowAnswersOf F B out len too_small out n
+    short_grow : length out < n → GrowAnswersOf F B out len too_small out n
     short_grow less = record {
       refused = λ e other. not_none _ e other none;
       short = λ m ok other low. (refl, refl, some_same n m (sym is ∙ other));
@@ -70,9 +70,28 @@ module _ (F : Format) (B out : List ℕ) (len : ℕ) where
     }
 
     -- and where they are enough
-    pub done_grow : (out' : List ℕ) → n ≤ length out → IsGrownInto F B n out out' → GrowAnswersOf F B out len done out' n
+    done_grow : (out' : List ℕ) → n ≤ length out → IsGrownInto F B n out out' → GrowAnswersOf F B out len done out' n
     done_grow out' fits into = record {
       refused = λ e other. not_none _ e other none;
       short = λ m ok other low. absurd (let same = some_same n m (sym is ∙ other) in omega (arith, low, fits, same));
       grown = λ m ok other enough. (let same = some_same n m (sym is ∙ other) in (refl, subst (λ k. IsGrownInto F B k out out') same into, same));
     }
+
+  -- of bytes whose opening has an error
+  pub refused_opening : (e : Error) (s : ℕ) → Some e ≡ opening_refusal F B → s ≡ status_of e → GrowAnswersOf F B out len s out len
+  refused_opening e s is status = refused_grow e s (refused_first F B e (sym is)) status
+
+  -- and of others, by the load factor of their header
+  module _ (opens : None ≡ opening_refusal F B) (factor : ℕ) (by_header : factor ≡ header_factor B) where
+    pub weak_grow : factor < 655 → GrowAnswersOf F B out len 10 out len
+    weak_grow low = refused_grow (LoadFactorTooSmall (header_factor B)) 10 (refused_factor F B (sym opens) (omega (arith, by_header, low))) refl
+
+    module _ (enough : 655 ≤ factor) where
+      pub large_grow : None ≡ grown_len F B → GrowAnswersOf F B out len 20 out len
+      large_grow none = refused_grow Capacity 20 (refused_capacity F B (sym opens) (omega (arith, by_header, enough)) (sym none)) refl
+
+      pub small_grow : (n : ℕ) → Some n ≡ grown_len F B → length out < n → GrowAnswersOf F B out len too_small out n
+      small_grow n is = short_grow n (not_refused F B (sym opens) (omega (arith, by_header, enough)) n (sym is)) (sym is)
+
+      pub written_grow : (n : ℕ) (T : List ℕ) → Some n ≡ grown_len F B → n ≤ length out → length T ≡ n → IsGrownFrom F B T → GrowAnswersOf F B out len done (T ++ drop n out) n
+      written_grow n T is fits long from = done_grow n (not_refused F B (sym opens) (omega (arith, by_header, enough)) n (sym is)) (sym is) (T ++ drop n out) fits (written_front F B T out n long from)

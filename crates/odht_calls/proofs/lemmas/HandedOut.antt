@@ -1,21 +1,27 @@
 -- What is handed out of a table that was built.
-use Rattle.std.proofs.Common.{◌≡◌, ◌<◌, ◌≤◌, ◌∙◌, ◌++◌, ◌⊎◌, inl, inr, ℕ, List, Result, Err, Some, IsOk, OnErr, sym, ap, subst, refl, arith, length, drop, take_at, drop_at}
+use Rattle.std.proofs.Common.{◌≡◌, ◌<◌, ◌≤◌, ◌^◌, ◌∙◌, ◌++◌, ◌⊎◌, inl, inr, ℕ, All, List, Result, Err, Some, None, IsOk, OnErr, take, length-take-le, sym, ap, subst, refl, arith, length, drop, take_at, drop_at}
 use Rattle.std.specs.List.{zip}
 use Rattle.odht_base.specs.Insert.{insert_owned}
-use Rattle.odht_base.specs.Load.{factor_of, IsPercent}
-use Rattle.odht_base.specs.Table.{Table, fresh}
-use Rattle.odht_base.specs.Valid.{IsImage}
+use Rattle.std.proofs.lemmas.Slice.Zip.{length-zip}
+use Rattle.odht_base.specs.Image.{image_len}
+use Rattle.odht_base.specs.Load.{factor_of, slots_for, IsPercent}
+use Rattle.odht_base.specs.Table.{Table, empty, fresh}
+use Rattle.odht_base.specs.Valid.{IsImage, IsPairOf}
+use Rattle.odht_base.proofs.lemmas.FreeSlots.{slot_count-empty}
 use Rattle.odht_base.proofs.lemmas.Options.{some_same}
 use Rattle.odht_header.specs.Coding.{Coding}
-use Rattle.odht_header.specs.Refusals.{IsTooLarge}
+use Rattle.odht_header.specs.Refusals.{IsTooLarge, new_refusal}
 use Rattle.odht_header.specs.declared.error.Error.{Error}
 use Rattle.odht_header.specs.declared.error.Error.TheVariants.{Memory, Capacity}
 use Rattle.odht.specs.Lists.{encoded_all, IsAfterInserts, IsFreshAfterInserts}
+use Rattle.odht.specs.NewTables.{new_len}
 use Rattle.odht.specs.Plain.{IsPlainList}
 use Rattle.odht.proofs.lemmas.ListInserts.{inserted_all}
+use Rattle.odht.proofs.lemmas.NewRefusals.{new_refusal-fits, new_len-some, new_len-none}
 use Rattle.odht.proofs.lemmas.PlainLists.{list_after}
 use Rattle.odht_calls.specs.Builds.{IsHandedOut, IsGrownAfterInserts, BuildAnswers, BuildGrowingAnswers}
 use Rattle.odht_calls.specs.Statuses.{status_of, done, bad_percent, too_small}
+use Rattle.odht_calls.proofs.lemmas.NewBuilds.{fresh_empty, new_exists}
 
 -- another status implies nothing
 pub IsHandedOut-none : (IsTable : List ℕ → Type 0) (out : List ℕ) (s : ℕ) (out' : List ℕ) (len' : ℕ) → (s ≡ done → ⊥) → (s ≡ too_small → ⊥)
@@ -86,7 +92,7 @@ module _ {K V : Type 0} (c : Coding K V) (keys : List K) (values : List V) (p : 
 
   module _ (within : IsPercent p) where
     -- where none is large enough
-    pub large_build : IsTooLarge c.format (length keys) (factor_of p) → BuildAnswers c keys values p out len (status_of Capacity) out len
+    large_build : IsTooLarge c.format (length keys) (factor_of p) → BuildAnswers c keys values p out len (status_of Capacity) out len
     large_build large = record {
       lengths = λ other. absurd (other equal);
       percent = λ long other. absurd (other within);
@@ -96,7 +102,7 @@ module _ {K V : Type 0} (c : Coding K V) (keys : List K) (values : List V) (p : 
     }
 
     -- where the bytes are too few for the n bytes of such a table
-    pub short_build : (n : ℕ) → length out < n → (B : List ℕ) → length B ≡ n → IsFreshAfterInserts c p (zip keys values) B → BuildAnswers c keys values p out len too_small out n
+    short_build : (n : ℕ) → length out < n → (B : List ℕ) → length B ≡ n → IsFreshAfterInserts c p (zip keys values) B → BuildAnswers c keys values p out len too_small out n
     short_build n less B long is = record {
       lengths = λ other. absurd (other equal);
       percent = λ long other. absurd (other within);
@@ -126,3 +132,28 @@ module _ {K V : Type 0} (c : Coding K V) (keys : List K) (values : List V) (p : 
       refused = λ long ok undone roomy. absurd (undone refl);
       capacity = λ is. absurd (omega (arith, is));
     }
+
+  -- the same of n pairs, by the length that the program computed at the percentage q once it was tested
+  module _ (within : IsPercent p) (q n : ℕ) (same : q ≡ p) (many : n ≡ length keys) where
+    size : length (zip keys values) ≡ n
+    size = omega (arith, length-zip keys values, equal, many)
+
+    pub no_length_build : None ≡ new_len c n q → BuildAnswers c keys values p out len (status_of Capacity) out len
+    no_length_build none = large_build within (subst (λ m. IsTooLarge c.format m (factor_of p)) many (subst (λ x. IsTooLarge c.format n (factor_of x)) same ((new_len-none c.format n (factor_of q)).0 none)))
+
+    module _ (m : ℕ) (is : Some m ≡ new_len c n q) where
+      pub no_room_build : length out < m → All (IsPairOf c.format) (encoded_all c (zip keys values)) → BuildAnswers c keys values p out len too_small out m
+      no_room_build less bytes =
+          let layout = new_len-some c.format n (factor_of q) m is in
+          let slots : slots_for (length (zip keys values)) (factor_of p) ≡ Some layout.0 =
+          ap (λ x. slots_for x (factor_of p)) size ∙ ap (λ x. slots_for n (factor_of x)) (sym same) ∙ layout.1 in
+          let new = fresh_empty (length (zip keys values)) p layout.0 slots in
+          let there = new_exists c p (zip keys values) (empty layout.0 (factor_of p)) new within bytes in
+          let long : length there.0 ≡ m = there.1 ∙ ap (image_len c.format) (slot_count-empty layout.0 (factor_of p)) ∙ sym layout.2 in
+          short_build within m less there.0 long there.2
+
+      -- so many bytes are what the new table needs
+      pub fits_build : m ≤ length out → m < 2 ^ 64 → new_refusal c.format n (factor_of q) (length (take m out)) ≡ None
+      fits_build enough low =
+          let layout = new_len-some c.format n (factor_of q) m is in
+          new_refusal-fits c.format n (factor_of q) (length (take m out)) layout.0 layout.1 (omega (arith, layout.2, low)) (length-take-le m out enough ∙ layout.2)

@@ -1,5 +1,5 @@
 -- What an insert answers that writes the former value into bytes of the caller.
-use Rattle.std.proofs.Common.{◌≡◌, ◌∙◌, ℕ, Bool, List, Option, Some, None, Result, Ok, Err, ap, refl, subst}
+use Rattle.std.proofs.Common.{◌≡◌, ◌∙◌, ℕ, Bool, true, false, List, Option, Some, None, Result, Ok, Err, ap, refl, subst}
 use Rattle.std.specs.Prelude.{IfOk}
 use Rattle.odht_base.specs.Format.{Format, IsFormat}
 use Rattle.odht_header.specs.Refusals.{opening_refusal}
@@ -10,10 +10,15 @@ use Rattle.odht_raw.specs.Frame.{IsFramed}
 use Rattle.odht_raw.specs.Runs.{IsOnePlaced}
 use Rattle.odht_raw.specs.DynParts.{bytes_coding}
 use Rattle.odht.proofs.lemmas.ViewInserts.{one_inserted, framed-full, full-framed, framed-only_full, framed-refused}
-use Rattle.odht_calls.specs.Statuses.{status_of}
-use Rattle.odht_calls.specs.InsertedStatus.{inserted_status}
+use Rattle.odht_calls.specs.Statuses.{done, replaced, status_of}
 use Rattle.odht_calls.specs.Writes.{InsertAnswers, IsFormer}
 use Rattle.odht_calls.proofs.lemmas.Inserted.{accepted_insert, full_insert}
+
+-- the status of an insert that tells whether the key had a value
+abbrev pub inserted_status : Result Bool Error → ℕ
+inserted_status (Ok true) = replaced
+inserted_status (Ok false) = done
+inserted_status (Err e) = status_of e
 
 module _ (F : Format) (f : IsFormat F) (B C k v old new : List ℕ) (accepted : None ≡ opening_refusal F B) where
   -- a former value, or none

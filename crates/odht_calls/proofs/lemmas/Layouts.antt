@@ -12,7 +12,7 @@ use Rattle.odht_raw.proofs.lemmas.Accepted.{accepted_len}
 use Rattle.odht_raw.specs.DynParts.{bytes_coding}
 use Rattle.odht.specs.Dynamic.{DynStore, dyn_format}
 use Rattle.odht_calls.specs.declared.any.AnyLayout.{AnyLayout}
-use Rattle.odht_calls.specs.Layouts.{AnyAnswers, bad_layout, hash_of, least_of}
+use Rattle.odht_calls.specs.Layouts.{AnyAnswers, DynAnswers, bad_layout, hash_of, least_of}
 
 -- a number that is none of the three is that of no hash function
 no_hash : (h k : ℕ) → ((h ≡ 0) × (0 ≤ k) → ⊥) → ((h ≡ 1) × (4 ≤ k) → ⊥) → ((h ≡ 2) × (0 ≤ k) → ⊥) → h ≤ 2 → least_of h ≤ k → ⊥
@@ -35,6 +35,10 @@ module _ (l : AnyLayout) (s : ℕ) (Same : Type 0) (A : Coding (List ℕ) (List 
     layout = λ other. (status, same);
     answers = λ ok. absurd (no_hash l.hash l.key_len a b d ok.hash ok.key);
   }
+
+-- keys and values are as long as the layout says
+pub of_long : {Long Same A : Type 0} {s : ℕ} → Long → A → DynAnswers Long s Same A
+of_long long answers = record { lengths = λ other. absurd (other long); answers = λ same. answers }
 
 -- what holds of the table that was opened holds of the bytes and the lengths
 pub opened : {D : Type 0} (t : DynStore D) (key_len value_len : ℕ) (h : List ℕ → ℕ) (T B : List ℕ) → t.key_len ≡ key_len → t.value_len ≡ value_len → T ≡ B

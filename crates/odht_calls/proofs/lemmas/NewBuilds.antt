@@ -1,8 +1,12 @@
 -- A new table for as many pairs as are inserted: none is answered with Full, and both inserts leave the same.
-use Rattle.std.proofs.Common.{◌≡◌, ◌<◌, ◌≤◌, ◌+◌, ◌∙◌, ◌↔◌, ℕ, Bool, true, false, cond, sym, ap, subst, refl, List, [], ◌∷◌, Some, None, Result, Ok, Err, OnErr, IsOk, true≢false, take, length, All, arith, length-take}
+use Rattle.std.proofs.Common.{inl, inr, ◌≡◌, ◌<◌, ◌≤◌, ◌+◌, ◌∙◌, ◌↔◌, ℕ, Bool, true, false, cond, sym, ap, subst, refl, List, [], ◌∷◌, Some, None, Result, Ok, Err, OnErr, IsOk, true≢false, take, length, All, arith, length-take}
 use Rattle.std.specs.Prelude.{option_map, option_and_then}
+use Rattle.std.specs.List.{zip}
+use Rattle.std.proofs.Math.Nat.{eq-or-lt_of_le}
+use Rattle.std.proofs.lemmas.Bool.{false≢true}
 use Rattle.std.proofs.lemmas.List.{length-map, take_all}
 use Rattle.std.proofs.lemmas.Option.{none-some}
+use Rattle.std.proofs.lemmas.Slice.Zip.{length-zip}
 use Rattle.odht_base.specs.Format.{Format}
 use Rattle.odht_base.specs.Image.{image, image_len}
 use Rattle.odht_base.specs.Insert.{run, place, grown, is_full_for, insert_owned, insert_view}
@@ -18,8 +22,11 @@ use Rattle.odht_base.proofs.lemmas.FreeSlots.{count-fresh, max_items-fresh, fres
 use Rattle.odht_base.proofs.lemmas.InsertRuns.{run-keeps, map_of-run, factor-run, count-run}
 use Rattle.odht_header.specs.Coding.{Coding, encoded}
 use Rattle.odht_header.specs.declared.error.Error.{Error}
+use Rattle.odht_header.specs.declared.error.Error.TheVariants.{Full}
 use Rattle.odht.specs.Lists.{encoded_all, IsAfterInserts, IsFreshAfterInserts, IsRefusedAt}
 use Rattle.odht.proofs.lemmas.ListInserts.{fresh_inserted}
+use Rattle.odht_calls.specs.Writes.{InsertAllAnswers}
+use Rattle.odht_calls.proofs.lemmas.Opened.{IsAccepted-IsImage}
 
 -- the new table of a slot count
 pub fresh_empty : (n p s : ℕ) → slots_for n (factor_of p) ≡ Some s → fresh n p ≡ Some (empty s (factor_of p))
@@ -91,3 +98,17 @@ module _ {K V : Type 0} (c : Coding K V) (percent : ℕ) (items : List (K × V))
           stays = λ roomy. ((q.2, factor-run F (IsValid F) insert is P q.0 ps valid fit q.1), count-run F (IsValid F) insert is P q.0 ps valid fit q.1);
         }),
       )
+
+-- what a call that inserts all pairs into the new table leaves
+pub all_inserted : {K V : Type 0} (c : Coding K V) (keys : List K) (values : List V) (p : ℕ) (P : Table) → length values ≡ length keys → fresh (length (zip keys values)) p ≡ Some P → (B : List ℕ) → IsImage c.format P B
+    → (m s : ℕ) (B' : List ℕ) (m' : ℕ) → InsertAllAnswers c B keys values m s B' m' → IsFreshAfterInserts c p (zip keys values) B'
+all_inserted c keys values p P equal new B image m s B' m' inserts =
+    let long : length (zip keys values) ≡ length keys = omega (arith, length-zip keys values, equal) in
+    let opens = IsAccepted-IsImage c.format P B image in
+    let bound = inserts.bound equal opens in
+    let inserted = inserts.inserted P equal image in
+    elim (eq-or-lt_of_le bound) [
+      | inl e ↦ new_inserted c p (zip keys values) P new m' (Ok tt) B' (omega (arith, bound, long)) (λ _. omega (arith, e, long), λ _. refl) inserted (λ Q is. tt)
+      | inr less ↦ new_inserted c p (zip keys values) P new m' (Err Full) B' (omega (arith, bound, long))
+          (λ e. absurd (false≢true e), λ e. absurd (omega (arith, e, less, long))) inserted (λ Q is. inserts.at_maximum Q equal opens is less)
+    ]

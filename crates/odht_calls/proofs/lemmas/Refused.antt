@@ -1,10 +1,11 @@
--- What the calls answer where opening has an error.
+-- What the calls answer where opening has an error, and what lookups of many keys answer where it has none.
 use Rattle.std.proofs.Common.{◌≡◌, ◌∙◌, ℕ, List, sym, ap, refl, length, Option, Some, None}
 use Rattle.odht_base.specs.Format.{Format}
 use Rattle.odht_header.specs.Coding.{Coding}
 use Rattle.odht_header.specs.Refusals.{opening_refusal}
 use Rattle.odht_header.specs.declared.error.Error.{Error}
 use Rattle.odht_calls.specs.Reads.{GetAnswers, GetAllAnswers, LenAnswersOf, SizesAnswers}
+use Rattle.odht_calls.specs.Views.{ViewGetAllAnswers}
 use Rattle.odht_calls.specs.Walks.{WalkAnswers}
 use Rattle.odht_calls.specs.Statuses.{AreAsLong, status_of, status_or_ok}
 use Rattle.odht_calls.specs.Writes.{InsertAnswers, InsertAllAnswers}
@@ -85,4 +86,15 @@ module _ {K V : Type 0} (c : Coding K V) (B : List ℕ) (a : Error) (s : ℕ) (i
     framed = λ long none. not_none _ a (sym is) none;
     at_maximum = λ P long none. not_none _ a (sym is) none;
     stopped = λ long none. not_none _ a (sym is) none;
+  }
+
+-- what lookups in the opened table answer, where opening has no error
+module _ {K V : Type 0} (c : Coding K V) (B : List ℕ) (none : None ≡ opening_refusal c.format B) where
+  pub accepted_get_all : (keys : List K) (vs vs' : List V) (fs fs' : List ℕ) (s : ℕ) → ViewGetAllAnswers c B keys vs fs s vs' fs' → GetAllAnswers c B keys vs fs s vs' fs'
+  accepted_get_all keys vs vs' fs fs' s viewed = record {
+    lengths = viewed.lengths;
+    refused = λ e long is. not_none _ e is (sym none);
+    accepted = λ long opens. viewed.looked_up long;
+    on_valid = viewed.on_valid;
+    on_any = λ i key long opens. viewed.on_any i key long;
   }

@@ -1,17 +1,14 @@
 //! Dynamic tables that are built from pairs: in the caller's bytes, or in memory of their
 //! own and then copied to the caller's.
-ghost use Rattle.std.specs.Prelude.{◌≡◌, ◌≤◌, None, length};
-ghost use Rattle.std.specs.List.{zip};
+ghost use Rattle.std.specs.Prelude.{◌≤◌};
 ghost use Rattle.odht_base.specs.Format.{format_of};
-ghost use Rattle.odht_base.specs.Load.{factor_of, IsPercent};
-ghost use Rattle.odht_header.specs.Refusals.{new_refusal};
 ghost use Rattle.odht_raw.specs.DynParts.{bytes_coding};
-ghost use Rattle.odht.specs.Lists.{IsFreshAfterInserts};
-ghost use Rattle.odht_calls.specs.Pieces.{pieces, ArePieces, PiecesBuildAnswers, DynBuildAnswers};
-ghost use Rattle.odht_calls.specs.Pieces.{PiecesBuildGrowingAnswers, DynBuildGrowingAnswers};
+ghost use Rattle.odht_calls.specs.Builds.{BuildGrowingAnswers};
+ghost use Rattle.odht_calls.specs.Pieces.{pieces, ArePieces, DynBuildAnswers};
+ghost use Rattle.odht_calls.specs.Pieces.{DynBuildGrowingAnswers};
 
-use super::lists::insert_pieces;
 use super::pieces::{are_pieces, deciding_pairs, piece};
+use super::write::insert_pieces;
 use crate::build::hand_out;
 use crate::status::{BAD_LENGTHS, BAD_PERCENT, CAPACITY, MEMORY, OK, TOO_SMALL};
 use crate::write::init;
@@ -22,71 +19,9 @@ use odht::layout::Layout;
 use odht::load::Percent;
 use std::alloc::Global;
 
-// Makes an empty table in the bytes, whatever they hold, and inserts the pairs in order: there is
-// room for each.
-fn insert_into_new<H: HashFn>(
-    layout: Layout,
-    bytes: &mut [u8],
-    percent: u8,
-    count: usize,
-    keys: &[u8],
-    values: &[u8],
-)
-    requires hashes { H.MIN_LEN ≤ layout.key_len }
-    requires arrays { ArePieces layout.key_len layout.value_len count keys.now values.now }
-    requires percent { IsPercent percent }
-    requires fits { new_refusal (format_of layout.key_len layout.value_len H.hash) count
-        (factor_of percent) (length bytes.old) ≡ None }
-    ensures { IsFreshAfterInserts (bytes_coding (format_of layout.key_len layout.value_len H.hash))
-        percent (zip (pieces layout.key_len count keys.now)
-        (pieces layout.value_len count values.now)) bytes.new }
-{
-    let mut accepted = 0;
-    let _ = init::<Layout, H>(layout, bytes, count, percent);
-    let _ = insert_pieces::<H>(layout, bytes, count, keys, values, &mut accepted);
-}
-
-// The build of `count` pairs.
-fn build_pieces<H: HashFn>(
-    layout: Layout,
-    count: usize,
-    keys: &[u8],
-    values: &[u8],
-    max_load_factor_percent: u8,
-    out: &mut [u8],
-    len: &mut usize,
-) -> u32
-    requires hashes { H.MIN_LEN ≤ layout.key_len }
-    requires arrays { ArePieces layout.key_len layout.value_len count keys.now values.now }
-    ensures { PiecesBuildAnswers (format_of layout.key_len layout.value_len H.hash) count keys.now
-        values.now max_load_factor_percent out.old len.old result out.new len.new }
-{
-    let Some(percent) = Percent::new(max_load_factor_percent) else {
-        return BAD_PERCENT;
-    };
-    let Some(needed) = DynTable::<H, Borrowed<'_>>::bytes_needed(layout, count, percent.value())
-    else {
-        return CAPACITY;
-    };
-    *len = needed;
-    if out.len() < needed {
-        return TOO_SMALL;
-    }
-    insert_into_new::<H>(
-        layout,
-        &mut out[..needed],
-        percent.value(),
-        count,
-        keys,
-        values,
-    );
-    OK
-}
-
 /// Builds a table of `count` pairs at the front of `out`, with slots for as many items as there
 /// are pairs, and writes its length in bytes to `len`. BAD_LENGTHS, BAD_PERCENT and CAPACITY leave
 /// both unchanged, TOO_SMALL leaves `out` unchanged. Allocates nothing.
-#[inline(always)]
 pub fn build<H: HashFn>(
     layout: Layout,
     count: usize,
@@ -103,15 +38,23 @@ pub fn build<H: HashFn>(
     if !are_pieces(layout, count, keys, values) {
         return BAD_LENGTHS;
     }
-    build_pieces::<H>(
-        layout,
-        count,
-        keys,
-        values,
-        max_load_factor_percent,
-        out,
-        len,
-    )
+    let Some(percent) = Percent::new(max_load_factor_percent) else {
+        return BAD_PERCENT;
+    };
+    let percent = percent.value();
+    let Some(needed) = DynTable::<H, Borrowed<'_>>::bytes_needed(layout, count, percent) else {
+        return CAPACITY;
+    };
+    *len = needed;
+    if out.len() < needed {
+        return TOO_SMALL;
+    }
+    // There is room for each pair.
+    let table = &mut out[..needed];
+    let mut accepted = 0;
+    let _ = init::<Layout, H>(layout, table, count, percent);
+    let _ = insert_pieces::<H>(layout, table, count, keys, values, &mut accepted);
+    OK
 }
 
 // The build of `count` pairs in memory of its own.
@@ -126,8 +69,9 @@ fn grow_pieces<H: HashFn>(
 ) -> u32
     requires hashes { H.MIN_LEN ≤ layout.key_len }
     requires arrays { ArePieces layout.key_len layout.value_len count keys.now values.now }
-    ensures { PiecesBuildGrowingAnswers (format_of layout.key_len layout.value_len H.hash) count
-        keys.now values.now out.old len.old result out.new len.new }
+    ensures { let c = bytes_coding (format_of layout.key_len layout.value_len H.hash)
+        in BuildGrowingAnswers c (pieces layout.key_len count keys.now)
+        (pieces layout.value_len count values.now) out.old len.old result out.new len.new }
 {
     // Sixteen slots are never too many, so the only error is that there is no memory.
     let mut table = match DynTableOwned::<H>::with_capacity(alloc, layout, 12, 87) {

@@ -1,7 +1,6 @@
 //! Keys, or values, that lie one after the other in bytes.
 ghost use Rattle.std.specs.Prelude.{◌≡◌, ◌≤◌, ◌<◌, ◌+◌, ◌*◌, ◌↔◌, ◌⊎◌, ℕ, IsTrue, Some, length};
-ghost use Rattle.std.specs.Prelude.{set};
-ghost use Rattle.std.specs.Prelude.{slice_get, IfSome};
+ghost use Rattle.std.specs.Prelude.{set, slice_get, IfSome};
 ghost use Rattle.std.specs.Option.{option_copied};
 ghost use Rattle.odht_calls.specs.Lookups.{flag_of, with_found};
 ghost use Rattle.odht_calls.specs.Pieces.{pieces, ArePieces};
@@ -40,6 +39,7 @@ pub(crate) fn deciding_pairs(layout: Layout, count: usize) -> usize
 }
 
 // Piece `index` of bytes that have it.
+#[inline]
 pub(crate) fn piece(bytes: &[u8], len: u8, index: usize) -> &[u8]
     requires { index * len + len ≤ length bytes.now }
     ensures value { (n : ℕ) → index < n
@@ -52,6 +52,7 @@ pub(crate) fn piece(bytes: &[u8], len: u8, index: usize) -> &[u8]
 }
 
 // Writes piece `index` of bytes that have it.
+#[inline]
 pub(crate) fn put_piece(bytes: &mut [u8], len: u8, index: usize, piece: &[u8])
     requires room { index * len + len ≤ length bytes.old }
     requires len { length piece.now ≡ len }

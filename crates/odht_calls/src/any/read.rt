@@ -1,14 +1,18 @@
-//! The calls that read a key of a dynamic table, and the one that reads its lengths.
+//! The calls that read keys and pairs of a dynamic table, and the one that reads its lengths.
 ghost use Rattle.std.specs.Prelude.{◌≡◌, ◌≤◌, length, IfOk};
 ghost use Rattle.std.specs.Result.{result_err};
 ghost use Rattle.odht_base.specs.Format.{format_of};
 ghost use Rattle.odht_header.specs.Refusals.{opening_refusal};
 ghost use Rattle.odht_raw.specs.DynParts.{bytes_coding};
 ghost use Rattle.odht_calls.specs.Layouts.{ContainsAnswers, DynAnswers, LayoutAnswers};
+ghost use Rattle.odht_calls.specs.Pieces.{DynGetAllAnswers, DynWalkAnswers};
 ghost use Rattle.odht_calls.specs.Reads.{GetAnswers};
 
 use super::AnyLayout;
-use crate::status::{ABSENT, BAD_LENGTHS, OK, status_of};
+use super::pieces::{are_pieces, put_piece};
+use super::view::{look_up, table_of};
+use crate::read::header_of;
+use crate::status::{ABSENT, BAD_LENGTHS, OK, TOO_SMALL, status_of};
 use odht::bytes::Borrowed;
 use odht::dynamic::DynTable;
 use odht::error::Error;
@@ -17,10 +21,7 @@ use odht::layout::Layout;
 use odht::memory_layout::{check_by_header, stated_layout};
 
 // Opens the bytes by their header and length. Reads no slot.
-pub(crate) fn view<H: HashFn>(
-    layout: Layout,
-    bytes: &[u8],
-) -> Result<DynTable<H, Borrowed<'_>>, Error>
+fn view<H: HashFn>(layout: Layout, bytes: &[u8]) -> Result<DynTable<H, Borrowed<'_>>, Error>
     requires { H.MIN_LEN ≤ layout.key_len }
     ensures ok { IfOk result (λ t. (t.key_len ≡ layout.key_len) × (t.value_len ≡ layout.value_len)
         × (t.store.0.now ≡ bytes.now)) }
@@ -79,6 +80,73 @@ pub fn contains<H: HashFn>(layout: Layout, bytes: &[u8], key: &[u8]) -> u32
         Some(_) => OK,
         None => ABSENT,
     }
+}
+
+/// Looks up `count` keys: at the index of a key that is found, its value is written to `values`
+/// and 1 to `found`; at any other index 0 is written to `found`. BAD_LENGTHS where the arrays are
+/// not for that many keys, values and flags. It and any other error leave both unchanged.
+#[inline(always)]
+pub fn get_all<H: HashFn>(
+    layout: Layout,
+    bytes: &[u8],
+    count: usize,
+    keys: &[u8],
+    values: &mut [u8],
+    found: &mut [u8],
+) -> u32
+    requires { H.MIN_LEN ≤ layout.key_len }
+    ensures { DynGetAllAnswers (format_of layout.key_len layout.value_len H.hash) bytes.now
+        count keys.now values.old found.old result values.new found.new }
+{
+    if !are_pieces(layout, count, keys, values) || found.len() != count {
+        return BAD_LENGTHS;
+    }
+    if let Err(refused) = header_of::<Layout, H>(layout, bytes) {
+        return status_of(&refused);
+    }
+    look_up::<H>(layout, bytes, count, keys, values, found)
+}
+
+/// Writes the keys and values in the slots from `cursor` on to the arrays, in slot order, as many
+/// as fit, and to `item_count` how many. `cursor` is then the slot of the first pair that did not
+/// fit (TOO_SMALL), or the slot count where none is left (OK). The arrays take `room` pairs;
+/// BAD_LENGTHS where they have more or fewer bytes. An error leaves everything unchanged.
+pub fn walk<H: HashFn>(
+    layout: Layout,
+    bytes: &[u8],
+    cursor: &mut usize,
+    room: usize,
+    keys: &mut [u8],
+    values: &mut [u8],
+    item_count: &mut usize,
+) -> u32
+    requires { H.MIN_LEN ≤ layout.key_len }
+    ensures { DynWalkAnswers (format_of layout.key_len layout.value_len H.hash) bytes.now
+        cursor.old room keys.old values.old item_count.old result cursor.new keys.new values.new
+        item_count.new }
+{
+    if !are_pieces(layout, room, keys, values) {
+        return BAD_LENGTHS;
+    }
+    let header = match header_of::<Layout, H>(layout, bytes) {
+        Ok(header) => header,
+        Err(refused) => return status_of(&refused),
+    };
+    let table = table_of::<H>(layout, bytes);
+    let mut written = 0;
+    for (slot, (key, value)) in table.iter_from(*cursor) {
+        if written >= room {
+            *cursor = slot;
+            *item_count = written;
+            return TOO_SMALL;
+        }
+        put_piece(keys, layout.key_len, written, key);
+        put_piece(values, layout.value_len, written, value);
+        written += 1;
+    }
+    *cursor = header.slot_count();
+    *item_count = written;
+    OK
 }
 
 /// Writes to `layout` the lengths that the header states, where header and length of the bytes

@@ -4,8 +4,8 @@ ghost use Rattle.odht_base.specs.Format.{format_of};
 ghost use Rattle.odht_raw.specs.Frame.{IsAccepted};
 ghost use Rattle.odht_raw.specs.DynParts.{bytes_coding};
 ghost use Rattle.odht_calls.specs.Layouts.{DynAnswers, ViewContainsAnswers};
-ghost use Rattle.odht_calls.specs.Pieces.{ArePieces, PiecesViewGetAllAnswers, DynViewGetAllAnswers};
-ghost use Rattle.odht_calls.specs.Views.{ViewGetAnswers};
+ghost use Rattle.odht_calls.specs.Pieces.{pieces, ArePieces, DynViewGetAllAnswers};
+ghost use Rattle.odht_calls.specs.Views.{ViewGetAnswers, ViewGetAllAnswers};
 
 use super::pieces::{are_pieces, piece, put_answer};
 use crate::status::{ABSENT, BAD_LENGTHS, OK};
@@ -14,8 +14,8 @@ use odht::dynamic::DynTable;
 use odht::hash::HashFn;
 use odht::layout::Layout;
 
-// The table of bytes whose header and length fit. Reads none of them.
-fn table_of<H: HashFn>(layout: Layout, bytes: &[u8]) -> DynTable<H, Borrowed<'_>>
+/// The table of bytes whose header and length fit. Reads none of them.
+pub(super) fn table_of<H: HashFn>(layout: Layout, bytes: &[u8]) -> DynTable<H, Borrowed<'_>>
     requires hashes { H.MIN_LEN ≤ layout.key_len }
     requires accepted { IsAccepted (format_of layout.key_len layout.value_len H.hash) bytes.now }
     ensures key { result.key_len ≡ layout.key_len }
@@ -82,8 +82,10 @@ pub(crate) fn look_up<H: HashFn>(
     requires accepted { IsAccepted (format_of layout.key_len layout.value_len H.hash) bytes.now }
     requires arrays { ArePieces layout.key_len layout.value_len count keys.now values.old }
     requires found { length found.old ≡ count }
-    ensures { PiecesViewGetAllAnswers (format_of layout.key_len layout.value_len H.hash) bytes.now
-        count keys.now values.old found.old result values.new found.new }
+    ensures { let c = bytes_coding (format_of layout.key_len layout.value_len H.hash)
+        in let k = pieces layout.key_len count keys.now
+        in let v = pieces layout.value_len count
+        in ViewGetAllAnswers c bytes.now k (v values.old) found.old result (v values.new) found.new }
 {
     let table = table_of::<H>(layout, bytes);
     for index in 0..count {

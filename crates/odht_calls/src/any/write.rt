@@ -3,19 +3,20 @@ ghost use Rattle.std.specs.Prelude.{◌≡◌, ◌≤◌, length};
 ghost use Rattle.odht_base.specs.Format.{format_of};
 ghost use Rattle.odht_raw.specs.DynParts.{bytes_coding};
 ghost use Rattle.odht_raw.specs.Frame.{IsAccepted};
-ghost use Rattle.odht_calls.specs.Layouts.{DynAnswers};
-ghost use Rattle.odht_calls.specs.InsertedStatus.{inserted_status};
-ghost use Rattle.odht_calls.specs.Writes.{InsertAnswers};
 ghost use Rattle.odht_calls.specs.Grows.{GrowAnswers};
+ghost use Rattle.odht_calls.specs.Layouts.{DynAnswers};
+ghost use Rattle.odht_calls.specs.Pieces.{pieces, ArePieces, DynInsertAllAnswers};
+ghost use Rattle.odht_calls.specs.Writes.{InsertAnswers, InsertAllAnswers};
 
-use super::read::view;
+use super::pieces::{are_pieces, deciding_pairs, piece};
+use super::view::table_of;
+use crate::read::header_of;
 use crate::status::{
     BAD_LENGTHS, CAPACITY, LOAD_FACTOR_TOO_SMALL, OK, REPLACED, TOO_SMALL, status_of,
 };
-use odht::error::Error;
 use odht::hash::HashFn;
 use odht::layout::Layout;
-use odht::memory_layout::{Header, LEAST_FACTOR, insert_dynamic_into};
+use odht::memory_layout::{LEAST_FACTOR, insert_dynamic, insert_dynamic_into};
 
 /// Gives the key this value. A value that it had before is written to `former`. BAD_LENGTHS where
 /// the key, the value or `former` has another length than the layout says. An error leaves the
@@ -43,21 +44,71 @@ pub fn insert<H: HashFn>(
     {
         return BAD_LENGTHS;
     }
-    if let Err(refused) = view::<H>(layout, bytes) {
+    if let Err(refused) = header_of::<Layout, H>(layout, bytes) {
         return status_of(&refused);
     }
-    inserted_status(insert_dynamic_into::<H>(bytes, layout, key, value, former))
-}
-
-// The status of an insert that tells whether the key had a value.
-fn inserted_status(told: Result<bool, Error>) -> u32
-    ensures { result ≡ inserted_status told }
-{
-    match told {
+    match insert_dynamic_into::<H>(bytes, layout, key, value, former) {
         Ok(true) => REPLACED,
         Ok(false) => OK,
         Err(refused) => status_of(&refused),
     }
+}
+
+// The inserts of `count` pairs.
+pub(crate) fn insert_pieces<H: HashFn>(
+    layout: Layout,
+    bytes: &mut [u8],
+    count: usize,
+    keys: &[u8],
+    values: &[u8],
+    accepted: &mut usize,
+) -> u32
+    requires hashes { H.MIN_LEN ≤ layout.key_len }
+    requires arrays { ArePieces layout.key_len layout.value_len count keys.now values.now }
+    ensures answers { let c = bytes_coding (format_of layout.key_len layout.value_len H.hash)
+        in InsertAllAnswers c bytes.old (pieces layout.key_len count keys.now)
+        (pieces layout.value_len count values.now) accepted.old result bytes.new accepted.new }
+    ensures accepted { let F = format_of layout.key_len layout.value_len H.hash
+        in IsAccepted F bytes.old → IsAccepted F bytes.new }
+{
+    if let Err(refused) = header_of::<Layout, H>(layout, bytes) {
+        return status_of(&refused);
+    }
+    let deciding = deciding_pairs(layout, count);
+    for index in 0..deciding {
+        let key = piece(keys, layout.key_len, index);
+        let value = piece(values, layout.value_len, index);
+        if let Err(refused) = insert_dynamic::<H>(bytes, layout, key, value) {
+            *accepted = index;
+            return status_of(&refused);
+        }
+    }
+    *accepted = count;
+    OK
+}
+
+/// Inserts `count` pairs in order, up to the first whose insert fails with FULL, and writes to
+/// `accepted` how many were inserted. BAD_LENGTHS where the arrays are not for that many keys and
+/// values. It and an error of the header or length leave everything unchanged.
+#[inline(always)]
+pub fn insert_all<H: HashFn>(
+    layout: Layout,
+    bytes: &mut [u8],
+    count: usize,
+    keys: &[u8],
+    values: &[u8],
+    accepted: &mut usize,
+) -> u32
+    requires { H.MIN_LEN ≤ layout.key_len }
+    ensures answers { DynInsertAllAnswers (format_of layout.key_len layout.value_len H.hash)
+        bytes.old count keys.now values.now accepted.old result bytes.new accepted.new }
+    ensures accepted { let F = format_of layout.key_len layout.value_len H.hash
+        in IsAccepted F bytes.old → IsAccepted F bytes.new }
+{
+    if !are_pieces(layout, count, keys, values) {
+        return BAD_LENGTHS;
+    }
+    insert_pieces::<H>(layout, bytes, count, keys, values, accepted)
 }
 
 /// Writes the table that the one in `bytes` grows into to the front of `out`, and its length in
@@ -68,11 +119,12 @@ pub fn grow<H: HashFn>(layout: Layout, bytes: &[u8], out: &mut [u8], len: &mut u
     ensures { let c = bytes_coding (format_of layout.key_len layout.value_len H.hash)
         in GrowAnswers c bytes.now out.old len.old result out.new len.new }
 {
-    let table = match view::<H>(layout, bytes) {
-        Ok(table) => table,
+    let header = match header_of::<Layout, H>(layout, bytes) {
+        Ok(header) => header,
         Err(refused) => return status_of(&refused),
     };
-    let factor = Header::of(bytes).max_load_factor();
+    let table = table_of::<H>(layout, bytes);
+    let factor = header.max_load_factor();
     if factor.0 < LEAST_FACTOR {
         return LOAD_FACTOR_TOO_SMALL;
     }

@@ -1,7 +1,7 @@
-use Rattle.std.proofs.Common.{sym, subst}
+use Rattle.std.proofs.Common.{subst}
 use Rattle.odht_header.specs.Coding.{coding_of}
 use Rattle.odht_calls.specs.Views.{ViewGetAllAnswers}
-use Rattle.odht_calls.proofs.lemmas.Refused.{refused_get_all, not_none}
+use Rattle.odht_calls.proofs.lemmas.Refused.{accepted_get_all, refused_get_all}
 use Rattle.odht_calls.proofs.read.get_all.Goals as goal
 
 pub returns-in-Err : goal.returns-in-Err
@@ -11,10 +11,4 @@ pub returns : goal.returns
 returns g c =
     let K = coding_of g.C.EncodedKey.ByteArray.LEN g.C.EncodedKey.ByteArray.bytes g.C.EncodedKey.ByteArray.of_bytes g.C.EncodedValue.ByteArray.LEN g.C.EncodedValue.ByteArray.bytes g.C.EncodedValue.ByteArray.of_bytes g.C.H.HashFn.hash g.C.Config.encode_key g.C.Config.encode_value g.C.Config.decode_key g.C.Config.decode_value in
     let viewed = subst (λ B. ViewGetAllAnswers K B c.args.keys.now c.args.values.now c.args.found.now c.get_all.result c.get_all.new.values c.get_all.new.found) c.in-Ok.ensures.ok c.get_all.ensures in
-    record {
-      lengths = viewed.lengths;
-      refused = λ e long is. not_none _ e is (sym c.in-Ok.ensures.err);
-      accepted = λ long none. viewed.looked_up long;
-      on_valid = viewed.on_valid;
-      on_any = λ i key long none. viewed.on_any i key long;
-    }
+    accepted_get_all K c.args.bytes.now c.in-Ok.ensures.err _ _ _ _ _ _ viewed

@@ -3,11 +3,9 @@
 //! hash function, by a layout.
 
 pub mod build;
-pub mod lists;
 mod pieces;
 pub mod read;
 pub mod view;
-pub mod walk;
 pub mod write;
 
 /// What a caller in C knows of a table: how many bytes a key and a value have, and the number of

@@ -2,7 +2,7 @@
 //! The calls that read the bytes of a table. Those that take no key are for lengths that are types
 //! or numbers, the others for every configuration.
 
-use crate::generated::calls::status::{status_of, OK};
+use crate::generated::calls::status::{status_of, BAD_LENGTHS, OK, TOO_SMALL, UNMADE};
 use crate::generated::calls::view;
 use crate::generated::tables::bytes::Borrowed;
 use crate::generated::tables::config::Config;
@@ -11,7 +11,8 @@ use crate::generated::tables::hash::HashFn;
 use crate::generated::tables::layout::{Layout, Lengths};
 use crate::generated::tables::load::max_item_count_for;
 use crate::generated::tables::memory_layout::{
-    check_by_header, check_opening_in, check_parts, dynamic_table_len, is_accepted, Header,
+    check_by_header, check_opening_in, check_parts, dynamic_table_len, is_accepted, parts_in,
+    Header,
 };
 use crate::generated::tables::HashTable;
 
@@ -57,6 +58,38 @@ pub fn get_all<C: Config>(
         Err(refused) => return status_of(&refused),
     };
     view::get_all(&table, keys, values, found)
+}
+
+/// Writes the keys and values in the slots from `cursor` on to the arrays, in slot order, as many
+/// as fit, and to `item_count` how many. `cursor` is then the slot of the first pair that did not
+/// fit (TOO_SMALL), or the slot count where none is left (OK). An error leaves everything
+/// unchanged.
+#[inline]
+pub fn walk<C: Config>(
+    bytes: &[u8],
+    cursor: &mut usize,
+    keys: &mut [C::Key],
+    values: &mut [C::Value],
+    item_count: &mut usize,
+) -> u32 {
+    let table = match view::<C>(bytes) {
+        Ok(table) => table,
+        Err(refused) => return status_of(&refused),
+    };
+    let mut written = 0;
+    for (slot, (key, value)) in table.iter_from(*cursor) {
+        if written >= keys.len() {
+            *cursor = slot;
+            *item_count = written;
+            return TOO_SMALL;
+        }
+        keys[written] = key;
+        values[written] = value;
+        written += 1;
+    }
+    *cursor = Header::of(bytes).slot_count();
+    *item_count = written;
+    OK
 }
 
 /// The header of bytes whose header and length fit, or the first error. Reads no slot.
@@ -148,5 +181,32 @@ pub fn table_len<L: Lengths, H: HashFn>(lengths: L, bytes: &[u8], len: &mut usiz
             OK
         }
         Err(refused) => status_of(&refused),
+    }
+}
+
+/// Writes to `out` the occupied slots in an order in which inserts of their pairs make the table.
+/// UNMADE where there is none: what `out` then holds is unspecified. Errors of the whole check and
+/// BAD_LENGTHS leave `out` and `scratch` unchanged.
+///
+/// With three numbers of scratch for each slot, or more, it takes time in proportion to the slots,
+/// and to the groups that the longest search of each home reads; with fewer, the steps of
+/// `RawTable::insert_order`. What `scratch` then holds is unspecified.
+#[inline]
+pub fn insert_order<L: Lengths, H: HashFn>(
+    lengths: L,
+    bytes: &[u8],
+    out: &mut [usize],
+    scratch: &mut [usize],
+) -> u32 {
+    if let Err(refused) = whole::<L, H>(lengths, bytes, None) {
+        return status_of(&refused);
+    }
+    if out.len() != Header::of(bytes).item_count() {
+        return BAD_LENGTHS;
+    }
+    if parts_in::<L, H>(bytes, lengths).insert_order_with(out, scratch) {
+        OK
+    } else {
+        UNMADE
     }
 }

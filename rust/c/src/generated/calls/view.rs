@@ -2,14 +2,14 @@
 //! Opened tables as a caller in C keeps them, and for every configuration lookups that skip the
 //! header.
 
-use crate::generated::calls::lookups::Arrays;
 use crate::generated::calls::status::{status_of, ABSENT, OK};
 use crate::generated::tables::bytes::Borrowed;
 use crate::generated::tables::config::Config;
 use crate::generated::tables::hash::HashFn;
 use crate::generated::tables::layout::Lengths;
+use crate::generated::tables::lookups::{self, Answers};
 use crate::generated::tables::memory_layout::{check_opening_in, Header};
-use crate::generated::tables::{lookups, HashTable};
+use crate::generated::tables::HashTable;
 
 /// The bytes of an opened table, as C keeps them: a pointer and a length. The calls that read a
 /// view require that the header and the length of its bytes are accepted, and do not check it.
@@ -58,6 +58,26 @@ pub fn get<C: Config>(
             OK
         }
         None => ABSENT,
+    }
+}
+
+/// The arrays of a caller. At the index of a key that is found, its value is put in `values` and 1
+/// in `found`; at any other index 0 is put in `found`.
+struct Arrays<'v, 'f, V> {
+    values: &'v mut [V],
+    found: &'f mut [u8],
+}
+
+impl<'v, 'f, V> Answers<Option<V>> for Arrays<'v, 'f, V> {
+    #[inline(always)]
+    fn put(&mut self, index: usize, answer: Option<V>) {
+        match answer {
+            Some(value) => {
+                self.values[index] = value;
+                self.found[index] = 1;
+            }
+            None => self.found[index] = 0,
+        }
     }
 }
 

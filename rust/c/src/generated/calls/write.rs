@@ -4,7 +4,7 @@
 
 use crate::generated::calls::read::{refused, view};
 use crate::generated::calls::status::{
-    status_of, BAD_PERCENT, CAPACITY, INIT_LENGTH, OK, REPLACED,
+    status_of, BAD_PERCENT, CAPACITY, INIT_LENGTH, LOAD_FACTOR_TOO_SMALL, OK, REPLACED, TOO_SMALL,
 };
 use crate::generated::tables::bytes::ByteStoreMut;
 use crate::generated::tables::config::Config;
@@ -12,7 +12,7 @@ use crate::generated::tables::hash::HashFn;
 use crate::generated::tables::items::Zipped;
 use crate::generated::tables::layout::{Layout, Lengths};
 use crate::generated::tables::load::{Factor, Percent};
-use crate::generated::tables::memory_layout::{init_parts, is_accepted};
+use crate::generated::tables::memory_layout::{init_parts, is_accepted, Header, LEAST_FACTOR};
 use crate::generated::tables::HashTable;
 
 /// Writes to `len` how many bytes a new table for that many items has. BAD_PERCENT and CAPACITY
@@ -105,4 +105,27 @@ pub fn insert_all<C: Config, M: ByteStoreMut>(
         Ok(()) => OK,
         Err(refused) => status_of(&refused),
     }
+}
+
+/// Writes the table that the one in `bytes` grows into to the front of `out`, and its length in
+/// bytes to `len`. TOO_SMALL leaves `out` unchanged, any other error leaves both unchanged.
+#[inline]
+pub fn grow<C: Config>(bytes: &[u8], out: &mut [u8], len: &mut usize) -> u32 {
+    let table = match view::<C>(bytes) {
+        Ok(table) => table,
+        Err(refused) => return status_of(&refused),
+    };
+    let factor = Header::of(bytes).max_load_factor();
+    if factor.0 < LEAST_FACTOR {
+        return LOAD_FACTOR_TOO_SMALL;
+    }
+    let Some(needed) = table.grown_len() else {
+        return CAPACITY;
+    };
+    *len = needed;
+    if out.len() < needed {
+        return TOO_SMALL;
+    }
+    table.grow_into(&mut out[..needed]);
+    OK
 }

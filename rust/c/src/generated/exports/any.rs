@@ -8,14 +8,11 @@
 //! percent. `CAPACITY`: no slot count is large enough, or the length does not fit `usize`.
 
 use crate::generated::calls::any::build::{build, build_growing};
-use crate::generated::calls::any::lists::{get_all, insert_all};
-use crate::generated::calls::any::read::{contains, get, layout_of};
-use crate::generated::calls::any::walk::walk;
-use crate::generated::calls::any::write::{grow, insert};
+use crate::generated::calls::any::read::{contains, get, get_all, layout_of, walk};
+use crate::generated::calls::any::write::{grow, insert, insert_all};
 use crate::generated::calls::any::{has_hash, AnyLayout, FX, UNHASH, XXH64};
-use crate::generated::calls::order::insert_order;
 use crate::generated::calls::places::{check_at, open_at};
-use crate::generated::calls::read::{check, len, open, sizes, table_len};
+use crate::generated::calls::read::{check, insert_order, len, open, sizes, table_len};
 use crate::generated::calls::status::BAD_LAYOUT;
 use crate::generated::calls::write::{bytes_needed, init};
 use crate::generated::tables::hash::HashFn;

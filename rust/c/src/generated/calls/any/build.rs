@@ -2,8 +2,8 @@
 //! Dynamic tables that are built from pairs: in the caller's bytes, or in memory of their
 //! own and then copied to the caller's.
 
-use super::lists::insert_pieces;
 use super::pieces::{are_pieces, deciding_pairs, piece};
+use super::write::insert_pieces;
 use crate::generated::calls::build::hand_out;
 use crate::generated::calls::status::{BAD_LENGTHS, BAD_PERCENT, CAPACITY, MEMORY, OK, TOO_SMALL};
 use crate::generated::calls::write::init;
@@ -14,50 +14,9 @@ use crate::generated::tables::layout::Layout;
 use crate::generated::tables::load::Percent;
 use crate::shim::Global;
 
-// Makes an empty table in the bytes, whatever they hold, and inserts the pairs in order: there is
-// room for each.
-fn insert_into_new<H: HashFn>(
-    layout: Layout,
-    bytes: &mut [u8],
-    percent: u8,
-    count: usize,
-    keys: &[u8],
-    values: &[u8],
-) {
-    let mut accepted = 0;
-    let _ = init::<Layout, H>(layout, bytes, count, percent);
-    let _ = insert_pieces::<H>(layout, bytes, count, keys, values, &mut accepted);
-}
-
-// The build of `count` pairs.
-fn build_pieces<H: HashFn>(
-    layout: Layout,
-    count: usize,
-    keys: &[u8],
-    values: &[u8],
-    max_load_factor_percent: u8,
-    out: &mut [u8],
-    len: &mut usize,
-) -> u32 {
-    let Some(percent) = Percent::new(max_load_factor_percent) else {
-        return BAD_PERCENT;
-    };
-    let Some(needed) = DynTable::<H, Borrowed<'_>>::bytes_needed(layout, count, percent.value())
-    else {
-        return CAPACITY;
-    };
-    *len = needed;
-    if out.len() < needed {
-        return TOO_SMALL;
-    }
-    insert_into_new::<H>(layout, &mut out[..needed], percent.value(), count, keys, values);
-    OK
-}
-
 /// Builds a table of `count` pairs at the front of `out`, with slots for as many items as there
 /// are pairs, and writes its length in bytes to `len`. BAD_LENGTHS, BAD_PERCENT and CAPACITY leave
 /// both unchanged, TOO_SMALL leaves `out` unchanged. Allocates nothing.
-#[inline(always)]
 pub fn build<H: HashFn>(
     layout: Layout,
     count: usize,
@@ -70,7 +29,23 @@ pub fn build<H: HashFn>(
     if !are_pieces(layout, count, keys, values) {
         return BAD_LENGTHS;
     }
-    build_pieces::<H>(layout, count, keys, values, max_load_factor_percent, out, len)
+    let Some(percent) = Percent::new(max_load_factor_percent) else {
+        return BAD_PERCENT;
+    };
+    let percent = percent.value();
+    let Some(needed) = DynTable::<H, Borrowed<'_>>::bytes_needed(layout, count, percent) else {
+        return CAPACITY;
+    };
+    *len = needed;
+    if out.len() < needed {
+        return TOO_SMALL;
+    }
+    // There is room for each pair.
+    let table = &mut out[..needed];
+    let mut accepted = 0;
+    let _ = init::<Layout, H>(layout, table, count, percent);
+    let _ = insert_pieces::<H>(layout, table, count, keys, values, &mut accepted);
+    OK
 }
 
 // The build of `count` pairs in memory of its own.

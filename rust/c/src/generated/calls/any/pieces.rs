@@ -26,6 +26,7 @@ pub(crate) fn deciding_pairs(layout: Layout, count: usize) -> usize {
 }
 
 // Piece `index` of bytes that have it.
+#[inline]
 pub(crate) fn piece(bytes: &[u8], len: u8, index: usize) -> &[u8] {
     let len = len as usize;
     let at = index * len;
@@ -33,6 +34,7 @@ pub(crate) fn piece(bytes: &[u8], len: u8, index: usize) -> &[u8] {
 }
 
 // Writes piece `index` of bytes that have it.
+#[inline]
 pub(crate) fn put_piece(bytes: &mut [u8], len: u8, index: usize, piece: &[u8]) {
     let len = len as usize;
     let at = index * len;

@@ -8,8 +8,8 @@ use crate::generated::tables::dynamic::DynTable;
 use crate::generated::tables::hash::HashFn;
 use crate::generated::tables::layout::Layout;
 
-// The table of bytes whose header and length fit. Reads none of them.
-fn table_of<H: HashFn>(layout: Layout, bytes: &[u8]) -> DynTable<H, Borrowed<'_>> {
+/// The table of bytes whose header and length fit. Reads none of them.
+pub(super) fn table_of<H: HashFn>(layout: Layout, bytes: &[u8]) -> DynTable<H, Borrowed<'_>> {
     DynTable::open_unchecked(layout, Borrowed::new(bytes))
 }
 

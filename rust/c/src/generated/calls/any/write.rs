@@ -1,14 +1,15 @@
 // Generated from crates/odht_calls/src/any/write.rt by make generate.
 //! The calls that write a dynamic table.
 
-use super::read::view;
+use super::pieces::{are_pieces, deciding_pairs, piece};
+use super::view::table_of;
+use crate::generated::calls::read::header_of;
 use crate::generated::calls::status::{
     status_of, BAD_LENGTHS, CAPACITY, LOAD_FACTOR_TOO_SMALL, OK, REPLACED, TOO_SMALL,
 };
-use crate::generated::tables::error::Error;
 use crate::generated::tables::hash::HashFn;
 use crate::generated::tables::layout::Layout;
-use crate::generated::tables::memory_layout::{insert_dynamic_into, Header, LEAST_FACTOR};
+use crate::generated::tables::memory_layout::{insert_dynamic, insert_dynamic_into, LEAST_FACTOR};
 
 /// Gives the key this value. A value that it had before is written to `former`. BAD_LENGTHS where
 /// the key, the value or `former` has another length than the layout says. An error leaves the
@@ -25,30 +26,69 @@ pub fn insert<H: HashFn>(
     {
         return BAD_LENGTHS;
     }
-    if let Err(refused) = view::<H>(layout, bytes) {
+    if let Err(refused) = header_of::<Layout, H>(layout, bytes) {
         return status_of(&refused);
     }
-    inserted_status(insert_dynamic_into::<H>(bytes, layout, key, value, former))
-}
-
-// The status of an insert that tells whether the key had a value.
-fn inserted_status(told: Result<bool, Error>) -> u32 {
-    match told {
+    match insert_dynamic_into::<H>(bytes, layout, key, value, former) {
         Ok(true) => REPLACED,
         Ok(false) => OK,
         Err(refused) => status_of(&refused),
     }
 }
 
+// The inserts of `count` pairs.
+pub(crate) fn insert_pieces<H: HashFn>(
+    layout: Layout,
+    bytes: &mut [u8],
+    count: usize,
+    keys: &[u8],
+    values: &[u8],
+    accepted: &mut usize,
+) -> u32 {
+    if let Err(refused) = header_of::<Layout, H>(layout, bytes) {
+        return status_of(&refused);
+    }
+    let deciding = deciding_pairs(layout, count);
+    for index in 0..deciding {
+        let key = piece(keys, layout.key_len, index);
+        let value = piece(values, layout.value_len, index);
+        if let Err(refused) = insert_dynamic::<H>(bytes, layout, key, value) {
+            *accepted = index;
+            return status_of(&refused);
+        }
+    }
+    *accepted = count;
+    OK
+}
+
+/// Inserts `count` pairs in order, up to the first whose insert fails with FULL, and writes to
+/// `accepted` how many were inserted. BAD_LENGTHS where the arrays are not for that many keys and
+/// values. It and an error of the header or length leave everything unchanged.
+#[inline(always)]
+pub fn insert_all<H: HashFn>(
+    layout: Layout,
+    bytes: &mut [u8],
+    count: usize,
+    keys: &[u8],
+    values: &[u8],
+    accepted: &mut usize,
+) -> u32 {
+    if !are_pieces(layout, count, keys, values) {
+        return BAD_LENGTHS;
+    }
+    insert_pieces::<H>(layout, bytes, count, keys, values, accepted)
+}
+
 /// Writes the table that the one in `bytes` grows into to the front of `out`, and its length in
 /// bytes to `len`. TOO_SMALL leaves `out` unchanged, any other error leaves both unchanged.
 #[inline(always)]
 pub fn grow<H: HashFn>(layout: Layout, bytes: &[u8], out: &mut [u8], len: &mut usize) -> u32 {
-    let table = match view::<H>(layout, bytes) {
-        Ok(table) => table,
+    let header = match header_of::<Layout, H>(layout, bytes) {
+        Ok(header) => header,
         Err(refused) => return status_of(&refused),
     };
-    let factor = Header::of(bytes).max_load_factor();
+    let table = table_of::<H>(layout, bytes);
+    let factor = header.max_load_factor();
     if factor.0 < LEAST_FACTOR {
         return LOAD_FACTOR_TOO_SMALL;
     }

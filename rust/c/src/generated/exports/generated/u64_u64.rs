@@ -9,7 +9,7 @@
 
 use crate::generated::calls::status::BAD_LENGTHS;
 use crate::generated::calls::view::{self, View};
-use crate::generated::calls::{build, grow, order, places, read, walk, write};
+use crate::generated::calls::{build, places, read, write};
 use crate::generated::tables::bytes::BorrowedMut;
 use crate::generated::tables::config::Config;
 use crate::generated::tables::configs::U64ToU64 as Shape;
@@ -271,7 +271,7 @@ pub unsafe extern "C" fn odht_u64_u64_walk(
     if values.len() != keys.len() {
         return BAD_LENGTHS;
     }
-    walk::walk::<Shape>(bytes, cursor, keys, values, item_count)
+    read::walk::<Shape>(bytes, cursor, keys, values, item_count)
 }
 
 /// Opens the bytes as `open` does, makes `view` a view of them, and returns 0. Otherwise returns
@@ -343,7 +343,7 @@ pub unsafe extern "C" fn odht_u64_u64_insert_order(
 ) -> u32 {
     let bytes = unsafe { crate::lists::list(bytes, bytes_len) };
     let out = unsafe { crate::lists::list_mut(out, out_len) };
-    order::insert_order::<Sizes, Hash>(Sizes::new(), bytes, out, &mut [])
+    read::insert_order::<Sizes, Hash>(Sizes::new(), bytes, out, &mut [])
 }
 
 /// Writes a larger copy of the table in `bytes` to the start of `out`, its length in bytes to
@@ -364,7 +364,7 @@ pub unsafe extern "C" fn odht_u64_u64_grow(
 ) -> u32 {
     let bytes = unsafe { crate::lists::list(bytes, bytes_len) };
     let out = unsafe { crate::lists::list_mut(out, out_len) };
-    grow::grow::<Shape>(bytes, out, len)
+    write::grow::<Shape>(bytes, out, len)
 }
 
 /// Makes a table for the number of pairs at the start of `out`, and inserts the key and the value

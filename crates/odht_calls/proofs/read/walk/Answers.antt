@@ -5,7 +5,7 @@ use Rattle.odht_raw.proofs.lemmas.Accepted.{accepted_opening}
 use Rattle.odht_calls.proofs.lemmas.Arrays.{set-next_of}
 use Rattle.odht_calls.proofs.lemmas.Refused.{refused_walk}
 use Rattle.odht_calls.proofs.lemmas.Walked.{walked_all, walked_full, accepted_walk}
-use Rattle.odht_calls.proofs.walk.walk.Goals as goal
+use Rattle.odht_calls.proofs.read.walk.Goals as goal
 
 pub loop-slot-preserved : goal.loop-slot-preserved
 loop-slot-preserved g c =

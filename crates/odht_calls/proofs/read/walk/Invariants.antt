@@ -1,5 +1,5 @@
 use Rattle.std.proofs.Common.{◌≡◌, ◌++◌, ◌≤◌, length, map, drop}
-use Rattle.odht_calls.proofs.walk.walk.Given as goal
+use Rattle.odht_calls.proofs.read.walk.Given as goal
 
 -- the pairs so far are in the arrays, and these and what is left are the walk
 abbrev pub invariant-loop-slot : goal.invariant-loop-slot

@@ -3,7 +3,7 @@ use Rattle.std.specs.List.{zip}
 use Rattle.odht.specs.Dynamic.{dyn_store}
 use Rattle.odht.proofs.lemmas.DynLists.{AreInserted}
 use Rattle.odht_calls.specs.Pieces.{pieces}
-use Rattle.odht_calls.proofs.any.lists.insert_pieces.Given as goal
+use Rattle.odht_calls.proofs.any.write.insert_pieces.Given as goal
 
 -- the pairs so far were inserted
 abbrev pub invariant-loop-index : goal.invariant-loop-index

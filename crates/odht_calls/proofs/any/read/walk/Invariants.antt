@@ -4,7 +4,7 @@ use Rattle.odht_raw.specs.DynParts.{HasLengthsOf, bytes_coding}
 use Rattle.odht_raw.specs.Walks.{decoded_slots}
 use Rattle.odht_calls.specs.Pieces.{pieces}
 use Rattle.odht_calls.proofs.lemmas.AnyLists.{read}
-use Rattle.odht_calls.proofs.any.walk.walk_pieces.Given as goal
+use Rattle.odht_calls.proofs.any.read.walk.Given as goal
 
 -- the pairs so far are in the arrays, these and what is left are the walk, and what is left has the lengths of the table
 abbrev pub invariant-loop-slot : goal.invariant-loop-slot

@@ -17,9 +17,9 @@ use Rattle.odht_calls.proofs.lemmas.EqualPairs.{decided_framed, decided_inserted
 use Rattle.odht_calls.proofs.lemmas.Inserted.{accepted_insert_all, full_insert_all}
 use Rattle.odht_calls.proofs.lemmas.Pieces.{ends_within, length-pieces, zip_at}
 use Rattle.odht_calls.proofs.lemmas.Refused.{refused_insert_all}
-use Rattle.odht_calls.proofs.any.lists.insert_pieces.Given.{Over}
-use Rattle.odht_calls.proofs.any.lists.insert_pieces.Goals.{After-insert_dynamic}
-use Rattle.odht_calls.proofs.any.lists.insert_pieces.Goals as goal
+use Rattle.odht_calls.proofs.any.write.insert_pieces.Given.{Over}
+use Rattle.odht_calls.proofs.any.write.insert_pieces.Goals.{After-insert_dynamic}
+use Rattle.odht_calls.proofs.any.write.insert_pieces.Goals as goal
 
 pub returns-in-Err-clause-answers : goal.returns-in-Err-clause-answers
 returns-in-Err-clause-answers g c =

@@ -14,9 +14,9 @@ use Rattle.odht_raw.proofs.lemmas.WholeChecks.{valid_check}
 use Rattle.odht_calls.proofs.lemmas.Ordered.{checked_valid, refused_order, lengths_order, done_order, unmade_order}
 use Rattle.odht_calls.proofs.lemmas.Refused.{not_none}
 use Rattle.odht_calls.proofs.lemmas.Sizes.{counted}
-use Rattle.odht_calls.proofs.order.insert_order.Given.{Over}
-use Rattle.odht_calls.proofs.order.insert_order.Goals.{After-item_count, After-parts_in}
-use Rattle.odht_calls.proofs.order.insert_order.Goals as goal
+use Rattle.odht_calls.proofs.read.insert_order.Given.{Over}
+use Rattle.odht_calls.proofs.read.insert_order.Goals.{After-item_count, After-parts_in}
+use Rattle.odht_calls.proofs.read.insert_order.Goals as goal
 
 pub returns-in-Err : goal.returns-in-Err
 returns-in-Err g c =

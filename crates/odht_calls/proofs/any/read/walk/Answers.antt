@@ -8,24 +8,24 @@ use Rattle.odht_base.specs.Table.{Pair, Table, slot_count}
 use Rattle.odht_header.specs.Coding.{Coding}
 use Rattle.odht_raw.specs.DynParts.{HasLengthsOf, bytes_coding}
 use Rattle.odht_raw.specs.Walks.{decoded_slots}
-use Rattle.odht_raw.proofs.lemmas.Accepted.{accepted_opening}
 use Rattle.odht.specs.Walks.{AreSlots}
 use Rattle.odht_calls.specs.Pieces.{pieces}
 use Rattle.odht_calls.specs.Statuses.{done, too_small}
 use Rattle.odht_calls.specs.Walks.{IsWalked, WalkAnswers}
 use Rattle.odht_calls.proofs.lemmas.AnyLists.{read, slots_dynamic, one_more_piece}
-use Rattle.odht_calls.proofs.lemmas.Layouts.{opened}
+use Rattle.odht_calls.proofs.lemmas.Layouts.{of_long, opened}
 use Rattle.odht_calls.proofs.lemmas.Pieces.{ends_within, length-pieces}
 use Rattle.odht_calls.proofs.lemmas.Refused.{refused_walk}
 use Rattle.odht_calls.proofs.lemmas.Walked.{walked_all, walked_full, accepted_walk}
-use Rattle.odht_calls.proofs.any.walk.walk_pieces.Given.{Over}
-use Rattle.odht_calls.proofs.any.walk.walk_pieces.Goals.{After-iter_from-slot-items, In-Some}
-use Rattle.odht_calls.proofs.any.walk.walk_pieces.Goals as goal
+use Rattle.odht_calls.proofs.any.read.walk.Given.{Over}
+use Rattle.odht_calls.proofs.any.read.walk.Goals.{After-iter_from-slot-items, In-Some}
+use Rattle.odht_calls.proofs.any.read.walk.Goals as goal
 
 pub returns-in-Err : goal.returns-in-Err
 returns-in-Err g c =
-    refused_walk _ _ c.in-Err.refused _ c.in-Err.ensures.err c.status_of.ensures _ _ _ _
-    (length-pieces c.args.layout.value_len c.args.room c.args.values.now ∙ sym (length-pieces c.args.layout.key_len c.args.room c.args.keys.now))
+    of_long (c.are_pieces.ensures.0 c.if-not-are_pieces.false)
+    (refused_walk _ _ c.in-Err.refused _ c.in-Err.ensures.err c.status_of.ensures _ _ _ _
+    (length-pieces c.args.layout.value_len c.args.room c.args.values.now ∙ sym (length-pieces c.args.layout.key_len c.args.room c.args.keys.now)))
 
 pub loop-slot-init : goal.loop-slot-init
 loop-slot-init g c =
@@ -35,7 +35,7 @@ loop-slot-init g c =
     let B = c.args.bytes.now in
     let lengths : ℕ × Pair → Type 0 = λ x. HasLengthsOf kl vl x.1 in
     let slots : AreSlots (format_of kl vl h) B c.args.cursor.now c.iter_from-slot-items.result =
-    opened c.in-Ok.table kl vl h _ B c.in-Ok.ensures.ok.0 c.in-Ok.ensures.ok.1 c.in-Ok.ensures.ok.2 (λ F B. AreSlots F B c.args.cursor.now c.iter_from-slot-items.result) c.iter_from-slot-items.ensures.slots in
+    opened c.table_of-table.result kl vl h _ B c.table_of-table.ensures.key c.table_of-table.ensures.value c.table_of-table.ensures.bytes (λ F B. AreSlots F B c.args.cursor.now c.iter_from-slot-items.result) c.iter_from-slot-items.ensures.slots in
     record {
       walk = refl;
       written = refl;
@@ -53,14 +53,14 @@ next_fits g c =
 
 pub put_piece-requires-clause-room : goal.put_piece-requires-clause-room
 put_piece-requires-clause-room g c =
-    ends_within c.loop-slot.written c.args.room c.args.layout.key_len (length c.loop-slot.keys) c.if-written-room.false (c.loop-slot.auto.keys ∙ c.requires.arrays.keys)
+    ends_within c.loop-slot.written c.args.room c.args.layout.key_len (length c.loop-slot.keys) c.if-written-room.false (c.loop-slot.auto.keys ∙ (c.are_pieces.ensures.0 c.if-not-are_pieces.false).keys)
 
 pub put_piece-requires-clause-len : goal.put_piece-requires-clause-len
 put_piece-requires-clause-len g c = (next_fits g (goal.at.put_piece-requires-clause-len g c).In-Some).key
 
 pub put_piece-requires-in-loop-slot-clause-room : goal.put_piece-requires-in-loop-slot-clause-room
 put_piece-requires-in-loop-slot-clause-room g c =
-    ends_within c.loop-slot.written c.args.room c.args.layout.value_len (length c.loop-slot.values) c.if-written-room.false (c.loop-slot.auto.values ∙ c.requires.arrays.values)
+    ends_within c.loop-slot.written c.args.room c.args.layout.value_len (length c.loop-slot.values) c.if-written-room.false (c.loop-slot.auto.values ∙ (c.are_pieces.ensures.0 c.if-not-are_pieces.false).values)
 
 pub put_piece-requires-in-loop-slot-clause-len : goal.put_piece-requires-in-loop-slot-clause-len
 put_piece-requires-in-loop-slot-clause-len g c = (next_fits g (goal.at.put_piece-requires-in-loop-slot-clause-len g c).In-Some).value
@@ -78,9 +78,9 @@ loop-slot-preserved g c =
     let item : ℕ × (Bor (List ℕ) × Bor (List ℕ)) = (c.in-Some.slot, (c.in-Some.key, c.in-Some.value)) in
     let more : map read (yielded ++ item ∷ []) ≡ map read yielded ++ read item ∷ [] = map-append read yielded (item ∷ []) in
     let keys = one_more_piece kl n w (λ x. x.1.0) (map read yielded) (read item) c.args.keys.now c.loop-slot.keys _ v.written room v.keys
-    (c.put_piece.ensures n room (omega (arith, c.loop-slot.auto.keys, c.requires.arrays.keys))) in
+    (c.put_piece.ensures n room (omega (arith, c.loop-slot.auto.keys, (c.are_pieces.ensures.0 c.if-not-are_pieces.false).keys))) in
     let values = one_more_piece vl n w (λ x. x.1.1) (map read yielded) (read item) c.args.values.now c.loop-slot.values _ v.written room v.values
-    (c.put_piece-in-loop-slot.ensures n room (omega (arith, c.loop-slot.auto.values, c.requires.arrays.values))) in
+    (c.put_piece-in-loop-slot.ensures n room (omega (arith, c.loop-slot.auto.values, (c.are_pieces.ensures.0 c.if-not-are_pieces.false).values))) in
     record {
       walk = v.walk ∙ ap (λ r. map read yielded ++ decoded_slots K r) c.in-Some.ensures.steps
           ∙ sym (append_assoc (map read yielded) (read item ∷ []) (decoded_slots K c.next.new.self)) ∙ ap (λ xs. xs ++ decoded_slots K c.next.new.self) (sym more);
@@ -95,7 +95,7 @@ loop-slot-preserved g c =
 -- what the walk gives, of the bytes
 slots_here : (g : Over) (c : After-iter_from-slot-items g) → AreSlots (format_of c.args.layout.key_len c.args.layout.value_len g.H.HashFn.hash) c.args.bytes.now c.args.cursor.now c.iter_from-slot-items.result
 slots_here g c =
-    opened c.in-Ok.table c.args.layout.key_len c.args.layout.value_len g.H.HashFn.hash _ c.args.bytes.now c.in-Ok.ensures.ok.0 c.in-Ok.ensures.ok.1 c.in-Ok.ensures.ok.2
+    opened c.table_of-table.result c.args.layout.key_len c.args.layout.value_len g.H.HashFn.hash _ c.args.bytes.now c.table_of-table.ensures.key c.table_of-table.ensures.value c.table_of-table.ensures.bytes
     (λ F B. AreSlots F B c.args.cursor.now c.iter_from-slot-items.result) c.iter_from-slot-items.ensures.slots
 
 module _ (g : Over) (c : After-iter_from-slot-items g) (ks' vs' : List ℕ) where
@@ -132,14 +132,11 @@ returns-then-written-room g c =
     let at = (goal.at.returns-then-written-room g c).After-iter_from-slot-items in
     let K = bytes_coding (format_of c.args.layout.key_len c.args.layout.value_len g.H.HashFn.hash) in
     let room = length-pieces c.args.layout.key_len c.args.room c.args.keys.now in
-    answered g at c.loop-slot.keys c.loop-slot.values too_small c.in-Some.slot c.loop-slot.written
+    of_long (c.are_pieces.ensures.0 c.if-not-are_pieces.false)
+    (answered g at c.loop-slot.keys c.loop-slot.values too_small c.in-Some.slot c.loop-slot.written
     (λ P is slots. walked_full K P c.args.cursor.now _ (map read c.loop-slot.yielded) (decoded_slots K c.loop-slot.slot-iterator) _ _ _ _ c.loop-slot.written is
     (ap (decoded_slots K) (sym c.into_iter-slot-iterator.ensures.into_iter_gives) ∙ v.walk) v.written (omega (arith, v.within, room)) v.keys v.values
-    c.in-Some.slot (c.in-Some.key.now, c.in-Some.value.now) (decoded_slots K c.next.new.self) (ap (decoded_slots K) c.in-Some.ensures.steps) (omega (arith, c.if-written-room.true, room)))
-
-pub of-requires : goal.of-requires
-of-requires g c =
-    (accepted_opening (format_of c.args.layout.key_len c.args.layout.value_len g.H.HashFn.hash) c.args.bytes.now (sym c.in-Ok.ensures.err)).long
+    c.in-Some.slot (c.in-Some.key.now, c.in-Some.value.now) (decoded_slots K c.next.new.self) (ap (decoded_slots K) c.in-Some.ensures.steps) (omega (arith, c.if-written-room.true, room))))
 
 pub returns : goal.returns
 returns g c =
@@ -147,7 +144,8 @@ returns g c =
     let at = (goal.at.returns g c).After-iter_from-slot-items in
     let K = bytes_coding (format_of c.args.layout.key_len c.args.layout.value_len g.H.HashFn.hash) in
     let room = length-pieces c.args.layout.key_len c.args.room c.args.keys.now in
-    answered g at c.loop-slot.keys c.loop-slot.values done c.slot_count.result c.loop-slot.written
+    of_long (c.are_pieces.ensures.0 c.if-not-are_pieces.false)
+    (answered g at c.loop-slot.keys c.loop-slot.values done c.slot_count.result c.loop-slot.written
     (λ P is slots. walked_all K P c.args.cursor.now _ (map read c.loop-slot.yielded) (decoded_slots K c.loop-slot.slot-iterator) _ _ _ _ c.loop-slot.written is
     (ap (decoded_slots K) (sym c.into_iter-slot-iterator.ensures.into_iter_gives) ∙ v.walk) v.written (omega (arith, v.within, room)) v.keys v.values
-    (ap (decoded_slots K) c.in-None.ensures.steps.0) c.slot_count.result (c.slot_count.ensures ∙ ap header_slots c.of.ensures ∙ sym slots))
+    (ap (decoded_slots K) c.in-None.ensures.steps.0) c.slot_count.result (c.slot_count.ensures ∙ ap header_slots c.in-Ok.ensures.ok ∙ sym slots)))
