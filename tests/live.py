@@ -1,12 +1,15 @@
 #!/usr/bin/env python3
 """Tests that `odht get FILE -` answers lines as they come where standard input is a pipe or a terminal: each answer is
-read before the next line is written. And that of a file all lines are answered in one write.
+read before the next line is written. And that of a file all lines are answered in one write. If they are few, they are
+looked up in a table that does not fit in memory.
 
   tests/live.py PROGRAM..
 """
 import os
 import pty
+import resource
 import select
+import shutil
 import subprocess
 import sys
 import tempfile
@@ -93,12 +96,38 @@ def of_a_file(program, room):
     os.close(ours)
 
 
+def of_few_lines(program, room):
+    """A byte of lines for 16,384 bytes of the table's file is few: then the file may be larger than the memory."""
+    size, most = 1 << 30, 1 << 16
+    shutil.copy(f"{TABLES}/{TABLE[0]}", f"{room}/large.odht")
+    os.truncate(f"{room}/large.odht", size)
+    some = "3\n007\n5\n" * (most // 8)
+    answers = "3\t4\n7\n5\t4294967295\n" * (most // 8)
+    cases = [("1\r\n2\n3", "1\t2\n2\n3\t4\n", 1, ""), ("5\n\n3", "5\t4294967295\n", 2, "line 2: the key \"\" is not"),
+             ("5\n\n", "5\t4294967295\n", 0, ""),
+             ("5\n1\nx\n3\n", "5\t4294967295\n1\t2\n", 2, "line 3: the key \"x\" is not"), ("", "", 0, ""),
+             (some, answers, 1, ""), (some + "1", "", 2, "out of memory")]
+    for lines, written, status, message in cases:
+        with open(f"{room}/keys", "w+", encoding="ascii", newline="") as it:
+            it.write(lines)
+            it.seek(0)
+            found = subprocess.run([program, "get", "large.odht", "-", "--at", "0"], cwd=room, stdin=it,
+                                   capture_output=True, text=True, check=False, preexec_fn=with_little_memory)
+        assert (found.stdout, found.returncode) == (written, status), (lines[:20], found.stdout[-99:], found.returncode)
+        assert message in found.stderr and (message or not found.stderr), (lines[:20], found.stderr)
+
+
+def with_little_memory():
+    resource.setrlimit(resource.RLIMIT_AS, (1 << 28, 1 << 28))
+
+
 def main(*programs):
     failed = passed = 0
     with tempfile.TemporaryDirectory() as room:
         for program in map(os.path.abspath, programs):
             tests = [lambda: by_pipe(program, *TABLE), lambda: by_pipe(program, *OTHER), lambda: a_fault(program),
-                     lambda: by_terminal(program), lambda: of_a_file(program, room)]
+                     lambda: by_terminal(program), lambda: of_a_file(program, room),
+                     lambda: of_few_lines(program, room)]
             for test in tests:
                 try:
                     test()

@@ -24,7 +24,7 @@ _odht() {
         info:-*) COMPREPLY=($(compgen -W '--help --whole --json --at' -- "$word"));;
         check:-*) COMPREPLY=($(compgen -W '--help --whole --json --hash --at' -- "$word"));;
         count:-*) COMPREPLY=($(compgen -W '--help --check --whole --hash --at' -- "$word"));;
-        get:-*) COMPREPLY=($(compgen -W '--help --json --null --key --value --hash --at' -- "$word"));;
+        get:-*) COMPREPLY=($(compgen -W '--help --values --json --null --key --value --hash --at' -- "$word"));;
         dump:-*) COMPREPLY=($(compgen -W '--help --slots --values --json --null --key --value --hash --at' -- "$word"));;
         keys:-*) COMPREPLY=($(compgen -W '--help --json --null --key --hash --at' -- "$word"));;
         find:-*) COMPREPLY=($(compgen -W '--help --whole --json' -- "$word"));;

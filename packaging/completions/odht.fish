@@ -30,6 +30,7 @@ complete -c odht -n '__fish_seen_subcommand_from count' -l whole
 complete -c odht -n '__fish_seen_subcommand_from count' -l hash -x -a 'fx unhash xxh64' -d 'fx, unhash or xxh64'
 complete -c odht -n '__fish_seen_subcommand_from count' -l at -x -d 'a number below 2^64'
 complete -c odht -n '__fish_seen_subcommand_from get' -l help
+complete -c odht -n '__fish_seen_subcommand_from get' -l values
 complete -c odht -n '__fish_seen_subcommand_from get' -l json
 complete -c odht -n '__fish_seen_subcommand_from get' -l null
 complete -c odht -n '__fish_seen_subcommand_from get' -l key -x -a 'u32 u64 i32 i64 u32be u64be hex bytes: text:' -d 'u32, u64, i32, i64, u32be, u64be, hexN, bytes:N or text:N'

@@ -215,6 +215,7 @@ pub enum Reading {
         hash: Option<Hash>,
         kinds: Kinds,
         keys: Keys,
+        is_values: bool,
         is_json: bool,
     },
     Dump {

@@ -1,4 +1,8 @@
 //! What a command that reads a file needs.
+ghost use Rattle.std.specs.Prelude.{◌≡◌};
+ghost use Rattle.odht_tool_core.specs.JsonAnswers.{printed_as};
+
+use crate::json::answers::Printed;
 use std::alloc::Global;
 
 /// The bytes that a command reads, and how it tells of them.
@@ -18,4 +22,18 @@ pub struct Job<'a> {
     pub bound: Option<usize>,
     /// Whether it writes objects of JSON.
     pub is_json: bool,
+    /// Whether it writes values without their keys.
+    pub is_values: bool,
+}
+
+impl Job<'_> {
+    /// What is printed of each key.
+    pub fn printed(&self) -> Printed
+        ensures { result ≡ printed_as self.now.is_json self.now.is_values }
+    {
+        Printed {
+            is_json: self.is_json,
+            is_values: self.is_values,
+        }
+    }
 }

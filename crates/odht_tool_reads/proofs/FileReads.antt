@@ -26,14 +26,14 @@ use Rattle.odht_header.proofs.lemmas.FirstErrors.{Ok-checked, gives_both-None, N
 use Rattle.odht_tool_core.specs.InfoNumbers.{DynParts, agrees, found_hash, info_refusal, file_format, file_parts, least_key_len}
 use Rattle.odht_tool_core.specs.AnyShapes.{any_of_sizes, fitting_any, found_any, named_any, of_hash}
 use Rattle.odht_tool_core.specs.ReadyShapes.{early_refusal, hash_of, is_shape_of, same_hash, typed_len}
-use Rattle.odht_tool_core.specs.generated.ShapeList.{key_part, value_part, shape_hash, ready_shapes}
+use Rattle.odht_tool_core.specs.generated.ShapeList.{key_part, shape_hash, ready_shapes}
 use Rattle.odht_tool_core.specs.FoundShapes.{first_hash, fits, fitting_shape, is_other, is_valid_by, other_hash, said_hash, settled_hash, valid_hash}
 use Rattle.odht_tool_core.specs.declared.shapes.Hash.TheVariants.{Fx, Unhash, Xxh64}
 use Rattle.odht_tool_core.proofs.Refusals.{early_passes}
 use Rattle.odht_raw.proofs.lemmas.Accepted.{IsAccepted-IsValidBytes, accepted_opening, accepted_len}
 use Rattle.odht_raw.proofs.lemmas.SoundBytes.{IsSound-late_refusal}
 use Rattle.odht_raw.proofs.lemmas.WholeChecks.{late_valid}
-use Rattle.odht_tool_core.specs.declared.any.AnyShape.TheVariants.{Ready, Other}
+use Rattle.odht_tool_core.specs.declared.any.AnyShape.TheVariants.{Ready}
 use Rattle.odht_tool_core.specs.declared.generated.shapes.Shape.{Shape}
 use Rattle.odht_tool_core.specs.declared.shapes.Part.TheVariants.{Bytes}
 use Rattle.odht_tool_core.specs.declared.generated.shapes.Shape.TheVariants.{U64ToU32}
@@ -41,17 +41,7 @@ use Rattle.odht_tool_core.specs.declared.shapes.Hash.{Hash}
 use Rattle.odht_tool_core.proofs.DynSlots.{all_agree}
 use Rattle.odht.specs.Files.{table_place}
 use Rattle.odht_raw.specs.declared.raw_table.read_search.ReadPlace.{ReadPlace}
-use Rattle.std.specs.Io.KnownBytes.{Keeps}
-use Rattle.std.specs.Prelude.{Result, Err, MatchResult}
-use Rattle.odht_tool_core.specs.AnyShapes.{any_formed, read_any, types_of}
-use Rattle.odht_tool_core.specs.declared.any.AnyShape.{AnyShape}
-use Rattle.odht_tool_core.specs.declared.failure.Failure.{Failure}
-use Rattle.odht_tool_core.specs.declared.forms.GivenForms.{GivenForms}
-use Rattle.odht_tool_core.specs.declared.forms.Kinds.{Kinds}
-use Rattle.odht_tool_core.specs.declared.status.Status.{Status}
-use Rattle.odht_tool_reads.specs.Gets.{AreFileWordsGot, words_of_types, words_of_forms}
-use Rattle.odht_tool_reads.proofs.Shaped.{with_shape_said}
-use Rattle.odht_tool_reads.specs.Positions.{ByPosition, IsAnsweredBy, IsTableIn, IsNamed, IsStartOf, slots_parts}
+use Rattle.odht_tool_reads.specs.Positions.{IsNamed, IsStartOf, slots_parts}
 use Rattle.odht_tool_reads.specs.declared.positions.Start.{Start}
 use Rattle.odht_tool_reads.specs.declared.positions.names.Fitting.{Fitting}
 
@@ -295,28 +285,6 @@ left_of B xs at skipped offset read within e =
 pub counted_none : (B : List ℕ) (start : Start) → IsStartOf B start → 32 ≤ start.len → header_count start.header ≡ 0 → header_count (bytes_at B start.at start.len) ≡ 0
 counted_none B start is long e = sym (counted B start is long) ∙ e
 
--- with this shape the words are those of a named hash function
-pub named_words : (B : List ℕ) (start : Start) → IsStartOf B start → 32 ≤ start.len → (h name : Option Hash) (ks : Kinds) (j : Bool) (ws : List (List ℕ)) (old new : Option (List ℕ))
-    (x : AnyShape × GivenForms) → IsNamed (bytes_at B start.at start.len) h ks.hash name → Ok x ≡ read_any start.header name ks
-    → (r : Result (Option Status) Failure) → ByPosition old new (λ r. words_of_types (x.1.key, x.1.value) j (bytes_at B start.at start.len) ws old new r (types_of x.0)) r
-    → ByPosition old new (IsAnsweredBy (bytes_at B start.at start.len) h ks j ws old new) r
-named_words B start is long h name ks j ws old new x named found r said = go r said
-  where
-    answered : (r : Result Status Failure) → words_of_types (x.1.key, x.1.value) j (bytes_at B start.at start.len) ws old new r (types_of x.0) → IsAnsweredBy (bytes_at B start.at start.len) h ks j ws old new r
-    answered r w = record {
-      named = name;
-      is = named;
-      answered =
-          with_shape_said (read_any (bytes_at B start.at start.len) name ks) x (words_of_forms j (bytes_at B start.at start.len) ws old new r) (λ f. (r ≡ Err f) × Keeps old new)
-          (found ∙ ap (any_formed ks) (found_same (bytes_at B start.at start.len) start.header (started_long B start is long) (started B start is long) h ks.hash name named)) w;
-    }
-
-    go : (r : Result (Option Status) Failure) → ByPosition old new (λ r. words_of_types (x.1.key, x.1.value) j (bytes_at B start.at start.len) ws old new r (types_of x.0)) r
-        → ByPosition old new (IsAnsweredBy (bytes_at B start.at start.len) h ks j ws old new) r
-    go (Ok None) w = w
-    go (Ok (Some s)) w = answered (Ok s) w
-    go (Err f) w = answered (Err f) w
-
 -- ---- valid bytes
 -- no other hash function agrees
 abbrev Excludes : DynParts → Hash → Type 0
@@ -438,20 +406,3 @@ module _ (T : List ℕ) (k v : ℕ) (g : Hash) (f : IsFormat (format_of k v (has
 -- ready shapes have keys that are long enough
 pub ready_long : (s : Shape) → least_key_len (shape_hash s) ≤ typed_len (key_part s)
 ready_long s = grind arith
-
--- and so are the words
-pub valid_words : (T : List ℕ) (s : AnyShape) → IsTableIn T s → (h : Option Hash) (ks : Kinds) (j : Bool) (ws : List (List ℕ)) (old new : Option (List ℕ)) (r : Result (Option Status) Failure)
-    → ByPosition old new (IsAnsweredBy T h ks j ws old new) r → ByPosition old new (AreFileWordsGot T h ks j ws old new) r
-valid_words T s is h ks j ws old new r said = go r said
-  where
-    same : (s : AnyShape) → IsTableIn T s → (name : Option Hash) → IsNamed T h ks.hash name → found_any T (said_hash T name ks.hash) ≡ found_any T (said_hash T h ks.hash)
-    same (Ready x) is name named = valid_found T (typed_len (key_part x)) (typed_len (value_part x)) (shape_hash x) is.format (ready_long x) is.valid h ks.hash name named
-    same (Other o) is name named = valid_found T (typed_len o.key) (typed_len o.value) o.hash is.format is.long is.valid h ks.hash name named
-
-    answered : (r : Result Status Failure) → IsAnsweredBy T h ks j ws old new r → AreFileWordsGot T h ks j ws old new r
-    answered r a = subst (λ f. MatchResult (any_formed ks f) (words_of_forms j T ws old new r) (λ x. (r ≡ Err x) × Keeps old new)) (same s is a.named a.is) a.answered
-
-    go : (r : Result (Option Status) Failure) → ByPosition old new (IsAnsweredBy T h ks j ws old new) r → ByPosition old new (AreFileWordsGot T h ks j ws old new) r
-    go (Ok None) w = w
-    go (Ok (Some x)) w = answered (Ok x) w
-    go (Err f) w = answered (Err f) w

@@ -31,7 +31,7 @@ stored_one c B k o h zero l w p q =
     subst (λ x. HasStored c B x w) key (subst (λ x. IfSome x (λ v. HasStored c B k v)) value h)
 stored_one c B k o h (suc i) l w p q = cc
 
-one_answer : {K V : Type 0} (c : Coding K V) (B : List ℕ) (k : K) (o : Option V) → IsGet c B k o → AreAnswers c B (k ∷ []) (o ∷ [])
+pub one_answer : {K V : Type 0} (c : Coding K V) (B : List ℕ) (k : K) (o : Option V) → IsGet c B k o → AreAnswers c B (k ∷ []) (o ∷ [])
 one_answer c B k o h = record {
   each = refl;
   on_valid = λ P is. ap (λ x. x ∷ []) (h.on_valid P is);

@@ -6,6 +6,8 @@ pub mod AnswerLists
 pub mod WordAnswers
 -- the lines that a loop has taken
 pub mod LinesTaken
+-- lines that are answered one after the other
+pub mod PositionLines
 -- what a command does, from the shape of the bytes on
 pub mod Shaped
 -- bytes in which the whole check finds no error
@@ -20,5 +22,7 @@ pub mod Ordered
 pub mod Diffed
 -- tables that are read by position
 pub mod FileReads
+-- and what is answered of them
+pub mod FileAnswers
 -- worked examples of the definitions
 pub mod examples

@@ -214,7 +214,7 @@ module _ {K V : Type 0} (c : Coding K V) (l : K × Option V → List ℕ) (R : L
             }
 
     -- where no more is said, answers to some first lines were written
-    first_answered : Keeps new last → IfSome input (λ bytes. AreFirstAnswered c l R B live (lines bytes) old last)
+    pub first_answered : Keeps new last → IfSome input (λ bytes. AreFirstAnswered c l R B live (lines bytes) old last)
     first_answered k = if_some input _ _ (λ bytes r. some bytes r (front_of R r.words h.done pending r.texts)) h.read
       where
         some : (bytes : List ℕ) (r : AreRead R bytes now number (h.done ++ pending)) → IsFront R r.words h.done → AreFirstAnswered c l R B live (lines bytes) old last

@@ -19,7 +19,7 @@
 --                          no call of it tells
 --     AreLinesGot c l R p B live input old new r  the same of opening too
 --     lines_of_shape fs j live B input old new r s    the same of bytes of the shape s in the forms fs of keys and of values,
---                          with j as objects of JSON
+--                          where j is what is printed of each key
 --     lines_of_other fs j live B input old new r o    the same of bytes of the shape o, which is no ready one
 --     lines_of_any fs j live B input old new r s  the same of any shape
 --     AreFileLinesGot B h ks j live input old new r   the same of the bytes of a file, where the hash function h, or none, is
@@ -51,6 +51,7 @@ use Rattle.odht_tool_core.specs.declared.failure.LineFault.TheVariants.{Key}
 use Rattle.odht_tool_core.specs.declared.forms.Form.{Form}
 use Rattle.odht_tool_core.specs.declared.forms.GivenForms.{GivenForms}
 use Rattle.odht_tool_core.specs.declared.forms.Kinds.{Kinds}
+use Rattle.odht_tool_core.specs.declared.json.answers.Printed.{Printed}
 use Rattle.odht_tool_core.specs.declared.misread.Wanted.{Wanted}
 use Rattle.odht_tool_core.specs.declared.shapes.Hash.{Hash}
 use Rattle.odht_tool_core.specs.declared.generated.shapes.Shape.{Shape}
@@ -115,22 +116,22 @@ module _ {K V : Type 0} (c : Coding K V) (l : K × Option V → List ℕ) (R : L
   AreLinesGot input old new r = (view_refusal c.format B ≡ None) × AreLinesAnswered input old new r
 
 -- ---- of a file
-abbrev pub lines_of_shape : Form × Form → Bool → Bool → List ℕ → Option (List ℕ) → Option (List ℕ) → Option (List ℕ) → Result Status Failure → Shape → Type 0
+abbrev pub lines_of_shape : Form × Form → Printed → Bool → List ℕ → Option (List ℕ) → Option (List ℕ) → Option (List ℕ) → Result Status Failure → Shape → Type 0
 lines_of_shape fs j live B input old new r s =
     let k = key_part s in
     AreLinesGot (shape_coding s) (answer_in j (typed_text fs.0 k) (typed_text fs.1 (value_part s))) (IsTextOf fs.0 k) (typed_wanted fs.0 k) B live input old new r
 
-abbrev pub lines_of_other : Form × Form → Bool → Bool → List ℕ → Option (List ℕ) → Option (List ℕ) → Option (List ℕ) → Result Status Failure → OtherShape → Type 0
+abbrev pub lines_of_other : Form × Form → Printed → Bool → List ℕ → Option (List ℕ) → Option (List ℕ) → Option (List ℕ) → Result Status Failure → OtherShape → Type 0
 lines_of_other fs j live B input old new r o =
     let k = bytes_form fs.0 o.key in
     AreLinesGot (other_coding o) (answer_in j (dynamic_text k) (dynamic_text (bytes_form fs.1 o.value))) (IsDynamicOf k) (dynamic_wanted k) B live input old new r
 
-abbrev pub lines_of_any : Form × Form → Bool → Bool → List ℕ → Option (List ℕ) → Option (List ℕ) → Option (List ℕ) → Result Status Failure → AnyShape → Type 0
+abbrev pub lines_of_any : Form × Form → Printed → Bool → List ℕ → Option (List ℕ) → Option (List ℕ) → Option (List ℕ) → Result Status Failure → AnyShape → Type 0
 lines_of_any fs j live B input old new r (Ready s) = lines_of_shape fs j live B input old new r s
 lines_of_any fs j live B input old new r (Other o) = lines_of_other fs j live B input old new r o
 
-abbrev pub lines_of_forms : Bool → Bool → List ℕ → Option (List ℕ) → Option (List ℕ) → Option (List ℕ) → Result Status Failure → AnyShape × GivenForms → Type 0
+abbrev pub lines_of_forms : Printed → Bool → List ℕ → Option (List ℕ) → Option (List ℕ) → Option (List ℕ) → Result Status Failure → AnyShape × GivenForms → Type 0
 lines_of_forms j live B input old new r x = lines_of_any (x.1.key, x.1.value) j live B input old new r x.0
 
-abbrev pub AreFileLinesGot : List ℕ → Option Hash → Kinds → Bool → Bool → Option (List ℕ) → Option (List ℕ) → Option (List ℕ) → Result Status Failure → Type 0
+abbrev pub AreFileLinesGot : List ℕ → Option Hash → Kinds → Printed → Bool → Option (List ℕ) → Option (List ℕ) → Option (List ℕ) → Result Status Failure → Type 0
 AreFileLinesGot B h ks j live input old new r = by_shape B h ks old new r (lines_of_forms j live B input old new r)

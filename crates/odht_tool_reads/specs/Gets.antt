@@ -10,8 +10,8 @@
 --     AreWordsAnswered c l m R B ws old new status     the answers to the words ws were written, which took the writer from the
 --                          bytes old to new
 --     AreWordsGot c l m R B ws old new r   what `get` returns, r, and writes for the words ws
---     words_of_types fs j B ws old new r o the same of bytes of the types o in the forms fs of keys and of values, with j as
---                          objects of JSON
+--     words_of_types fs j B ws old new r o the same of bytes of the types o in the forms fs of keys and of values, where j is
+--                          what is printed of each key
 --     AreFileWordsGot B h ks j ws old new r    the same of the bytes of a file, where the hash function h, or none, is named,
 --                          and ks is said of keys and values
 use Rattle.std.specs.Prelude.{◌≡◌, ◌<◌, Bool, ℕ, List, [], ◌∷◌, ◌++◌, length, map, is_some, Option, Some, None, Result, Ok, Err, MatchResult}
@@ -36,6 +36,7 @@ use Rattle.odht_tool_core.specs.declared.failure.Failure.TheVariants.{Refused, O
 use Rattle.odht_tool_core.specs.declared.forms.Form.{Form}
 use Rattle.odht_tool_core.specs.declared.forms.GivenForms.{GivenForms}
 use Rattle.odht_tool_core.specs.declared.forms.Kinds.{Kinds}
+use Rattle.odht_tool_core.specs.declared.json.answers.Printed.{Printed}
 use Rattle.odht_tool_core.specs.declared.shapes.Hash.{Hash}
 use Rattle.odht_tool_core.specs.declared.status.Status.{Status}
 use Rattle.odht_tool_tables.specs.KeyTexts.{found_status}
@@ -101,7 +102,7 @@ module _ {K V : Type 0} (c : Coding K V) (l : K × Option V → List ℕ) (m : L
   AreWordsGot ws old new (Err _) = ⊥
 
 -- ---- of a file
-abbrev pub words_of_types : Form × Form → Bool → List ℕ → List (List ℕ) → Option (List ℕ) → Option (List ℕ) → Result Status Failure → OtherShape → Type 0
+abbrev pub words_of_types : Form × Form → Printed → List ℕ → List (List ℕ) → Option (List ℕ) → Option (List ℕ) → Result Status Failure → OtherShape → Type 0
 words_of_types fs j B ws old new r o =
     let k = bytes_form fs.0 o.key in
     AreWordsGot (other_coding o) (answer_in j (dynamic_text k) (dynamic_text (bytes_form fs.1 o.value))) (no_key_line j) (IsDynamicOf k) B ws old new r
@@ -110,8 +111,8 @@ words_of_types fs j B ws old new r o =
 abbrev pub by_shape : List ℕ → Option Hash → Kinds → Option (List ℕ) → Option (List ℕ) → Result Status Failure → (AnyShape × GivenForms → Type 0) → Type 0
 by_shape B h ks old new r P = MatchResult (read_any B h ks) P (λ failure. (r ≡ Err failure) × Keeps old new)
 
-abbrev pub words_of_forms : Bool → List ℕ → List (List ℕ) → Option (List ℕ) → Option (List ℕ) → Result Status Failure → AnyShape × GivenForms → Type 0
+abbrev pub words_of_forms : Printed → List ℕ → List (List ℕ) → Option (List ℕ) → Option (List ℕ) → Result Status Failure → AnyShape × GivenForms → Type 0
 words_of_forms j B ws old new r x = words_of_types (x.1.key, x.1.value) j B ws old new r (types_of x.0)
 
-abbrev pub AreFileWordsGot : List ℕ → Option Hash → Kinds → Bool → List (List ℕ) → Option (List ℕ) → Option (List ℕ) → Result Status Failure → Type 0
+abbrev pub AreFileWordsGot : List ℕ → Option Hash → Kinds → Printed → List (List ℕ) → Option (List ℕ) → Option (List ℕ) → Result Status Failure → Type 0
 AreFileWordsGot B h ks j ws old new r = by_shape B h ks old new r (words_of_forms j B ws old new r)

@@ -11,6 +11,8 @@ pub mod GetWords
 pub mod GetLines
 -- the same of a file that is read by position
 pub mod Positions
+-- and of the lines of an input
+pub mod PositionLines
 -- what a command writes and returns: `find`
 pub mod FindLines
 -- what `keys` and `count` do

@@ -13,27 +13,31 @@
 --     IsNamed T h d g          g is the hash function that is to be named for the table T, where h, or none, is named, and d
 --                              is the default of such keys, or there is none: h; else none where the header counts no
 --                              items and there is no default; else one that is left
---     IsAnsweredBy T h ks j ws old new r   r is what `get` returns of the bytes T, and writes, with j as objects of JSON,
+--     IsAnsweredBy T h ks j ws old new r   r is what `get` returns of the bytes T, and writes, where j is printed of keys,
 --                              where a hash function that is to be named for them is named
+--     IsFoundIn B at h ks f    f tells where the table of the bytes B at that offset is, or that it is all of them, and what
+--                              is read of it where a hash function that is to be named is named: its types and its forms
 --     IsTableIn T s            the bytes T are those of a valid table of the shape s
-use Rattle.std.specs.Prelude.{◌≡◌, ◌≢◌, ◌≤◌, ◌+◌, ℕ, List, length, Bool, false, Option, Some, None, unwrap_or, Result, Ok, Err}
+use Rattle.std.specs.Prelude.{◌≡◌, ◌≢◌, ◌≤◌, ◌+◌, ℕ, List, length, false, Option, Some, None, unwrap_or, Result, Ok, Err}
 use Rattle.std.specs.Io.KnownBytes.{Keeps}
 use Rattle.odht_base.specs.Bytes.{bytes_at}
 use Rattle.odht_base.specs.Decoded.{header_count}
 use Rattle.odht.specs.Files.{FileStore, IsOver, file_bytes}
 use Rattle.odht_base.specs.Format.{IsFormat}
 use Rattle.odht_base.specs.Valid.{IsValidBytes}
-use Rattle.odht_tool_core.specs.AnyShapes.{HasLongKeys, any_format}
+use Rattle.odht_tool_core.specs.AnyShapes.{HasLongKeys, any_format, read_any, types_of}
 use Rattle.odht_tool_core.specs.declared.any.AnyShape.{AnyShape}
 use Rattle.odht_tool_core.specs.Fronts.{stated_len}
 use Rattle.odht_tool_core.specs.ReadyShapes.{same_hash}
 use Rattle.odht_tool_core.specs.InfoNumbers.{DynParts, agrees, info_refusal, file_parts}
 use Rattle.odht_tool_reads.specs.Gets.{AreFileWordsGot}
 use Rattle.odht_tool_core.specs.declared.forms.Kinds.{Kinds}
+use Rattle.odht_tool_core.specs.declared.json.answers.Printed.{Printed}
 use Rattle.odht_tool_core.specs.declared.failure.Failure.{Failure}
 use Rattle.odht_tool_core.specs.declared.shapes.Hash.{Hash}
 use Rattle.odht_tool_core.specs.declared.status.Status.{Status}
 use Rattle.odht_tool_reads.specs.declared.positions.Start.{Start}
+use Rattle.odht_tool_reads.specs.declared.positions.shaped.Found.{Found}
 
 abbrev pub ByPosition : Option (List ℕ) → Option (List ℕ) → (Result Status Failure → Type 0) → Result (Option Status) Failure → Type 0
 ByPosition old new P (Ok None) = Keeps old new
@@ -70,10 +74,19 @@ IsNamed T (Some h) d g = g ≡ Some h
 IsNamed T None d None = (header_count T ≡ 0) × (d ≡ None)
 IsNamed T None d (Some g) = (header_count T ≢ 0) × IsLeft T g
 
-pub record IsAnsweredBy (T : List ℕ) (h : Option Hash) (ks : Kinds) (j : Bool) (ws : List (List ℕ)) (old new : Option (List ℕ)) (r : Result Status Failure) : Type 0 where
+pub record IsAnsweredBy (T : List ℕ) (h : Option Hash) (ks : Kinds) (j : Printed) (ws : List (List ℕ)) (old new : Option (List ℕ)) (r : Result Status Failure) : Type 0 where
   pub named : Option Hash
   pub is : IsNamed T h ks.hash named
   pub answered : AreFileWordsGot T named ks j ws old new r
+
+pub record IsFoundIn (B : List ℕ) (at : Option ℕ) (h : Option Hash) (ks : Kinds) (f : Found) : Type 0 where
+  pub held : f.at + f.len ≤ length B
+  pub table : bytes_at B f.at f.len ≡ table_read B at
+  pub named : Option Hash
+  pub is : IsNamed (table_read B at) h ks.hash named
+  pub shape : AnyShape
+  pub types : f.shape ≡ types_of shape
+  pub formed : read_any (table_read B at) named ks ≡ Ok (shape, f.forms)
 
 pub record IsTableIn (T : List ℕ) (s : AnyShape) : Type 0 where
   pub format : IsFormat (any_format s)

@@ -78,7 +78,7 @@ pub fn answer_lines<T: Lookups, F: Forms, I: BufRead + Arriving, O: Write>(
 ) -> Result<Status, Failure>
     ensures { let forms = F.pair style.answers.forms
         in AreLinesAnswered (T.coding table.now)
-        (answer_in style.answers.is_json (T.Key.text forms.0) (T.Value.text forms.1))
+        (answer_in style.answers.printed (T.Key.text forms.0) (T.Value.text forms.1))
         (IsReadAs (T.Key.is_word forms.0) (T.Key.stands_for forms.0))
         (T.Key.wants forms.0) (T.bytes table.now) style.is_live (I.remaining input.old)
         (O.contents output.old) (O.contents output.new) result }
@@ -132,7 +132,7 @@ fn read_key<T: Lookups, F: Forms, I: BufRead, O: Write>(
         (I.remaining input.old) (I.remaining input.new)) }
     ensures kept { OnOk result (O.contents output.new ≡ O.contents output.old) }
     ensures err { IfErr result (IsLineFailure (T.coding table.now)
-        (answer_in style.is_json (T.Key.text (F.pair style.forms).0)
+        (answer_in style.printed (T.Key.text (F.pair style.forms).0)
         (T.Value.text (F.pair style.forms).1))
         (IsReadAs (T.Key.is_word (F.pair style.forms).0) (T.Key.stands_for (F.pair style.forms).0))
         (T.Key.wants (F.pair style.forms).0) (T.bytes table.now) keys.now number
@@ -150,9 +150,9 @@ fn read_key<T: Lookups, F: Forms, I: BufRead, O: Write>(
     }
 }
 
-// The key of the next line in the form of keys.
+/// The key of the next line in the form of keys.
 #[inline(always)]
-fn key_of_line<K: Text, F: Forms, I: BufRead>(
+pub(crate) fn key_of_line<K: Text, F: Forms, I: BufRead>(
     input: &mut I,
     line: &mut Vec<u8>,
     forms: F,
@@ -167,8 +167,8 @@ fn key_of_line<K: Text, F: Forms, I: BufRead>(
     next_key_as(input, line, forms.key())
 }
 
-// What is said of a line that is no key.
-fn wrong_line<K: Text, F: Forms>(
+/// What is said of a line that is no key.
+pub(crate) fn wrong_line<K: Text, F: Forms>(
     alloc: Global,
     number: u64,
     line: &[u8],
@@ -198,7 +198,7 @@ fn answer_batch<T: Lookups, F: Forms, O: Write>(
 ) -> Result<bool, Failure>
     ensures ok { let forms = F.pair style.answers.forms
         in IfOk result (IsFlushed (T.coding table.now)
-        (answer_in style.answers.is_json (T.Key.text forms.0) (T.Value.text forms.1))
+        (answer_in style.answers.printed (T.Key.text forms.0) (T.Value.text forms.1))
         (T.bytes table.now) style.is_live keys.old.items keys.new.items
         (O.contents output.old) (O.contents output.new) is_all_found) }
     ensures err { IfErr result (IsKeysFailure 1 keys.old.items
@@ -246,7 +246,7 @@ fn answer_keys<T: Lookups, F: Forms, O: Write>(
     output: &mut O,
 ) -> Result<bool, Failure>
     ensures ok { IfOk result (AreKeysAnswered (T.coding table.now)
-        (answer_in style.is_json (T.Key.text (F.pair style.forms).0)
+        (answer_in style.printed (T.Key.text (F.pair style.forms).0)
         (T.Value.text (F.pair style.forms).1))
         (T.bytes table.now) keys.now (O.contents output.old) (O.contents output.new)) }
     ensures err { IfErr result (IsKeysFailure 1 keys.now

@@ -1,12 +1,16 @@
 //! `odht get` and `odht count` of a regular file that is read by position: its header, and for
 //! `get` some groups of slots until they tell the hash function, and what lookups read. Where that
 //! does not do, all bytes are read as for other commands.
-ghost use Rattle.std.specs.Prelude.{◌≡◌, ◌+◌, ◌<◌, ◌≤◌, ◌^◌, ℕ, List, length, map, string_bytes};
-ghost use Rattle.std.specs.Prelude.{IfSome, unwrap_or};
+ghost use Rattle.std.specs.Prelude.{◌≡◌, ◌↔◌, ◌+◌, ◌*◌, ◌<◌, ◌≤◌, ◌^◌, ℕ, List, length, map, take, string_bytes};
+ghost use Rattle.std.specs.Prelude.{IfSome, IsTrue, None, Ok, unwrap_or};
 ghost use Rattle.odht_base.specs.Bytes.{bytes_at};
 ghost use Rattle.odht_tool_core.specs.Fronts.{stated_len};
 ghost use Rattle.odht_tool_reads.specs.Gets.{AreFileWordsGot};
-ghost use Rattle.odht_tool_reads.specs.Positions.{ByPosition, IsAnsweredBy, IsStartOf, IsTableIn, len_by, table_read};
+ghost use Rattle.odht_tool_core.specs.InfoNumbers.{least_key_len};
+ghost use Rattle.odht_tool_core.specs.ReadyShapes.{typed_len};
+ghost use Rattle.odht_tool_reads.specs.PositionLines.{AreFileLinesRead, AreLinesReadBy};
+ghost use Rattle.odht_tool_reads.specs.Positions.{ByPosition, IsAnsweredBy, IsFoundIn, IsStartOf};
+ghost use Rattle.odht_tool_reads.specs.Positions.{IsTableIn, len_by, table_read};
 
 use odht::memory_layout::{HEADER_SIZE, Header};
 use odht::read_at::{ReadAt, read_exact_at};
@@ -14,15 +18,17 @@ use odht_tool_core::any::{AnyShape, read_any};
 use odht_tool_core::arguments::is_stream;
 use odht_tool_core::failure::Failure;
 use odht_tool_core::forms::Kinds;
+use odht_tool_core::json::answers::Printed;
 use odht_tool_core::shapes::Hash;
 use odht_tool_core::status::Status;
 use std::alloc::Global;
 use std::fs::{self, OpenFile};
-use std::io::Write;
+use std::io::{BufRead, Write};
 use std::os::unix::fs::FileExt;
 use std::rt::Files;
 
 mod counts;
+mod lines;
 mod lookups;
 mod names;
 mod remembered;
@@ -32,11 +38,22 @@ mod source;
 pub use counts::count_at;
 use names::named_or_left_hash;
 use remembered::Remembered;
-use shaped::words_of;
+use shaped::{Found, lines_of, words_of};
 pub use source::FileSource;
 
 /// How many bytes are read at first: the header, and in most tables the entries of sixteen slots.
 const FRONT: usize = 4096;
+
+/// How many bytes a file has for each byte of the lines of keys that are looked up in it by position.
+/// A line has some ten bytes: to look it up takes as long as to read fewer bytes than ten times this.
+const FILE_BYTES: u64 = 1 << 14;
+
+/// Whether lines of that many bytes are few for a file of that many.
+pub fn are_few(input_len: u64, file_len: usize) -> bool
+    ensures { IsTrue result ↔ input_len * 2 ^ 14 ≤ file_len }
+{
+    input_len <= file_len as u64 / FILE_BYTES
+}
 
 /// A regular file as a source of bytes, and its length. None for any other file, for standard
 /// input, and where the file cannot be opened.
@@ -55,6 +72,21 @@ where
     }
     let len = usize::try_from(found.len()).ok()?;
     Some((FileSource::new(file), len))
+}
+
+/// What is asked of a table that is read by position.
+#[derive(Clone, Copy)]
+pub struct Asked {
+    /// Where memory is taken.
+    pub alloc: Global,
+    /// The offset of the table. None where it is all of the file.
+    pub at: Option<usize>,
+    /// The hash function that is named.
+    pub hash: Option<Hash>,
+    /// What is said of keys and values.
+    pub kinds: Kinds,
+    /// What is printed of each key.
+    pub printed: Printed,
 }
 
 /// The header of a table, and where its bytes are in a source.
@@ -107,121 +139,125 @@ fn front_len(header: &[u8], found: usize) -> Option<usize>
     }
 }
 
-/// `odht get` of a source of that many bytes, for the words of the command line: of the table at
-/// the offset, or of all bytes. None where the source is not read by position: a read failed, or
-/// its bytes are not opened, or too many of them would be read to know the hash function. Nothing
-/// was written then, and reading all bytes gives the answer.
+/// `odht get` of a source of that many bytes, for the words of the command line. None where the
+/// source is not read by position: a read failed, or its bytes are not opened, or too many of them
+/// would be read to know the hash function. Nothing was written then, and reading all bytes gives
+/// the answer.
 ///
 /// Over any source, for any list of bytes that it gives in each read: what is written is what
 /// [`get_file_words`](crate::commands::get::get_file_words) writes of the table in this list, with
 /// the hash function that the first slots leave where none is named.
 pub fn get_words_at<S: ReadAt + Drop, O: Write>(
-    alloc: Global,
+    asked: &Asked,
     source: S,
     len: usize,
-    offset: Option<usize>,
-    hash: Option<Hash>,
-    kinds: Kinds,
-    is_json: bool,
     words: &[String],
     output: &mut O,
 ) -> Result<Option<Status>, Failure>
-    ensures named { (B : List ℕ) → S.gives source B → length B ≡ len → ByPosition
-        (O.contents output.old) (O.contents output.new)
-        (IsAnsweredBy (table_read B offset) hash kinds is_json (map string_bytes words.now)
+    ensures named { let a = asked.now in (B : List ℕ) → S.gives source B → length B ≡ len
+        → ByPosition (O.contents output.old) (O.contents output.new)
+        (IsAnsweredBy (table_read B a.at) a.hash a.kinds a.printed (map string_bytes words.now)
         (O.contents output.old) (O.contents output.new)) result }
-    ensures valid { (B : List ℕ) → S.gives source B → length B ≡ len → (s : AnyShape)
-        → IsTableIn (table_read B offset) s → ByPosition
+    ensures valid { let a = asked.now in (B : List ℕ) → S.gives source B → length B ≡ len
+        → (s : AnyShape) → IsTableIn (table_read B a.at) s → ByPosition
         (O.contents output.old) (O.contents output.new)
-        (AreFileWordsGot (table_read B offset) hash kinds is_json (map string_bytes words.now)
+        (AreFileWordsGot (table_read B a.at) a.hash a.kinds a.printed (map string_bytes words.now)
         (O.contents output.old) (O.contents output.new)) result }
+{
+    let mut room = [0; FRONT];
+    let Some(few) = read_front(&source, len, asked.at, &mut room) else {
+        return Ok(None);
+    };
+    let source = Remembered {
+        source,
+        at: asked.at.unwrap_or(0) as u64,
+        bytes: &room[..few],
+    };
+    let Some(found) = found_in(asked, &source, len) else {
+        return Ok(None);
+    };
+    words_of(asked, source, found, words, output)
+}
+
+/// The same for the lines of an input, each of which is answered before the next one is read. None
+/// where [`get_words_at`] returns it: then nothing was written, and no line was read. A lookup whose
+/// read fails is a failure of the file.
+///
+/// Over any source, for any list of bytes that it gives in each read: what is written is what
+/// [`get_file_lines`](crate::commands::get::get_file_lines) writes of the table in this list as one
+/// of keys and values of these types, with the hash function that the first slots leave where none
+/// is named.
+pub fn get_lines_at<S: ReadAt + Drop, I: BufRead, O: Write>(
+    asked: &Asked,
+    source: S,
+    len: usize,
+    input: &mut I,
+    output: &mut O,
+) -> Result<Option<Status>, Failure>
+    ensures unread { result ≡ Ok None → I.remaining input.new ≡ I.remaining input.old }
+    ensures named { let a = asked.now in (B : List ℕ) → S.gives source B → length B ≡ len
+        → ByPosition (O.contents output.old) (O.contents output.new)
+        (AreLinesReadBy (table_read B a.at) a.hash a.kinds a.printed (I.remaining input.old)
+        (O.contents output.old) (O.contents output.new)) result }
+    ensures valid { let a = asked.now in (B : List ℕ) → S.gives source B → length B ≡ len
+        → (s : AnyShape) → IsTableIn (table_read B a.at) s → ByPosition
+        (O.contents output.old) (O.contents output.new)
+        (AreFileLinesRead (table_read B a.at) a.hash a.kinds a.printed (I.remaining input.old)
+        (O.contents output.old) (O.contents output.new)) result }
+{
+    let mut room = [0; FRONT];
+    let Some(few) = read_front(&source, len, asked.at, &mut room) else {
+        return Ok(None);
+    };
+    let source = Remembered {
+        source,
+        at: asked.at.unwrap_or(0) as u64,
+        bytes: &room[..few],
+    };
+    let Some(found) = found_in(asked, &source, len) else {
+        return Ok(None);
+    };
+    lines_of(asked, source, found, input, output)
+}
+
+// Reads the first bytes of the table into the room. Returns how many: all that there are, or as many
+// as the room has. None where the read failed.
+fn read_front<S: ReadAt>(
+    source: &S,
+    len: usize,
+    offset: Option<usize>,
+    room: &mut [u8; FRONT],
+) -> Option<usize>
+    ensures few { IfSome result (λ n. n ≤ FRONT) }
+    ensures given { (B : List ℕ) → S.gives source.now B → IfSome result (λ n.
+        take n room.new ≡ bytes_at B (unwrap_or offset 0) n) }
 {
     let at = offset.unwrap_or(0);
     let few = len.saturating_sub(at).min(FRONT);
-    let mut room = [0; FRONT];
     let (front, _) = room.split_at_mut(few);
-    match read_exact_at(&source, at as u64, front) {
-        Ok(()) => {}
-        Err(_) => return Ok(None),
-    }
-    let source = Remembered {
-        source,
-        at: at as u64,
-        bytes: &*front,
-    };
-    get_words_in(
-        alloc, source, len, offset, hash, kinds, is_json, words, output,
-    )
+    read_exact_at(source, at as u64, front).ok()?;
+    Some(few)
 }
 
-// The same of a source of which the first bytes of the table are remembered.
-fn get_words_in<S: ReadAt + Drop, O: Write>(
-    alloc: Global,
-    source: S,
-    len: usize,
-    offset: Option<usize>,
-    hash: Option<Hash>,
-    kinds: Kinds,
-    is_json: bool,
-    words: &[String],
-    output: &mut O,
-) -> Result<Option<Status>, Failure>
-    ensures named { (B : List ℕ) → S.gives source B → length B ≡ len → ByPosition
-        (O.contents output.old) (O.contents output.new)
-        (IsAnsweredBy (table_read B offset) hash kinds is_json (map string_bytes words.now)
-        (O.contents output.old) (O.contents output.new)) result }
-    ensures valid { (B : List ℕ) → S.gives source B → length B ≡ len → (s : AnyShape)
-        → IsTableIn (table_read B offset) s → ByPosition
-        (O.contents output.old) (O.contents output.new)
-        (AreFileWordsGot (table_read B offset) hash kinds is_json (map string_bytes words.now)
-        (O.contents output.old) (O.contents output.new)) result }
+// Where the table is, and what its header and its first slots tell of it. None where it is not read
+// by position.
+fn found_in<S: ReadAt>(asked: &Asked, source: &S, len: usize) -> Option<Found>
+    ensures fits { IfSome result (λ f. f.at + f.len < 2 ^ 64) }
+    ensures long { IfSome result (λ f. least_key_len f.shape.hash ≤ typed_len f.shape.key) }
+    ensures given { let a = asked.now in (B : List ℕ) → S.gives source.now B → length B ≡ len
+        → IfSome result (IsFoundIn B a.at a.hash a.kinds) }
 {
-    let Some(start) = read_start(&source, len, offset) else {
-        return Ok(None);
-    };
-    get_table_words(alloc, source, &start, hash, kinds, is_json, words, output)
-}
-
-// The same of the table that begins so.
-fn get_table_words<S: ReadAt + Drop, O: Write>(
-    alloc: Global,
-    source: S,
-    start: &Start,
-    hash: Option<Hash>,
-    kinds: Kinds,
-    is_json: bool,
-    words: &[String],
-    output: &mut O,
-) -> Result<Option<Status>, Failure>
-    requires fits { start.now.at + start.now.len < 2 ^ 64 }
-    requires long { 32 ≤ start.now.len }
-    ensures named { (B : List ℕ) → S.gives source B → IsStartOf B start.now
-        → (let T = bytes_at B start.now.at start.now.len
-        in ByPosition (O.contents output.old) (O.contents output.new)
-        (IsAnsweredBy T hash kinds is_json (map string_bytes words.now)
-        (O.contents output.old) (O.contents output.new)) result) }
-    ensures valid { (B : List ℕ) → S.gives source B → IsStartOf B start.now
-        → (let T = bytes_at B start.now.at start.now.len in (s : AnyShape) → IsTableIn T s
-        → ByPosition (O.contents output.old) (O.contents output.new)
-        (AreFileWordsGot T hash kinds is_json (map string_bytes words.now)
-        (O.contents output.old) (O.contents output.new)) result) }
-{
-    let Some(name) = named_or_left_hash(&source, start, hash, kinds.hash) else {
-        return Ok(None);
-    };
+    let start = read_start(source, len, asked.at)?;
+    let kinds = asked.kinds;
+    let name = named_or_left_hash(source, &start, asked.hash, kinds.hash)?;
     let Ok(found) = read_any(&start.header, name, kinds) else {
-        return Ok(None);
+        return None;
     };
     let (shape, forms) = found;
-    words_of(
-        alloc,
-        source,
-        start.at,
-        start.len,
-        shape.types(),
+    Some(Found {
+        at: start.at,
+        len: start.len,
+        shape: shape.types(),
         forms,
-        is_json,
-        words,
-        output,
-    )
+    })
 }

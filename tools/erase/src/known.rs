@@ -78,8 +78,8 @@ pub const SAME_METHODS: &str = "all as_mut_slice as_slice checked_add checked_mu
 pub const METHODS_OF_PROGRAMS: &str =
     "alloc and as_ref as_secs as_str buffer checked_sub consume copied create_new dev duration_since fill_buf flush gid ino \
     into_inner into_iter into_string is_ascii_alphabetic is_ascii_hexdigit is_err is_file is_symlink is_terminal kind \
-    map map_err metadata mode nlink ok ok_or or pop read_at read_exact read_link read_to_end remove rsplit_once set_permissions \
-    simd_gt simd_lt skip split_once starts_with stderr stdin stdout strip_prefix swap_bytes sync_all take uid unwrap \
+    map map_err metadata mode nlink ok ok_or or pop raw_os_error read_at read_exact read_link read_to_end remove rsplit_once \
+    set_permissions simd_gt simd_lt skip split_once starts_with stderr stdin stdout strip_prefix swap_bytes sync_all take uid unwrap \
     write_all write_char write_str";
 
 /// Methods that allocate in Rust: in Rattle each takes an allocator, or returns that memory was refused. They are an
@@ -94,7 +94,7 @@ pub const OTHER_WORDS: &str = "ghost requires ensures final Drop static async aw
     Wait Threads Clock isize i8 i16 i32 i64 i128 unimplemented todo panic assert cfg test yield become";
 
 /// Those of them that a program has.
-pub const WORDS_OF_PROGRAMS: &str = "static String HostRuntime Clock";
+pub const WORDS_OF_PROGRAMS: &str = "static String HostRuntime Clock i32";
 
 /// Whether a word is one of a list.
 pub fn is_in(word: &str, list: &str) -> bool {

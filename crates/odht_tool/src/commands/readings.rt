@@ -69,9 +69,11 @@ pub fn run_reading<I: BufRead + Arriving, O: Write, E: Write>(
             hash,
             kinds,
             keys: Keys::Words(words),
+            is_values,
             is_json,
         } => {
             let job = Job {
+                is_values: *is_values,
                 is_json: *is_json,
                 ..job
             };
@@ -81,9 +83,11 @@ pub fn run_reading<I: BufRead + Arriving, O: Write, E: Write>(
             hash,
             kinds,
             keys: Keys::Lines,
+            is_values,
             is_json,
         } => {
             let job = Job {
+                is_values: *is_values,
                 is_json: *is_json,
                 ..job
             };

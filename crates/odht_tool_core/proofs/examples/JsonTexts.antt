@@ -10,7 +10,7 @@ use Rattle.odht_tool_core.specs.InfoNumbers.{tallies}
 use Rattle.odht_tool_core.specs.InfoReports.{hash_said, hit_said}
 use Rattle.odht_tool_core.specs.InfoTexts.{counts_array}
 use Rattle.odht_tool_core.specs.Json.{is_simple, json_object, json_string, number_field, pair_object, string_field, text_field, text_object, truth}
-use Rattle.odht_tool_core.specs.JsonAnswers.{absent_object, answer_in}
+use Rattle.odht_tool_core.specs.JsonAnswers.{absent_object, absent_value, answer_in, no_key_line, pair_in, printed_as}
 use Rattle.odht_tool_core.specs.JsonSlots.{slot_object}
 use Rattle.odht_tool_core.specs.Reports.{report_among, value_json}
 use Rattle.odht_tool_core.specs.Texts.{hex_text}
@@ -47,12 +47,21 @@ unfolding chars is_utf8 encode_utf8 pair_object slot_object digits
 pairs = (refl, refl)
 
 -- the answer to a key, and of a key that is absent; a value of no bytes is there
-pub answers : (answer_in true hex_text hex_text (65 ∷ [], Some (66 ∷ [])) ≡ codes "{\"key\":\"41\",\"value\":\"42\"}\n")
-    × (answer_in true hex_text hex_text (65 ∷ [], None) ≡ codes "{\"key\":\"41\",\"value\":null}\n")
-    × (answer_in true hex_text hex_text (65 ∷ [], Some []) ≡ codes "{\"key\":\"41\",\"value\":\"\"}\n")
-    × (answer_in false hex_text hex_text (65 ∷ [], None) ≡ codes "41\n")
+pub answers : (pair_in true hex_text hex_text (65 ∷ [], Some (66 ∷ [])) ≡ codes "{\"key\":\"41\",\"value\":\"42\"}\n")
+    × (pair_in true hex_text hex_text (65 ∷ [], None) ≡ codes "{\"key\":\"41\",\"value\":null}\n")
+    × (pair_in true hex_text hex_text (65 ∷ [], Some []) ≡ codes "{\"key\":\"41\",\"value\":\"\"}\n")
+    × (pair_in false hex_text hex_text (65 ∷ [], None) ≡ codes "41\n")
 unfolding chars is_utf8 encode_utf8 pair_object absent_object
 answers = (refl, refl, refl, refl)
+
+-- the value of a key without the key, of one that is absent, and of a word that is no key
+pub values : (answer_in (printed_as true true) hex_text hex_text (65 ∷ [], Some (66 ∷ [])) ≡ codes "{\"value\":\"42\"}\n")
+    × (answer_in (printed_as true true) hex_text hex_text (65 ∷ [], None) ≡ codes "{\"value\":null}\n")
+    × (answer_in (printed_as false true) hex_text hex_text (65 ∷ [], Some (66 ∷ [])) ≡ codes "42\n")
+    × (answer_in (printed_as false true) hex_text hex_text (65 ∷ [], None) ≡ codes "\n")
+    × (no_key_line (printed_as true true) (120 ∷ []) ≡ codes "{\"value\":null}\n") × (no_key_line (printed_as false true) (120 ∷ []) ≡ codes "\n")
+unfolding chars is_utf8 encode_utf8 text_object absent_value
+values = (refl, refl, refl, refl, refl, refl)
 
 -- two keys by one group, none by two, one by three; and without a hash function
 pub counts : (counts_array (tallies (1 ∷ 3 ∷ 1 ∷ [])) 3 ≡ codes "[2,0,1]") × (counts_array (tallies []) 0 ≡ codes "[]")

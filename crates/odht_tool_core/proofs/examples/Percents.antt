@@ -8,7 +8,7 @@ use Rattle.odht_base.specs.Image.{image}
 use Rattle.odht_base.specs.Load.{factor_of}
 use Rattle.odht_base.specs.Table.{empty}
 use Rattle.odht_header.proofs.examples.Opened.{opened}
-use Rattle.odht_tool_core.specs.JsonAnswers.{no_key_line}
+use Rattle.odht_tool_core.specs.JsonAnswers.{word_in}
 use Rattle.odht_tool_core.specs.Percents.{kept_percent, new_percent}
 use Rattle.odht_tool_core.specs.Statuses.{failure_status}
 use Rattle.odht_tool_core.specs.declared.generated.topics.Topic.TheVariants.{Info, Get, Delete, Diff, Build}
@@ -40,6 +40,6 @@ pub failures : (failure_status Get ≡ Trouble) × (failure_status Delete ≡ Tr
 failures = (refl, refl, refl, refl, refl)
 
 -- a word that is no key is written as it is, or with a tab or a line end as messages show it; as an object it has no value
-pub words : (no_key_line false (codes "x") ≡ codes "x\n") × (no_key_line false [] ≡ codes "\n")
-    × (no_key_line false (codes "x\ty") ≡ codes "\"x\\ty\"\n") × (no_key_line false (codes "x\ny") ≡ codes "\"x\\x0ay\"\n")
+pub words : (word_in false (codes "x") ≡ codes "x\n") × (word_in false [] ≡ codes "\n")
+    × (word_in false (codes "x\ty") ≡ codes "\"x\\ty\"\n") × (word_in false (codes "x\ny") ≡ codes "\"x\\x0ay\"\n")
 words = (refl, refl, refl, refl)

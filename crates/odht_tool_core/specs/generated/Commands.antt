@@ -53,7 +53,7 @@ abbrev pub options_of : Topic → List Setting
 options_of Info = Help ∷ Whole ∷ Json ∷ At ∷ []
 options_of Check = Help ∷ Whole ∷ Json ∷ Hash ∷ At ∷ []
 options_of Count = Help ∷ WithCheck ∷ Whole ∷ Hash ∷ At ∷ []
-options_of Get = Help ∷ Json ∷ Null ∷ Key ∷ Value ∷ Hash ∷ At ∷ []
+options_of Get = Help ∷ Values ∷ Json ∷ Null ∷ Key ∷ Value ∷ Hash ∷ At ∷ []
 options_of Dump = Help ∷ Slots ∷ Values ∷ Json ∷ Null ∷ Key ∷ Value ∷ Hash ∷ At ∷ []
 options_of Keys = Help ∷ Json ∷ Null ∷ Key ∷ Hash ∷ At ∷ []
 options_of Find = Help ∷ Whole ∷ Json ∷ []

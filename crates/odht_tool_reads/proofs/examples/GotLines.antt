@@ -24,7 +24,8 @@ use Rattle.odht_tool_core.specs.Misreads.{misread_text, typed_wanted}
 use Rattle.odht_tool_core.specs.ReadyShapes.{typed_text}
 use Rattle.odht_tool_core.specs.declared.misread.Wanted.{Wanted}
 use Rattle.odht_tool_core.specs.Json.{pair_object}
-use Rattle.odht_tool_core.specs.JsonAnswers.{absent_object, answer_in}
+use Rattle.odht_tool_core.specs.declared.json.answers.Printed.{Printed}
+use Rattle.odht_tool_core.specs.JsonAnswers.{absent_object, answer_in, printed_as}
 use Rattle.odht_tool_core.specs.Texts.{answers_by}
 use Rattle.odht_tool_core.specs.declared.forms.Form.TheVariants.{Own}
 use Rattle.odht_tool_core.specs.declared.failure.Failure.TheVariants.{Refused, ShortKeys, Input, Misread, Output, Memory}
@@ -45,8 +46,12 @@ use Rattle.odht_tool_core.proofs.examples.Shapes.{one_item, one_bytes}
 abbrev f : ℕ → List ℕ
 f = typed_text Own U32
 
+-- pairs as text
+abbrev plain : Printed
+plain = printed_as false false
+
 abbrev line : ℕ × Option ℕ → List ℕ
-line = answer_in false f f
+line = answer_in plain f f
 
 abbrev a_number : Wanted
 a_number = typed_wanted Own U32
@@ -96,13 +101,32 @@ both_answered = record {
   status = refl;
 }
 
-pub both : lines_of_shape (Own, Own) false false one_bytes (Some (codes "5\n6\n")) (Some (codes "a")) (Some (codes "a5\t7\n6\n")) (Ok NotDone) DirectU32ToU32
+pub both : lines_of_shape (Own, Own) plain false one_bytes (Some (codes "5\n6\n")) (Some (codes "a")) (Some (codes "a5\t7\n6\n")) (Ok NotDone) DirectU32ToU32
 both = (no_refusal, record { words = codes "5" ∷ codes "6" ∷ []; place = inl refl; answered = both_answered })
 
 -- as objects one for each key; the value of the second, which is absent, is null
-pub objects : lines_of_shape (Own, Own) true false one_bytes (Some (codes "5\n6\n")) (Some (codes "a")) (Some (codes "a{\"key\":\"5\",\"value\":\"7\"}\n{\"key\":\"6\",\"value\":null}\n")) (Ok NotDone) DirectU32ToU32
+pub objects : lines_of_shape (Own, Own) (printed_as true false) false one_bytes (Some (codes "5\n6\n")) (Some (codes "a")) (Some (codes "a{\"key\":\"5\",\"value\":\"7\"}\n{\"key\":\"6\",\"value\":null}\n")) (Ok NotDone) DirectU32ToU32
 unfolding digits chars is_utf8 encode_utf8 pair_object absent_object
 objects = (
+  no_refusal,
+  record {
+    words = codes "5" ∷ codes "6" ∷ [];
+    place = inl refl;
+    answered = record {
+      keys = 5 ∷ 6 ∷ [];
+      texts = (five, (six, tt));
+      values = Some 7 ∷ None ∷ [];
+      answers = are_answers_append C one_bytes (5 ∷ []) (6 ∷ []) (Some 7 ∷ []) (None ∷ []) five_answered six_answered;
+      written = refl;
+      status = refl;
+    };
+  },
+)
+
+-- as values their lines are empty where they are absent
+pub bare : lines_of_shape (Own, Own) (printed_as false true) false one_bytes (Some (codes "5\n6\n")) (Some (codes "a")) (Some (codes "a7\n\n")) (Ok NotDone) DirectU32ToU32
+unfolding digits
+bare = (
   no_refusal,
   record {
     words = codes "5" ∷ codes "6" ∷ [];
@@ -157,17 +181,17 @@ all_both old new status h = only_both old new status (go h.words h.place h.answe
     go ws (inr e) a = absurd (none_empty ws e.0)
 
 -- the other status; an answer left out; one written twice
-pub other_status : (new : Option (List ℕ)) → lines_of_shape (Own, Own) false false one_bytes (Some (codes "5\n6\n")) (Some []) new (Ok Done) DirectU32ToU32 → ⊥
+pub other_status : (new : Option (List ℕ)) → lines_of_shape (Own, Own) plain false one_bytes (Some (codes "5\n6\n")) (Some []) new (Ok Done) DirectU32ToU32 → ⊥
 other_status new h = let other = (all_both (Some []) new Done h.1).0 in cc
 
-pub left_out : lines_of_shape (Own, Own) false false one_bytes (Some (codes "5\n6\n")) (Some (codes "a")) (Some (codes "a5\t7\n")) (Ok NotDone) DirectU32ToU32 → ⊥
+pub left_out : lines_of_shape (Own, Own) plain false one_bytes (Some (codes "5\n6\n")) (Some (codes "a")) (Some (codes "a5\t7\n")) (Ok NotDone) DirectU32ToU32 → ⊥
 left_out h = unequal_lists (codes "a5\t7\n") (codes "a5\t7\n6\n") refl (all_both (Some (codes "a")) (Some (codes "a5\t7\n")) NotDone h.1).1
 
-pub twice : lines_of_shape (Own, Own) false false one_bytes (Some (codes "5\n6\n")) (Some []) (Some (codes "5\t7\n5\t7\n6\n")) (Ok NotDone) DirectU32ToU32 → ⊥
+pub twice : lines_of_shape (Own, Own) plain false one_bytes (Some (codes "5\n6\n")) (Some []) (Some (codes "5\t7\n5\t7\n6\n")) (Ok NotDone) DirectU32ToU32 → ⊥
 twice h = unequal_lists (codes "5\t7\n5\t7\n6\n") (codes "5\t7\n6\n") refl (all_both (Some []) (Some (codes "5\t7\n5\t7\n6\n")) NotDone h.1).1
 
 -- a status where a line is no key
-pub done_at_fault : (old new : Option (List ℕ)) (status : Status) → lines_of_shape (Own, Own) false false one_bytes (Some (codes "x\n")) old new (Ok status) DirectU32ToU32 → ⊥
+pub done_at_fault : (old new : Option (List ℕ)) (status : Status) → lines_of_shape (Own, Own) plain false one_bytes (Some (codes "x\n")) old new (Ok status) DirectU32ToU32 → ⊥
 done_at_fault old new status h = whole h.1.words h.1.place h.1.answered
   where
     none : (ws : List (List ℕ)) → codes "x" ∷ [] ≡ ws ++ ([] ∷ []) → ⊥
@@ -184,7 +208,7 @@ done_at_fault old new status h = whole h.1.words h.1.place h.1.answered
     whole ws (inr e) a = none ws e.0
 
 -- an empty last line is left out
-pub empty_last : lines_of_shape (Own, Own) false false one_bytes (Some (codes "5\n\n")) (Some (codes "a")) (Some (codes "a5\t7\n")) (Ok Done) DirectU32ToU32
+pub empty_last : lines_of_shape (Own, Own) plain false one_bytes (Some (codes "5\n\n")) (Some (codes "a")) (Some (codes "a5\t7\n")) (Ok Done) DirectU32ToU32
 unfolding digits
 empty_last = (
   no_refusal,
@@ -206,12 +230,12 @@ empty_last_told old new text h = go h.before h.after h.place h.more
     go (a ∷ b ∷ before) after place more = cc
 
 -- nothing is said where the bytes of the input are not known
-pub unknown : lines_of_shape (Own, Own) false false one_bytes None (Some []) (Some (codes "b")) (Ok Done) DirectU32ToU32
+pub unknown : lines_of_shape (Own, Own) plain false one_bytes None (Some []) (Some (codes "b")) (Ok Done) DirectU32ToU32
 unknown = (no_refusal, tt)
 
 -- ---- a line that is no key
 -- the second
-pub second : (message : _) → string_bytes message ≡ second_text → lines_of_shape (Own, Own) false false one_bytes (Some (codes "5\nx\n6")) (Some (codes "a")) (Some (codes "a5\t7\n")) (Err (Misread message)) DirectU32ToU32
+pub second : (message : _) → string_bytes message ≡ second_text → lines_of_shape (Own, Own) plain false one_bytes (Some (codes "5\nx\n6")) (Some (codes "a")) (Some (codes "a5\t7\n")) (Err (Misread message)) DirectU32ToU32
 unfolding digits
 second message misread = (
   no_refusal,
@@ -255,28 +279,28 @@ only_second old new text h = go h.before h.place h.misread h.answered
         second_key (k ∷ l ∷ ks) t = no_key l t.1.0
 
 -- counted from 0; the answer before it not written; another fault; another text
-message_else : (message : _) (new : Option (List ℕ)) (text : List ℕ) → string_bytes message ≡ text → lines_of_shape (Own, Own) false false one_bytes (Some (codes "5\nx\n6")) (Some []) new (Err (Misread message)) DirectU32ToU32
+message_else : (message : _) (new : Option (List ℕ)) (text : List ℕ) → string_bytes message ≡ text → lines_of_shape (Own, Own) plain false one_bytes (Some (codes "5\nx\n6")) (Some []) new (Err (Misread message)) DirectU32ToU32
     → text ≡ second_text
 message_else message new text e h = sym e ∙ (only_second (Some []) new (string_bytes message) h.1).0
 
 pub from_zero : (message : _) (new : Option (List ℕ)) → string_bytes message ≡ codes "standard input, line 1: the key \"x\" is not a number below 2^32"
-    → lines_of_shape (Own, Own) false false one_bytes (Some (codes "5\nx\n6")) (Some []) new (Err (Misread message)) DirectU32ToU32 → ⊥
+    → lines_of_shape (Own, Own) plain false one_bytes (Some (codes "5\nx\n6")) (Some []) new (Err (Misread message)) DirectU32ToU32 → ⊥
 from_zero message new e h = unequal_lists (codes "standard input, line 1: the key \"x\" is not a number below 2^32") second_text refl (message_else message new _ e h)
 
-pub unwritten : (message : _) → lines_of_shape (Own, Own) false false one_bytes (Some (codes "5\nx\n6")) (Some []) (Some []) (Err (Misread message)) DirectU32ToU32 → ⊥
+pub unwritten : (message : _) → lines_of_shape (Own, Own) plain false one_bytes (Some (codes "5\nx\n6")) (Some []) (Some []) (Err (Misread message)) DirectU32ToU32 → ⊥
 unwritten message h = unequal_lists [] (codes "5\t7\n") refl (only_second (Some []) (Some []) (string_bytes message) h.1).1
 
 pub no_tab : (message : _) (new : Option (List ℕ)) → string_bytes message ≡ codes "standard input, line 2: \"x\" has no tab between key and value"
-    → lines_of_shape (Own, Own) false false one_bytes (Some (codes "5\nx\n6")) (Some []) new (Err (Misread message)) DirectU32ToU32 → ⊥
+    → lines_of_shape (Own, Own) plain false one_bytes (Some (codes "5\nx\n6")) (Some []) new (Err (Misread message)) DirectU32ToU32 → ⊥
 no_tab message new e h = unequal_lists (codes "standard input, line 2: \"x\" has no tab between key and value") second_text refl (message_else message new _ e h)
 
 pub other_text : (message : _) (new : Option (List ℕ)) → string_bytes message ≡ codes "standard input, line 2: the key \"6\" is not a number below 2^32"
-    → lines_of_shape (Own, Own) false false one_bytes (Some (codes "5\nx\n6")) (Some []) new (Err (Misread message)) DirectU32ToU32 → ⊥
+    → lines_of_shape (Own, Own) plain false one_bytes (Some (codes "5\nx\n6")) (Some []) new (Err (Misread message)) DirectU32ToU32 → ⊥
 other_text message new e h = unequal_lists (codes "standard input, line 2: the key \"6\" is not a number below 2^32") second_text refl (message_else message new _ e h)
 
 -- ---- other failures
 -- without memory, or where the input cannot be read, what is written are the answers to whole batches: here to none
-pub no_memory : lines_of_shape (Own, Own) false false one_bytes (Some (codes "5\n")) (Some (codes "a")) (Some (codes "a")) (Err Memory) DirectU32ToU32
+pub no_memory : lines_of_shape (Own, Own) plain false one_bytes (Some (codes "5\n")) (Some (codes "a")) (Some (codes "a")) (Err Memory) DirectU32ToU32
 no_memory = (
   no_refusal,
   record {
@@ -302,14 +326,14 @@ none_first old new h = go h.before (ap length h.place ∙ length-append h.before
         none (k ∷ ks) t w = absurd t
     go (a ∷ rest) place counted answered = absurd (omega (arith, place, counted))
 
-pub half_a_batch : lines_of_shape (Own, Own) false false one_bytes (Some (codes "5\n")) (Some (codes "a")) (Some (codes "a5\t7\n")) (Err Memory) DirectU32ToU32 → ⊥
+pub half_a_batch : lines_of_shape (Own, Own) plain false one_bytes (Some (codes "5\n")) (Some (codes "a")) (Some (codes "a5\t7\n")) (Err Memory) DirectU32ToU32 → ⊥
 half_a_batch h = unequal_lists (codes "a5\t7\n") (codes "a") refl (none_first (Some (codes "a")) (Some (codes "a5\t7\n")) h.1)
 
-pub half_read : (error : _) → lines_of_shape (Own, Own) false false one_bytes (Some (codes "5\n")) (Some (codes "a")) (Some (codes "a5\t7\n")) (Err (Input error)) DirectU32ToU32 → ⊥
+pub half_read : (error : _) → lines_of_shape (Own, Own) plain false one_bytes (Some (codes "5\n")) (Some (codes "a")) (Some (codes "a5\t7\n")) (Err (Input error)) DirectU32ToU32 → ⊥
 half_read error h = unequal_lists (codes "a5\t7\n") (codes "a") refl (none_first (Some (codes "a")) (Some (codes "a5\t7\n")) h.1)
 
 -- where lines are answered as they come, that may be a part of a batch
-pub live_part : lines_of_shape (Own, Own) false true one_bytes (Some (codes "5\n6\n")) (Some (codes "a")) (Some (codes "a5\t7\n")) (Err Memory) DirectU32ToU32
+pub live_part : lines_of_shape (Own, Own) plain true one_bytes (Some (codes "5\n6\n")) (Some (codes "a")) (Some (codes "a5\t7\n")) (Err Memory) DirectU32ToU32
 unfolding digits
 live_part = (
   no_refusal,
@@ -325,7 +349,7 @@ live_part = (
 )
 
 -- the writer fails where an answer is to be written; not where there is no line, nor where the first one is no key
-pub asked : (old new : Option (List ℕ)) (error : _) → lines_of_shape (Own, Own) false false one_bytes (Some (codes "5\n")) old new (Err (Output error)) DirectU32ToU32
+pub asked : (old new : Option (List ℕ)) (error : _) → lines_of_shape (Own, Own) plain false one_bytes (Some (codes "5\n")) old new (Err (Output error)) DirectU32ToU32
 asked old new error = (
   no_refusal,
   record {
@@ -343,11 +367,11 @@ asked old new error = (
   },
 )
 
-pub none_asked : (old new : Option (List ℕ)) (error : _) → lines_of_shape (Own, Own) false false one_bytes (Some []) old new (Err (Output error)) DirectU32ToU32 → ⊥
+pub none_asked : (old new : Option (List ℕ)) (error : _) → lines_of_shape (Own, Own) plain false one_bytes (Some []) old new (Err (Output error)) DirectU32ToU32 → ⊥
 none_asked old new error h =
     omega (arith, ap length h.1.place ∙ length-append h.1.before (h.1.asked ++ h.1.after), length-append h.1.asked h.1.after, h.1.some)
 
-pub no_key_asked : (old new : Option (List ℕ)) (error : _) → lines_of_shape (Own, Own) false false one_bytes (Some (codes "x\n")) old new (Err (Output error)) DirectU32ToU32 → ⊥
+pub no_key_asked : (old new : Option (List ℕ)) (error : _) → lines_of_shape (Own, Own) plain false one_bytes (Some (codes "x\n")) old new (Err (Output error)) DirectU32ToU32 → ⊥
 no_key_asked old new error h = go h.1.before h.1.asked h.1.place h.1.some h.1.keys h.1.texts
   where
     first : (w : List ℕ) (ws : List (List ℕ)) (ks : List ℕ) → codes "x" ≡ w → AllZip R (w ∷ ws) ks → ⊥
@@ -360,27 +384,27 @@ no_key_asked old new error h = go h.1.before h.1.asked h.1.place h.1.some h.1.ke
     go (w ∷ before) asked place some ks t = let e : codes "x" ≡ w = cc in first w (before ++ asked) ks e t
 
 -- the writer fails only once the bytes are opened
-pub unopened : (input old new : Option (List ℕ)) (error : _) → lines_of_shape (Own, Own) false false (79 ∷ 68 ∷ []) input old new (Err (Output error)) DirectU32ToU32 → ⊥
+pub unopened : (input old new : Option (List ℕ)) (error : _) → lines_of_shape (Own, Own) plain false (79 ∷ 68 ∷ []) input old new (Err (Output error)) DirectU32ToU32 → ⊥
 unfolding opened
 unopened input old new error h = let opens = h.0 in cc
 
 -- of bytes that do not open the error is returned, and nothing is written
-pub refused : (input : Option (List ℕ)) → lines_of_shape (Own, Own) false false (79 ∷ 68 ∷ []) input (Some (codes "a")) (Some (codes "a")) (Err (Refused (TooShort 2))) DirectU32ToU32
+pub refused : (input : Option (List ℕ)) → lines_of_shape (Own, Own) plain false (79 ∷ 68 ∷ []) input (Some (codes "a")) (Some (codes "a")) (Err (Refused (TooShort 2))) DirectU32ToU32
 unfolding opened
 refused input = (refl, refl)
 
-pub refused_late : (input : Option (List ℕ)) → lines_of_shape (Own, Own) false false (79 ∷ 68 ∷ []) input (Some (codes "a")) (Some (codes "ab")) (Err (Refused (TooShort 2))) DirectU32ToU32 → ⊥
+pub refused_late : (input : Option (List ℕ)) → lines_of_shape (Own, Own) plain false (79 ∷ 68 ∷ []) input (Some (codes "a")) (Some (codes "ab")) (Err (Refused (TooShort 2))) DirectU32ToU32 → ⊥
 refused_late input h = unequal_lists (codes "ab") (codes "a") refl h.1
 
-pub not_refused : (input old new : Option (List ℕ)) → lines_of_shape (Own, Own) false false one_bytes input old new (Err (Refused (TooShort 2))) DirectU32ToU32 → ⊥
+pub not_refused : (input old new : Option (List ℕ)) → lines_of_shape (Own, Own) plain false one_bytes input old new (Err (Refused (TooShort 2))) DirectU32ToU32 → ⊥
 not_refused input old new h = let no = no_refusal in cc
 
 -- of bytes with no shape nothing is read
-pub no_shape : (input : Option (List ℕ)) → AreFileLinesGot (overwritten_at one_bytes 5 (3 ∷ [])) (Some Unhash) unsaid false false input (Some (codes "a")) (Some (codes "a")) (Err (ShortKeys 3))
+pub no_shape : (input : Option (List ℕ)) → AreFileLinesGot (overwritten_at one_bytes 5 (3 ∷ [])) (Some Unhash) unsaid plain false input (Some (codes "a")) (Some (codes "a")) (Err (ShortKeys 3))
 unfolding opened
 no_shape input = (refl, refl)
 
-pub shape_missed : (input old new : Option (List ℕ)) → AreFileLinesGot one_bytes (Some Unhash) unsaid false false input old new (Err (ShortKeys 4)) → ⊥
+pub shape_missed : (input old new : Option (List ℕ)) → AreFileLinesGot one_bytes (Some Unhash) unsaid plain false input old new (Err (ShortKeys 4)) → ⊥
 unfolding opened
 shape_missed input old new h = h.1
 

@@ -9,7 +9,7 @@ use Rattle.std.proofs.lemmas.Option.{none-some}
 use Rattle.odht_base.specs.Numbers.{le_bytes}
 use Rattle.odht_header.specs.Coding.{value_for}
 use Rattle.odht_header.proofs.examples.Opened.{opened}
-use Rattle.odht_tool_core.specs.JsonAnswers.{answer_in, no_key_line}
+use Rattle.odht_tool_core.specs.JsonAnswers.{answer_in, no_key_line, printed_as}
 use Rattle.odht_tool_core.specs.ReadyShapes.{typed_text}
 use Rattle.odht_tool_core.specs.declared.forms.Form.TheVariants.{Own}
 use Rattle.odht_tool_core.specs.declared.shapes.Part.TheVariants.{U32}
@@ -23,10 +23,10 @@ abbrev f : ℕ → List ℕ
 f = typed_text Own U32
 
 abbrev line : ℕ × Option ℕ → List ℕ
-line = answer_in false f f
+line = answer_in (printed_as false false) f f
 
 abbrev other : List ℕ → List ℕ
-other = no_key_line false
+other = no_key_line (printed_as false false)
 
 -- ---- the answer to a word
 -- the key and its value; the key without one; neither of both

@@ -1,7 +1,7 @@
 //! `odht get`: lookups in a table file.
 ghost use Rattle.std.specs.Prelude.{◌≡◌, None, IfOk, IfErr, OnOk, map, string_bytes};
 ghost use Rattle.odht_header.specs.Refusals.{view_refusal};
-ghost use Rattle.odht_tool_core.specs.JsonAnswers.{answer_in};
+ghost use Rattle.odht_tool_core.specs.JsonAnswers.{answer_in, printed_as};
 ghost use Rattle.odht_tool_core.specs.Keys.{IsReadAs};
 ghost use Rattle.odht_tool_reads.specs.GetLines.{AreLinesGot, AreFileLinesGot, lines_of_shape};
 ghost use Rattle.odht_tool_reads.specs.Gets.{AreFileWordsGot};
@@ -26,7 +26,8 @@ use std::alloc::Global;
 use std::io::{BufRead, Write};
 
 /// `odht get` of the bytes of a file, for the words of the command line: writes a line for each
-/// key, with a tab and its value, or the key alone; or an object of JSON of both.
+/// key, with a tab and its value, or the key alone; or an object of JSON of both. Or the line has
+/// only the value.
 pub fn get_file_words<O: Write>(
     job: &Job<'_>,
     hash: Option<Hash>,
@@ -35,7 +36,8 @@ pub fn get_file_words<O: Write>(
     output: &mut O,
 ) -> Result<Status, Failure>
     ensures { let j = job.now
-        in AreFileWordsGot j.bytes.now hash kinds j.is_json (map string_bytes words.now)
+        in AreFileWordsGot j.bytes.now hash kinds (printed_as j.is_json j.is_values)
+        (map string_bytes words.now)
         (O.contents output.old) (O.contents output.new) result }
 {
     let found = read_any(job.bytes, hash, kinds)?;
@@ -54,7 +56,8 @@ pub fn get_file_lines<I: BufRead + Arriving, O: Write>(
     output: &mut O,
 ) -> Result<Status, Failure>
     ensures { let j = job.now
-        in AreFileLinesGot j.bytes.now hash kinds j.is_json is_live (I.remaining input.old)
+        in AreFileLinesGot j.bytes.now hash kinds (printed_as j.is_json j.is_values) is_live
+        (I.remaining input.old)
         (O.contents output.old) (O.contents output.new) result }
 {
     let found = read_any(job.bytes, hash, kinds)?;
@@ -75,14 +78,15 @@ fn get_lines_ready<I: BufRead + Arriving, O: Write>(
     output: &mut O,
 ) -> Result<Status, Failure>
     ensures { let j = job.now
-        in lines_of_shape (forms.key, forms.value) j.is_json is_live j.bytes.now
+        in lines_of_shape (forms.key, forms.value) (printed_as j.is_json j.is_values) is_live
+        j.bytes.now
         (I.remaining input.old) (O.contents output.old) (O.contents output.new) result shape }
 {
-    let is_json = job.is_json;
+    let printed = job.printed();
     if forms.are_own() {
         let answers = AnswerStyle {
             forms: OwnForms,
-            is_json,
+            printed,
         };
         get_lines_of(
             job.alloc,
@@ -93,7 +97,7 @@ fn get_lines_ready<I: BufRead + Arriving, O: Write>(
             output,
         )
     } else {
-        let answers = AnswerStyle { forms, is_json };
+        let answers = AnswerStyle { forms, printed };
         get_lines_of(
             job.alloc,
             job.bytes,
@@ -113,7 +117,7 @@ fn get_lines_of<F: Forms, I: BufRead + Arriving, O: Write>(
     input: &mut I,
     output: &mut O,
 ) -> Result<Status, Failure>
-    ensures { lines_of_shape (F.pair style.answers.forms) style.answers.is_json style.is_live
+    ensures { lines_of_shape (F.pair style.answers.forms) style.answers.printed style.is_live
         bytes.now (I.remaining input.old) (O.contents output.old) (O.contents output.new) result
         shape }
 {
@@ -132,7 +136,7 @@ where
     C::Key: Text,
     C::Value: Text,
     ensures { let forms = F.pair style.answers.forms in AreLinesGot ⟦<C as Coded>⟧.coding
-        (answer_in style.answers.is_json (C.Key.text forms.0) (C.Value.text forms.1))
+        (answer_in style.answers.printed (C.Key.text forms.0) (C.Value.text forms.1))
         (IsReadAs (C.Key.is_word forms.0) (C.Key.stands_for forms.0))
         (C.Key.wants forms.0) bytes.now style.is_live (I.remaining input.old)
         (O.contents output.old) (O.contents output.new) result }

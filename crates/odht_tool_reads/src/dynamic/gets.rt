@@ -3,7 +3,7 @@ ghost use Rattle.std.specs.Prelude.{◌≤◌, map, string_bytes};
 ghost use Rattle.odht_base.specs.Format.{format_of};
 ghost use Rattle.odht_raw.specs.DynParts.{bytes_coding};
 ghost use Rattle.odht_tool_core.specs.InfoNumbers.{least_key_len};
-ghost use Rattle.odht_tool_core.specs.JsonAnswers.{answer_in, no_key_line};
+ghost use Rattle.odht_tool_core.specs.JsonAnswers.{answer_in, no_key_line, printed_as};
 ghost use Rattle.odht_tool_core.specs.ReadyShapes.{typed_len};
 ghost use Rattle.odht_tool_core.specs.DynTexts.{IsDynamicOf, dynamic_text, dynamic_wanted};
 ghost use Rattle.odht_tool_reads.specs.GetLines.{AreLinesGot, lines_of_other};
@@ -34,7 +34,8 @@ pub fn get_words_dynamic<O: Write>(
     output: &mut O,
 ) -> Result<Status, Failure>
     requires { least_key_len shape.hash ≤ typed_len shape.key }
-    ensures { let j = job.now in words_of_types (forms.key, forms.value) j.is_json j.bytes.now
+    ensures { let j = job.now in words_of_types (forms.key, forms.value)
+        (printed_as j.is_json j.is_values) j.bytes.now
         (map string_bytes words.now) (O.contents output.old) (O.contents output.new) result shape }
 {
     let (layout, forms) = (lengths_of(shape.key, shape.value), forms.of(shape));
@@ -56,13 +57,14 @@ pub fn get_lines_dynamic<I: BufRead + Arriving, O: Write>(
 ) -> Result<Status, Failure>
     requires { least_key_len shape.hash ≤ typed_len shape.key }
     ensures { let j = job.now
-        in lines_of_other (forms.key, forms.value) j.is_json is_live j.bytes.now
+        in lines_of_other (forms.key, forms.value) (printed_as j.is_json j.is_values) is_live
+        j.bytes.now
         (I.remaining input.old) (O.contents output.old) (O.contents output.new) result shape }
 {
     let layout = lengths_of(shape.key, shape.value);
     let forms = forms.of(shape);
-    let is_json = job.is_json;
-    let answers = AnswerStyle { forms, is_json };
+    let printed = job.printed();
+    let answers = AnswerStyle { forms, printed };
     let style = LineStyle { answers, is_live };
     match shape.hash {
         Hash::Fx => get_lines_hashed::<FxHashFn, I, O>(job, layout, style, input, output),
@@ -80,17 +82,17 @@ fn get_words_hashed<H: HashFn, O: Write>(
 ) -> Result<Status, Failure>
     requires { H.MIN_LEN ≤ layout.key_len }
     ensures { let c = bytes_coding (format_of layout.key_len layout.value_len H.hash)
-        in let j = job.now in AreWordsGot c
-        (answer_in j.is_json (dynamic_text forms.key) (dynamic_text forms.value))
-        (no_key_line j.is_json) (IsDynamicOf forms.key) j.bytes.now (map string_bytes words.now)
+        in let j = job.now in let p = printed_as j.is_json j.is_values in AreWordsGot c
+        (answer_in p (dynamic_text forms.key) (dynamic_text forms.value))
+        (no_key_line p) (IsDynamicOf forms.key) j.bytes.now (map string_bytes words.now)
         (O.contents output.old) (O.contents output.new) result }
 {
     let table = open_lengths::<H>(layout, job.bytes)?;
-    let is_json = job.is_json;
+    let printed = job.printed();
     answer_words(
         job.alloc,
         &table,
-        AnswerStyle { forms, is_json },
+        AnswerStyle { forms, printed },
         words,
         output,
     )
@@ -106,7 +108,7 @@ fn get_lines_hashed<H: HashFn, I: BufRead + Arriving, O: Write>(
     requires { H.MIN_LEN ≤ layout.key_len }
     ensures { let c = bytes_coding (format_of layout.key_len layout.value_len H.hash)
         in let forms = style.answers.forms in AreLinesGot c
-        (answer_in style.answers.is_json (dynamic_text forms.key) (dynamic_text forms.value))
+        (answer_in style.answers.printed (dynamic_text forms.key) (dynamic_text forms.value))
         (IsDynamicOf forms.key) (dynamic_wanted forms.key)
         job.now.bytes.now style.is_live (I.remaining input.old)
         (O.contents output.old) (O.contents output.new) result }

@@ -37,8 +37,8 @@ pub fn answer_words<H: HashFn, O: Write>(
 ) -> Result<Status, Failure>
     ensures { let c = dyn_coding table.now H.hash in let key = style.forms.key
         in view_refusal c.format table.now.store.0.now ≡ None
-        → AreWordsGot c (answer_in style.is_json (dynamic_text key) (dynamic_text style.forms.value))
-        (no_key_line style.is_json) (IsDynamicOf key) table.now.store.0.now
+        → AreWordsGot c (answer_in style.printed (dynamic_text key) (dynamic_text style.forms.value))
+        (no_key_line style.printed) (IsDynamicOf key) table.now.store.0.now
         (map string_bytes words.now) (O.contents output.old) (O.contents output.new) result }
 {
     let answers = answers_of(alloc, table, style.forms.key, words)?;
@@ -83,10 +83,10 @@ pub fn write_words<O: Write>(
 ) -> Result<Status, Failure>
     requires { length answers.now ≡ length words.now }
     ensures status { IfOk result (λ status. status ≡ words_status answers.now) }
-    ensures written { let f = answer_in style.is_json (dynamic_text style.forms.key)
+    ensures written { let f = answer_in style.printed (dynamic_text style.forms.key)
         (dynamic_text style.forms.value)
         in OnOk result (Appends (O.contents output.old) (O.contents output.new)
-        (word_lines f (no_key_line style.is_json) (map string_bytes words.now) answers.now)) }
+        (word_lines f (no_key_line style.printed) (map string_bytes words.now) answers.now)) }
     ensures err { IfErr result (IsWordsFailure (length words.now)) }
 {
     write_lines(words, answers, style, output).map_err(Failure::Output)?;
@@ -107,10 +107,10 @@ fn write_lines<O: Write>(
     output: &mut O,
 ) -> io::Result<()>
     requires { length answers.now ≡ length words.now }
-    ensures written { let f = answer_in style.is_json (dynamic_text style.forms.key)
+    ensures written { let f = answer_in style.printed (dynamic_text style.forms.key)
         (dynamic_text style.forms.value)
         in OnOk result (Appends (O.contents output.old) (O.contents output.new)
-        (word_lines f (no_key_line style.is_json) (map string_bytes words.now) answers.now)) }
+        (word_lines f (no_key_line style.printed) (map string_bytes words.now) answers.now)) }
     ensures asked { OnErr result (0 < length words.now) }
 {
     for at in 0..words.len() {
@@ -126,14 +126,14 @@ fn write_word<O: Write>(
     style: AnswerStyle<GivenForms>,
     output: &mut O,
 ) -> io::Result<()>
-    ensures { let f = answer_in style.is_json (dynamic_text style.forms.key)
+    ensures { let f = answer_in style.printed (dynamic_text style.forms.key)
         (dynamic_text style.forms.value)
         in OnOk result (Appends (O.contents output.old) (O.contents output.new)
-        (word_line f (no_key_line style.is_json) word.now answer.now)) }
+        (word_line f (no_key_line style.printed) word.now answer.now)) }
 {
     let (key, value) = answer;
     match key {
         Some(key) => write_answer_in(key, value, style, output),
-        None => write_no_key(word, style.is_json, output),
+        None => write_no_key(word, style.printed, output),
     }
 }

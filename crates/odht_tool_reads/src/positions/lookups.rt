@@ -36,8 +36,8 @@ pub(super) fn answer_words_at<H: HashFn, S: ReadAt + Drop, O: Write>(
         → view_refusal c.format B ≡ None
         → (let old = O.contents output.old in let new = O.contents output.new
         in ByPosition old new (AreWordsGot c
-        (answer_in style.is_json (dynamic_text key) (dynamic_text style.forms.value))
-        (no_key_line style.is_json) (IsDynamicOf key) B (map string_bytes words.now) old new) result) }
+        (answer_in style.printed (dynamic_text key) (dynamic_text style.forms.value))
+        (no_key_line style.printed) (IsDynamicOf key) B (map string_bytes words.now) old new) result) }
 {
     match answers_at(alloc, table, style.forms.key, words)? {
         Some(answers) => {

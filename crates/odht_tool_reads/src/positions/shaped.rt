@@ -1,6 +1,6 @@
 //! The table that is read by position, of its types and its hash function.
 ghost use Rattle.std.specs.Prelude.{◌≡◌, ◌≤◌, ◌+◌, ◌<◌, ◌^◌, ℕ, List, length, map, string_bytes};
-ghost use Rattle.std.specs.Prelude.{IfSome, None, OnSome};
+ghost use Rattle.std.specs.Prelude.{IfSome, None, Ok, OnSome};
 ghost use Rattle.odht_base.specs.Bytes.{bytes_at};
 ghost use Rattle.odht_base.specs.Format.{format_of};
 ghost use Rattle.odht_header.specs.Refusals.{view_refusal};
@@ -8,10 +8,14 @@ ghost use Rattle.odht_raw.specs.DynParts.{bytes_coding};
 ghost use Rattle.odht_tool_core.specs.InfoNumbers.{least_key_len};
 ghost use Rattle.odht_tool_core.specs.JsonAnswers.{answer_in, no_key_line};
 ghost use Rattle.odht_tool_core.specs.ReadyShapes.{typed_len};
-ghost use Rattle.odht_tool_core.specs.DynTexts.{IsDynamicOf, dynamic_text};
+ghost use Rattle.odht_tool_core.specs.DynTexts.{IsDynamicOf, dynamic_text, dynamic_wanted};
+ghost use Rattle.odht_tool_core.specs.Forms.{bytes_form};
 ghost use Rattle.odht_tool_reads.specs.Gets.{AreWordsGot, words_of_types};
+ghost use Rattle.odht_tool_reads.specs.PositionLines.{AreLinesRead, lines_read_of};
 ghost use Rattle.odht_tool_reads.specs.Positions.{ByPosition, IsTableAt};
 
+use super::Asked;
+use super::lines::answer_lines_at;
 use super::lookups::answer_words_at;
 use odht::dynamic::{FileTable, Layout};
 use odht::hash::HashFn;
@@ -24,70 +28,131 @@ use odht_tool_core::json::answers::AnswerStyle;
 use odht_tool_core::shapes::Hash;
 use odht_tool_core::status::Status;
 use odht_tool_tables::dynamic::lengths_of;
-use std::alloc::Global;
-use std::io::Write;
+use std::io::{BufRead, Write};
 
-/// `odht get` for the words of the command line, of the bytes of these types, in these forms, of
-/// which there are `len` from an offset on. None where a read failed, or they are not opened:
-/// nothing was written then.
+/// Where the bytes of a table are in a source, and what its header tells of them.
+#[derive(Clone, Copy)]
+pub(super) struct Found {
+    pub(super) at: u64,
+    pub(super) len: usize,
+    /// The types of keys and values, and the hash function.
+    pub(super) shape: OtherShape,
+    /// The forms of their texts.
+    pub(super) forms: GivenForms,
+}
+
+/// `odht get` for the words of the command line, of the table that was found. None where a read
+/// failed, or its bytes are not opened: nothing was written then.
 pub(super) fn words_of<S: ReadAt + Drop, O: Write>(
-    alloc: Global,
+    asked: &Asked,
     source: S,
-    at: u64,
-    len: usize,
-    shape: OtherShape,
-    forms: GivenForms,
-    is_json: bool,
+    found: Found,
     words: &[String],
     output: &mut O,
 ) -> Result<Option<Status>, Failure>
-    requires { least_key_len shape.hash ≤ typed_len shape.key }
-    ensures { (B : List ℕ) → S.gives source B → at + len ≤ length B → at + len < 2 ^ 64
+    requires { least_key_len found.shape.hash ≤ typed_len found.shape.key }
+    ensures { (B : List ℕ) → S.gives source B → found.at + found.len ≤ length B
+        → found.at + found.len < 2 ^ 64
         → (let old = O.contents output.old in let new = O.contents output.new
-        in ByPosition old new (λ r. words_of_types (forms.key, forms.value) is_json
-        (bytes_at B at len)
-        (map string_bytes words.now) old new r shape) result) }
+        in ByPosition old new (λ r. words_of_types (found.forms.key, found.forms.value)
+        asked.now.printed (bytes_at B found.at found.len)
+        (map string_bytes words.now) old new r found.shape) result) }
 {
-    let (layout, forms) = (lengths_of(shape.key, shape.value), forms.of(shape));
-    match shape.hash {
-        Hash::Fx => words_dynamic::<FxHashFn, S, O>(
-            alloc, source, at, len, layout, forms, is_json, words, output,
-        ),
-        Hash::Unhash => words_dynamic::<UnHashFn, S, O>(
-            alloc, source, at, len, layout, forms, is_json, words, output,
-        ),
-        Hash::Xxh64 => words_dynamic::<Xxh64HashFn, S, O>(
-            alloc, source, at, len, layout, forms, is_json, words, output,
-        ),
+    match found.shape.hash {
+        Hash::Fx => words_hashed::<FxHashFn, S, O>(asked, source, found, words, output),
+        Hash::Unhash => words_hashed::<UnHashFn, S, O>(asked, source, found, words, output),
+        Hash::Xxh64 => words_hashed::<Xxh64HashFn, S, O>(asked, source, found, words, output),
     }
 }
 
-fn words_dynamic<H: HashFn, S: ReadAt + Drop, O: Write>(
-    alloc: Global,
+fn words_hashed<H: HashFn, S: ReadAt + Drop, O: Write>(
+    asked: &Asked,
     source: S,
-    at: u64,
-    len: usize,
-    layout: Layout,
-    forms: GivenForms,
-    is_json: bool,
+    found: Found,
     words: &[String],
     output: &mut O,
 ) -> Result<Option<Status>, Failure>
-    requires { H.MIN_LEN ≤ layout.key_len }
-    ensures { let c = bytes_coding (format_of layout.key_len layout.value_len H.hash)
-        in (B : List ℕ) → S.gives source B → at + len ≤ length B → at + len < 2 ^ 64
+    requires { H.MIN_LEN ≤ typed_len found.shape.key }
+    ensures { let k = bytes_form found.forms.key found.shape.key
+        in let v = bytes_form found.forms.value found.shape.value
+        in let c = bytes_coding (format_of (typed_len found.shape.key)
+        (typed_len found.shape.value) H.hash)
+        in (B : List ℕ) → S.gives source B → found.at + found.len ≤ length B
+        → found.at + found.len < 2 ^ 64
         → (let old = O.contents output.old in let new = O.contents output.new
-        in ByPosition old new (AreWordsGot c (answer_in is_json
-        (dynamic_text forms.key) (dynamic_text forms.value)) (no_key_line is_json)
-        (IsDynamicOf forms.key) (bytes_at B at len) (map string_bytes words.now)
-        old new) result) }
+        in ByPosition old new (AreWordsGot c (answer_in asked.now.printed (dynamic_text k)
+        (dynamic_text v)) (no_key_line asked.now.printed) (IsDynamicOf k)
+        (bytes_at B found.at found.len) (map string_bytes words.now) old new) result) }
 {
-    match open_file::<H, S>(layout, source, at, len) {
-        Some(table) => {
-            answer_words_at(alloc, &table, AnswerStyle { forms, is_json }, words, output)
-        }
+    let shape = found.shape;
+    let layout = lengths_of(shape.key, shape.value);
+    let style = AnswerStyle {
+        forms: found.forms.of(shape),
+        printed: asked.printed,
+    };
+    match open_file::<H, S>(layout, source, found.at, found.len) {
+        Some(table) => answer_words_at(asked.alloc, &table, style, words, output),
         None => Ok(None),
     }
+}
+
+/// The same for the lines of an input. None where a read failed, or the bytes are not opened: nothing
+/// was written then, and no line was read.
+pub(super) fn lines_of<S: ReadAt + Drop, I: BufRead, O: Write>(
+    asked: &Asked,
+    source: S,
+    found: Found,
+    input: &mut I,
+    output: &mut O,
+) -> Result<Option<Status>, Failure>
+    requires { least_key_len found.shape.hash ≤ typed_len found.shape.key }
+    ensures unread { result ≡ Ok None → I.remaining input.new ≡ I.remaining input.old }
+    ensures given { (B : List ℕ) → S.gives source B → found.at + found.len ≤ length B
+        → found.at + found.len < 2 ^ 64
+        → (let old = O.contents output.old in let new = O.contents output.new
+        in ByPosition old new (λ r. lines_read_of (found.forms.key, found.forms.value)
+        asked.now.printed (bytes_at B found.at found.len) (I.remaining input.old) old new r
+        found.shape) result) }
+{
+    match found.shape.hash {
+        Hash::Fx => lines_hashed::<FxHashFn, S, I, O>(asked, source, found, input, output),
+        Hash::Unhash => lines_hashed::<UnHashFn, S, I, O>(asked, source, found, input, output),
+        Hash::Xxh64 => lines_hashed::<Xxh64HashFn, S, I, O>(asked, source, found, input, output),
+    }
+}
+
+fn lines_hashed<H: HashFn, S: ReadAt + Drop, I: BufRead, O: Write>(
+    asked: &Asked,
+    source: S,
+    found: Found,
+    input: &mut I,
+    output: &mut O,
+) -> Result<Option<Status>, Failure>
+    requires { H.MIN_LEN ≤ typed_len found.shape.key }
+    ensures unread { result ≡ Ok None → I.remaining input.new ≡ I.remaining input.old }
+    ensures given { let k = bytes_form found.forms.key found.shape.key
+        in let v = bytes_form found.forms.value found.shape.value
+        in let c = bytes_coding (format_of (typed_len found.shape.key)
+        (typed_len found.shape.value) H.hash)
+        in (B : List ℕ) → S.gives source B → found.at + found.len ≤ length B
+        → found.at + found.len < 2 ^ 64
+        → (let old = O.contents output.old in let new = O.contents output.new
+        in let T = bytes_at B found.at found.len
+        in ByPosition old new (λ r. (view_refusal c.format T ≡ None) × AreLinesRead c
+        (answer_in asked.now.printed (dynamic_text k) (dynamic_text v)) (IsDynamicOf k)
+        (dynamic_wanted k) T (I.remaining input.old) old new r) result) }
+{
+    let shape = found.shape;
+    let layout = lengths_of(shape.key, shape.value);
+    let style = AnswerStyle {
+        forms: found.forms.of(shape),
+        printed: asked.printed,
+    };
+    let Some(table) = open_file::<H, S>(layout, source, found.at, found.len) else {
+        return Ok(None);
+    };
+    let status = answer_lines_at(asked.alloc, &table, style, input, output)?;
+    Ok(Some(status))
 }
 
 // Opens the bytes as a table of these lengths. None where they are not opened, or a read failed.

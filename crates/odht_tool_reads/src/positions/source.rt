@@ -29,8 +29,9 @@ impl<F: FileExt + Drop> ReadAt for FileSource<F> {
         match self.file.read_at(out, offset) {
             Ok(len) => Ok(len),
             Err(error) if error.kind() == ErrorKind::Interrupted => Err(ReadError::Interrupted),
-            // Reading all bytes tells which error it is.
-            Err(_) => Err(ReadError::Failed { code: 0 }),
+            Err(error) => Err(ReadError::Failed {
+                code: u32::try_from(error.raw_os_error().unwrap_or(0)).unwrap_or(0),
+            }),
         }
     }
 }

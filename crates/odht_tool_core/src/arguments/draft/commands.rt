@@ -85,6 +85,7 @@ impl Draft {
                 hash: self.hash,
                 kinds: self.kinds,
                 keys,
+                is_values: self.is_values,
                 is_json: self.is_json,
             },
         })

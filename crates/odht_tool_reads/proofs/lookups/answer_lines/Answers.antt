@@ -16,7 +16,7 @@ use Rattle.odht_tool_reads.proofs.lookups.answer_lines.Goals.{else-loop-number-t
 pub loop-number-init : goal.loop-number-init
 loop-number-init g c =
     let C = g.T.Lookups.coding c.args.table.now in
-    let line = answer_in c.args.style.answers.is_json (g.T.Key.Text.text (g.F.Forms.pair c.args.style.answers.forms).0) (g.T.Value.Text.text (g.F.Forms.pair c.args.style.answers.forms).1) in
+    let line = answer_in c.args.style.answers.printed (g.T.Key.Text.text (g.F.Forms.pair c.args.style.answers.forms).0) (g.T.Value.Text.text (g.F.Forms.pair c.args.style.answers.forms).1) in
     let R = IsReadAs (g.T.Key.Text.is_word (g.F.Forms.pair c.args.style.answers.forms).0) (g.T.Key.Text.stands_for (g.F.Forms.pair c.args.style.answers.forms).0) in
     let p = g.T.Key.Text.wants (g.F.Forms.pair c.args.style.answers.forms).0 in
     let B = g.T.Lookups.bytes c.args.table.now in
@@ -28,7 +28,7 @@ loop-number-init g c =
 pub returns-in_err-read : goal.returns-in_err-read
 returns-in_err-read g c =
     let C = g.T.Lookups.coding c.args.table.now in
-    let line = answer_in c.args.style.answers.is_json (g.T.Key.Text.text (g.F.Forms.pair c.args.style.answers.forms).0) (g.T.Value.Text.text (g.F.Forms.pair c.args.style.answers.forms).1) in
+    let line = answer_in c.args.style.answers.printed (g.T.Key.Text.text (g.F.Forms.pair c.args.style.answers.forms).0) (g.T.Value.Text.text (g.F.Forms.pair c.args.style.answers.forms).1) in
     let R = IsReadAs (g.T.Key.Text.is_word (g.F.Forms.pair c.args.style.answers.forms).0) (g.T.Key.Text.stands_for (g.F.Forms.pair c.args.style.answers.forms).0) in
     let p = g.T.Key.Text.wants (g.F.Forms.pair c.args.style.answers.forms).0 in
     let B = g.T.Lookups.bytes c.args.table.now in
@@ -49,7 +49,7 @@ returns-in_err-read g c =
 pub returns-in_err-is_all_found-in-Some : goal.returns-in_err-is_all_found-in-Some
 returns-in_err-is_all_found-in-Some g c =
     let C = g.T.Lookups.coding c.args.table.now in
-    let line = answer_in c.args.style.answers.is_json (g.T.Key.Text.text (g.F.Forms.pair c.args.style.answers.forms).0) (g.T.Value.Text.text (g.F.Forms.pair c.args.style.answers.forms).1) in
+    let line = answer_in c.args.style.answers.printed (g.T.Key.Text.text (g.F.Forms.pair c.args.style.answers.forms).0) (g.T.Value.Text.text (g.F.Forms.pair c.args.style.answers.forms).1) in
     let R = IsReadAs (g.T.Key.Text.is_word (g.F.Forms.pair c.args.style.answers.forms).0) (g.T.Key.Text.stands_for (g.F.Forms.pair c.args.style.answers.forms).0) in
     let p = g.T.Key.Text.wants (g.F.Forms.pair c.args.style.answers.forms).0 in
     let B = g.T.Lookups.bytes c.args.table.now in
@@ -78,7 +78,7 @@ returns-in_err-is_all_found-in-Some g c =
 pub returns-in_err-push_key-in-Some : goal.returns-in_err-push_key-in-Some
 returns-in_err-push_key-in-Some g c =
     let C = g.T.Lookups.coding c.args.table.now in
-    let line = answer_in c.args.style.answers.is_json (g.T.Key.Text.text (g.F.Forms.pair c.args.style.answers.forms).0) (g.T.Value.Text.text (g.F.Forms.pair c.args.style.answers.forms).1) in
+    let line = answer_in c.args.style.answers.printed (g.T.Key.Text.text (g.F.Forms.pair c.args.style.answers.forms).0) (g.T.Value.Text.text (g.F.Forms.pair c.args.style.answers.forms).1) in
     let R = IsReadAs (g.T.Key.Text.is_word (g.F.Forms.pair c.args.style.answers.forms).0) (g.T.Key.Text.stands_for (g.F.Forms.pair c.args.style.answers.forms).0) in
     let p = g.T.Key.Text.wants (g.F.Forms.pair c.args.style.answers.forms).0 in
     let B = g.T.Lookups.bytes c.args.table.now in
@@ -99,7 +99,7 @@ returns-in_err-push_key-in-Some g c =
 pub loop-number-preserved : goal.loop-number-preserved
 loop-number-preserved g c =
     let C = g.T.Lookups.coding c.args.table.now in
-    let line = answer_in c.args.style.answers.is_json (g.T.Key.Text.text (g.F.Forms.pair c.args.style.answers.forms).0) (g.T.Value.Text.text (g.F.Forms.pair c.args.style.answers.forms).1) in
+    let line = answer_in c.args.style.answers.printed (g.T.Key.Text.text (g.F.Forms.pair c.args.style.answers.forms).0) (g.T.Value.Text.text (g.F.Forms.pair c.args.style.answers.forms).1) in
     let R = IsReadAs (g.T.Key.Text.is_word (g.F.Forms.pair c.args.style.answers.forms).0) (g.T.Key.Text.stands_for (g.F.Forms.pair c.args.style.answers.forms).0) in
     let p = g.T.Key.Text.wants (g.F.Forms.pair c.args.style.answers.forms).0 in
     let B = g.T.Lookups.bytes c.args.table.now in
@@ -130,7 +130,7 @@ loop-number-preserved g c =
 pub returns-in_err-write_out-in-Some : goal.returns-in_err-write_out-in-Some
 returns-in_err-write_out-in-Some g c =
     let C = g.T.Lookups.coding c.args.table.now in
-    let line = answer_in c.args.style.answers.is_json (g.T.Key.Text.text (g.F.Forms.pair c.args.style.answers.forms).0) (g.T.Value.Text.text (g.F.Forms.pair c.args.style.answers.forms).1) in
+    let line = answer_in c.args.style.answers.printed (g.T.Key.Text.text (g.F.Forms.pair c.args.style.answers.forms).0) (g.T.Value.Text.text (g.F.Forms.pair c.args.style.answers.forms).1) in
     let R = IsReadAs (g.T.Key.Text.is_word (g.F.Forms.pair c.args.style.answers.forms).0) (g.T.Key.Text.stands_for (g.F.Forms.pair c.args.style.answers.forms).0) in
     let p = g.T.Key.Text.wants (g.F.Forms.pair c.args.style.answers.forms).0 in
     let B = g.T.Lookups.bytes c.args.table.now in
@@ -158,7 +158,7 @@ returns-in_err-write_out-in-Some g c =
 pub returns-in_err-is_last_found : goal.returns-in_err-is_last_found
 returns-in_err-is_last_found g c =
     let C = g.T.Lookups.coding c.args.table.now in
-    let line = answer_in c.args.style.answers.is_json (g.T.Key.Text.text (g.F.Forms.pair c.args.style.answers.forms).0) (g.T.Value.Text.text (g.F.Forms.pair c.args.style.answers.forms).1) in
+    let line = answer_in c.args.style.answers.printed (g.T.Key.Text.text (g.F.Forms.pair c.args.style.answers.forms).0) (g.T.Value.Text.text (g.F.Forms.pair c.args.style.answers.forms).1) in
     let R = IsReadAs (g.T.Key.Text.is_word (g.F.Forms.pair c.args.style.answers.forms).0) (g.T.Key.Text.stands_for (g.F.Forms.pair c.args.style.answers.forms).0) in
     let p = g.T.Key.Text.wants (g.F.Forms.pair c.args.style.answers.forms).0 in
     let B = g.T.Lookups.bytes c.args.table.now in
@@ -187,7 +187,7 @@ returns-in_err-is_last_found g c =
 pub returns : goal.returns
 returns g c =
     let C = g.T.Lookups.coding c.args.table.now in
-    let line = answer_in c.args.style.answers.is_json (g.T.Key.Text.text (g.F.Forms.pair c.args.style.answers.forms).0) (g.T.Value.Text.text (g.F.Forms.pair c.args.style.answers.forms).1) in
+    let line = answer_in c.args.style.answers.printed (g.T.Key.Text.text (g.F.Forms.pair c.args.style.answers.forms).0) (g.T.Value.Text.text (g.F.Forms.pair c.args.style.answers.forms).1) in
     let R = IsReadAs (g.T.Key.Text.is_word (g.F.Forms.pair c.args.style.answers.forms).0) (g.T.Key.Text.stands_for (g.F.Forms.pair c.args.style.answers.forms).0) in
     let p = g.T.Key.Text.wants (g.F.Forms.pair c.args.style.answers.forms).0 in
     let B = g.T.Lookups.bytes c.args.table.now in

@@ -29,7 +29,7 @@ pub returns-in_err-answer_keys-in-Ok-NoKey-clause-err : goal.returns-in_err-answ
 returns-in_err-answer_keys-in-Ok-NoKey-clause-err g c =
     let f = (g.F.Forms.pair c.args.style.forms).0 in
     let C = g.T.Lookups.coding c.args.table.now in
-    let answer = answer_in c.args.style.is_json (g.T.Key.Text.text f) (g.T.Value.Text.text (g.F.Forms.pair c.args.style.forms).1) in
+    let answer = answer_in c.args.style.printed (g.T.Key.Text.text f) (g.T.Value.Text.text (g.F.Forms.pair c.args.style.forms).1) in
     let R = IsReadAs (g.T.Key.Text.is_word f) (g.T.Key.Text.stands_for f) in
     let p = g.T.Key.Text.wants f in
     let B = g.T.Lookups.bytes c.args.table.now in

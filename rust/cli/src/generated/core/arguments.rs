@@ -192,7 +192,7 @@ pub enum Reading {
     Info { bound: Option<usize>, is_json: bool },
     Check { hash: Option<Hash>, bound: Option<usize>, is_json: bool },
     Count { hash: Option<Hash>, bound: Option<usize>, is_checked: bool },
-    Get { hash: Option<Hash>, kinds: Kinds, keys: Keys, is_json: bool },
+    Get { hash: Option<Hash>, kinds: Kinds, keys: Keys, is_values: bool, is_json: bool },
     Dump { hash: Option<Hash>, kinds: Kinds, is_slots: bool, is_values: bool, is_json: bool },
     Keys { hash: Option<Hash>, kinds: Kinds, is_json: bool },
     Find { bound: Option<usize>, is_json: bool },

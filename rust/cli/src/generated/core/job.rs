@@ -1,5 +1,7 @@
 // Generated from crates/odht_tool_core/src/job.rt by make generate.
 //! What a command that reads a file needs.
+
+use crate::generated::core::json::answers::Printed;
 use crate::host::prelude::*;
 use crate::shim::Global;
 
@@ -20,4 +22,13 @@ pub struct Job<'a> {
     pub bound: Option<usize>,
     /// Whether it writes objects of JSON.
     pub is_json: bool,
+    /// Whether it writes values without their keys.
+    pub is_values: bool,
+}
+
+impl Job<'_> {
+    /// What is printed of each key.
+    pub fn printed(&self) -> Printed {
+        Printed { is_json: self.is_json, is_values: self.is_values }
+    }
 }

@@ -110,9 +110,9 @@ fn read_key<T: Lookups, F: Forms, I: BufRead, O: Write>(
     }
 }
 
-// The key of the next line in the form of keys.
+/// The key of the next line in the form of keys.
 #[inline(always)]
-fn key_of_line<K: Text, F: Forms, I: BufRead>(
+pub(crate) fn key_of_line<K: Text, F: Forms, I: BufRead>(
     input: &mut I,
     line: &mut Vec<u8>,
     forms: F,
@@ -120,8 +120,8 @@ fn key_of_line<K: Text, F: Forms, I: BufRead>(
     next_key_as(input, line, forms.key())
 }
 
-// What is said of a line that is no key.
-fn wrong_line<K: Text, F: Forms>(
+/// What is said of a line that is no key.
+pub(crate) fn wrong_line<K: Text, F: Forms>(
     alloc: Global,
     number: u64,
     line: &[u8],

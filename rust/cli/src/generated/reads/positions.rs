@@ -7,6 +7,7 @@ use crate::generated::core::any::{read_any, AnyShape};
 use crate::generated::core::arguments::is_stream;
 use crate::generated::core::failure::Failure;
 use crate::generated::core::forms::Kinds;
+use crate::generated::core::json::answers::Printed;
 use crate::generated::core::shapes::Hash;
 use crate::generated::core::status::Status;
 use crate::generated::tables::memory_layout::{Header, HEADER_SIZE};
@@ -15,10 +16,11 @@ use crate::host::fs::{self, OpenFile};
 use crate::host::prelude::*;
 use crate::host::rt::Files;
 use crate::shim::Global;
-use std::io::Write;
+use std::io::{BufRead, Write};
 use std::os::unix::fs::FileExt;
 
 mod counts;
+mod lines;
 mod lookups;
 mod names;
 mod remembered;
@@ -28,11 +30,20 @@ mod source;
 pub use counts::count_at;
 use names::named_or_left_hash;
 use remembered::Remembered;
-use shaped::words_of;
+use shaped::{lines_of, words_of, Found};
 pub use source::FileSource;
 
 /// How many bytes are read at first: the header, and in most tables the entries of sixteen slots.
 const FRONT: usize = 4096;
+
+/// How many bytes a file has for each byte of the lines of keys that are looked up in it by position.
+/// A line has some ten bytes: to look it up takes as long as to read fewer bytes than ten times this.
+const FILE_BYTES: u64 = 1 << 14;
+
+/// Whether lines of that many bytes are few for a file of that many.
+pub fn are_few(input_len: u64, file_len: usize) -> bool {
+    input_len <= file_len as u64 / FILE_BYTES
+}
 
 /// A regular file as a source of bytes, and its length. None for any other file, for standard
 /// input, and where the file cannot be opened.
@@ -51,6 +62,21 @@ where
     }
     let len = usize::try_from(found.len()).ok()?;
     Some((FileSource::new(file), len))
+}
+
+/// What is asked of a table that is read by position.
+#[derive(Clone, Copy)]
+pub struct Asked {
+    /// Where memory is taken.
+    pub alloc: Global,
+    /// The offset of the table. None where it is all of the file.
+    pub at: Option<usize>,
+    /// The hash function that is named.
+    pub hash: Option<Hash>,
+    /// What is said of keys and values.
+    pub kinds: Kinds,
+    /// What is printed of each key.
+    pub printed: Printed,
 }
 
 /// The header of a table, and where its bytes are in a source.
@@ -93,72 +119,82 @@ fn front_len(header: &[u8], found: usize) -> Option<usize> {
     }
 }
 
-/// `odht get` of a source of that many bytes, for the words of the command line: of the table at
-/// the offset, or of all bytes. None where the source is not read by position: a read failed, or
-/// its bytes are not opened, or too many of them would be read to know the hash function. Nothing
-/// was written then, and reading all bytes gives the answer.
+/// `odht get` of a source of that many bytes, for the words of the command line. None where the
+/// source is not read by position: a read failed, or its bytes are not opened, or too many of them
+/// would be read to know the hash function. Nothing was written then, and reading all bytes gives
+/// the answer.
 ///
 /// Over any source, for any list of bytes that it gives in each read: what is written is what
 /// [`get_file_words`](crate::generated::reads::commands::get::get_file_words) writes of the table in this list, with
 /// the hash function that the first slots leave where none is named.
 pub fn get_words_at<S: ReadAt, O: Write>(
-    alloc: Global,
+    asked: &Asked,
     source: S,
     len: usize,
-    offset: Option<usize>,
-    hash: Option<Hash>,
-    kinds: Kinds,
-    is_json: bool,
     words: &[String],
     output: &mut O,
 ) -> Result<Option<Status>, Failure> {
+    let mut room = [0; FRONT];
+    let Some(few) = read_front(&source, len, asked.at, &mut room) else {
+        return Ok(None);
+    };
+    let source = Remembered { source, at: asked.at.unwrap_or(0) as u64, bytes: &room[..few] };
+    let Some(found) = found_in(asked, &source, len) else {
+        return Ok(None);
+    };
+    words_of(asked, source, found, words, output)
+}
+
+/// The same for the lines of an input, each of which is answered before the next one is read. None
+/// where [`get_words_at`] returns it: then nothing was written, and no line was read. A lookup whose
+/// read fails is a failure of the file.
+///
+/// Over any source, for any list of bytes that it gives in each read: what is written is what
+/// [`get_file_lines`](crate::generated::reads::commands::get::get_file_lines) writes of the table in this list as one
+/// of keys and values of these types, with the hash function that the first slots leave where none
+/// is named.
+pub fn get_lines_at<S: ReadAt, I: BufRead, O: Write>(
+    asked: &Asked,
+    source: S,
+    len: usize,
+    input: &mut I,
+    output: &mut O,
+) -> Result<Option<Status>, Failure> {
+    let mut room = [0; FRONT];
+    let Some(few) = read_front(&source, len, asked.at, &mut room) else {
+        return Ok(None);
+    };
+    let source = Remembered { source, at: asked.at.unwrap_or(0) as u64, bytes: &room[..few] };
+    let Some(found) = found_in(asked, &source, len) else {
+        return Ok(None);
+    };
+    lines_of(asked, source, found, input, output)
+}
+
+// Reads the first bytes of the table into the room. Returns how many: all that there are, or as many
+// as the room has. None where the read failed.
+fn read_front<S: ReadAt>(
+    source: &S,
+    len: usize,
+    offset: Option<usize>,
+    room: &mut [u8; FRONT],
+) -> Option<usize> {
     let at = offset.unwrap_or(0);
     let few = len.saturating_sub(at).min(FRONT);
-    let mut room = [0; FRONT];
     let (front, _) = room.split_at_mut(few);
-    match read_exact_at(&source, at as u64, front) {
-        Ok(()) => {}
-        Err(_) => return Ok(None),
-    }
-    let source = Remembered { source, at: at as u64, bytes: &*front };
-    get_words_in(alloc, source, len, offset, hash, kinds, is_json, words, output)
+    read_exact_at(source, at as u64, front).ok()?;
+    Some(few)
 }
 
-// The same of a source of which the first bytes of the table are remembered.
-fn get_words_in<S: ReadAt, O: Write>(
-    alloc: Global,
-    source: S,
-    len: usize,
-    offset: Option<usize>,
-    hash: Option<Hash>,
-    kinds: Kinds,
-    is_json: bool,
-    words: &[String],
-    output: &mut O,
-) -> Result<Option<Status>, Failure> {
-    let Some(start) = read_start(&source, len, offset) else {
-        return Ok(None);
-    };
-    get_table_words(alloc, source, &start, hash, kinds, is_json, words, output)
-}
-
-// The same of the table that begins so.
-fn get_table_words<S: ReadAt, O: Write>(
-    alloc: Global,
-    source: S,
-    start: &Start,
-    hash: Option<Hash>,
-    kinds: Kinds,
-    is_json: bool,
-    words: &[String],
-    output: &mut O,
-) -> Result<Option<Status>, Failure> {
-    let Some(name) = named_or_left_hash(&source, start, hash, kinds.hash) else {
-        return Ok(None);
-    };
+// Where the table is, and what its header and its first slots tell of it. None where it is not read
+// by position.
+fn found_in<S: ReadAt>(asked: &Asked, source: &S, len: usize) -> Option<Found> {
+    let start = read_start(source, len, asked.at)?;
+    let kinds = asked.kinds;
+    let name = named_or_left_hash(source, &start, asked.hash, kinds.hash)?;
     let Ok(found) = read_any(&start.header, name, kinds) else {
-        return Ok(None);
+        return None;
     };
     let (shape, forms) = found;
-    words_of(alloc, source, start.at, start.len, shape.types(), forms, is_json, words, output)
+    Some(Found { at: start.at, len: start.len, shape: shape.types(), forms })
 }

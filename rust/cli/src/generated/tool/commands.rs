@@ -7,10 +7,11 @@ use crate::generated::core::front::table_at;
 use crate::generated::core::help::{write_help, write_version};
 use crate::generated::core::inside::{first_inside, is_followed, write_inside};
 use crate::generated::core::job::Job;
+use crate::generated::core::json::answers::Printed;
 use crate::generated::core::status::{of_output, Status};
 use crate::generated::reads::commands::diff;
 use crate::generated::reads::lookups::arriving::Arriving;
-use crate::generated::reads::positions;
+use crate::generated::reads::positions::{self, Asked};
 use crate::generated::tool::pairs::of_words;
 use crate::generated::tool_tables::files::{finish, finish_as, read_bytes, read_table_bytes};
 use crate::generated::writes::commands::{build, delete, merge, rebuild};
@@ -180,7 +181,7 @@ fn read_one<R: Files + AllocGlobal, I: BufRead + Arriving, O: Write, E: Write>(
 where
     R::File: FileExt,
 {
-    if let Some(status) = read_by_position(rt, file, is_one, at, reading, output)? {
+    if let Some(status) = read_by_position(rt, file, is_one, at, reading, input, output)? {
         return Ok(status);
     }
     let offset = at.unwrap_or(0);
@@ -193,8 +194,16 @@ where
         Some(offset) => table_at(bytes.as_slice(), offset)?,
         None => bytes.as_slice(),
     };
-    let job =
-        Job { alloc: rt.alloc(), file, is_one, at, bytes: table, bound: None, is_json: false };
+    let job = Job {
+        alloc: rt.alloc(),
+        file,
+        is_one,
+        at,
+        bytes: table,
+        bound: None,
+        is_json: false,
+        is_values: false,
+    };
     let done = run_reading(job, reading, is_live(rt, reading), input, output, errors);
     if reading.is_search() {
         done
@@ -212,35 +221,41 @@ fn is_live<R: Files>(rt: &R, reading: &Reading) -> bool {
     }
 }
 
-// Looks the keys of words up, or counts the items, without reading all of the file. None where that
-// does not do.
-fn read_by_position<R: Files + AllocGlobal, O: Write>(
+// Looks up the keys of words, or of lines that are few for the file, or counts the items, without
+// reading all of the file. None where that does not do: no line was read then.
+fn read_by_position<R: Files + AllocGlobal, I: BufRead, O: Write>(
     rt: &R,
     file: &str,
     is_one: bool,
     at: Option<usize>,
     reading: &Reading,
+    input: &mut I,
     output: &mut O,
 ) -> Result<Option<Status>, Failure>
 where
     R::File: FileExt,
 {
     match reading {
-        Reading::Get { hash, kinds, is_json, keys: Keys::Words(words) } => {
+        Reading::Get { hash, kinds, is_values, is_json, keys } => {
             let Some((source, len)) = positions::open_regular(rt, file) else {
                 return Ok(None);
             };
-            positions::get_words_at(
-                rt.alloc(),
-                source,
-                len,
+            let asked = Asked {
+                alloc: rt.alloc(),
                 at,
-                *hash,
-                *kinds,
-                *is_json,
-                words.as_slice(),
-                output,
-            )
+                hash: *hash,
+                kinds: *kinds,
+                printed: Printed { is_json: *is_json, is_values: *is_values },
+            };
+            match keys {
+                Keys::Words(words) => {
+                    positions::get_words_at(&asked, source, len, words.as_slice(), output)
+                }
+                Keys::Lines if are_lines_few(rt, len) => {
+                    positions::get_lines_at(&asked, source, len, input, output)
+                }
+                Keys::Lines => Ok(None),
+            }
         }
         Reading::Count { is_checked: false, .. } => {
             let Some((source, len)) = positions::open_regular(rt, file) else {
@@ -250,6 +265,14 @@ where
             positions::count_at(source, len, at, label.as_str(), output)
         }
         _ => Ok(None),
+    }
+}
+
+// Whether standard input is a file, and its lines are few for a file of that many bytes.
+fn are_lines_few<R: Files>(rt: &R, file_len: usize) -> bool {
+    match input_len(rt) {
+        Some(input_len) => positions::are_few(input_len, file_len),
+        None => false,
     }
 }
 

@@ -26,8 +26,8 @@ returns g c opened =
     let B = c.args.table.now.store.0.now in
     let ws = map string_bytes c.args.words.now in
     let r = c.write_words.result in
-    words_got coding (answer_in c.args.style.is_json (dynamic_text c.args.style.forms.key) (dynamic_text c.args.style.forms.value))
-    (no_key_line c.args.style.is_json) R B ws (g.O.Write.contents c.args.output.now) (g.O.Write.contents c.write_words.new.output)
+    words_got coding (answer_in c.args.style.printed (dynamic_text c.args.style.forms.key) (dynamic_text c.args.style.forms.value))
+    (no_key_line c.args.style.printed) R B ws (g.O.Write.contents c.args.output.now) (g.O.Write.contents c.write_words.new.output)
     c.as_slice.result.now r opened
     (subst (AllZip (IsWordAnswer coding R B) ws) (sym c.as_slice.ensures.value) c.in_ok-answers.ensures)
     c.write_words.ensures.status c.write_words.ensures.written

@@ -10,8 +10,8 @@ use Rattle.odht_tool_reads.proofs.lookups.words.write_lines.Goals as goal
 
 pub loop-at-preserved : goal.loop-at-preserved
 loop-at-preserved g c =
-    let f = answer_in c.args.style.is_json (dynamic_text c.args.style.forms.key) (dynamic_text c.args.style.forms.value) in
-    let h = no_key_line c.args.style.is_json in
+    let f = answer_in c.args.style.printed (dynamic_text c.args.style.forms.key) (dynamic_text c.args.style.forms.value) in
+    let h = no_key_line c.args.style.printed in
     let o = g.O.Write.contents in
     let at = c.loop-at.at in
     let words = c.args.words.now in

@@ -9,4 +9,4 @@ use Rattle.odht_tool_reads.proofs.lookups.words.write_lines.Given as goal
 -- the lines of the words so far are written
 abbrev pub invariant-loop-at : goal.invariant-loop-at
 invariant-loop-at g l = Appends (g.O.Write.contents l.initial.output) (g.O.Write.contents l.output)
-    (word_lines (answer_in l.style.is_json (dynamic_text l.style.forms.key) (dynamic_text l.style.forms.value)) (no_key_line l.style.is_json) (map string_bytes (take l.at l.words)) (take l.at l.answers))
+    (word_lines (answer_in l.style.printed (dynamic_text l.style.forms.key) (dynamic_text l.style.forms.value)) (no_key_line l.style.printed) (map string_bytes (take l.at l.words)) (take l.at l.answers))

@@ -21,7 +21,7 @@ returns-in_ok-status-in-Some g c B over opens =
             subst (λ found. IfSome found (λ v. AllZip (IsWordAnswer coding (IsDynamicOf style.forms.key) B) ws v.items)) c.in-Some.is (c.in_ok-answers.ensures.given B over);
         written =
             subst (λ answers. Appends (o c.args.output.now) (o c.write_words.new.output)
-            (word_lines (answer_in style.is_json (dynamic_text style.forms.key) (dynamic_text style.forms.value)) (no_key_line style.is_json) ws answers))
+            (word_lines (answer_in style.printed (dynamic_text style.forms.key) (dynamic_text style.forms.value)) (no_key_line style.printed) ws answers))
             c.as_slice.ensures.value c.in_ok-status-in-Some.ensures.written;
         status = c.in_ok-status-in-Some.ensures.status ∙ ap words_status c.as_slice.ensures.value;
       },

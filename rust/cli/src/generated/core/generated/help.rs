@@ -125,15 +125,19 @@ odht count FILE.. [--check] [--whole] [--hash fx|unhash|xxh64]
 ";
 
 const GET: &str = "\
-odht get FILE KEY.. [--json] [--null] [--key SHAPE] [--value SHAPE]
-                    [--hash fx|unhash|xxh64] [--at OFFSET]
+odht get FILE KEY.. [--values] [--json] [--null] [--key SHAPE]
+                    [--value SHAPE] [--hash fx|unhash|xxh64]
+                    [--at OFFSET]
     Prints a line for each key, in their order: KEY, a tab and VALUE. The line of an
     absent key is only KEY. A KEY that cannot be a key of the table is absent.
     Status 0: all keys are present; 1: a key is absent; 2: the command failed.
     With - as the only KEY, the keys are the lines of standard input. An empty last
     line is left out if it is no key. Any other line that is no key is an error.
+    --values       prints only VALUE on each line; the line of an absent key is
+                   empty
     --json         prints a JSON object for each key: key and value, strings like
-                   those of `odht dump`; value is null if the key is absent
+                   those of `odht dump`; value is null if the key is absent. With
+                   --values there is only value
     -0, --null     lines end in NUL, those that are read and those that are
                    printed. In what is printed, a line feed inside a text is NUL
     --key, --value the types of keys and values, as in `odht build`; they must have

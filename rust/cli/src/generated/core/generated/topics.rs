@@ -101,6 +101,7 @@ impl Topic {
             }
             Topic::Get => &[
                 Setting::Help,
+                Setting::Values,
                 Setting::Json,
                 Setting::Null,
                 Setting::Key,

@@ -10,28 +10,52 @@ use crate::generated::core::text::Text;
 use crate::host::prelude::*;
 use std::io::{self, Write};
 
+/// What is printed of each key.
+#[derive(Clone, Copy)]
+pub struct Printed {
+    /// Whether it is an object of JSON.
+    pub is_json: bool,
+    /// Whether it is the value without the key.
+    pub is_values: bool,
+}
+
 /// How keys and their values are written.
 #[derive(Clone, Copy)]
 pub struct AnswerStyle<F: Forms> {
     /// The forms of their texts.
     pub forms: F,
-    /// Whether each key and its value are an object of JSON.
-    pub is_json: bool,
+    /// What is printed of them.
+    pub printed: Printed,
 }
 
 /// Writes a line for each key: with its value, or the key alone where it has none; or an object of
-/// both, in which such a value is null. With no keys it writes nothing, and does not fail.
+/// both, in which such a value is null. Or the line has only the value, and is empty where the key
+/// has none. With no keys it writes nothing, and does not fail.
 pub fn write_answers_in<K: Text, V: Text, F: Forms, O: Write>(
     keys: &[K],
     values: &[Option<V>],
     style: AnswerStyle<F>,
     output: &mut O,
 ) -> io::Result<()> {
-    if style.is_json {
-        write_objects(keys, values, style.forms, output)
+    let Printed { is_json, is_values } = style.printed;
+    if is_json || is_values {
+        write_each(keys, values, style, output)
     } else {
         write_answers_as(keys, values, style.forms, output)
     }
+}
+
+// The same, of which what is printed is looked at for each key.
+fn write_each<K: Text, V: Text, F: Forms, O: Write>(
+    keys: &[K],
+    values: &[Option<V>],
+    style: AnswerStyle<F>,
+    output: &mut O,
+) -> io::Result<()> {
+    for at in 0..keys.len() {
+        write_answer_in(&keys[at], &values[at], style, output)?;
+    }
+    Ok(())
 }
 
 /// Writes the line of one key, as [`write_answers_in`] does.
@@ -41,7 +65,10 @@ pub fn write_answer_in<K: Text, V: Text, F: Forms, O: Write>(
     style: AnswerStyle<F>,
     output: &mut O,
 ) -> io::Result<()> {
-    if style.is_json {
+    let Printed { is_json, is_values } = style.printed;
+    if is_values {
+        write_value(value, style.forms.value(), is_json, output)
+    } else if is_json {
         write_object(key, value, style.forms, output)
     } else {
         write_answer(key, value, style.forms, output)
@@ -49,8 +76,18 @@ pub fn write_answer_in<K: Text, V: Text, F: Forms, O: Write>(
 }
 
 /// Writes the line of a word that is the text of no key: the word, as it is or as messages show
-/// it, or an object of it, in which the value is null.
-pub fn write_no_key<O: Write>(word: &[u8], is_json: bool, output: &mut O) -> io::Result<()> {
+/// it, or an object of it, in which the value is null. Or the line has only the value, which is
+/// absent.
+pub fn write_no_key<O: Write>(word: &[u8], printed: Printed, output: &mut O) -> io::Result<()> {
+    if printed.is_values {
+        write_no_value(printed.is_json, output)
+    } else {
+        write_word(word, printed.is_json, output)
+    }
+}
+
+// Writes the line of a word that is the text of no key, with the word.
+fn write_word<O: Write>(word: &[u8], is_json: bool, output: &mut O) -> io::Result<()> {
     if is_json {
         write_no_key_object(word, output)
     } else if is_in_line(word) {
@@ -74,19 +111,40 @@ fn is_in_line(word: &[u8]) -> bool {
     word.iter().all(|byte| is_plain(*byte))
 }
 
-// Writes the object of each key and its value on a line.
-fn write_objects<K: Text, V: Text, F: Forms, O: Write>(
-    keys: &[K],
-    values: &[Option<V>],
-    forms: F,
+// Writes the line of a value.
+fn write_value<V: Text, O: Write>(
+    value: &Option<V>,
+    form: Form,
+    is_json: bool,
     output: &mut O,
 ) -> io::Result<()> {
-    for at in 0..keys.len() {
-        write_object(&keys[at], &values[at], forms, output)?;
+    match value {
+        Some(value) if is_json => write_value_object(value, form, output),
+        Some(value) => {
+            value.write(form, output)?;
+            output.write_all(b"\n")
+        }
+        None => write_no_value(is_json, output),
     }
-    Ok(())
 }
 
+// Writes the object of a value on a line.
+fn write_value_object<V: Text, O: Write>(value: &V, form: Form, output: &mut O) -> io::Result<()> {
+    output.write_all(b"{")?;
+    write_text_field("value", value, form, output)?;
+    output.write_all(b"}\n")
+}
+
+// Writes the line of a value that is absent.
+fn write_no_value<O: Write>(is_json: bool, output: &mut O) -> io::Result<()> {
+    if is_json {
+        output.write_all(b"{\"value\":null}\n")
+    } else {
+        output.write_all(b"\n")
+    }
+}
+
+// Writes the object of a key and its value on a line, or of the key alone.
 fn write_object<K: Text, V: Text, F: Forms, O: Write>(
     key: &K,
     value: &Option<V>,

@@ -21,7 +21,8 @@ use crate::shim::Global;
 use std::io::{BufRead, Write};
 
 /// `odht get` of the bytes of a file, for the words of the command line: writes a line for each
-/// key, with a tab and its value, or the key alone; or an object of JSON of both.
+/// key, with a tab and its value, or the key alone; or an object of JSON of both. Or the line has
+/// only the value.
 pub fn get_file_words<O: Write>(
     job: &Job<'_>,
     hash: Option<Hash>,
@@ -61,12 +62,12 @@ fn get_lines_ready<I: BufRead + Arriving, O: Write>(
     input: &mut I,
     output: &mut O,
 ) -> Result<Status, Failure> {
-    let is_json = job.is_json;
+    let printed = job.printed();
     if forms.are_own() {
-        let answers = AnswerStyle { forms: OwnForms, is_json };
+        let answers = AnswerStyle { forms: OwnForms, printed };
         get_lines_of(job.alloc, job.bytes, shape, LineStyle { answers, is_live }, input, output)
     } else {
-        let answers = AnswerStyle { forms, is_json };
+        let answers = AnswerStyle { forms, printed };
         get_lines_of(job.alloc, job.bytes, shape, LineStyle { answers, is_live }, input, output)
     }
 }

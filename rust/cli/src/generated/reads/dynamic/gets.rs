@@ -45,8 +45,8 @@ pub fn get_lines_dynamic<I: BufRead + Arriving, O: Write>(
 ) -> Result<Status, Failure> {
     let layout = lengths_of(shape.key, shape.value);
     let forms = forms.of(shape);
-    let is_json = job.is_json;
-    let answers = AnswerStyle { forms, is_json };
+    let printed = job.printed();
+    let answers = AnswerStyle { forms, printed };
     let style = LineStyle { answers, is_live };
     match shape.hash {
         Hash::Fx => get_lines_hashed::<FxHashFn, I, O>(job, layout, style, input, output),
@@ -63,8 +63,8 @@ fn get_words_hashed<H: HashFn, O: Write>(
     output: &mut O,
 ) -> Result<Status, Failure> {
     let table = open_lengths::<H>(layout, job.bytes)?;
-    let is_json = job.is_json;
-    answer_words(job.alloc, &table, AnswerStyle { forms, is_json }, words, output)
+    let printed = job.printed();
+    answer_words(job.alloc, &table, AnswerStyle { forms, printed }, words, output)
 }
 
 fn get_lines_hashed<H: HashFn, I: BufRead + Arriving, O: Write>(

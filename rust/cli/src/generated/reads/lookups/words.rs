@@ -90,6 +90,6 @@ fn write_word<O: Write>(
     let (key, value) = answer;
     match key {
         Some(key) => write_answer_in(key, value, style, output),
-        None => write_no_key(word, style.is_json, output),
+        None => write_no_key(word, style.printed, output),
     }
 }

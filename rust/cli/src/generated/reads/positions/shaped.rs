@@ -1,7 +1,9 @@
 // Generated from crates/odht_tool_reads/src/positions/shaped.rt by make generate.
 //! The table that is read by position, of its types and its hash function.
 
+use super::lines::answer_lines_at;
 use super::lookups::answer_words_at;
+use super::Asked;
 use crate::generated::core::any::OtherShape;
 use crate::generated::core::failure::Failure;
 use crate::generated::core::forms::GivenForms;
@@ -14,54 +16,82 @@ use crate::generated::tables::read_at::ReadAt;
 use crate::generated::tables::{FxHashFn, UnHashFn, Xxh64HashFn};
 use crate::generated::tool_tables::dynamic::lengths_of;
 use crate::host::prelude::*;
-use crate::shim::Global;
-use std::io::Write;
+use std::io::{BufRead, Write};
 
-/// `odht get` for the words of the command line, of the bytes of these types, in these forms, of
-/// which there are `len` from an offset on. None where a read failed, or they are not opened:
-/// nothing was written then.
+/// Where the bytes of a table are in a source, and what its header tells of them.
+#[derive(Clone, Copy)]
+pub(super) struct Found {
+    pub(super) at: u64,
+    pub(super) len: usize,
+    /// The types of keys and values, and the hash function.
+    pub(super) shape: OtherShape,
+    /// The forms of their texts.
+    pub(super) forms: GivenForms,
+}
+
+/// `odht get` for the words of the command line, of the table that was found. None where a read
+/// failed, or its bytes are not opened: nothing was written then.
 pub(super) fn words_of<S: ReadAt, O: Write>(
-    alloc: Global,
+    asked: &Asked,
     source: S,
-    at: u64,
-    len: usize,
-    shape: OtherShape,
-    forms: GivenForms,
-    is_json: bool,
+    found: Found,
     words: &[String],
     output: &mut O,
 ) -> Result<Option<Status>, Failure> {
-    let (layout, forms) = (lengths_of(shape.key, shape.value), forms.of(shape));
-    match shape.hash {
-        Hash::Fx => words_dynamic::<FxHashFn, S, O>(
-            alloc, source, at, len, layout, forms, is_json, words, output,
-        ),
-        Hash::Unhash => words_dynamic::<UnHashFn, S, O>(
-            alloc, source, at, len, layout, forms, is_json, words, output,
-        ),
-        Hash::Xxh64 => words_dynamic::<Xxh64HashFn, S, O>(
-            alloc, source, at, len, layout, forms, is_json, words, output,
-        ),
+    match found.shape.hash {
+        Hash::Fx => words_hashed::<FxHashFn, S, O>(asked, source, found, words, output),
+        Hash::Unhash => words_hashed::<UnHashFn, S, O>(asked, source, found, words, output),
+        Hash::Xxh64 => words_hashed::<Xxh64HashFn, S, O>(asked, source, found, words, output),
     }
 }
 
-fn words_dynamic<H: HashFn, S: ReadAt, O: Write>(
-    alloc: Global,
+fn words_hashed<H: HashFn, S: ReadAt, O: Write>(
+    asked: &Asked,
     source: S,
-    at: u64,
-    len: usize,
-    layout: Layout,
-    forms: GivenForms,
-    is_json: bool,
+    found: Found,
     words: &[String],
     output: &mut O,
 ) -> Result<Option<Status>, Failure> {
-    match open_file::<H, S>(layout, source, at, len) {
-        Some(table) => {
-            answer_words_at(alloc, &table, AnswerStyle { forms, is_json }, words, output)
-        }
+    let shape = found.shape;
+    let layout = lengths_of(shape.key, shape.value);
+    let style = AnswerStyle { forms: found.forms.of(shape), printed: asked.printed };
+    match open_file::<H, S>(layout, source, found.at, found.len) {
+        Some(table) => answer_words_at(asked.alloc, &table, style, words, output),
         None => Ok(None),
     }
+}
+
+/// The same for the lines of an input. None where a read failed, or the bytes are not opened: nothing
+/// was written then, and no line was read.
+pub(super) fn lines_of<S: ReadAt, I: BufRead, O: Write>(
+    asked: &Asked,
+    source: S,
+    found: Found,
+    input: &mut I,
+    output: &mut O,
+) -> Result<Option<Status>, Failure> {
+    match found.shape.hash {
+        Hash::Fx => lines_hashed::<FxHashFn, S, I, O>(asked, source, found, input, output),
+        Hash::Unhash => lines_hashed::<UnHashFn, S, I, O>(asked, source, found, input, output),
+        Hash::Xxh64 => lines_hashed::<Xxh64HashFn, S, I, O>(asked, source, found, input, output),
+    }
+}
+
+fn lines_hashed<H: HashFn, S: ReadAt, I: BufRead, O: Write>(
+    asked: &Asked,
+    source: S,
+    found: Found,
+    input: &mut I,
+    output: &mut O,
+) -> Result<Option<Status>, Failure> {
+    let shape = found.shape;
+    let layout = lengths_of(shape.key, shape.value);
+    let style = AnswerStyle { forms: found.forms.of(shape), printed: asked.printed };
+    let Some(table) = open_file::<H, S>(layout, source, found.at, found.len) else {
+        return Ok(None);
+    };
+    let status = answer_lines_at(asked.alloc, &table, style, input, output)?;
+    Ok(Some(status))
 }
 
 // Opens the bytes as a table of these lengths. None where they are not opened, or a read failed.

@@ -41,12 +41,12 @@ pub fn run_reading<I: BufRead + Arriving, O: Write, E: Write>(
             let label = count_label(alloc, file, is_one)?;
             count::count_file(label.as_str(), bytes, checked, output)
         }
-        Reading::Get { hash, kinds, keys: Keys::Words(words), is_json } => {
-            let job = Job { is_json: *is_json, ..job };
+        Reading::Get { hash, kinds, keys: Keys::Words(words), is_values, is_json } => {
+            let job = Job { is_values: *is_values, is_json: *is_json, ..job };
             get::get_file_words(&job, *hash, *kinds, words.as_slice(), output)
         }
-        Reading::Get { hash, kinds, keys: Keys::Lines, is_json } => {
-            let job = Job { is_json: *is_json, ..job };
+        Reading::Get { hash, kinds, keys: Keys::Lines, is_values, is_json } => {
+            let job = Job { is_values: *is_values, is_json: *is_json, ..job };
             get::get_file_lines(&job, *hash, *kinds, is_live, input, output)
         }
         Reading::Find { bound, is_json } => {

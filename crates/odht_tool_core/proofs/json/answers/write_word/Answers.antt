@@ -5,7 +5,7 @@ use Rattle.std.specs.Prelude.{OnOk, if◌then◌else◌}
 use Rattle.odht_tool_core.specs.PlainTexts.{is_plain}
 use Rattle.odht_tool_core.specs.Shown.{shown_text}
 use Rattle.odht_tool_core.proofs.InfoLines.{then_appends}
-use Rattle.odht_tool_core.proofs.json.answers.write_no_key.Goals as goal
+use Rattle.odht_tool_core.proofs.json.answers.write_word.Goals as goal
 
 -- the word is its text, since it is one field of one line
 pub returns-in_ok-write_all : goal.returns-in_ok-write_all

@@ -1,0 +1,76 @@
+-- Lines that are answered one after the other.
+use Rattle.std.proofs.Common.{◌≡◌, ◌∙◌, ◌⊎◌, ℕ, ◌+◌, ◌-◌, ◌^◌, ◌≤◌, Bool, true, ◌&&◌, List, [], ◌∷◌, Option, Some, None, is_some, ap, refl, arith}
+use Rattle.std.specs.Prelude.{Err, Ok}
+use Rattle.std.specs.Io.KnownBytes.{IsAtEnd}
+use Rattle.std.specs.List.{list_all}
+use Rattle.std.proofs.KnownBytes.{Appends-nil, Keeps-refl}
+use Rattle.std.proofs.lemmas.Bool.{true≢false}
+use Rattle.odht_header.specs.Coding.{Coding}
+use Rattle.odht_tool_core.specs.Keys.{IsLeftOut, IsNextKey}
+use Rattle.odht_tool_core.specs.declared.failure.Failure.{Failure}
+use Rattle.odht_tool_core.specs.declared.failure.Failure.TheVariants.{Input, Memory, Misread, Output, Read}
+use Rattle.odht_tool_core.specs.declared.keys.NextKey.TheVariants.{Key as is_key}
+use Rattle.odht_tool_core.specs.declared.misread.Wanted.{Wanted}
+use Rattle.odht_tool_tables.specs.KeyTexts.{found_status}
+use Rattle.odht_tool_reads.specs.GetLines.{AreLinesAnswered}
+use Rattle.odht_tool_reads.specs.GetParts.{AreKeysAnswered, IsLineFailure}
+use Rattle.odht_tool_reads.specs.PositionLines.{AreLinesRead, IsKeyFailure, IsUnreadKey}
+use Rattle.odht_tool_reads.proofs.KeyAnswers.{no_answers}
+use Rattle.odht_tool_reads.proofs.LinesTaken.{AreTaken, batch_answered, batch_failed, first_answered, line_failed, lines_answered, one_taken}
+
+-- of one value it is told whether it is there
+pub found_one : {V : Type 0} (o : Option V) → is_some o ≡ list_all is_some (o ∷ [])
+found_one None = refl
+found_one (Some v) = refl
+
+-- no keys are answered by nothing
+pub none_answered : {K V : Type 0} (c : Coding K V) (l : K × Option V → List ℕ) (B : List ℕ) (old : Option (List ℕ)) → AreKeysAnswered c l B [] old old true
+none_answered c l B old = record { values = []; answers = no_answers c B; written = Appends-nil old; found = refl }
+
+-- a key that is not read is a failure of its line, before which none is left
+unread_line : {K V : Type 0} (c : Coding K V) (l : K × Option V → List ℕ) (R : List ℕ → K → Type 0) (p : Wanted) (B : List ℕ) (number : ℕ) (bytes old : Option (List ℕ)) (f : Failure)
+    → IsUnreadKey R p number bytes f → IsLineFailure c l R p B [] number bytes old old f
+unread_line c l R p B number bytes old (Misread message) u =
+    record { then = u.then; line = u.line; next = u.next; fault = u.fault; more = u.more; misread = u.misread; every = true; answered = none_answered c l B old }
+unread_line c l R p B number bytes old (Input error) u = Keeps-refl old
+unread_line c l R p B number bytes old Memory u = (u, Keeps-refl old)
+unread_line c l R p B number bytes old _ u = absurd u
+
+-- what is said of lines in memory is said of those by position, but of a failed read
+read_as : {K V : Type 0} (c : Coding K V) (l : K × Option V → List ℕ) (R : List ℕ → K → Type 0) (p : Wanted) (B : List ℕ) (input old new : Option (List ℕ)) (f : Failure)
+    → AreLinesAnswered c l R p B true input old new (Err f) → AreLinesRead c l R p B input old new (Err f)
+read_as c l R p B input old new (Read error) a = absurd a
+read_as c l R p B input old new f a = a
+
+module _ {K V : Type 0} (c : Coding K V) (l : K × Option V → List ℕ) (R : List ℕ → K → Type 0) (p : Wanted) (B : List ℕ) (input now old new : Option (List ℕ)) (number : ℕ) (all : Bool) (h : AreTaken c l R B true input now old new number [] all) where
+  -- the next line has no key
+  pub key_unread : (f : Failure) → IsUnreadKey R p number now f → AreLinesRead c l R p B input old new (Err f)
+  key_unread f u = read_as c l R p B input old new f (line_failed c l R B true input now old new number [] all new h p f (omega arith) (unread_line c l R p B number now new f u))
+
+  -- the lines end
+  pub all_read : ((IsAtEnd now ⊎ IsLeftOut R now) × (number ≤ 2 ^ 64 - 1)) ⊎ (number ≡ 2 ^ 64 - 1) → AreLinesRead c l R p B input old new (Ok (found_status all))
+  all_read end = lines_answered c l R B true input now old new number [] all new h true end (none_answered c l B new)
+
+  module _ (then last : Option (List ℕ)) (key : K) (next : IsNextKey R now then (is_key key)) where
+    taken : AreTaken c l R B true input then old new (number + 1) (key ∷ []) all
+    taken = one_taken c l R B true input now old new number [] all then key (key ∷ []) h next refl
+
+    -- its key is answered
+    pub key_answered : (found every : Bool) → AreKeysAnswered c l B (key ∷ []) new last found → every ≡ (found && all) → AreTaken c l R B true input then old last (number + 1) [] every
+    key_answered found every a e =
+        (batch_answered c l R B true input then old new (number + 1) (key ∷ []) all last taken [] true every (omega arith) (λ x. absurd (true≢false x)) (record {
+          done = key ∷ [];
+          left = refl;
+          few = λ x. absurd (true≢false x);
+          full = λ _. refl;
+          values = a.values;
+          answers = a.answers;
+          written = a.written;
+          found = e ∙ ap (λ b. b && all) a.found;
+        })).0
+
+    -- or is not
+    pub key_failed : (f : Failure) → IsKeyFailure new last f → AreLinesRead c l R p B input old last (Err f)
+    key_failed (Read error) k = first_answered c l R B true input then old new (number + 1) (key ∷ []) all last taken k
+    key_failed (Output error) k = batch_failed c l R B true input then old new (number + 1) (key ∷ []) all last taken p (Output error) (omega arith) (omega arith) (λ e. absurd (true≢false e))
+    key_failed _ k = absurd k

@@ -1,0 +1,122 @@
+//! Keys of lines that are looked up in a table that is read by position.
+ghost use Rattle.std.specs.Prelude.{◌≡◌, List, ℕ, [], ◌∷◌, IfErr, IfOk, IfSome, Ok, string_bytes};
+ghost use Rattle.odht.specs.Files.{file_coding};
+ghost use Rattle.odht.specs.Gets.{IsGet};
+ghost use Rattle.odht_tool_core.specs.DynTexts.{IsDynamicOf, dynamic_text, dynamic_wanted};
+ghost use Rattle.odht_tool_core.specs.JsonAnswers.{answer_in};
+ghost use Rattle.odht_tool_reads.specs.GetParts.{AreKeysAnswered, IsReadKey};
+ghost use Rattle.odht_tool_reads.specs.PositionLines.{AreLinesRead, IsKeyFailure, IsReadFailure, IsUnreadKey};
+ghost use Rattle.odht_tool_reads.specs.Positions.{IsTableAt};
+
+use crate::lookups::{key_of_line, wrong_line};
+use odht::dynamic::{FileError, FileTable, ShortBytes};
+use odht::hash::HashFn;
+use odht::read_at::{ReadAt, ReadError};
+use odht_tool_core::failure::Failure;
+use odht_tool_core::forms::GivenForms;
+use odht_tool_core::json::answers::{AnswerStyle, write_answer_in};
+use odht_tool_core::keys::NextKey;
+use odht_tool_core::status::Status;
+use std::alloc::Global;
+use std::io::{self, BufRead, ErrorKind, Write};
+
+/// Looks up the keys of the lines, one after the other, and writes a line for each.
+pub(super) fn answer_lines_at<H: HashFn, S: ReadAt + Drop, I: BufRead, O: Write>(
+    alloc: Global,
+    table: &FileTable<H, S>,
+    style: AnswerStyle<GivenForms>,
+    input: &mut I,
+    output: &mut O,
+) -> Result<Status, Failure>
+    ensures { let t = table.now in let key = style.forms.key
+        in (B : List ℕ) → IsTableAt S.gives H.hash t.key_len t.value_len t B
+        → AreLinesRead (file_coding t H.hash)
+        (answer_in style.printed (dynamic_text key) (dynamic_text style.forms.value))
+        (IsDynamicOf key) (dynamic_wanted key) B (I.remaining input.old)
+        (O.contents output.old) (O.contents output.new) result }
+{
+    let mut line = Vec::new(alloc);
+    let mut is_all_found = true;
+    for number in 1..u64::MAX {
+        match line_key(alloc, number, input, &mut line, style.forms)? {
+            Some(key) => {
+                let is_found = answer_key(table, &key, style, output)?;
+                is_all_found = is_found && is_all_found;
+            }
+            None => break,
+        }
+    }
+    Ok(Status::of(is_all_found))
+}
+
+// The key of the line of this number, if there is such a line. A line that is no key is a failure.
+fn line_key<I: BufRead>(
+    alloc: Global,
+    number: u64,
+    input: &mut I,
+    line: &mut Vec<u8>,
+    forms: GivenForms,
+) -> Result<Option<ShortBytes>, Failure>
+    ensures key { IfOk result (IsReadKey (IsDynamicOf forms.key)
+        (I.remaining input.old) (I.remaining input.new)) }
+    ensures err { IfErr result (IsUnreadKey (IsDynamicOf forms.key) (dynamic_wanted forms.key)
+        number (I.remaining input.old)) }
+{
+    match key_of_line(input, line, forms) {
+        Ok(NextKey::Key(key)) => Ok(Some(key)),
+        Ok(NextKey::End) => Ok(None),
+        Ok(NextKey::NoKey) => {
+            let line = line.as_slice();
+            let message = wrong_line::<ShortBytes, GivenForms>(alloc, number, line, forms)?;
+            Err(Failure::Misread(message))
+        }
+        Err(error) => Err(Failure::Input(error)),
+    }
+}
+
+// Looks a key up, and writes its line. Returns whether it was found.
+fn answer_key<H: HashFn, S: ReadAt + Drop, O: Write>(
+    table: &FileTable<H, S>,
+    key: &ShortBytes,
+    style: AnswerStyle<GivenForms>,
+    output: &mut O,
+) -> Result<bool, Failure>
+    ensures given { let t = table.now in let f = style.forms
+        in (B : List ℕ) → IsTableAt S.gives H.hash t.key_len t.value_len t B
+        → IfOk result (AreKeysAnswered (file_coding t H.hash)
+        (answer_in style.printed (dynamic_text f.key) (dynamic_text f.value)) B (key.now ∷ [])
+        (O.contents output.old) (O.contents output.new)) }
+    ensures err { IfErr result (IsKeyFailure (O.contents output.old) (O.contents output.new)) }
+{
+    let value = value_at(table, key)?;
+    write_answer_in(key, &value, style, output).map_err(Failure::Output)?;
+    Ok(value.is_some())
+}
+
+// The value of a key, if it has one.
+fn value_at<H: HashFn, S: ReadAt + Drop>(
+    table: &FileTable<H, S>,
+    key: &ShortBytes,
+) -> Result<Option<ShortBytes>, Failure>
+    ensures given { let t = table.now in (B : List ℕ)
+        → IsTableAt S.gives H.hash t.key_len t.value_len t B
+        → IfOk result (IsGet (file_coding t H.hash) B key.now) }
+    ensures err { IfErr result IsReadFailure }
+{
+    match table.get(key.as_slice()) {
+        Ok(value) => Ok(value),
+        Err(error) => Err(Failure::Read(unread(error))),
+    }
+}
+
+// What is said of a file whose lookup failed.
+fn unread(error: FileError) -> io::Error {
+    match error {
+        FileError::Read(ReadError::Failed { code }) => {
+            io::Error::from_raw_os_error(i32::try_from(code).unwrap_or(0))
+        }
+        FileError::Read(ReadError::EarlyEnd) => io::Error::from(ErrorKind::UnexpectedEof),
+        FileError::Read(ReadError::Interrupted) => io::Error::from(ErrorKind::Interrupted),
+        FileError::Table(_) => io::Error::from(ErrorKind::InvalidData),
+    }
+}

@@ -1,0 +1,92 @@
+// Generated from crates/odht_tool_reads/src/positions/lines.rt by make generate.
+//! Keys of lines that are looked up in a table that is read by position.
+
+use crate::generated::core::failure::Failure;
+use crate::generated::core::forms::GivenForms;
+use crate::generated::core::json::answers::{write_answer_in, AnswerStyle};
+use crate::generated::core::keys::NextKey;
+use crate::generated::core::status::Status;
+use crate::generated::reads::lookups::{key_of_line, wrong_line};
+use crate::generated::tables::dynamic::{FileError, FileTable, ShortBytes};
+use crate::generated::tables::hash::HashFn;
+use crate::generated::tables::read_at::{ReadAt, ReadError};
+use crate::host::prelude::*;
+use crate::shim::Global;
+use std::io::{self, BufRead, ErrorKind, Write};
+
+/// Looks up the keys of the lines, one after the other, and writes a line for each.
+pub(super) fn answer_lines_at<H: HashFn, S: ReadAt, I: BufRead, O: Write>(
+    alloc: Global,
+    table: &FileTable<H, S>,
+    style: AnswerStyle<GivenForms>,
+    input: &mut I,
+    output: &mut O,
+) -> Result<Status, Failure> {
+    let mut line = crate::host::lists::empty(alloc);
+    let mut is_all_found = true;
+    for number in 1..u64::MAX {
+        match line_key(alloc, number, input, &mut line, style.forms)? {
+            Some(key) => {
+                let is_found = answer_key(table, &key, style, output)?;
+                is_all_found = is_found && is_all_found;
+            }
+            None => break,
+        }
+    }
+    Ok(Status::of(is_all_found))
+}
+
+// The key of the line of this number, if there is such a line. A line that is no key is a failure.
+fn line_key<I: BufRead>(
+    alloc: Global,
+    number: u64,
+    input: &mut I,
+    line: &mut Vec<u8>,
+    forms: GivenForms,
+) -> Result<Option<ShortBytes>, Failure> {
+    match key_of_line(input, line, forms) {
+        Ok(NextKey::Key(key)) => Ok(Some(key)),
+        Ok(NextKey::End) => Ok(None),
+        Ok(NextKey::NoKey) => {
+            let line = line.as_slice();
+            let message = wrong_line::<ShortBytes, GivenForms>(alloc, number, line, forms)?;
+            Err(Failure::Misread(message))
+        }
+        Err(error) => Err(Failure::Input(error)),
+    }
+}
+
+// Looks a key up, and writes its line. Returns whether it was found.
+fn answer_key<H: HashFn, S: ReadAt, O: Write>(
+    table: &FileTable<H, S>,
+    key: &ShortBytes,
+    style: AnswerStyle<GivenForms>,
+    output: &mut O,
+) -> Result<bool, Failure> {
+    let value = value_at(table, key)?;
+    write_answer_in(key, &value, style, output).map_err(Failure::Output)?;
+    Ok(value.is_some())
+}
+
+// The value of a key, if it has one.
+fn value_at<H: HashFn, S: ReadAt>(
+    table: &FileTable<H, S>,
+    key: &ShortBytes,
+) -> Result<Option<ShortBytes>, Failure> {
+    match table.get(key.as_slice()) {
+        Ok(value) => Ok(value),
+        Err(error) => Err(Failure::Read(unread(error))),
+    }
+}
+
+// What is said of a file whose lookup failed.
+fn unread(error: FileError) -> io::Error {
+    match error {
+        FileError::Read(ReadError::Failed { code }) => {
+            io::Error::from_raw_os_error(i32::try_from(code).unwrap_or(0))
+        }
+        FileError::Read(ReadError::EarlyEnd) => io::Error::from(ErrorKind::UnexpectedEof),
+        FileError::Read(ReadError::Interrupted) => io::Error::from(ErrorKind::Interrupted),
+        FileError::Table(_) => io::Error::from(ErrorKind::InvalidData),
+    }
+}
