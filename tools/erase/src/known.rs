@@ -13,7 +13,8 @@ pub const SAME_PATHS: [&str; 5] = [
 pub const SHIM_PATHS: [&str; 2] = ["std::alloc::AllocError", "std::alloc::Global"];
 
 /// Paths of std that are the same, and that programs alone use.
-pub const SAME_OF_PROGRAMS: [&str; 14] = [
+pub const SAME_OF_PROGRAMS: [&str; 15] = [
+    "std::cell::Cell",
     "std::io",
     "std::io::self",
     "std::io::BufRead",
@@ -79,7 +80,7 @@ pub const METHODS_OF_PROGRAMS: &str =
     "alloc and as_ref as_secs as_str buffer checked_sub consume copied create_new dev duration_since fill_buf flush gid ino \
     into_inner into_iter into_string is_ascii_alphabetic is_ascii_hexdigit is_err is_file is_symlink is_terminal kind \
     map map_err metadata mode nlink ok ok_or or pop raw_os_error read_at read_exact read_link read_to_end remove rsplit_once \
-    set_permissions simd_gt simd_lt skip split_once starts_with stderr stdin stdout strip_prefix swap_bytes sync_all take uid unwrap \
+    set set_permissions simd_gt simd_lt skip split_once starts_with stderr stdin stdout strip_prefix swap_bytes sync_all take uid unwrap \
     write_all write_char write_str";
 
 /// Methods that allocate in Rust: in Rattle each takes an allocator, or returns that memory was refused. They are an

@@ -145,7 +145,8 @@ odht get FILE KEY.. [--values] [--json] [--null] [--key SHAPE]
                    bytes are u32, 8 are u64, and others hexadecimal digits (keys
                    under unhash too, unless the file is of a ready shape of numbers)
     --hash         the hash function; if left out, the one that the first slots fit,
-                   or with - as KEY the one that all control bytes fit
+                   or with - as KEY the one that all control bytes fit, unless the
+                   lines are a file of at most one byte for 16,384 bytes of FILE
     --at           the table begins at this byte of the file; bytes after its end
                    are not read
     $ odht get symbols.odht 4198400
