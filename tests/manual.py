@@ -29,7 +29,7 @@ ASKED = [
     (["merge", "x", "--duplicates", ""], ["last", "first", "error"], ["--at"]),
     (["get", "x", "--key", ""], ["u32", "u64be", "hex", "bytes:", "text:"], ["none", "SHAPE"]),
     (["keys", "x", "--j"], ["--json"], ["--null"]),
-    (["dump", "x", "--"], ["--values", "--null"], ["--whole"]),
+    (["dump", "x", "--"], ["--values", "--null", "--whole"], ["--check"]),
     (["build", "x", "--value", "n"], ["none"], ["u32"]),
     (["info", "a ta"], ["a table.odht"], ["--whole"]),
 ]

@@ -35,6 +35,7 @@ complete -c odht -n '__fish_seen_subcommand_from get' -l json
 complete -c odht -n '__fish_seen_subcommand_from get' -l null
 complete -c odht -n '__fish_seen_subcommand_from get' -l key -x -a 'u32 u64 i32 i64 u32be u64be hex bytes: text:' -d 'u32, u64, i32, i64, u32be, u64be, hexN, bytes:N or text:N'
 complete -c odht -n '__fish_seen_subcommand_from get' -l value -x -a 'u32 u64 i32 i64 u32be u64be none hex bytes: text:' -d 'u32, u64, i32, i64, u32be, u64be, none, hexN, bytes:N or text:N'
+complete -c odht -n '__fish_seen_subcommand_from get' -l whole
 complete -c odht -n '__fish_seen_subcommand_from get' -l hash -x -a 'fx unhash xxh64' -d 'fx, unhash or xxh64'
 complete -c odht -n '__fish_seen_subcommand_from get' -l at -x -d 'a number below 2^64'
 complete -c odht -n '__fish_seen_subcommand_from dump' -l help
@@ -44,6 +45,7 @@ complete -c odht -n '__fish_seen_subcommand_from dump' -l json
 complete -c odht -n '__fish_seen_subcommand_from dump' -l null
 complete -c odht -n '__fish_seen_subcommand_from dump' -l key -x -a 'u32 u64 i32 i64 u32be u64be hex bytes: text:' -d 'u32, u64, i32, i64, u32be, u64be, hexN, bytes:N or text:N'
 complete -c odht -n '__fish_seen_subcommand_from dump' -l value -x -a 'u32 u64 i32 i64 u32be u64be none hex bytes: text:' -d 'u32, u64, i32, i64, u32be, u64be, none, hexN, bytes:N or text:N'
+complete -c odht -n '__fish_seen_subcommand_from dump' -l whole
 complete -c odht -n '__fish_seen_subcommand_from dump' -l hash -x -a 'fx unhash xxh64' -d 'fx, unhash or xxh64'
 complete -c odht -n '__fish_seen_subcommand_from dump' -l at -x -d 'a number below 2^64'
 complete -c odht -n '__fish_seen_subcommand_from keys' -l help

@@ -372,7 +372,7 @@ def write_bound_cases():
     made.write_file()
     slots = len(made.table.cells)
     home = next(it for it in range(slots) if made.table.groups_to_free(it) > BOUND)
-    long = f"one_home.odht: Searches from slot {home} may read more than 128 groups; --whole checks without a bound\n"
+    long = f"one_home.odht: Searches from slot {home} may read more than 128 groups; --whole works without this bound\n"
     failure = block("stderr", f"odht: {long}") + "status: 1\n\n"
     columns = [0, len(made.table.image()), 4, 4, 2064, slots, 2064 * 100 // slots, "unhash"]
     row = "\t".join(str(it) for it in columns)
@@ -386,7 +386,13 @@ def write_bound_cases():
     text += case("check --whole", "check one_home.odht --hash unhash --whole", "one_home.odht: valid\n")
     text += case("find", "find one_home.odht", f"{row}\tlong\n")
     text += case("find --whole", "find one_home.odht --whole", f"{row}\tvalid\n")
-    text += case("get", "get one_home.odht 8450048", "8450048\t0\n")
+    text += bound_of_get(made, case, block("stderr", f"odht: {long}"))
+    text += case("dump --slots", "dump --slots one_home.odht", "").rstrip("\n") + "\n" + failure
+    text += case("dump --slots --json", "dump --slots --json one_home.odht", "").rstrip("\n") + "\n" + failure
+    text += case("dump --slots --whole", "dump --slots --whole one_home.odht", made.slots)
+    # these search nothing
+    for args, lines in ("dump", made.dump), ("dump --values", made.value_lines), ("keys", made.key_lines):
+        text += case(args, f"{args} one_home.odht", lines[:lines.index("\n") + 1]).rstrip("\n") + "\\n...\n\n"
     text += case("put", "put one_home.odht", "", "0\t0\n").rstrip("\n") + "\n" + failure
     warned = "odht: one_home.odht: searches may read more than 128 groups, and `odht check` rejects it"
     warned += ": try odht rebuild one_home.odht --hash xxh64 --whole\n"
@@ -396,6 +402,32 @@ def write_bound_cases():
     text += case("order", "order one_home.odht", "").rstrip("\n") + "\n" + failure
     text += case("order --whole", "order one_home.odht --whole", made.order)
     write_test("tool/tables/one_home.cases", text)
+
+
+def bound_of_get(made, case, message):
+    """The cases of `get`. A regular file is refused only by a key whose search reads more groups than the bound."""
+    of_groups = {made.table.find(cell[0])[0]: number(cell[0]) for cell in made.table.cells if cell is not None}
+    first, last, over, most = (of_groups[it] for it in (1, BOUND, BOUND + 1, max(of_groups)))
+    # of two absent keys the first ends its search in the first group, and the second has the home of all keys
+    free = next(it for it in range(len(made.table.cells)) if made.table.groups_to_free(it) == 1)
+    absent = 4096 * 2064
+    short, failure = f"{first}\t0\n{last}\t0\n{free}\n", message + "status: 2\n\n"
+
+    def refused(title, args, stdin=""):
+        return case(title, args, "", stdin).rstrip("\n") + "\n" + failure
+
+    text = case("get of keys whose searches are short", f"get one_home.odht {first} {last}", f"{first}\t0\n{last}\t0\n")
+    text += case("one of them is absent", f"get one_home.odht {first} {last} {free}", short).rstrip("\n") + "\nstatus: 1\n\n"
+    text += refused("a group more", f"get one_home.odht {first} {over}")
+    text += refused("the longest search", f"get one_home.odht {most}")
+    text += refused("a long search for an absent key", f"get one_home.odht {absent} {first}")
+    text += refused("as JSON", f"get one_home.odht --json {over}")
+    text += case("get --whole", f"get one_home.odht {over} {most} {free} --whole", f"{over}\t0\n{most}\t0\n{free}\n").rstrip("\n")
+    text += "\nstatus: 1\n\n"
+    text += refused("get of lines", "get one_home.odht -", f"{first}\n")
+    text += refused("get of no line", "get one_home.odht -")
+    text += case("get --whole of lines", "get one_home.odht --whole -", f"{most}\t0\n{absent}\n", f"{most}\n{absent}\n").rstrip("\n")
+    return text + "\nstatus: 1\n\n"
 
 
 def write_two_fit_cases():

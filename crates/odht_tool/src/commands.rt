@@ -258,6 +258,7 @@ where
             is_values,
             is_json,
             keys,
+            ..
         } => {
             let Some((source, len)) = positions::open_regular(rt, file) else {
                 return Ok(None);

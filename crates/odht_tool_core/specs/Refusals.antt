@@ -17,7 +17,7 @@ abbrev pub foreign_text : List ℕ → List ℕ
 foreign_text bs = codes "not an odht table: it begins with" ++ flat_map spaced_digits bs ++ codes ", " ++ shown_text bs
 
 abbrev pub advice_text : Error → List ℕ
-advice_text (SearchTooLong home groups) = codes "; --whole checks without a bound"
+advice_text (SearchTooLong home groups) = codes "; --whole works without this bound"
 advice_text _ = []
 
 abbrev pub refusal_text : Error → List ℕ

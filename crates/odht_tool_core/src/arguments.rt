@@ -214,6 +214,7 @@ pub enum Reading {
     Get {
         hash: Option<Hash>,
         kinds: Kinds,
+        bound: Option<usize>,
         keys: Keys,
         is_values: bool,
         is_json: bool,
@@ -221,6 +222,7 @@ pub enum Reading {
     Dump {
         hash: Option<Hash>,
         kinds: Kinds,
+        bound: Option<usize>,
         is_slots: bool,
         is_values: bool,
         is_json: bool,

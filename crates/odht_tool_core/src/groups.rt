@@ -1,5 +1,6 @@
 //! How many groups of control bytes a search reads, up to a bound.
 ghost use Rattle.std.specs.Prelude.{◌≡◌, ◌≤◌, ◌<◌, ◌+◌, ◌%◌, ◌^◌, length};
+ghost use Rattle.odht_base.specs.Bounds.{ends_within};
 ghost use Rattle.odht_base.specs.Load.{IsSlotCount};
 ghost use Rattle.odht_tool_core.specs.GroupNumbers.{capped, groups_to, groups_to_free, most_groups};
 
@@ -56,6 +57,29 @@ pub fn groups_to_free(control: &[u8], home: usize, slot_count: usize, bound: Opt
         }
     }
     groups.min(most + 1)
+}
+
+/// Whether one of the first `most` groups that a search from this home reads has a control byte that
+/// counts as free, so that no search from it reads more. The control bytes end with their mirror.
+///
+/// It reads these groups up to the first with such a byte.
+pub fn ends_within(control: &[u8], home: usize, slots: usize, most: usize) -> bool
+    requires slots { IsSlotCount slots }
+    requires mirrored { length control.now ≡ slots + 16 }
+    requires home { home < slots }
+    ensures { result ≡ ends_within control.now most home }
+{
+    let groups = slots / 16;
+    let mut probe = GroupProbe::new(control, slots, home);
+    for group in 0..most.min(groups) {
+        if GroupQuery::of(probe.read(), 0).any_empty() {
+            return true;
+        }
+        if group + 1 < groups {
+            probe.advance();
+        }
+    }
+    false
 }
 
 // How many of that many groups are looked at, by the bound.

@@ -30,7 +30,7 @@ fn advice_of(error: &Error) -> &'static str
     ensures { result.now ≡ advice_text error.now }
 {
     match error {
-        Error::SearchTooLong { .. } => "; --whole checks without a bound",
+        Error::SearchTooLong { .. } => "; --whole works without this bound",
         _ => "",
     }
 }

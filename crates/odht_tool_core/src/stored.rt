@@ -3,7 +3,8 @@ ghost use Rattle.std.specs.Prelude.{◌≡◌, ◌≤◌, ◌<◌, ◌+◌, ◌*
 ghost use Rattle.std.specs.Prelude.{IfOk, IfSome, OnOk, Some, nat_lt, slice_index};
 ghost use Rattle.std.specs.Result.{result_err};
 ghost use Rattle.odht_base.specs.Decoded.{counts_as_free, slot_key, slot_value};
-ghost use Rattle.odht_header.specs.Refusals.{control_mismatch};
+ghost use Rattle.odht_base.specs.Bounds.{first_longer};
+ghost use Rattle.odht_header.specs.Refusals.{control_mismatch, longer_refusal};
 ghost use Rattle.odht_tool_core.specs.InfoNumbers.{file_format, file_parts};
 ghost use Rattle.odht_tool_core.specs.InfoNumbers.{info_refusal, least_key_len};
 ghost use Rattle.odht_tool_core.specs.InfoNumbers.{agrees, found_hash, group_numbers, IsHistogram, occupied};
@@ -14,7 +15,7 @@ ghost use Rattle.odht_tool_core.specs.Finds.{has_mirror};
 ghost use Rattle.odht_tool_core.specs.ReadyShapes.{hash_of};
 ghost use Rattle.odht_tool_core.specs.declared.shapes.Hash.TheVariants.{Fx};
 
-use crate::groups::{groups_to, groups_to_free};
+use crate::groups::{ends_within, groups_to, groups_to_free};
 use crate::histogram::Histogram;
 use crate::shapes::Hash;
 use crate::stretches::{STRETCHES, stretch_len};
@@ -266,6 +267,37 @@ impl<'a> StoredTable<'a> {
             longest = longest.max(groups);
         }
         longest
+    }
+
+    /// `SearchTooLong` of the least home from which a search may read more groups than the bound;
+    /// None without a bound. It reads only control bytes, at most `bound` groups a slot.
+    pub fn longer_refusal(&self, bound: Option<usize>) -> Option<Error>
+        ensures { result ≡ longer_refusal self.now.control bound }
+    {
+        let Some(groups) = bound else {
+            return None;
+        };
+        // Fast where no search is longer, as in most tables.
+        if self.table.searches_within(groups) {
+            return None;
+        }
+        match self.first_longer(groups) {
+            Some(home) => Some(Error::SearchTooLong { home, groups }),
+            None => None,
+        }
+    }
+
+    // The least home from which a search may read more groups.
+    fn first_longer(&self, groups: usize) -> Option<usize>
+        ensures { result ≡ first_longer self.now.control groups }
+    {
+        let (control, slots) = (self.table.controls(), self.table.len());
+        for home in 0..slots {
+            if !ends_within(control, home, slots, groups) {
+                return Some(home);
+            }
+        }
+        None
     }
 }
 

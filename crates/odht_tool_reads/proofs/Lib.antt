@@ -10,6 +10,8 @@ pub mod LinesTaken
 pub mod PositionLines
 -- what a command does, from the shape of the bytes on
 pub mod Shaped
+-- what a command does that tests the bound of searches first
+pub mod Bounded
 -- bytes in which the whole check finds no error
 pub mod Passes
 -- how `count` ends

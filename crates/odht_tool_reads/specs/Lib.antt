@@ -9,6 +9,8 @@ pub mod GetParts
 pub mod GetWords
 -- of the lines of an input
 pub mod GetLines
+-- the bound of searches
+pub mod Bounds
 -- the same of a file that is read by position
 pub mod Positions
 -- and of the lines of an input

@@ -2,6 +2,7 @@
 --     ByPosition old new P r   r says that all bytes have to be read, and nothing was written; or P holds of what r returns
 --     IsTableAt gives h k v t T    the table t has keys of k and values of v bytes and the hash h, and is over the bytes T,
 --                              which are some of those that the reads of its source give, as `gives` says
+--     IsShortSearch c B o      on valid bytes B the search for the key o, if it is one, reads at most 128 groups
 --     slots_parts k v es cs    the parts that sixteen slots have: their entries es, their control bytes cs, and the sizes
 --                              k and v of keys and values
 --     IsStartOf B s            s has the first 32 of those bytes of B that it says a table has
@@ -18,13 +19,16 @@
 --     IsFoundIn B at h ks f    f tells where the table of the bytes B at that offset is, or that it is all of them, and what
 --                              is read of it where a hash function that is to be named is named: its types and its forms
 --     IsTableIn T s            the bytes T are those of a valid table of the shape s
-use Rattle.std.specs.Prelude.{◌≡◌, ◌≢◌, ◌≤◌, ◌+◌, ℕ, List, length, false, Option, Some, None, unwrap_or, Result, Ok, Err}
+use Rattle.std.specs.Prelude.{◌≡◌, ◌≢◌, ◌≤◌, ◌+◌, ⊤, ℕ, List, length, false, Option, Some, None, unwrap_or, Result, Ok, Err}
 use Rattle.std.specs.Io.KnownBytes.{Keeps}
 use Rattle.odht_base.specs.Bytes.{bytes_at}
 use Rattle.odht_base.specs.Decoded.{header_count}
 use Rattle.odht.specs.Files.{FileStore, IsOver, file_bytes}
+use Rattle.odht.specs.Tables.{OfTable}
 use Rattle.odht_base.specs.Format.{IsFormat}
+use Rattle.odht_base.specs.Search.{groups_read}
 use Rattle.odht_base.specs.Valid.{IsValidBytes}
+use Rattle.odht_header.specs.Coding.{Coding}
 use Rattle.odht_tool_core.specs.AnyShapes.{HasLongKeys, any_format, read_any, types_of}
 use Rattle.odht_tool_core.specs.declared.any.AnyShape.{AnyShape}
 use Rattle.odht_tool_core.specs.Fronts.{stated_len}
@@ -51,6 +55,10 @@ pub record IsTableAt {S : Type 0} (gives : S → List ℕ → Type 0) (h : List 
   pub table : file_bytes t bytes ≡ T
   pub key : t.key_len ≡ k
   pub value : t.value_len ≡ v
+
+abbrev pub IsShortSearch : {K V : Type 0} → Coding K V → List ℕ → Option K → Type 0
+IsShortSearch c B None = ⊤
+IsShortSearch c B (Some k) = OfTable c.format B (λ P. groups_read c.format P.cells (c.key_bytes k) ≤ 128)
 
 abbrev pub slots_parts : ℕ → ℕ → List ℕ → List ℕ → DynParts
 slots_parts k v es cs = record { key_len = k; value_len = v; slots = 16; entries = es; control = cs }

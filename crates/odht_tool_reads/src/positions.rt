@@ -141,8 +141,9 @@ fn front_len(header: &[u8], found: usize) -> Option<usize>
 
 /// `odht get` of a source of that many bytes, for the words of the command line. None where the
 /// source is not read by position: a read failed, or its bytes are not opened, or too many of them
-/// would be read to know the hash function. Nothing was written then, and reading all bytes gives
-/// the answer.
+/// would be read to know the hash function, or the search for a key reads more than
+/// [`DEFAULT_GROUPS`](odht::memory_layout::DEFAULT_GROUPS) groups. Nothing was written then, and
+/// reading all bytes gives the answer, with the bound of searches.
 ///
 /// Over any source, for any list of bytes that it gives in each read: what is written is what
 /// [`get_file_words`](crate::commands::get::get_file_words) writes of the table in this list, with

@@ -68,11 +68,13 @@ pub fn run_reading<I: BufRead + Arriving, O: Write, E: Write>(
         Reading::Get {
             hash,
             kinds,
+            bound,
             keys: Keys::Words(words),
             is_values,
             is_json,
         } => {
             let job = Job {
+                bound: *bound,
                 is_values: *is_values,
                 is_json: *is_json,
                 ..job
@@ -82,11 +84,13 @@ pub fn run_reading<I: BufRead + Arriving, O: Write, E: Write>(
         Reading::Get {
             hash,
             kinds,
+            bound,
             keys: Keys::Lines,
             is_values,
             is_json,
         } => {
             let job = Job {
+                bound: *bound,
                 is_values: *is_values,
                 is_json: *is_json,
                 ..job
@@ -111,10 +115,17 @@ pub fn run_reading<I: BufRead + Arriving, O: Write, E: Write>(
         Reading::Dump {
             hash,
             kinds,
-            is_slots,
+            bound,
+            is_slots: true,
             is_json,
             ..
-        } => dump::dump_file(bytes, *hash, *kinds, *is_slots, *is_json, output),
+        } => dump::dump_slots(bytes, *hash, *kinds, *bound, *is_json, output),
+        Reading::Dump {
+            hash,
+            kinds,
+            is_json,
+            ..
+        } => dump::dump_file(bytes, *hash, *kinds, false, *is_json, output),
         Reading::Keys {
             hash,
             kinds,

@@ -4,10 +4,11 @@ use Rattle.std.specs.Prelude.{codes}
 use Rattle.std.specs.Fmt.{digits}
 use Rattle.odht_base.specs.Bounds.{first_longer}
 use Rattle.odht_base.specs.Bytes.{overwritten_at}
-use Rattle.odht_header.specs.declared.error.Error.TheVariants.{TooShort}
+use Rattle.odht_header.specs.declared.error.Error.TheVariants.{SearchTooLong, TooShort}
 use Rattle.odht_header.proofs.examples.Apart.{unequal_lists}
 use Rattle.odht_header.proofs.examples.Opened.{opened}
 use Rattle.odht_tool_core.specs.GroupNumbers.{groups_to}
+use Rattle.odht_tool_reads.specs.Bounds.{bound_refusal}
 use Rattle.odht_tool_reads.specs.Listings.{list_outcome}
 use Rattle.odht_tool_reads.specs.Outcomes.{check_outcome, check_word, dump_outcome, hint_of, hint_text}
 use Rattle.odht_tool_core.specs.Endings.{IsDone}
@@ -32,9 +33,15 @@ unfolding opened first_longer digits
 valid = (refl, refl)
 
 -- and with one that no table keeps
-pub too_long : check_outcome false (codes "a") one_bytes (Some Unhash) (Some 0) ≡ writes (codes "a: Searches from slot 0 may read more than 0 groups; --whole checks without a bound\n") NotDone
+pub too_long : check_outcome false (codes "a") one_bytes (Some Unhash) (Some 0) ≡ writes (codes "a: Searches from slot 0 may read more than 0 groups; --whole works without this bound\n") NotDone
 unfolding opened first_longer digits
 too_long = refl
+
+-- the same for the commands that test it before they search; they have none without a bound, and for bytes that are no table
+pub bounds : (bound_refusal one_bytes (Some 0) ≡ Some (SearchTooLong 0 0)) × (bound_refusal one_bytes (Some 128) ≡ None)
+    × (bound_refusal one_bytes None ≡ None) × (bound_refusal (79 ∷ 68 ∷ []) (Some 0) ≡ None)
+unfolding opened first_longer
+bounds = (refl, refl, refl, refl)
 
 -- two bytes
 pub too_short : check_outcome false (codes "a") (79 ∷ 68 ∷ []) None None ≡ writes (codes "a: Provided data has 2 bytes but the header needs 32\n") NotDone

@@ -1,5 +1,5 @@
 //! `odht dump`: the pairs of a table file.
-ghost use Rattle.std.specs.Prelude.{◌≡◌, ◌≤◌, All, OnOk, length};
+ghost use Rattle.std.specs.Prelude.{◌≡◌, ◌≤◌, All, OnOk, length, true};
 ghost use Rattle.std.specs.Io.KnownBytes.{Appends};
 ghost use Rattle.odht_base.specs.Format.{format_of};
 ghost use Rattle.odht_raw.specs.DynParts.{HasLengthsOf};
@@ -9,8 +9,10 @@ ghost use Rattle.odht_tool_core.specs.Json.{pair_objects};
 ghost use Rattle.odht_tool_core.specs.ReadyShapes.{typed_len};
 ghost use Rattle.odht_tool_core.specs.StoredTexts.{bare_pairs, key_text, lines_of, value_text};
 ghost use Rattle.odht_tool_core.specs.Texts.{pair_line, pairs_text};
+ghost use Rattle.odht_tool_reads.specs.Bounds.{bound_refusal, bounded};
 ghost use Rattle.odht_tool_reads.specs.Outcomes.{dump_outcome};
 
+use crate::bounds::check_bound;
 use odht::hash::HashFn;
 use odht::raw_table::DynIter;
 use odht::{FxHashFn, UnHashFn, Xxh64HashFn};
@@ -26,8 +28,29 @@ use odht_tool_core::typed::stored::{Digits32, Digits64, TextWriter, Typed};
 use odht_tool_tables::dynamic::{lengths_of, open_lengths};
 use std::io::{self, Write};
 
+/// `odht dump --slots` of the bytes of a file, with `--json` or without: writes a line for each
+/// pair, in slot order. It searches each key. So where a search may read more groups than the bound
+/// it fails before it writes.
+pub fn dump_slots<O: Write>(
+    bytes: &[u8],
+    hash: Option<Hash>,
+    kinds: Kinds,
+    bound: Option<usize>,
+    is_json: bool,
+    output: &mut O,
+) -> Result<Status, Failure>
+    ensures { IsDone
+        (bounded (bound_refusal bytes.now bound) (dump_outcome bytes.now hash kinds true is_json))
+        (O.contents output.old) (O.contents output.new) result }
+{
+    match check_bound(bytes, bound) {
+        Ok(()) => dump_file(bytes, hash, kinds, true, is_json, output),
+        Err(error) => Err(Failure::Refused(error)),
+    }
+}
+
 /// `odht dump` of the bytes of a file, with `--slots` and with `--json` or without: writes a line
-/// for each pair, in slot order.
+/// for each pair, in slot order. Searches have no bound.
 pub fn dump_file<O: Write>(
     bytes: &[u8],
     hash: Option<Hash>,

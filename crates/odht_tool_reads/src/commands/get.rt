@@ -3,10 +3,12 @@ ghost use Rattle.std.specs.Prelude.{◌≡◌, None, IfOk, IfErr, OnOk, map, str
 ghost use Rattle.odht_header.specs.Refusals.{view_refusal};
 ghost use Rattle.odht_tool_core.specs.JsonAnswers.{answer_in, printed_as};
 ghost use Rattle.odht_tool_core.specs.Keys.{IsReadAs};
+ghost use Rattle.odht_tool_reads.specs.Bounds.{IsBounded, bound_refusal};
 ghost use Rattle.odht_tool_reads.specs.GetLines.{AreLinesGot, AreFileLinesGot, lines_of_shape};
 ghost use Rattle.odht_tool_reads.specs.Gets.{AreFileWordsGot};
 ghost use Rattle.odht_tool_tables.specs.Openings.{IsOpenFailure};
 
+use crate::bounds::check_bound;
 use crate::dynamic::gets::{get_lines_dynamic, get_words_dynamic};
 use crate::generated::shapes::for_shape;
 use crate::lookups::arriving::Arriving;
@@ -27,8 +29,27 @@ use std::io::{BufRead, Write};
 
 /// `odht get` of the bytes of a file, for the words of the command line: writes a line for each
 /// key, with a tab and its value, or the key alone; or an object of JSON of both. Or the line has
-/// only the value.
+/// only the value. Where a search may read more groups than the bound, it fails before it writes.
 pub fn get_file_words<O: Write>(
+    job: &Job<'_>,
+    hash: Option<Hash>,
+    kinds: Kinds,
+    words: &[String],
+    output: &mut O,
+) -> Result<Status, Failure>
+    ensures { let j = job.now in let old = O.contents output.old in let new = O.contents output.new
+        in IsBounded (bound_refusal j.bytes.now j.bound) old new result
+        (AreFileWordsGot j.bytes.now hash kinds (printed_as j.is_json j.is_values)
+        (map string_bytes words.now) old new result) }
+{
+    match check_bound(job.bytes, job.bound) {
+        Ok(()) => get_words(job, hash, kinds, words, output),
+        Err(error) => Err(Failure::Refused(error)),
+    }
+}
+
+// The same without a bound.
+fn get_words<O: Write>(
     job: &Job<'_>,
     hash: Option<Hash>,
     kinds: Kinds,
@@ -46,8 +67,29 @@ pub fn get_file_words<O: Write>(
 }
 
 /// `odht get` of the bytes of a file, for the lines of an input, which are answered as they come
-/// where `is_live` holds.
+/// where `is_live` holds. Where a search may read more groups than the bound, it fails before it
+/// reads a line.
 pub fn get_file_lines<I: BufRead + Arriving, O: Write>(
+    job: &Job<'_>,
+    hash: Option<Hash>,
+    kinds: Kinds,
+    is_live: bool,
+    input: &mut I,
+    output: &mut O,
+) -> Result<Status, Failure>
+    ensures { let j = job.now in let old = O.contents output.old in let new = O.contents output.new
+        in IsBounded (bound_refusal j.bytes.now j.bound) old new result
+        (AreFileLinesGot j.bytes.now hash kinds (printed_as j.is_json j.is_values) is_live
+        (I.remaining input.old) old new result) }
+{
+    match check_bound(job.bytes, job.bound) {
+        Ok(()) => get_lines_of_file(job, hash, kinds, is_live, input, output),
+        Err(error) => Err(Failure::Refused(error)),
+    }
+}
+
+// The same without a bound.
+fn get_lines_of_file<I: BufRead + Arriving, O: Write>(
     job: &Job<'_>,
     hash: Option<Hash>,
     kinds: Kinds,

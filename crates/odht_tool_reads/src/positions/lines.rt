@@ -11,6 +11,7 @@ ghost use Rattle.odht_tool_reads.specs.Positions.{IsTableAt};
 use crate::lookups::{key_of_line, wrong_line};
 use odht::dynamic::{FileError, FileTable, ShortBytes};
 use odht::hash::HashFn;
+use odht::memory_layout::DEFAULT_GROUPS;
 use odht::read_at::{ReadAt, ReadError};
 use odht_tool_core::failure::Failure;
 use odht_tool_core::forms::GivenForms;
@@ -93,7 +94,8 @@ fn answer_key<H: HashFn, S: ReadAt + Drop, O: Write>(
     Ok(value.is_some())
 }
 
-// The value of a key, if it has one.
+// The value of a key, if it has one. A search that is longer than the bound counts as a read that
+// failed.
 fn value_at<H: HashFn, S: ReadAt + Drop>(
     table: &FileTable<H, S>,
     key: &ShortBytes,
@@ -103,8 +105,13 @@ fn value_at<H: HashFn, S: ReadAt + Drop>(
         → IfOk result (IsGet (file_coding t H.hash) B key.now) }
     ensures err { IfErr result IsReadFailure }
 {
-    match table.get(key.as_slice()) {
-        Ok(value) => Ok(value),
+    match table.get_counted(key.as_slice()) {
+        Ok((value, groups)) => {
+            if groups > DEFAULT_GROUPS {
+                return Err(Failure::Read(io::Error::from(ErrorKind::InvalidData)));
+            }
+            Ok(value)
+        }
         Err(error) => Err(Failure::Read(unread(error))),
     }
 }

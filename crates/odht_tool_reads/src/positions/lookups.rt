@@ -1,17 +1,18 @@
 //! Lookups in a table that is read by position, and what is written of them.
 ghost use Rattle.std.specs.Prelude.{◌≡◌, List, ℕ, None, length, map, string_bytes};
-ghost use Rattle.std.specs.Prelude.{IfOk, IfSome};
+ghost use Rattle.std.specs.Prelude.{All, IfOk, IfSome};
 ghost use Rattle.std.specs.List.{AllZip};
 ghost use Rattle.odht.specs.Files.{file_coding};
 ghost use Rattle.odht_header.specs.Refusals.{view_refusal};
 ghost use Rattle.odht_tool_core.specs.JsonAnswers.{answer_in, no_key_line};
 ghost use Rattle.odht_tool_core.specs.DynTexts.{IsDynamicOf, dynamic_text};
 ghost use Rattle.odht_tool_reads.specs.Gets.{AreWordsGot, IsWordAnswer};
-ghost use Rattle.odht_tool_reads.specs.Positions.{ByPosition, IsTableAt};
+ghost use Rattle.odht_tool_reads.specs.Positions.{ByPosition, IsShortSearch, IsTableAt};
 
 use crate::lookups::words::{Answer, write_words};
 use odht::dynamic::{FileTable, ShortBytes};
 use odht::hash::HashFn;
+use odht::memory_layout::DEFAULT_GROUPS;
 use odht::read_at::ReadAt;
 use odht_tool_core::failure::Failure;
 use odht_tool_core::forms::{Form, GivenForms};
@@ -21,8 +22,8 @@ use odht_tool_core::text::Text;
 use std::alloc::{AllocError, Global};
 use std::io::Write;
 
-/// Looks up the keys of the words, and writes a line for each. None where a read failed: nothing
-/// was written then.
+/// Looks up the keys of the words, and writes a line for each. None where a read failed, or a search
+/// was longer than the bound: nothing was written then.
 pub(super) fn answer_words_at<H: HashFn, S: ReadAt + Drop, O: Write>(
     alloc: Global,
     table: &FileTable<H, S>,
@@ -48,7 +49,7 @@ pub(super) fn answer_words_at<H: HashFn, S: ReadAt + Drop, O: Write>(
     }
 }
 
-// The answers to the words. None where a read failed.
+// The answers to the words. None where a read failed, or a search was longer than the bound.
 fn answers_at<H: HashFn, S: ReadAt + Drop>(
     alloc: Global,
     table: &FileTable<H, S>,
@@ -61,6 +62,10 @@ fn answers_at<H: HashFn, S: ReadAt + Drop>(
         → IfOk result (λ o. IfSome o (λ v.
         AllZip (IsWordAnswer (file_coding table.now H.hash) (IsDynamicOf form) B)
         (map string_bytes words.now) v.items)) }
+    ensures short { (B : List ℕ)
+        → IsTableAt S.gives H.hash table.now.key_len table.now.value_len table.now B
+        → IfOk result (λ o. IfSome o (λ v.
+        All (λ a. IsShortSearch (file_coding table.now H.hash) B a.0) v.items)) }
 {
     let mut answers = Vec::with_capacity(alloc, words.len())?;
     for word in words {
@@ -72,19 +77,25 @@ fn answers_at<H: HashFn, S: ReadAt + Drop>(
     Ok(Some(answers))
 }
 
-// The answer to a word. None where a read failed.
+// The answer to a word. None where a read failed, or the search was longer than the bound.
 fn answer_at<H: HashFn, S: ReadAt + Drop>(
     table: &FileTable<H, S>,
     form: Form,
     word: &[u8],
 ) -> Option<Answer>
-    ensures { (B : List ℕ)
+    ensures given { (B : List ℕ)
         → IsTableAt S.gives H.hash table.now.key_len table.now.value_len table.now B
         → IfSome result (IsWordAnswer (file_coding table.now H.hash) (IsDynamicOf form) B word.now) }
+    ensures short { (B : List ℕ)
+        → IsTableAt S.gives H.hash table.now.key_len table.now.value_len table.now B
+        → IfSome result (λ a. IsShortSearch (file_coding table.now H.hash) B a.0) }
 {
     match ShortBytes::parse(word, form) {
         Some(key) => {
-            let value = table.get(key.as_slice()).ok()?;
+            let (value, groups) = table.get_counted(key.as_slice()).ok()?;
+            if groups > DEFAULT_GROUPS {
+                return None;
+            }
             Some((Some(key), value))
         }
         None => Some((None, None)),

@@ -3,6 +3,7 @@
 
 use crate::host::prelude::*;
 
+mod bounds;
 pub mod commands;
 mod dynamic;
 mod generated;

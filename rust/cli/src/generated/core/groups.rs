@@ -52,6 +52,24 @@ pub fn groups_to_free(
     groups.min(most + 1)
 }
 
+/// Whether one of the first `most` groups that a search from this home reads has a control byte that
+/// counts as free, so that no search from it reads more. The control bytes end with their mirror.
+///
+/// It reads these groups up to the first with such a byte.
+pub fn ends_within(control: &[u8], home: usize, slots: usize, most: usize) -> bool {
+    let groups = slots / 16;
+    let mut probe = GroupProbe::new(control, slots, home);
+    for group in 0..most.min(groups) {
+        if GroupQuery::of(probe.read(), 0).any_empty() {
+            return true;
+        }
+        if group + 1 < groups {
+            probe.advance();
+        }
+    }
+    false
+}
+
 // How many of that many groups are looked at, by the bound.
 fn most_groups(groups: usize, bound: Option<usize>) -> usize {
     match bound {

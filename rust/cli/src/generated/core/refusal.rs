@@ -25,7 +25,7 @@ impl fmt::Display for Refusal {
 // What can be done about an error: of a bound of searches, that there need be none.
 fn advice_of(error: &Error) -> &'static str {
     match error {
-        Error::SearchTooLong { .. } => "; --whole checks without a bound",
+        Error::SearchTooLong { .. } => "; --whole works without this bound",
         _ => "",
     }
 }

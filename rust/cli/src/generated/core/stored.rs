@@ -3,7 +3,7 @@
 
 use crate::generated::base::hash::{FxHashFn, HashFn, UnHashFn, Xxh64HashFn};
 use crate::generated::base::swisstable_group_query::is_empty_or_deleted;
-use crate::generated::core::groups::{groups_to, groups_to_free};
+use crate::generated::core::groups::{ends_within, groups_to, groups_to_free};
 use crate::generated::core::histogram::Histogram;
 use crate::generated::core::shapes::Hash;
 use crate::generated::core::stretches::{stretch_len, STRETCHES};
@@ -178,6 +178,33 @@ impl<'a> StoredTable<'a> {
             longest = longest.max(groups);
         }
         longest
+    }
+
+    /// `SearchTooLong` of the least home from which a search may read more groups than the bound;
+    /// None without a bound. It reads only control bytes, at most `bound` groups a slot.
+    pub fn longer_refusal(&self, bound: Option<usize>) -> Option<Error> {
+        let Some(groups) = bound else {
+            return None;
+        };
+        // Fast where no search is longer, as in most tables.
+        if self.table.searches_within(groups) {
+            return None;
+        }
+        match self.first_longer(groups) {
+            Some(home) => Some(Error::SearchTooLong { home, groups }),
+            None => None,
+        }
+    }
+
+    // The least home from which a search may read more groups.
+    fn first_longer(&self, groups: usize) -> Option<usize> {
+        let (control, slots) = (self.table.controls(), self.table.len());
+        for home in 0..slots {
+            if !ends_within(control, home, slots, groups) {
+                return Some(home);
+            }
+        }
+        None
     }
 }
 

@@ -250,6 +250,7 @@ impl Draft {
             Topic::Dump => Reading::Dump {
                 hash,
                 kinds,
+                bound,
                 is_slots: self.is_slots,
                 is_values: self.is_values,
                 is_json: self.is_json,

@@ -10,6 +10,7 @@ use crate::generated::core::shapes::{Hash, Part};
 use crate::generated::core::status::{of_output, Status};
 use crate::generated::core::typed::stored::{Digits32, Digits64, TextWriter, Typed};
 use crate::generated::core::typed::Texts;
+use crate::generated::reads::bounds::check_bound;
 use crate::generated::tables::hash::HashFn;
 use crate::generated::tables::raw_table::DynIter;
 use crate::generated::tables::{FxHashFn, UnHashFn, Xxh64HashFn};
@@ -17,8 +18,25 @@ use crate::generated::tool_tables::dynamic::{lengths_of, open_lengths};
 use crate::host::prelude::*;
 use std::io::{self, Write};
 
+/// `odht dump --slots` of the bytes of a file, with `--json` or without: writes a line for each
+/// pair, in slot order. It searches each key. So where a search may read more groups than the bound
+/// it fails before it writes.
+pub fn dump_slots<O: Write>(
+    bytes: &[u8],
+    hash: Option<Hash>,
+    kinds: Kinds,
+    bound: Option<usize>,
+    is_json: bool,
+    output: &mut O,
+) -> Result<Status, Failure> {
+    match check_bound(bytes, bound) {
+        Ok(()) => dump_file(bytes, hash, kinds, true, is_json, output),
+        Err(error) => Err(Failure::Refused(error)),
+    }
+}
+
 /// `odht dump` of the bytes of a file, with `--slots` and with `--json` or without: writes a line
-/// for each pair, in slot order.
+/// for each pair, in slot order. Searches have no bound.
 pub fn dump_file<O: Write>(
     bytes: &[u8],
     hash: Option<Hash>,

@@ -9,13 +9,14 @@ use crate::generated::core::text::Text;
 use crate::generated::reads::lookups::words::{write_words, Answer};
 use crate::generated::tables::dynamic::{FileTable, ShortBytes};
 use crate::generated::tables::hash::HashFn;
+use crate::generated::tables::memory_layout::DEFAULT_GROUPS;
 use crate::generated::tables::read_at::ReadAt;
 use crate::host::prelude::*;
 use crate::shim::{AllocError, Global};
 use std::io::Write;
 
-/// Looks up the keys of the words, and writes a line for each. None where a read failed: nothing
-/// was written then.
+/// Looks up the keys of the words, and writes a line for each. None where a read failed, or a search
+/// was longer than the bound: nothing was written then.
 pub(super) fn answer_words_at<H: HashFn, S: ReadAt, O: Write>(
     alloc: Global,
     table: &FileTable<H, S>,
@@ -32,7 +33,7 @@ pub(super) fn answer_words_at<H: HashFn, S: ReadAt, O: Write>(
     }
 }
 
-// The answers to the words. None where a read failed.
+// The answers to the words. None where a read failed, or a search was longer than the bound.
 fn answers_at<H: HashFn, S: ReadAt>(
     alloc: Global,
     table: &FileTable<H, S>,
@@ -49,7 +50,7 @@ fn answers_at<H: HashFn, S: ReadAt>(
     Ok(Some(answers))
 }
 
-// The answer to a word. None where a read failed.
+// The answer to a word. None where a read failed, or the search was longer than the bound.
 fn answer_at<H: HashFn, S: ReadAt>(
     table: &FileTable<H, S>,
     form: Form,
@@ -57,7 +58,10 @@ fn answer_at<H: HashFn, S: ReadAt>(
 ) -> Option<Answer> {
     match ShortBytes::parse(word, form) {
         Some(key) => {
-            let value = table.get(key.as_slice()).ok()?;
+            let (value, groups) = table.get_counted(key.as_slice()).ok()?;
+            if groups > DEFAULT_GROUPS {
+                return None;
+            }
             Some((Some(key), value))
         }
         None => Some((None, None)),

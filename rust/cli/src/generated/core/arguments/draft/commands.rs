@@ -79,6 +79,7 @@ impl Draft {
             reading: Reading::Get {
                 hash: self.hash,
                 kinds: self.kinds,
+                bound: bound_of(self.is_whole),
                 keys,
                 is_values: self.is_values,
                 is_json: self.is_json,
