@@ -207,6 +207,69 @@ module _ (B : List ℕ) (at next slots : ℕ) (found : List ℕ) (h : IsSearched
         | inr late ↦ absurd (true≢false (sym g.2 ∙ none_past B t (omega (arith, l, late))))
       ]
 
+-- ---- several bytes further
+-- inside of the last table
+pub inside_further : (B : List ℕ) (at next slots : ℕ) (found : List ℕ) (k : ℕ) → at + k ≤ next → IsSearched B at next slots found → IsSearched B (at + k) next slots found
+inside_further B at next slots found zero l h = let e : at ≡ at + 0 = omega arith in subst (λ a. IsSearched B a next slots found) e h
+inside_further B at next slots found (suc k) l h =
+    let e : at + k + 1 ≡ at + suc k = omega arith in
+    subst (λ a. IsSearched B a next slots found) e
+    (inside_searched B (at + k) next slots found (inside_further B at next slots found k (omega (arith, l)) h) (omega (arith, l)))
+
+-- past bytes with which no table begins
+pub others_passed : (B : List ℕ) (at next slots : ℕ) (found : List ℕ) (k : ℕ) → next ≤ at → ((i : ℕ) → at ≤ i → i < at + k → get_or B i 0 ≡ 79 → ⊥)
+    → IsSearched B at next slots found → IsSearched B (at + k) next slots found
+others_passed B at next slots found zero l others h = let e : at ≡ at + 0 = omega arith in subst (λ a. IsSearched B a next slots found) e h
+others_passed B at next slots found (suc k) l others h =
+    let before = others_passed B at next slots found k l (λ i m n. others i m (omega (arith, n))) h in
+    let none = other_first B (at + k) (others (at + k) (omega arith) (omega arith)) in
+    let e : at + k + 1 ≡ at + suc k = omega arith in
+    subst (λ a. IsSearched B a next slots found) e (nothing_searched B (at + k) next slots found before (omega (arith, l)) none.0 none.1)
+
+-- ---- the search goes on behind the last table: where all bytes before `at` are searched
+pub record IsSearchedTo (B : List ℕ) (at slots : ℕ) (found : List ℕ) : Type 0 where
+  pub next : ℕ
+  pub before : next ≤ at
+  pub within : at ≤ length B
+  pub searched : IsSearched B at next slots found
+
+-- the same of equal numbers and lists
+pub same_searched_to : (B : List ℕ) (at slots a s : ℕ) (found f : List ℕ) → a ≡ at → s ≡ slots → f ≡ found → IsSearchedTo B at slots found → IsSearchedTo B a s f
+same_searched_to B at slots a s found f p q r h = rw p (rw q (rw r h))
+
+module _ (B : List ℕ) (at slots : ℕ) (found : List ℕ) (h : IsSearchedTo B at slots found) where
+  -- a table begins at the byte: the search goes on at its end
+  pub table_further : (n : ℕ) (more : List ℕ) → is_table (drop at B) ≡ true → n ≡ stated_len (drop at B) → at + n ≤ length B → more ≡ found ++ (at ∷ []) → IsSearchedTo B (at + n) slots more
+  table_further n more e is most added =
+      let first = table_searched B at h.next slots found h.searched n more h.before e is most added in
+      let some : 1 ≤ n = omega (arith, is) in
+      let end : at + 1 + (n - 1) ≡ at + n = omega (arith, some) in
+      record {
+        next = at + n;
+        before = omega arith;
+        within = most;
+        searched = subst (λ a. IsSearched B a (at + n) slots more) end (inside_further B (at + 1) (at + n) slots more (n - 1) (omega (arith, end)) first);
+      }
+
+  -- else at the next byte with which one may begin
+  module _ (to : ℕ) (l : at + 1 ≤ to) (m : to ≤ length B) (others : (i : ℕ) → at + 1 ≤ i → i < to → get_or B i 0 ≡ 79 → ⊥) where
+    passed_to : (s : ℕ) → IsSearched B (at + 1) h.next s found → IsSearchedTo B to s found
+    passed_to s one =
+        let end : at + 1 + (to - (at + 1)) ≡ to = omega (arith, l) in
+        record {
+          next = h.next;
+          before = omega (arith, h.before, l);
+          within = m;
+          searched = subst (λ a. IsSearched B a h.next s found) end
+              (others_passed B (at + 1) h.next s found (to - (at + 1)) (omega (arith, h.before)) (λ i a b. others i a (omega (arith, b, end))) one);
+        }
+
+    pub nothing_further : is_table (drop at B) ≡ false → is_false (drop at B) ≡ false → IsSearchedTo B to slots found
+    nothing_further e f = passed_to slots (nothing_searched B at h.next slots found h.searched h.before e f)
+
+    pub false_further : (n : ℕ) → is_table (drop at B) ≡ false → is_false (drop at B) ≡ true → n ≡ header_slots (drop at B) → slots + n ≤ length B → IsSearchedTo B to (slots + n) found
+    false_further n e f is few = passed_to (slots + n) (false_searched B at h.next slots found h.searched n h.before e f is few)
+
 -- a table that begins inside of some bytes ends inside of them
 pub inside : (B : List ℕ) (at n : ℕ) → at < length B → n ≤ length (drop at B) → at + n ≤ length B
 inside B at n l m = omega (arith, l, m, length-drop at B)

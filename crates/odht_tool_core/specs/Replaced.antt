@@ -3,6 +3,7 @@
 --     irregular k              why a file of this kind is not replaced, if there is a reason
 --     obstacle_of m n b        why a file of the mode m and of n names is not replaced, if there is a reason; b says that
 --                              other names may be left with the old file
+--     is_device m          a file of the mode m is a device
 --     obstacle_text o          what `{}` writes of a reason
 --     within_owner m           a mask: all bits of the owner, and of the group and the others those that the owner has
 --     in_both m                a mask: all bits of the owner, and of the group and the others those that both have
@@ -32,6 +33,9 @@ obstacle_or None other = other
 
 abbrev pub obstacle_of : ℕ → ℕ → Bool → Option Obstacle
 obstacle_of m n b = obstacle_or (irregular (bit_and m 0o170000)) (regular_obstacle m n b)
+
+abbrev pub is_device : ℕ → Bool
+is_device m = let k = bit_and m 0o170000 in (k == 0o060000) || (k == 0o020000)
 
 abbrev pub obstacle_text : Obstacle → List ℕ
 obstacle_text Folder = codes "it is a folder, not a regular file"

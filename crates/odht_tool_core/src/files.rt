@@ -1,16 +1,19 @@
 //! Whole files, read at once.
 use crate::failure::Failure;
 use crate::front::begins_table;
+use crate::obstacles::is_device;
 use odht_header::header::HEADER_SIZE;
 use std::alloc::Global;
 use std::fs::{self, OpenFile};
 use std::io::{self, BufRead, Read};
+use std::os::unix::fs::MetadataExt;
 use std::rt::Files;
 
 /// In how many bytes after the header of no table another table is looked for.
 const MOST_LOOKED: u64 = 1 << 24;
 
-/// All bytes of a file. The memory is allocated once, for the length that the file has at first.
+/// All bytes of a file, which is no device. The memory is allocated once, for the length that the
+/// file has at first.
 pub fn read_file<R: Files + AllocGlobal>(rt: &R, path: &str) -> Result<Vec<u8>, Failure> {
     read_bytes(rt, path).map_err(of_reading)
 }
@@ -58,8 +61,12 @@ fn of_reading(error: io::Error) -> Failure {
 fn read_bytes<R: Files + AllocGlobal>(rt: &R, path: &str) -> io::Result<Vec<u8>> {
     let alloc: Global = rt.alloc();
     let mut file = fs::open(rt, path)?;
-    let len = file.metadata()?.len();
-    let mut bytes = Vec::with_capacity(alloc, usize::try_from(len).unwrap_or(0))?;
+    let found = file.metadata()?;
+    if is_device(found.mode()) {
+        return Err(io::Error::other("it is a device, not a regular file"));
+    }
+    let len = usize::try_from(found.len()).unwrap_or(0);
+    let mut bytes = Vec::with_capacity(alloc, len)?;
     file.read_to_end(&mut bytes)?;
     Ok(bytes)
 }

@@ -1,6 +1,6 @@
 //! `odht find`: the tables inside a file.
 ghost use Rattle.std.specs.Prelude.{◌≡◌, ◌==◌, ◌<◌, ◌≤◌, IfOk, IfErr, IfSome, OnOk, OnSome, [], ◌∷◌, ◌++◌, drop, is_none};
-ghost use Rattle.std.specs.Prelude.{is_some, length, map, take};
+ghost use Rattle.std.specs.Prelude.{◌≢◌, ℕ, get_or, is_some, length, map, take};
 ghost use Rattle.std.specs.Io.KnownBytes.{Appends};
 ghost use Rattle.odht_base.specs.Decoded.{header_count};
 ghost use Rattle.odht_header.specs.Refusals.{room_refusal};
@@ -15,6 +15,7 @@ ghost use Rattle.odht_tool_core.specs.Fronts.{stated_len};
 
 use crate::failure::Failure;
 use crate::front::front_of;
+use crate::places::place_of;
 use crate::report::{Field, Value, Words, write_among};
 use crate::shapes::Hash;
 use crate::stored::StoredTable;
@@ -40,7 +41,7 @@ enum Look {
 /// The offsets of the tables inside these bytes, in their order. After a table the search goes on
 /// behind it.
 ///
-/// Each byte is looked at once for a first byte of a header. Where a header fits, its control
+/// Bytes with which no header begins are passed, sixteen at once. Where a header fits, its control
 /// bytes and the keys of its occupied slots are read, up to the first misfit of these. The slots
 /// of the headers whose control bytes do not fit are counted, and where they become more than the
 /// file has bytes, which no file has whose headers do not overlap, it is `Forged`, and only there.
@@ -51,27 +52,35 @@ pub fn find_tables(alloc: Global, bytes: &[u8]) -> Result<Vec<usize>, Failure>
     ensures err { IfErr result (IsFindFailure bytes.now) }
 {
     let mut tables = Vec::new(alloc);
-    let mut next = 0_usize;
     let mut false_slots = 0_usize;
-    for at in 0..bytes.len() {
-        if at < next {
-            continue;
-        }
+    let mut at = 0_usize;
+    while at < bytes.len() {
         match look_at(bytes, at) {
             Look::Table(len) => {
                 add(&mut tables, at)?;
-                next = at + len;
+                at += len;
             }
             Look::False(slots) => {
                 false_slots = false_slots.saturating_add(slots);
                 if bytes.len() < false_slots {
                     return Err(Failure::Forged);
                 }
+                at = next_first(bytes, at + 1);
             }
-            Look::Nothing => {}
+            Look::Nothing => at = next_first(bytes, at + 1),
         }
     }
     Ok(tables)
+}
+
+// The first place from this one on of a byte with which a table may begin, or the end.
+fn next_first(bytes: &[u8], from: usize) -> usize
+    requires { from ≤ length bytes.now }
+    ensures after { from ≤ result }
+    ensures within { result ≤ length bytes.now }
+    ensures others { (i : ℕ) → from ≤ i → i < result → get_or bytes.now i 0 ≢ FIRST }
+{
+    from + place_of(&bytes[from..], FIRST)
 }
 
 // Adds an offset.

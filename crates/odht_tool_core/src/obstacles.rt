@@ -1,7 +1,7 @@
-//! Which files are replaced, and which permissions the new one gets, by the numbers that the
-//! system gives of a file.
+//! Which files are replaced or read whole, and which permissions a new one gets, by the numbers that
+//! the system gives of a file.
 ghost use Rattle.std.specs.Prelude.{◌≡◌, bit_and, Some};
-ghost use Rattle.odht_tool_core.specs.Replaced.{obstacle_of, obstacle_text, irregular};
+ghost use Rattle.odht_tool_core.specs.Replaced.{is_device, obstacle_of, obstacle_text, irregular};
 ghost use Rattle.odht_tool_core.specs.Replaced.{kept_mode, within_owner, in_both};
 
 use std::fmt;
@@ -88,6 +88,14 @@ fn irregular(kind: u32) -> Option<Obstacle>
     } else {
         Some(Obstacle::Irregular)
     }
+}
+
+/// Whether a file of this mode, with its kind, is a device: its end may never come.
+pub fn is_device(mode: u32) -> bool
+    ensures { result ≡ is_device mode }
+{
+    let kind = mode & KIND_BITS;
+    kind == BLOCK_DEVICE || kind == CHARACTER_DEVICE
 }
 
 /// The permissions of the file that replaces one of this mode, where the system has left the new

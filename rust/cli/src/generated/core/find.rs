@@ -4,6 +4,7 @@
 use crate::generated::base::load::max_item_count_for;
 use crate::generated::core::failure::Failure;
 use crate::generated::core::front::front_of;
+use crate::generated::core::places::place_of;
 use crate::generated::core::report::{write_among, Field, Value, Words};
 use crate::generated::core::shapes::Hash;
 use crate::generated::core::stored::StoredTable;
@@ -29,33 +30,36 @@ enum Look {
 /// The offsets of the tables inside these bytes, in their order. After a table the search goes on
 /// behind it.
 ///
-/// Each byte is looked at once for a first byte of a header. Where a header fits, its control
+/// Bytes with which no header begins are passed, sixteen at once. Where a header fits, its control
 /// bytes and the keys of its occupied slots are read, up to the first misfit of these. The slots
 /// of the headers whose control bytes do not fit are counted, and where they become more than the
 /// file has bytes, which no file has whose headers do not overlap, it is `Forged`, and only there.
 pub fn find_tables(alloc: Global, bytes: &[u8]) -> Result<Vec<usize>, Failure> {
     let mut tables = crate::host::lists::empty(alloc);
-    let mut next = 0_usize;
     let mut false_slots = 0_usize;
-    for at in 0..bytes.len() {
-        if at < next {
-            continue;
-        }
+    let mut at = 0_usize;
+    while at < bytes.len() {
         match look_at(bytes, at) {
             Look::Table(len) => {
                 add(&mut tables, at)?;
-                next = at + len;
+                at += len;
             }
             Look::False(slots) => {
                 false_slots = false_slots.saturating_add(slots);
                 if bytes.len() < false_slots {
                     return Err(Failure::Forged);
                 }
+                at = next_first(bytes, at + 1);
             }
-            Look::Nothing => {}
+            Look::Nothing => at = next_first(bytes, at + 1),
         }
     }
     Ok(tables)
+}
+
+// The first place from this one on of a byte with which a table may begin, or the end.
+fn next_first(bytes: &[u8], from: usize) -> usize {
+    from + place_of(&bytes[from..], FIRST)
 }
 
 // Adds an offset.

@@ -1,6 +1,6 @@
 // Generated from crates/odht_tool_core/src/obstacles.rt by make generate.
-//! Which files are replaced, and which permissions the new one gets, by the numbers that the
-//! system gives of a file.
+//! Which files are replaced or read whole, and which permissions a new one gets, by the numbers that
+//! the system gives of a file.
 
 use crate::host::prelude::*;
 use std::fmt;
@@ -83,6 +83,12 @@ fn irregular(kind: u32) -> Option<Obstacle> {
     } else {
         Some(Obstacle::Irregular)
     }
+}
+
+/// Whether a file of this mode, with its kind, is a device: its end may never come.
+pub fn is_device(mode: u32) -> bool {
+    let kind = mode & KIND_BITS;
+    kind == BLOCK_DEVICE || kind == CHARACTER_DEVICE
 }
 
 /// The permissions of the file that replaces one of this mode, where the system has left the new
