@@ -188,7 +188,7 @@ def all_tests(words, room):
     passed += memory(program, room)
     runs = [["tests/cases.py", program, "made=erased", "tests/tool"]]
     names = ("sizes", "objects", "lines", "progress", "live", "large", "together", "pairs", "stored", "mixing",
-             "evidence", "random_files")
+             "evidence", "random_files", "examples", "toolchain")
     return passed, runs + [[f"tests/{it}.py", program] for it in names]
 
 

@@ -1,6 +1,7 @@
 #!/usr/bin/env python3
 """Tests that the program `odht` counts the items of a table that is larger than memory: it reads only the header. The
-file is sparse: a header of 2^36 slots for keys of eight bytes and values of four, and no other byte written.
+file is sparse: a header of 2^36 slots for keys of eight bytes and values of four, and no other byte written. And that it
+rejects 3 GB of zeros at once, in little memory.
 
   tests/large.py PROGRAM..
 
@@ -18,17 +19,39 @@ ITEMS = 123_456_789
 # as docs/FORMAT.md has them: tag, lengths, item count, slot count, version, load factor, padding
 HEADER = (b"ODHT" + bytes([1, 8, 4, 32]) + ITEMS.to_bytes(8, "little") + SLOTS.to_bytes(8, "little") + bytes([0, 0, 0, 2])
           + (57015).to_bytes(2, "little") + bytes(2))
-# bytes of memory that the program may have
-MEMORY = 1 << 28
+ZEROS = 3 << 30
+# what is told of a file of zeros, and by which commands with which status: `check` has it as its verdict
+FOREIGN = 'zeros: not an odht table: it begins with 00 00 00 00, "\\x00\\x00\\x00\\x00"\n'
+REJECTED = [
+    (["info", "zeros"], (1, "", f"odht: {FOREIGN}")),
+    (["check", "zeros"], (1, FOREIGN, "")),
+    (["count", "zeros"], (1, "", f"odht: {FOREIGN}")),
+    (["get", "zeros", "1"], (2, "", f"odht: {FOREIGN}")),
+]
+# bytes of memory, and seconds of processor time, that the program may have
+MEMORY, SECONDS = 1 << 28, 2
 
 
 def limited():
     resource.setrlimit(resource.RLIMIT_AS, (MEMORY, MEMORY))
+    resource.setrlimit(resource.RLIMIT_CPU, (SECONDS, SECONDS))
+
+
+def run(program, words, folder):
+    done = subprocess.run([program, *words], capture_output=True, preexec_fn=limited, timeout=60, cwd=folder)
+    return done.returncode, done.stdout.decode(), done.stderr.decode()
 
 
 def counted(program, name, *words):
-    done = subprocess.run([program, "count", name, *words], capture_output=True, preexec_fn=limited, timeout=20)
-    return done.returncode, done.stdout.decode(), done.stderr.decode()
+    return run(program, ["count", name, *words], None)
+
+
+def test_zeros(program, room):
+    with open(f"{room}/zeros", "wb") as it:
+        it.truncate(ZEROS)
+    for words, wanted in REJECTED:
+        found = run(program, words, room)
+        assert found == wanted, (words, found)
 
 
 def test(program, room):
@@ -51,6 +74,7 @@ def main(*programs):
         with tempfile.TemporaryDirectory() as room:
             try:
                 test(program, room)
+                test_zeros(program, room)
             except (AssertionError, subprocess.TimeoutExpired) as error:
                 failed += 1
                 print(f"FAILED large: {program}: {error}")
