@@ -187,8 +187,8 @@ def all_tests(words, room):
     program, passed = (os.path.abspath(words[0]), 0) if words else tested(room)
     passed += memory(program, room)
     runs = [["tests/cases.py", program, "made=erased", "tests/tool"]]
-    names = ("sizes", "objects", "lines", "progress", "live", "large", "together", "pairs", "stored", "mixing",
-             "evidence", "random_files", "examples", "toolchain")
+    names = ("sizes", "objects", "lines", "progress", "live", "large", "few_lines", "together", "pairs", "stored",
+             "mixing", "evidence", "random_files", "examples", "toolchain")
     return passed, runs + [[f"tests/{it}.py", program] for it in names]
 
 

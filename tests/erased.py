@@ -145,6 +145,7 @@ UNDONE = {
         r"crate :: host :: io :: filesystem_loop \( \)", "io :: Error :: from ( ErrorKind :: FilesystemLoop )"
     ),
     "a call of the host": (r"\. try_(collect|extend_from_slice|push|read_until) \(", r". \1 ("),
+    "an exported macro": (r"(?<=\buse )crate :: (?=for_shape ;)", "odht_tool_tables :: "),
     "an entry": (r"\bpub fn main \( rt :", "fn main ( rt :"),
     "a word of the version": (r'(\bconst MADE : & str = )"erased"', r'\1"proved"'),
 }

@@ -170,8 +170,8 @@ def crate_beside_the_archive(part):
 
 def program_of_the_kit(part):
     tool = f"{BUILT}/odht_tool"
-    names = ("sizes", "objects", "lines", "progress", "live", "large", "together", "pairs", "stored", "evidence",
-             "random_files", "examples", "toolchain")
+    names = ("sizes", "objects", "lines", "progress", "live", "large", "few_lines", "together", "pairs", "stored",
+             "evidence", "random_files", "examples", "toolchain")
     runs = [["tests/cases.py", tool, "tests/tool"], *([f"tests/{it}.py", tool] for it in names)]
     # some of them mostly wait
     ran = watched.run_at_once(4, runs, lambda words: part.run(sys.executable, *words))

@@ -24,8 +24,8 @@ _odht() {
         info:-*) COMPREPLY=($(compgen -W '--help --whole --json --at' -- "$word"));;
         check:-*) COMPREPLY=($(compgen -W '--help --whole --json --hash --at' -- "$word"));;
         count:-*) COMPREPLY=($(compgen -W '--help --check --whole --hash --at' -- "$word"));;
-        get:-*) COMPREPLY=($(compgen -W '--help --values --json --null --key --value --hash --at' -- "$word"));;
-        dump:-*) COMPREPLY=($(compgen -W '--help --slots --values --json --null --key --value --hash --at' -- "$word"));;
+        get:-*) COMPREPLY=($(compgen -W '--help --values --json --null --key --value --whole --hash --at' -- "$word"));;
+        dump:-*) COMPREPLY=($(compgen -W '--help --slots --values --json --null --key --value --whole --hash --at' -- "$word"));;
         keys:-*) COMPREPLY=($(compgen -W '--help --json --null --key --hash --at' -- "$word"));;
         find:-*) COMPREPLY=($(compgen -W '--help --whole --json' -- "$word"));;
         order:-*) COMPREPLY=($(compgen -W '--help --whole --key --value --hash --at' -- "$word"));;

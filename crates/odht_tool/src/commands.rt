@@ -6,9 +6,10 @@ use odht_tool_core::files::input_len;
 use odht_tool_core::front::table_at;
 use odht_tool_core::help::{write_help, write_version};
 use odht_tool_core::inside::{first_inside, is_followed, write_inside};
-use odht_tool_core::job::Job;
+use odht_tool_core::job::{Job, Streams};
 use odht_tool_core::json::answers::Printed;
 use odht_tool_core::status::{Status, of_output};
+use odht_tool_reads::bounds::check_bound;
 use odht_tool_reads::commands::diff;
 use odht_tool_reads::lookups::arriving::Arriving;
 use odht_tool_reads::positions::{self, Asked};
@@ -30,30 +31,28 @@ use readings::{count_label, run_reading};
 pub fn run<R: Files + AllocGlobal + Clock, I: BufRead + Arriving, O: Write, E: Write + IsTerminal>(
     rt: &R,
     request: Result<Request, Misuse>,
-    input: &mut I,
-    output: &mut O,
-    errors: &mut E,
+    streams: &mut Streams<'_, '_, '_, I, O, E>,
 ) -> Status
 where
     R::File: AsFd + FileExt,
 {
     match request {
         Ok(Request::Help(topic)) => {
-            let done = of_output(write_help(topic, output));
-            finish("help", flushed(done, output), errors)
+            let done = of_output(write_help(topic, streams.output));
+            finish("help", flushed(done, streams.output), streams.errors)
         }
         Ok(Request::Version) => {
-            let done = of_output(write_version(output));
-            finish("version", flushed(done, output), errors)
+            let done = of_output(write_version(streams.output));
+            finish("version", flushed(done, streams.output), streams.errors)
         }
         Ok(Request::Run { file, command, .. }) => {
             let file = file.as_str();
             let failed = command.failed();
-            let done = run_command(rt, file, command, input, output, errors);
-            finish_as(file, flushed(done, output), failed, errors)
+            let done = run_command(rt, file, command, streams);
+            finish_as(file, flushed(done, streams.output), failed, streams.errors)
         }
         Err(misuse) => {
-            report_misuse(&misuse, errors);
+            report_misuse(&misuse, streams.errors);
             misuse.status()
         }
     }
@@ -85,9 +84,7 @@ fn run_command<
     rt: &R,
     file: &str,
     command: Command,
-    input: &mut I,
-    output: &mut O,
-    errors: &mut E,
+    streams: &mut Streams<'_, '_, '_, I, O, E>,
 ) -> Result<Status, Failure>
 where
     R::File: AsFd + FileExt,
@@ -97,27 +94,23 @@ where
             others,
             at,
             reading,
-        } => {
-            let others = others.as_slice();
-            read_files(rt, file, others, at, &reading, input, output, errors)
-        }
+        } => read_files(rt, file, others.as_slice(), at, &reading, streams),
         Command::Build(mut options) => {
-            options.watch = options.watch.with_bar(rt, errors);
-            build::build(rt, file, options, input, output, errors)
+            options.watch = options.watch.with_bar(rt, streams.errors);
+            build::build(rt, file, options, streams)
         }
-        Command::Delete(options) => delete::delete(rt, file, &options, input, errors),
-        Command::Rebuild(options) => rebuild::rebuild(rt, file, options, errors),
-        Command::Diff(options) => diff::diff(rt, file, options, input, output, errors),
-        Command::Merge(options) => merge::merge(rt, file, options, input, output, errors),
+        Command::Delete(options) => {
+            delete::delete(rt, file, &options, streams.input, streams.errors)
+        }
+        Command::Rebuild(options) => rebuild::rebuild(rt, file, options, streams.errors),
+        Command::Diff(options) => diff::diff(rt, file, options, streams),
+        Command::Merge(options) => merge::merge(rt, file, options, streams),
         Command::Put { options, words } if !words.is_empty() => {
-            build::put(rt, file, options, input, output, errors).map_err(|failure| of_words(
-                rt.alloc(),
-                failure,
-            ))
+            build::put(rt, file, options, streams).map_err(|failure| of_words(rt.alloc(), failure))
         }
         Command::Put { mut options, .. } => {
-            options.watch = options.watch.with_bar(rt, errors);
-            build::put(rt, file, options, input, output, errors)
+            options.watch = options.watch.with_bar(rt, streams.errors);
+            build::put(rt, file, options, streams)
         }
     }
 }
@@ -131,23 +124,21 @@ fn read_files<R: Files + AllocGlobal, I: BufRead + Arriving, O: Write, E: Write>
     others: &[String],
     at: Option<usize>,
     reading: &Reading,
-    input: &mut I,
-    output: &mut O,
-    errors: &mut E,
+    streams: &mut Streams<'_, '_, '_, I, O, E>,
 ) -> Result<Status, Failure>
 where
     R::File: FileExt,
 {
     let is_one = others.is_empty();
-    let done = read_one(rt, file, is_one, at, reading, input, output, errors);
+    let done = read_one(rt, file, is_one, at, reading, streams);
     if is_one {
         return done;
     }
-    let mut is_done = is_read(file, done, output, errors)?;
+    let mut is_done = is_read(file, done, streams.output, streams.errors)?;
     for other in others {
         let file = other.as_str();
-        let done = read_one(rt, file, is_one, at, reading, input, output, errors);
-        is_done = is_read(file, done, output, errors)? && is_done;
+        let done = read_one(rt, file, is_one, at, reading, streams);
+        is_done = is_read(file, done, streams.output, streams.errors)? && is_done;
     }
     Ok(Status::of(is_done))
 }
@@ -178,21 +169,18 @@ fn read_one<R: Files + AllocGlobal, I: BufRead + Arriving, O: Write, E: Write>(
     is_one: bool,
     at: Option<usize>,
     reading: &Reading,
-    input: &mut I,
-    output: &mut O,
-    errors: &mut E,
+    streams: &mut Streams<'_, '_, '_, I, O, E>,
 ) -> Result<Status, Failure>
 where
     R::File: FileExt,
 {
-    if let Some(status) = read_by_position(rt, file, is_one, at, reading, input, output)? {
+    if let Some(status) = read_by_position(rt, file, is_one, at, reading, streams)? {
         return Ok(status);
     }
-    let offset = at.unwrap_or(0);
     let bytes = if reading.is_search() {
-        read_bytes(rt, file, input)?
+        read_bytes(rt, file, streams.input)?
     } else {
-        read_table_bytes(rt, file, offset, input)?
+        read_table_bytes(rt, file, at.unwrap_or(0), streams.input)?
     };
     let table = match at {
         Some(offset) => table_at(bytes.as_slice(), offset)?,
@@ -208,21 +196,11 @@ where
         is_json: false,
         is_values: false,
     };
-    let done = run_reading(job, reading, is_live(rt, reading), input, output, errors);
+    let done = run_reading(&job, reading, is_live(rt, reading), streams);
     if reading.is_search() {
         done
     } else {
-        let failed = reading.failed();
-        with_hint(
-            rt.alloc(),
-            file,
-            table,
-            offset,
-            done,
-            failed,
-            output,
-            errors,
-        )
+        with_hint(&job, done, reading.failed(), streams.output, streams.errors)
     }
 }
 
@@ -239,14 +217,13 @@ fn is_live<R: Files>(rt: &R, reading: &Reading) -> bool {
 
 // Looks up the keys of words, or of lines that are few for the file, or counts the items, without
 // reading all of the file. None where that does not do: no line was read then.
-fn read_by_position<R: Files + AllocGlobal, I: BufRead, O: Write>(
+fn read_by_position<R: Files + AllocGlobal, I: BufRead, O: Write, E>(
     rt: &R,
     file: &str,
     is_one: bool,
     at: Option<usize>,
     reading: &Reading,
-    input: &mut I,
-    output: &mut O,
+    streams: &mut Streams<'_, '_, '_, I, O, E>,
 ) -> Result<Option<Status>, Failure>
 where
     R::File: FileExt,
@@ -255,33 +232,23 @@ where
         Reading::Get {
             hash,
             kinds,
+            bound,
             is_values,
             is_json,
             keys,
-            ..
         } => {
-            let Some((source, len)) = positions::open_regular(rt, file) else {
-                return Ok(None);
-            };
             let asked = Asked {
                 alloc: rt.alloc(),
                 at,
                 hash: *hash,
                 kinds: *kinds,
+                bound: *bound,
                 printed: Printed {
                     is_json: *is_json,
                     is_values: *is_values,
                 },
             };
-            match keys {
-                Keys::Words(words) => {
-                    positions::get_words_at(&asked, source, len, words.as_slice(), output)
-                }
-                Keys::Lines if are_lines_few(rt, len) => {
-                    positions::get_lines_at(&asked, source, len, input, output)
-                }
-                Keys::Lines => Ok(None),
-            }
+            get_by_position(rt, file, &asked, keys, streams)
         }
         Reading::Count {
             is_checked: false,
@@ -291,9 +258,36 @@ where
                 return Ok(None);
             };
             let label = count_label(rt.alloc(), file, is_one)?;
-            positions::count_at(source, len, at, label.as_str(), output)
+            positions::count_at(source, len, at, label.as_str(), streams.output)
         }
         _ => Ok(None),
+    }
+}
+
+// Looks up the keys of words, or of lines that are few for the file.
+fn get_by_position<R: Files + AllocGlobal, I: BufRead, O: Write, E>(
+    rt: &R,
+    file: &str,
+    asked: &Asked,
+    keys: &Keys,
+    streams: &mut Streams<'_, '_, '_, I, O, E>,
+) -> Result<Option<Status>, Failure>
+where
+    R::File: FileExt,
+{
+    let Some((source, len)) = positions::open_regular(rt, file) else {
+        return Ok(None);
+    };
+    match keys {
+        Keys::Words(words) => {
+            positions::get_words_at(asked, source, len, words.as_slice(), streams.output)
+        }
+        Keys::Lines if are_lines_few(rt, len) => {
+            positions::get_lines_at(asked, source, len, streams.input, streams.output).map_err(
+                |failure| longer_failure(rt, file, asked, failure),
+            )
+        }
+        Keys::Lines => Ok(None),
     }
 }
 
@@ -305,28 +299,55 @@ fn are_lines_few<R: Files>(rt: &R, file_len: usize) -> bool {
     }
 }
 
-// Where these bytes, at this offset of a file, are no table, and one is further on, or begins them:
-// reports the failure, with this status, and tells where the table is.
-fn with_hint<O: Write, E: Write>(
-    alloc: Global,
+// Why lines were not looked up by position: that a search may read more groups than the bound,
+// where the whole file has such a search.
+fn longer_failure<R: Files + AllocGlobal>(
+    rt: &R,
     file: &str,
-    bytes: &[u8],
-    offset: usize,
+    asked: &Asked,
+    failure: Failure,
+) -> Failure {
+    match failure {
+        Failure::Read(error) => match test_bound(rt, file, asked) {
+            Ok(()) => Failure::Read(error),
+            Err(failure) => failure,
+        },
+        failure => failure,
+    }
+}
+
+// Tests the bound of searches in all of the table.
+fn test_bound<R: Files + AllocGlobal>(rt: &R, file: &str, asked: &Asked) -> Result<(), Failure> {
+    let offset = asked.at.unwrap_or(0);
+    let mut nothing: &[u8] = &[];
+    let bytes = read_table_bytes(rt, file, offset, &mut nothing)?;
+    let table = match asked.at {
+        Some(offset) => table_at(bytes.as_slice(), offset)?,
+        None => bytes.as_slice(),
+    };
+    check_bound(table, asked.bound).map_err(Failure::Refused)
+}
+
+// Where the bytes of the job are no table, and one is further on, or begins them: reports the
+// failure, with this status, and tells where the table is.
+fn with_hint<O: Write, E: Write>(
+    job: &Job<'_>,
     done: Result<Status, Failure>,
     failed: Status,
     output: &mut O,
     errors: &mut E,
 ) -> Result<Status, Failure> {
-    let Some(inside) = hinted_offset(alloc, bytes) else {
+    let Some(inside) = hinted_offset(job.alloc, job.bytes) else {
         return done;
     };
     let done = match flushed(done, output) {
         Err(Failure::Output(error)) => return Err(Failure::Output(error)),
         done => done,
     };
-    let status = finish_as(file, done, failed, errors);
+    let status = finish_as(job.file, done, failed, errors);
+    let offset = job.at.unwrap_or(0);
     // A hint that cannot be written is no failure.
-    let _ = write_inside(file, offset.saturating_add(inside), errors);
+    let _ = write_inside(job.file, offset.saturating_add(inside), errors);
     Ok(status)
 }
 

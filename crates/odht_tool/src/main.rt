@@ -8,6 +8,7 @@ mod pairs;
 mod streams;
 
 use odht_tool_core::arguments::parse;
+use odht_tool_core::job::Streams;
 use odht_tool_core::status::Status;
 use pairs::lines_of_words;
 use std::alloc::Global;
@@ -59,5 +60,10 @@ fn run(rt: &HostRuntime) -> io::Result<Status> {
     let mut input = BufReader::with_capacity(alloc, BUFFER_SIZE, source)?;
     let mut output = BufWriter::with_capacity(alloc, BUFFER_SIZE, sink)?;
     let mut errors = rt.stderr();
-    Ok(commands::run(rt, request, &mut input, &mut output, &mut errors))
+    let mut streams = Streams {
+        input: &mut input,
+        output: &mut output,
+        errors: &mut errors,
+    };
+    Ok(commands::run(rt, request, &mut streams))
 }

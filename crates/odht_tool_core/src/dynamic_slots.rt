@@ -10,7 +10,7 @@ ghost use Rattle.odht_tool_core.specs.StoredTexts.{key_text, value_text};
 
 use crate::groups::groups_to;
 use crate::json::slots::write_slot_object;
-use crate::slots::write_numbers;
+use crate::slots::{SlotNumbers, write_numbers};
 use crate::typed::Texts;
 use odht_base::hash::HashFn;
 use odht_base::swisstable_group_query::is_empty_or_deleted;
@@ -58,10 +58,11 @@ fn write_dynamic_slot<H: HashFn, O: Write>(
     }
     let (key, value) = (table.key(slot), table.value(slot));
     let groups = groups_to(H::hash(key), slot, slots, None);
+    let numbers = SlotNumbers { slot, tag, groups };
     if is_json {
-        write_slot_object(texts, slot, tag, groups, key, value, output)
+        write_slot_object(texts, numbers, key, value, output)
     } else {
-        write_slot_text(texts, slot, tag, groups, key, value, output)
+        write_slot_text(texts, numbers, key, value, output)
     }
 }
 
@@ -69,18 +70,18 @@ fn write_dynamic_slot<H: HashFn, O: Write>(
 #[inline(always)]
 fn write_slot_text<O: Write>(
     texts: Texts,
-    slot: usize,
-    tag: u8,
-    groups: usize,
+    numbers: SlotNumbers,
     key: &[u8],
     value: &[u8],
     output: &mut O,
 ) -> io::Result<()>
     requires key { length key.now ≡ typed_len texts.key }
     requires value { length value.now ≡ typed_len texts.value }
-    ensures { OnOk result (Appends (O.contents output.old) (O.contents output.new)
-        (slot_text (key_text texts) (value_text texts) slot tag groups (key.now, value.now))) }
+    ensures { let n = numbers
+        in OnOk result (Appends (O.contents output.old) (O.contents output.new)
+        (slot_text (key_text texts) (value_text texts) n.slot n.tag n.groups
+        (key.now, value.now))) }
 {
-    write_numbers(slot, tag, groups, output)?;
+    write_numbers(numbers, output)?;
     texts.write_pair(key, value, output)
 }

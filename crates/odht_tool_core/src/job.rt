@@ -1,4 +1,4 @@
-//! What a command that reads a file needs.
+//! What commands need: the job of one that reads a file, and the streams.
 ghost use Rattle.std.specs.Prelude.{◌≡◌};
 ghost use Rattle.odht_tool_core.specs.JsonAnswers.{printed_as};
 
@@ -36,4 +36,12 @@ impl Job<'_> {
             is_values: self.is_values,
         }
     }
+}
+
+/// What a command reads lines from, and what it writes to.
+#[derive(Drop)]
+pub struct Streams<'i, 'o, 'e, I, O, E> {
+    pub input: &'i mut I,
+    pub output: &'o mut O,
+    pub errors: &'e mut E,
 }

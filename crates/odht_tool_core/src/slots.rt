@@ -84,26 +84,32 @@ where
     }
     let entry = entries.get(slot);
     let groups = groups_to(C::H::hash(entry.key.as_slice()), slot, entries.len(), None);
-    write_numbers(slot, tag, groups, output)?;
+    write_numbers(SlotNumbers { slot, tag, groups }, output)?;
     let (key, value) = (C::decode_key(&entry.key), C::decode_value(&entry.value));
     write_pair(&key, &value, output)
 }
 
-/// Writes the number of a slot, its control byte and a number of groups, each with a tab after it.
+/// The numbers in the line of a slot.
+#[derive(Clone, Copy)]
+pub(crate) struct SlotNumbers {
+    /// The number of the slot.
+    pub slot: usize,
+    /// Its control byte.
+    pub tag: u8,
+    /// How many groups a search reads.
+    pub groups: usize,
+}
+
+/// Writes the numbers of a slot, each with a tab after it.
 #[inline(always)]
-pub(crate) fn write_numbers<O: Write>(
-    slot: usize,
-    tag: u8,
-    groups: usize,
-    output: &mut O,
-) -> io::Result<()>
+pub(crate) fn write_numbers<O: Write>(numbers: SlotNumbers, output: &mut O) -> io::Result<()>
     ensures { OnOk result (Appends (O.contents output.old) (O.contents output.new)
-        (numbers_text slot tag groups)) }
+        (numbers_text numbers.slot numbers.tag numbers.groups)) }
 {
-    write_number(slot as u64, output)?;
+    write_number(numbers.slot as u64, output)?;
     output.write_all(b"\t")?;
-    write_number(u64::from(tag), output)?;
+    write_number(u64::from(numbers.tag), output)?;
     output.write_all(b"\t")?;
-    write_number(groups as u64, output)?;
+    write_number(numbers.groups as u64, output)?;
     output.write_all(b"\t")
 }

@@ -8,7 +8,7 @@ use odht_tool_core::stored::StoredTable;
 
 /// The error of control bytes by which a search may read more groups than the bound. Where header
 /// or length do not fit, none: opening tells what is wrong.
-pub(crate) fn check_bound(bytes: &[u8], bound: Option<usize>) -> Result<(), Error>
+pub fn check_bound(bytes: &[u8], bound: Option<usize>) -> Result<(), Error>
     ensures { result ≡ checked (bound_refusal bytes.now bound) }
 {
     let Ok(table) = StoredTable::open(bytes) else {

@@ -85,6 +85,8 @@ pub struct Asked {
     pub hash: Option<Hash>,
     /// What is said of keys and values.
     pub kinds: Kinds,
+    /// The bound of searches, in groups, where there is one.
+    pub bound: Option<usize>,
     /// What is printed of each key.
     pub printed: Printed,
 }
@@ -182,7 +184,7 @@ pub fn get_words_at<S: ReadAt + Drop, O: Write>(
 
 /// The same for the lines of an input, each of which is answered before the next one is read. None
 /// where [`get_words_at`] returns it: then nothing was written, and no line was read. A lookup whose
-/// read fails is a failure of the file.
+/// read fails, or whose search is longer than the bound, is a failure of the file.
 ///
 /// Over any source, for any list of bytes that it gives in each read: what is written is what
 /// [`get_file_lines`](crate::commands::get::get_file_lines) writes of the table in this list as one

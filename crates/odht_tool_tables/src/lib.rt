@@ -5,6 +5,7 @@
 pub mod checks;
 pub mod dynamic;
 pub mod files;
+pub mod generated;
 mod short_inserts;
 pub mod trials;
 pub mod whole;

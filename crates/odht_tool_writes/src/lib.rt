@@ -3,7 +3,6 @@
 
 pub mod commands;
 mod dynamic;
-mod generated;
 mod inserts;
 mod reports;
 mod starts;

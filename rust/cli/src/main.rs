@@ -37,8 +37,10 @@ mod library {
     pub mod tables;
 }
 
-// The program, written as it could be proved.
+// The program, written as it could be proved. Its crates are modules of one crate here, so a macro of one names paths of
+// this crate.
 #[allow(dead_code, unused_imports, unused_variables, clippy::complexity, clippy::style)]
+#[allow(clippy::crate_in_macro_def)]
 #[forbid(unsafe_code)]
 mod generated {
     pub use crate::library::{base, header, raw, tables};

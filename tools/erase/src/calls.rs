@@ -66,10 +66,15 @@ impl Eraser<'_> {
             && self.source.is(at + 1, "!")
             && matches!(self.source.text(at + 2), "(" | "[" | "{")
             && self.source.touch(at, at + 1);
-        if is_call && !SAME_MACROS.contains(&word) && !self.declared.contains(word) {
+        if is_call && !SAME_MACROS.contains(&word) && !self.is_macro(word) {
             return self.source.fail(at, "an unknown macro");
         }
         Ok(None)
+    }
+
+    /// Whether the sources declare a macro of this name.
+    pub fn is_macro(&self, name: &str) -> bool {
+        self.declared.contains(&format!("{name}!"))
     }
 
     /// In Rattle what is written to has a type of its own; in Rust a `Formatter` has a lifetime.

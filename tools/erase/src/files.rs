@@ -55,13 +55,13 @@ pub fn erase_all(plan: &Plan<'_>, crates: &Path, out: &Path) -> Result<Counts, S
     Ok(counts)
 }
 
-/// The names of the functions and the macros that a source declares.
+/// The names of the functions that a source declares, and of its macros, each with a `!`.
 pub fn declared_in(source: &str) -> Vec<String> {
     let words: Vec<&str> = source.split(|c: char| !c.is_alphanumeric() && c != '_').collect();
     let functions = words.windows(2).filter(|pair| pair[0] == "fn").map(|pair| pair[1]);
-    let macros = words.windows(3).filter(|it| it[0] == "macro_rules").map(|it| it[2]);
-    let names = functions.chain(macros).filter(|name| !name.is_empty());
-    names.map(str::to_string).collect()
+    let functions = functions.filter(|name| !name.is_empty()).map(str::to_string);
+    let macros = words.windows(3).filter(|it| it[0] == "macro_rules");
+    functions.chain(macros.map(|it| format!("{}!", it[2]))).collect()
 }
 
 // Erases one source, but none of a module of laws.

@@ -57,7 +57,7 @@ pub const HOST_METHODS: [&str; 4] = ["collect", "extend_from_slice", "push", "re
 pub const SAME_MACROS: [&str; 3] = ["write", "writeln", "unreachable"];
 
 /// Attributes that are the same.
-pub const SAME_ATTRIBUTES: [&str; 4] = ["cold", "inline", "repr", "unsafe"];
+pub const SAME_ATTRIBUTES: [&str; 5] = ["cold", "inline", "macro_export", "repr", "unsafe"];
 
 /// Traits that are derived in the same way.
 pub const SAME_DERIVES: [&str; 5] = ["Clone", "Copy", "Debug", "Eq", "PartialEq"];

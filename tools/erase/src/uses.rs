@@ -106,7 +106,8 @@ impl Eraser<'_> {
         }
     }
 
-    /// The first word of a path: a crate is its module. Members of numbers, and of std, must be known.
+    /// The first word of a path: a crate is its module, but before an exported macro, which has no module. Members of
+    /// numbers, and of std, must be known.
     pub fn path(&mut self, at: usize) -> Done<Option<usize>> {
         let word = self.source.text(at);
         let is_first = at < 2 || !self.source.has(at - 2, ": :");
@@ -117,8 +118,9 @@ impl Eraser<'_> {
             let new = format!("crate::{}", self.krate.module);
             self.source.replace(at, at, &new);
         } else if let Some(other) = self.plan.crates.iter().find(|it| it.name == word) {
+            let is_of_macro = self.is_macro(self.source.text(at + 3));
             let new = format!("crate::{}", other.module);
-            self.source.replace(at, at, &new);
+            self.source.replace(at, at, if is_of_macro { "crate" } else { &new });
         } else if word == "std" && !self.source.has(at, "std : : error : : Error") {
             return self.source.fail(at, "an unknown path of std");
         } else if NUMBERS.contains(&word) && !self.is_member_of_numbers(self.source.text(at + 3)) {

@@ -169,7 +169,10 @@ fn macros_that_are_declared_are_kept() {
     let source = "macro_rules! m { ($a:expr) => { $a::<low::b, C>() } } fn f() { m!(x) }";
     let wanted =
         "macro_rules! m { ($a:expr) => { $a::<crate::all::low::b, C>() } } fn f() { m!(x) }";
-    all_leave(&[(source, wanted)]);
+    let exported = "use low::m; use low::n; #[macro_export] macro_rules! m { () => { 1 } }";
+    let wanted_of_crate =
+        "use crate::m; use crate::all::low::n; #[macro_export] macro_rules! m { () => { 1 } }";
+    all_leave(&[(source, wanted), (exported, wanted_of_crate)]);
 }
 
 #[test]

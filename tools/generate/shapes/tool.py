@@ -5,11 +5,7 @@ from shape_list import byte_count
 FOLDERS = []
 
 CORE = "crates/odht_tool_core"
-# the crates that go from a shape to its configuration, or to its owned tables, with what that is in a macro
-OVER_SHAPES = {
-    "odht_tool_reads": ("odht::configs::{}", "configuration"),
-    "odht_tool_writes": ("HashTableOwned<configs::{}>", "owned table"),
-}
+TABLES = "crates/odht_tool_tables"
 MADE = "Generated from lists/shapes.txt by make generate"
 
 # the function that goes from a shape to its configuration and has a contract, by its crate and place, and what it calls
@@ -140,34 +136,39 @@ pub(crate) const VERSION: &str = "{text}";
 """
 
 
-def macro(shapes, kind, what):
+def macro(shapes):
+    """The macro that goes from a shape to its configuration."""
     arms = "".join(f"""            Shape::{it.configuration} => {{
-                $function::<{kind.format(it.configuration)}, $($more),*>($($argument),*)
+                $function::<$kind<odht::configs::{it.configuration}>, $($more),*>($($argument),*)
             }}
 """ for it in shapes)
-    return f"""//! The {what} of each shape. {MADE}.
+    return f"""//! The configuration of each shape. {MADE}.
 
-/// Calls a function for the {what} of a shape, which is its first type parameter:
-/// `for_shape!(shape, function[more, parameters](arguments))`.
+/// A configuration as the kind of [`for_shape`](crate::for_shape).
+pub type Itself<C> = C;
+
+/// Calls a function for a shape. Its first type parameter is of a kind, such as `HashTableOwned` or
+/// [`Itself`], and of the configuration of the shape:
+/// `for_shape!(shape, Kind, function[more, parameters](arguments))`.
+#[macro_export]
 macro_rules! for_shape {{
-    ($shape:expr, $function:ident[$($more:ty),*]($($argument:expr),*)) => {{
+    ($shape:expr, $kind:ident, $function:ident[$($more:ty),*]($($argument:expr),*)) => {{
         match $shape {{
 {arms}        }}
     }};
 }}
-
-pub(crate) use for_shape;
 """
 
 
 def answers(shapes, crate, dispatcher, called):
-    """What the prover asks for of a function that goes from a shape to its configuration: an answer for each."""
+    """What the prover asks for of a function that goes from a shape to its configuration: an answer for each. What is
+    in a macro of another crate has the macro in its name."""
     text = f"-- An answer for each shape. {MADE}.\n"
     text += f"use Rattle.{crate}.proofs.{dispatcher.replace('/', '.')}.Goals as goal\n"
-    for at, shape in enumerate(shapes):
-        goal = f"returns-in-{shape.configuration}"
-        call = f"c.{called}" if at == 0 else f"c.{called}-in-{shape.configuration}"
-        text += f"\npub {goal} : goal.{goal}\n{goal} g c = rw c.in-{shape.configuration}.is {call}.ensures\n"
+    for at, shape in enumerate(shapes, 1):
+        place = f"in-{shape.configuration}-for_shape"
+        call = f"c.for_shape-{called}" + (f"-{at}" if at > 1 else "")
+        text += f"\npub returns-{place} : goal.returns-{place}\nreturns-{place} g c = rw c.{place}.is {call}.ensures\n"
     return text
 
 
@@ -177,9 +178,8 @@ def files(shapes):
         f"{CORE}/src/generated/shapes.rt": code(shapes),
         f"{CORE}/src/generated/version.rt": version(),
         f"{CORE}/specs/generated/ShapeList.antt": definitions(shapes),
+        f"{TABLES}/src/generated/shapes.rt": macro(shapes),
     }
-    for crate, (kind, what) in OVER_SHAPES.items():
-        texts[f"crates/{crate}/src/generated/shapes.rt"] = macro(shapes, kind, what)
     crate, dispatcher, called = DISPATCHER
     texts[f"crates/{crate}/proofs/{dispatcher}/Answers.antt"] = answers(shapes, crate, dispatcher, called)
     return texts

@@ -3,7 +3,7 @@ use odht_tool_core::arguments::{Keys, Reading};
 use odht_tool_core::failure::Failure;
 use odht_tool_core::forms::Kinds;
 use odht_tool_core::info::info_file;
-use odht_tool_core::job::Job;
+use odht_tool_core::job::{Job, Streams};
 use odht_tool_core::shapes::Hash;
 use odht_tool_core::status::Status;
 use odht_tool_core::typed::Side;
@@ -16,12 +16,10 @@ use std::io::{BufRead, Write};
 /// Runs a command that only reads its file. Where `is_live` holds, lines that it reads are answered
 /// as they come.
 pub fn run_reading<I: BufRead + Arriving, O: Write, E: Write>(
-    job: Job<'_>,
+    job: &Job<'_>,
     reading: &Reading,
     is_live: bool,
-    input: &mut I,
-    output: &mut O,
-    errors: &mut E,
+    streams: &mut Streams<'_, '_, '_, I, O, E>,
 ) -> Result<Status, Failure> {
     let Job {
         alloc,
@@ -29,14 +27,15 @@ pub fn run_reading<I: BufRead + Arriving, O: Write, E: Write>(
         is_one,
         bytes,
         ..
-    } = job;
+    } = *job;
+    let (output, errors) = (&mut *streams.output, &mut *streams.errors);
     match reading {
         Reading::Info { bound, is_json } => {
             let advice = advice_of(alloc, bytes)?;
             let job = Job {
                 bound: *bound,
                 is_json: *is_json,
-                ..job
+                ..*job
             };
             info_file(&job, advice, output)
         }
@@ -48,7 +47,7 @@ pub fn run_reading<I: BufRead + Arriving, O: Write, E: Write>(
             let job = Job {
                 bound: *bound,
                 is_json: *is_json,
-                ..job
+                ..*job
             };
             check_one(&job, *hash, output, errors)
         }
@@ -77,7 +76,7 @@ pub fn run_reading<I: BufRead + Arriving, O: Write, E: Write>(
                 bound: *bound,
                 is_values: *is_values,
                 is_json: *is_json,
-                ..job
+                ..*job
             };
             get::get_file_words(&job, *hash, *kinds, words.as_slice(), output)
         }
@@ -93,15 +92,15 @@ pub fn run_reading<I: BufRead + Arriving, O: Write, E: Write>(
                 bound: *bound,
                 is_values: *is_values,
                 is_json: *is_json,
-                ..job
+                ..*job
             };
-            get::get_file_lines(&job, *hash, *kinds, is_live, input, output)
+            get::get_file_lines(&job, *hash, *kinds, is_live, streams.input, output)
         }
         Reading::Find { bound, is_json } => {
             let job = Job {
                 bound: *bound,
                 is_json: *is_json,
-                ..job
+                ..*job
             };
             find_in(&job, output, errors)
         }
@@ -132,7 +131,11 @@ pub fn run_reading<I: BufRead + Arriving, O: Write, E: Write>(
             is_json,
         } => keys::list_file(Side::Key, bytes, *hash, *kinds, *is_json, output),
         Reading::Order { hash, kinds, bound } => {
-            order_in(alloc, file, bytes, *hash, *kinds, *bound, output, errors)
+            let job = Job {
+                bound: *bound,
+                ..*job
+            };
+            order_in(&job, *hash, *kinds, output, errors)
         }
     }
 }
@@ -189,19 +192,16 @@ fn find_in<O: Write, E: Write>(
 // Writes the pairs of a file in an order of inserts. Where no inserts make the table, a line on
 // `errors` says so.
 fn order_in<O: Write, E: Write>(
-    alloc: Global,
-    file: &str,
-    bytes: &[u8],
+    job: &Job<'_>,
     hash: Option<Hash>,
     kinds: Kinds,
-    bound: Option<usize>,
     output: &mut O,
     errors: &mut E,
 ) -> Result<Status, Failure> {
-    let status = order::order_file(alloc, bytes, hash, kinds, bound, output)?;
+    let status = order::order_file(job.alloc, job.bytes, hash, kinds, job.bound, output)?;
     if !status.is_done() {
         // A line that cannot be written is no failure.
-        let _ = order::write_unmade(file, errors);
+        let _ = order::write_unmade(job.file, errors);
     }
     Ok(status)
 }

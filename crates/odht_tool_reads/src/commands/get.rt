@@ -10,7 +10,6 @@ ghost use Rattle.odht_tool_tables.specs.Openings.{IsOpenFailure};
 
 use crate::bounds::check_bound;
 use crate::dynamic::gets::{get_lines_dynamic, get_words_dynamic};
-use crate::generated::shapes::for_shape;
 use crate::lookups::arriving::Arriving;
 use crate::lookups::{LineStyle, answer_lines};
 use odht::HashTable;
@@ -24,6 +23,8 @@ use odht_tool_core::json::answers::AnswerStyle;
 use odht_tool_core::shapes::{Hash, Shape};
 use odht_tool_core::status::Status;
 use odht_tool_core::text::Text;
+use odht_tool_tables::for_shape;
+use odht_tool_tables::generated::shapes::Itself;
 use std::alloc::Global;
 use std::io::{BufRead, Write};
 
@@ -163,7 +164,7 @@ fn get_lines_of<F: Forms, I: BufRead + Arriving, O: Write>(
         bytes.now (I.remaining input.old) (O.contents output.old) (O.contents output.new) result
         shape }
 {
-    for_shape!(shape, get_lines[F, I, O](alloc, bytes, style, input, output))
+    for_shape!(shape, Itself, get_lines[F, I, O](alloc, bytes, style, input, output))
 }
 
 // Looks up the keys of the lines, a batch at a time.

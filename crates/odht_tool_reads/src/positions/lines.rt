@@ -8,10 +8,10 @@ ghost use Rattle.odht_tool_reads.specs.GetParts.{AreKeysAnswered, IsReadKey};
 ghost use Rattle.odht_tool_reads.specs.PositionLines.{AreLinesRead, IsKeyFailure, IsReadFailure, IsUnreadKey};
 ghost use Rattle.odht_tool_reads.specs.Positions.{IsTableAt};
 
+use super::Asked;
 use crate::lookups::{key_of_line, wrong_line};
 use odht::dynamic::{FileError, FileTable, ShortBytes};
 use odht::hash::HashFn;
-use odht::memory_layout::DEFAULT_GROUPS;
 use odht::read_at::{ReadAt, ReadError};
 use odht_tool_core::failure::Failure;
 use odht_tool_core::forms::GivenForms;
@@ -23,7 +23,7 @@ use std::io::{self, BufRead, ErrorKind, Write};
 
 /// Looks up the keys of the lines, one after the other, and writes a line for each.
 pub(super) fn answer_lines_at<H: HashFn, S: ReadAt + Drop, I: BufRead, O: Write>(
-    alloc: Global,
+    asked: &Asked,
     table: &FileTable<H, S>,
     style: AnswerStyle<GivenForms>,
     input: &mut I,
@@ -36,12 +36,12 @@ pub(super) fn answer_lines_at<H: HashFn, S: ReadAt + Drop, I: BufRead, O: Write>
         (IsDynamicOf key) (dynamic_wanted key) B (I.remaining input.old)
         (O.contents output.old) (O.contents output.new) result }
 {
-    let mut line = Vec::new(alloc);
+    let mut line = Vec::new(asked.alloc);
     let mut is_all_found = true;
     for number in 1..u64::MAX {
-        match line_key(alloc, number, input, &mut line, style.forms)? {
+        match line_key(asked.alloc, number, input, &mut line, style.forms)? {
             Some(key) => {
-                let is_found = answer_key(table, &key, style, output)?;
+                let is_found = answer_key(table, &key, asked.bound, style, output)?;
                 is_all_found = is_found && is_all_found;
             }
             None => break,
@@ -79,6 +79,7 @@ fn line_key<I: BufRead>(
 fn answer_key<H: HashFn, S: ReadAt + Drop, O: Write>(
     table: &FileTable<H, S>,
     key: &ShortBytes,
+    bound: Option<usize>,
     style: AnswerStyle<GivenForms>,
     output: &mut O,
 ) -> Result<bool, Failure>
@@ -89,7 +90,7 @@ fn answer_key<H: HashFn, S: ReadAt + Drop, O: Write>(
         (O.contents output.old) (O.contents output.new)) }
     ensures err { IfErr result (IsKeyFailure (O.contents output.old) (O.contents output.new)) }
 {
-    let value = value_at(table, key)?;
+    let value = value_at(table, key, bound)?;
     write_answer_in(key, &value, style, output).map_err(Failure::Output)?;
     Ok(value.is_some())
 }
@@ -99,15 +100,20 @@ fn answer_key<H: HashFn, S: ReadAt + Drop, O: Write>(
 fn value_at<H: HashFn, S: ReadAt + Drop>(
     table: &FileTable<H, S>,
     key: &ShortBytes,
+    bound: Option<usize>,
 ) -> Result<Option<ShortBytes>, Failure>
     ensures given { let t = table.now in (B : List ℕ)
         → IsTableAt S.gives H.hash t.key_len t.value_len t B
         → IfOk result (IsGet (file_coding t H.hash) B key.now) }
+    ensures short { (B : List ℕ)
+        → IsTableAt S.gives H.hash table.now.key_len table.now.value_len table.now B
+        → bound ≡ Some DEFAULT_GROUPS → OnOk result
+        (IsShortSearch (file_coding table.now H.hash) B (Some key.now)) }
     ensures err { IfErr result IsReadFailure }
 {
     match table.get_counted(key.as_slice()) {
         Ok((value, groups)) => {
-            if groups > DEFAULT_GROUPS {
+            if groups > bound.unwrap_or(usize::MAX) {
                 return Err(Failure::Read(io::Error::from(ErrorKind::InvalidData)));
             }
             Ok(value)

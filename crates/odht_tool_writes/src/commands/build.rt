@@ -2,61 +2,68 @@
 ghost use Rattle.std.specs.Prelude.{◌≡◌};
 ghost use Rattle.odht_tool_core.specs.DynTexts.{dynamic_forms};
 
-use crate::generated::shapes::for_shape;
-use crate::inserts::lines::{
-    Place, Streams, check_lines, insert_lines, left, makes_no_table, place_of,
-};
+use crate::inserts::lines::{Place, check_lines, insert_lines, left, makes_no_table, place_of};
 use crate::inserts::{Inserts, LineJob};
-use odht::dynamic::{DynTableOwned, Layout};
-use odht::{FxHashFn, HashTableOwned, UnHashFn, Xxh64HashFn, configs};
+use odht::dynamic::DynTableOwned;
+use odht::{FxHashFn, HashTableOwned, UnHashFn, Xxh64HashFn};
 use odht_tool_core::any::{AnyShape, OtherShape, read_any};
 use odht_tool_core::arguments::{BuildOptions, PutOptions};
 use odht_tool_core::evidence::ask_kinds;
 use odht_tool_core::failure::Failure;
 use odht_tool_core::files::read_file;
 use odht_tool_core::forms::{Forms, GivenForms, LineForms, OwnForms};
+use odht_tool_core::job::Streams;
 use odht_tool_core::new_file::make_new;
 use odht_tool_core::shapes::{Hash, Shape};
 use odht_tool_core::status::Status;
 use odht_tool_core::targets::Target;
 use odht_tool_tables::dynamic::lengths_of;
+use odht_tool_tables::for_shape;
 use std::io::{BufRead, Write};
 use std::os::fd::AsFd;
 use std::rt::{Clock, Files};
 
 // Calls a function for the lines of a table of a shape: its first two type parameters are the kind
-// of the table and that of the forms, and its first two arguments the forms and the lengths.
+// of the table and that of the forms, and its first argument is the job of the lines.
 macro_rules! for_lines {
     (
-        $shape:expr, $forms:expr, $delimiter:expr,
+        $rt:expr, $options:expr, $shape:expr, $forms:expr,
         $function:ident[$($more:ty),*]($($argument:expr),*)
     ) => {{
-        let (forms, delimiter): (GivenForms, u8) = ($forms, $delimiter);
+        let (given, delimiter): (GivenForms, u8) = ($forms, $options.delimiter);
+        let (rt, duplicates, watch) = ($rt, $options.duplicates, $options.watch);
         let layout = lengths_of($shape.key(), $shape.value());
         match $shape {
-            AnyShape::Ready(shape) if forms.are_own() && delimiter == b'\t' => {
-                for_shape!(shape, $function[OwnForms, $($more),*](OwnForms, layout, $($argument),*))
+            AnyShape::Ready(shape) if given.are_own() && delimiter == b'\t' => {
+                let job = LineJob { rt, layout, forms: OwnForms, duplicates, watch };
+                for_shape!(
+                    shape, HashTableOwned, $function[OwnForms, $($more),*](&job, $($argument),*)
+                )
             }
             AnyShape::Ready(shape) => {
-                let forms = LineForms { forms, delimiter };
-                for_shape!(shape, $function[LineForms, $($more),*](forms, layout, $($argument),*))
+                let forms = LineForms { forms: given, delimiter };
+                let job = LineJob { rt, layout, forms, duplicates, watch };
+                for_shape!(
+                    shape, HashTableOwned, $function[LineForms, $($more),*](&job, $($argument),*)
+                )
             }
             AnyShape::Other(shape) => {
-                let forms = line_forms(shape, forms, delimiter);
+                let forms = line_forms(shape, given, delimiter);
+                let job = LineJob { rt, layout, forms, duplicates, watch };
                 match shape.hash {
                     Hash::Fx => {
                         $function::<DynTableOwned<FxHashFn>, LineForms, $($more),*>(
-                            forms, layout, $($argument),*
+                            &job, $($argument),*
                         )
                     }
                     Hash::Unhash => {
                         $function::<DynTableOwned<UnHashFn>, LineForms, $($more),*>(
-                            forms, layout, $($argument),*
+                            &job, $($argument),*
                         )
                     }
                     Hash::Xxh64 => {
                         $function::<DynTableOwned<Xxh64HashFn>, LineForms, $($more),*>(
-                            forms, layout, $($argument),*
+                            &job, $($argument),*
                         )
                     }
                 }
@@ -71,20 +78,13 @@ pub fn build<R: Files + AllocGlobal + Clock, I: BufRead, O: Write, E: Write>(
     rt: &R,
     file: &str,
     options: BuildOptions,
-    input: &mut I,
-    output: &mut O,
-    errors: &mut E,
+    streams: &mut Streams<'_, '_, '_, I, O, E>,
 ) -> Result<Status, Failure>
 where
     R::File: AsFd,
 {
     let mut place = place_of(rt, file, options.is_check, options.allowed)?;
-    let mut streams = Streams {
-        input,
-        output,
-        errors,
-    };
-    let done = build_at(rt, &mut place, options, &mut streams);
+    let done = build_at(rt, &mut place, options, streams);
     left(rt, place, done)
 }
 
@@ -99,10 +99,11 @@ where
     R::File: AsFd,
 {
     for_lines!(
+        rt,
+        options,
         options.shape,
         options.forms,
-        options.delimiter,
-        build_table[R, I, O, E](rt, place, options, streams)
+        build_table[R, I, O, E](place, options, streams)
     )
 }
 
@@ -115,9 +116,7 @@ fn build_table<
     O: Write,
     E: Write,
 >(
-    forms: F,
-    layout: Layout,
-    rt: &R,
+    job: &LineJob<'_, R, F>,
     place: &mut Place<R::File>,
     options: BuildOptions,
     streams: &mut Streams<'_, '_, '_, I, O, E>,
@@ -125,18 +124,16 @@ fn build_table<
 where
     R::File: AsFd,
 {
-    let (duplicates, watch) = (options.duplicates, options.watch);
-    let job = LineJob {
-        rt,
-        forms,
-        duplicates,
-        watch,
-    };
-    if makes_no_table(duplicates, options.is_check) {
-        return check_lines::<T::Key, T::Value, F, R, I, E>(&job, streams.input, streams.errors);
+    if makes_no_table(job.duplicates, options.is_check) {
+        return check_lines::<T::Key, T::Value, F, R, I, E>(job, streams.input, streams.errors);
     }
-    let table = T::empty(rt.alloc(), layout, options.capacity, options.percent)?;
-    insert_lines(&job, place, table, streams)
+    let table = T::empty(
+        job.rt.alloc(),
+        job.layout,
+        options.capacity,
+        options.percent,
+    )?;
+    insert_lines(job, place, table, streams)
 }
 
 /// Adds the lines to the table in the file, and stores the new one in its place. The older one is
@@ -146,23 +143,16 @@ pub fn put<R: Files + AllocGlobal + Clock, I: BufRead, O: Write, E: Write>(
     rt: &R,
     file: &str,
     options: PutOptions,
-    input: &mut I,
-    output: &mut O,
-    errors: &mut E,
+    streams: &mut Streams<'_, '_, '_, I, O, E>,
 ) -> Result<Status, Failure>
 where
     R::File: AsFd,
 {
     let target = Target::find_table(rt, file, options.breaks_links)?;
     let new = make_new(rt, target)?;
-    let mut streams = Streams {
-        input,
-        output,
-        errors,
-    };
     let bytes = read_file(rt, new.path());
     let mut place = Place::File(new);
-    let done = put_at(rt, &mut place, bytes, options, &mut streams);
+    let done = put_at(rt, &mut place, bytes, options, streams);
     left(rt, place, done)
 }
 
@@ -181,35 +171,28 @@ where
     let (shape, forms) = read_any(bytes.as_slice(), options.hash, options.kinds)?;
     ask_kinds(bytes.as_slice(), shape, options.kinds)?;
     for_lines!(
+        rt,
+        options,
         shape,
         forms,
-        options.delimiter,
-        put_table[R, I, O, E](rt, place, bytes, options, streams)
+        put_table[R, I, O, E](place, bytes, options.bound, streams)
     )
 }
 
 // The same where the kind of the table and the forms are known.
 fn put_table<T: Inserts, F: Forms, R: Files + AllocGlobal + Clock, I: BufRead, O: Write, E: Write>(
-    forms: F,
-    layout: Layout,
-    rt: &R,
+    job: &LineJob<'_, R, F>,
     place: &mut Place<R::File>,
     bytes: Vec<u8>,
-    options: PutOptions,
+    bound: Option<usize>,
     streams: &mut Streams<'_, '_, '_, I, O, E>,
 ) -> Result<Status, Failure>
 where
     R::File: AsFd,
-    requires { T.is_long_enough layout.key_len }
+    requires { T.is_long_enough job.now.layout.key_len }
 {
-    let table = T::copy(rt.alloc(), layout, bytes, options.bound)?;
-    let job = LineJob {
-        rt,
-        forms,
-        duplicates: options.duplicates,
-        watch: options.watch,
-    };
-    insert_lines(&job, place, table, streams)
+    let table = T::copy(job.rt.alloc(), job.layout, bytes, bound)?;
+    insert_lines(job, place, table, streams)
 }
 
 // The forms of the lines of a table of this shape, with this byte between key and value.

@@ -9,7 +9,7 @@ ghost use Rattle.odht_tool_writes.specs.DeleteLines.{IsDeletedBy, IsFailureBy};
 ghost use Rattle.odht_tool_writes.specs.Deletes.{IsLeft, are_keys, is_fault};
 
 use crate::commands::delete_lines::keys_of_lines;
-use crate::dynamic::deletes::delete_lengths;
+use crate::dynamic::deletes::{NamedKeys, delete_lengths};
 use crate::reports::PairRun;
 use odht::dynamic::ShortBytes;
 use odht::{FxHashFn, UnHashFn, Xxh64HashFn};
@@ -91,44 +91,46 @@ fn deleted<R: AllocGlobal + Clock, I: BufRead, E: Write>(
             let words = words.as_slice();
             let keys = keys_of_words(rt.alloc(), shape, forms.key, words)?;
             let run = PairRun::new(rt, options.has_progress);
-            deleted_for(run, file, shape, bytes, words, keys.as_slice(), errors)
+            let named = NamedKeys {
+                words,
+                keys: keys.as_slice(),
+            };
+            deleted_for(run, file, shape, bytes, &named, errors)
         }
         Keys::Lines => {
             let read = keys_of_lines(rt.alloc(), shape, forms.key, input)?;
             let (lines, keys) = (read.lines.as_slice(), read.keys.as_slice());
             let run = PairRun::new(rt, options.has_progress);
-            deleted_for(run, file, shape, bytes, lines, keys, errors)
+            let named = NamedKeys { words: lines, keys };
+            deleted_for(run, file, shape, bytes, &named, errors)
         }
     }
 }
 
-// The same of valid bytes of a shape, and of the keys of these words or lines.
+// The same of valid bytes of a shape, and of these keys.
 fn deleted_for<W: Word, R: AllocGlobal + Clock, E: Write>(
     run: PairRun<'_, R>,
     file: &str,
     shape: AnyShape,
     bytes: &[u8],
-    words: &[W],
-    keys: &[ShortBytes],
+    named: &NamedKeys<'_, W>,
     errors: &mut E,
 ) -> Result<(Vec<u8>, Status), Failure>
     requires long { HasLongKeys shape }
     requires valid { IsValidBytes (any_format shape) bytes.now }
-    requires each { length words.now ≡ length keys.now }
-    ensures ok { OfTable (any_format shape) bytes.now
-        (λ P. IfOk result (λ x. IsLeft (any_format shape) keys.now P x.0.items x.1)) }
+    requires each { length named.now.words.now ≡ length named.now.keys.now }
+    ensures ok { OfTable (any_format shape) bytes.now (λ P. IfOk result
+        (λ x. IsLeft (any_format shape) named.now.keys.now P x.0.items x.1)) }
     ensures memory { OnErr result (result ≡ Err Memory) }
 {
     let layout = lengths_of(shape.key(), shape.value());
     match shape.hash() {
-        Hash::Fx => delete_lengths::<FxHashFn, W, R, E>(
-            run, file, layout, bytes, words, keys, errors,
-        ),
+        Hash::Fx => delete_lengths::<FxHashFn, W, R, E>(run, file, layout, bytes, named, errors),
         Hash::Unhash => delete_lengths::<UnHashFn, W, R, E>(
-            run, file, layout, bytes, words, keys, errors,
+            run, file, layout, bytes, named, errors,
         ),
         Hash::Xxh64 => delete_lengths::<Xxh64HashFn, W, R, E>(
-            run, file, layout, bytes, words, keys, errors,
+            run, file, layout, bytes, named, errors,
         ),
     }
 }

@@ -11,7 +11,7 @@ ghost use Rattle.odht_tool_writes.specs.Merges.{IsInputOf, IsLateStop, IsMergeFa
 ghost use Rattle.odht_tool_writes.specs.Merges.{IsMergedFrom, IsMergedOf, IsReadFailure, IsStoppedOf};
 ghost use Rattle.odht_tool_writes.specs.Merges.{IsTableOf, all_pairs, input_pairs, shape_of_other};
 
-use crate::dynamic::merges::{Input, MergeFailure, merge_lengths};
+use crate::dynamic::merges::{Input, MergeFailure, MergeJob, merge_lengths};
 use crate::reports::PairRun;
 use odht::load::Percent;
 use odht::{FxHashFn, UnHashFn, Xxh64HashFn};
@@ -19,6 +19,7 @@ use odht_tool_core::any::AnyShape;
 use odht_tool_core::arguments::{MergeOptions, is_stream};
 use odht_tool_core::failure::Failure;
 use odht_tool_core::forms::{GivenForms, Kinds};
+use odht_tool_core::job::Streams;
 use odht_tool_core::keys::write_repeated;
 use odht_tool_core::new_file::{NewFile, ended, make_new, replace_file};
 use odht_tool_core::percents::new_percent;
@@ -40,22 +41,20 @@ pub fn merge<R: Files + AllocGlobal + Clock, I: BufRead, O: Write, E: Write>(
     rt: &R,
     file: &str,
     options: MergeOptions,
-    input: &mut I,
-    output: &mut O,
-    errors: &mut E,
+    streams: &mut Streams<'_, '_, '_, I, O, E>,
 ) -> Result<Status, Failure>
 where
     R::File: AsFd,
 {
     if is_stream(file) {
-        return match merged_files(rt, &options, input, errors)? {
-            Some(bytes) => of_output(output.write_all(bytes.as_slice())),
+        return match merged_files(rt, &options, streams.input, streams.errors)? {
+            Some(bytes) => of_output(streams.output.write_all(bytes.as_slice())),
             None => Ok(Status::NotDone),
         };
     }
     let target = Target::find(rt, file, options.allowed)?;
     let mut new = make_new(rt, target)?;
-    let done = merge_as(rt, &mut new, &options, input, errors);
+    let done = merge_as(rt, &mut new, &options, streams.input, streams.errors);
     ended(rt, new, done)
 }
 
@@ -177,86 +176,74 @@ fn merged<R: AllocGlobal + Clock, E: Write>(
         in let p = new_percent first.items o.percent
         in IfErr result (IsMergeFailure first.items Bs o.hash o.kinds o.bound o.duplicates p) }
 {
-    let bytes = first.as_slice();
-    match read_whole(bytes, options.hash, options.kinds, options.bound) {
-        Ok((shape, forms)) => {
-            let percent = new_percent(bytes, options.percent);
-            merged_for(rt, shape, forms, first, others, percent, options, errors)
-        }
+    match read_whole(first.as_slice(), options.hash, options.kinds, options.bound) {
+        Ok(found) => merged_for(rt, found, first, others, options, errors),
         Err(failure) => Err(MergeFailure::Failed { at: 0, failure }),
     }
 }
 
-// The same at this load factor, where the first file is a valid table of this shape, in these
-// forms.
+// The same where the first file is a valid table of this shape, in these forms.
 fn merged_for<R: AllocGlobal + Clock, E: Write>(
     rt: &R,
-    shape: AnyShape,
-    forms: GivenForms,
+    found: (AnyShape, GivenForms),
     first: Vec<u8>,
     others: Vec<Vec<u8>>,
-    percent: Percent,
     options: &MergeOptions,
     errors: &mut E,
 ) -> Result<Vec<u8>, MergeFailure>
-    requires long { HasLongKeys shape }
-    requires valid { IsValidBytes (any_format shape) first.items }
+    requires long { HasLongKeys found.0 }
+    requires valid { IsValidBytes (any_format found.0) first.items }
     ensures ok { let o = options.now in let Bs = map (λ bytes. bytes.items) others.items
-        in IfOk result (λ new. IsMergedFrom first.items Bs o.hash o.bound o.duplicates percent
-        new.items shape) }
+        in let p = new_percent first.items o.percent
+        in IfOk result (λ new. IsMergedFrom first.items Bs o.hash o.bound o.duplicates p
+        new.items found.0) }
     ensures err { let o = options.now in let Bs = map (λ bytes. bytes.items) others.items
-        in IfErr result (λ u. IsLateStop first.items Bs o.hash o.bound o.duplicates percent u
-        (shape, forms)) }
+        in let p = new_percent first.items o.percent
+        in IfErr result (λ u. IsLateStop first.items Bs o.hash o.bound o.duplicates p u found) }
 {
+    let bytes = first.as_slice();
+    let percent = new_percent(bytes, options.percent);
     let inputs = inputs_of(
         rt.alloc(),
-        shape,
+        found.0,
         first,
         others,
         options.hash,
         options.bound,
     )?;
-    merged_inputs(
-        rt,
-        shape,
-        forms,
-        inputs.as_slice(),
-        percent,
-        options,
-        errors,
-    )
+    merged_inputs(rt, found, inputs.as_slice(), percent, options, errors)
 }
 
-// The same of files that are all valid tables of the lengths of this shape, which is that of the
-// first.
+// The same at this load factor, of files that are all valid tables of the lengths of this shape,
+// which is that of the first.
 fn merged_inputs<R: AllocGlobal + Clock, E: Write>(
     rt: &R,
-    shape: AnyShape,
-    forms: GivenForms,
+    found: (AnyShape, GivenForms),
     inputs: &[Input],
     percent: Percent,
     options: &MergeOptions,
     errors: &mut E,
 ) -> Result<Vec<u8>, MergeFailure>
-    requires { All (IsInputOf (typed_len (any_key shape)) (typed_len (any_value shape))) inputs.now }
-    ensures ok { let o = options.now in IfOk result (λ new. IsMerged (any_format shape)
+    requires { All (IsInputOf (typed_len (any_key found.0)) (typed_len (any_value found.0)))
+        inputs.now }
+    ensures ok { let o = options.now in IfOk result (λ new. IsMerged (any_format found.0)
         o.duplicates percent (map input_pairs inputs.now) new.items) }
-    ensures err { let o = options.now in IfErr result (λ u. IsStoppedOf (shape, forms)
+    ensures err { let o = options.now in IfErr result (λ u. IsStoppedOf found
         o.duplicates percent u (map input_pairs inputs.now)) }
 {
+    let (shape, forms) = found;
     let texts = Texts::of(shape, forms);
+    let job = MergeJob {
+        texts,
+        inputs,
+        duplicates: options.duplicates,
+        percent,
+    };
     let run = PairRun::new(rt, options.has_progress);
-    let duplicates = options.duplicates;
     match shape.hash() {
-        Hash::Fx => merge_lengths::<FxHashFn, R, E>(
-            run, texts, inputs, duplicates, percent, errors,
-        ),
-        Hash::Unhash => merge_lengths::<UnHashFn, R, E>(
-            run, texts, inputs, duplicates, percent, errors,
-        ),
-        Hash::Xxh64 => merge_lengths::<Xxh64HashFn, R, E>(
-            run, texts, inputs, duplicates, percent, errors,
-        ),
+        Hash::Fx => merge_lengths::<FxHashFn, R, E>(run, &job, errors),
+        Hash::Unhash => merge_lengths::<UnHashFn, R, E>(run, &job, errors),
+        Hash::Xxh64 => merge_lengths::<Xxh64HashFn, R, E>(run, &job, errors),
     }
 }
 

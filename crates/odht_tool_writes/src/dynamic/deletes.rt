@@ -29,31 +29,37 @@ use std::alloc::Global;
 use std::io::{self, Write};
 use std::rt::Clock;
 
-/// The bytes of the table without the keys of the words or lines, and whether each had a value; a
-/// line on `errors` tells of each that had none.
+/// Keys, each with the word or the line that is its text.
+#[derive(Drop)]
+pub struct NamedKeys<'a, W> {
+    pub words: &'a [W],
+    pub keys: &'a [ShortBytes],
+}
+
+/// The bytes of the table without these keys, and whether each had a value; a line on `errors`
+/// tells of each that had none.
 pub fn delete_lengths<H: HashFn, W: Word, R: AllocGlobal + Clock, E: Write>(
     run: PairRun<'_, R>,
     file: &str,
     layout: Layout,
     bytes: &[u8],
-    words: &[W],
-    keys: &[ShortBytes],
+    named: &NamedKeys<'_, W>,
     errors: &mut E,
 ) -> Result<(Vec<u8>, Status), Failure>
     requires valid { IsValidBytes (format_of layout.key_len layout.value_len H.hash) bytes.now }
     requires hashes { H.MIN_LEN ≤ layout.key_len }
-    requires each { length words.now ≡ length keys.now }
+    requires each { length named.now.words.now ≡ length named.now.keys.now }
     ensures ok { let F = format_of layout.key_len layout.value_len H.hash
         in OfTable F bytes.now (λ P. IfOk result
-        (λ x. IsLeft F keys.now P x.0.items x.1)) }
+        (λ x. IsLeft F named.now.keys.now P x.0.items x.1)) }
     ensures memory { OnErr result (result ≡ Err Memory) }
 {
     let old: DynTable<H, Borrowed<'_>> = DynTable::open_unchecked(layout, Borrowed::new(bytes));
-    let left = left_pairs(run, &old, keys, errors)?;
-    let are_there = are_there(&old, keys);
+    let left = left_pairs(run, &old, named.keys, errors)?;
+    let are_there = are_there(&old, named.keys);
     if !are_there {
         // A line that cannot be written is no failure.
-        let _ = write_absent_keys(file, &old, words, keys, errors);
+        let _ = write_absent_keys(file, &old, named.words, named.keys, errors);
     }
     Ok((left, Status::of(are_there)))
 }

@@ -67,26 +67,36 @@ pub enum MergeFailure {
     New(Failure),
 }
 
-/// The bytes of a new table of the pairs of the files, whose keys and values have the lengths of
-/// these texts.
+/// What is merged, and how.
+#[derive(Drop)]
+pub struct MergeJob<'a> {
+    /// The texts of keys and values, which all files have in the same lengths.
+    pub texts: Texts,
+    /// The files.
+    pub inputs: &'a [Input],
+    /// Which file's pair of a key counts.
+    pub duplicates: Duplicates,
+    /// The load factor of the new table.
+    pub percent: Percent,
+}
+
+/// The bytes of a new table of the pairs of the files.
 pub fn merge_lengths<H: HashFn, R: AllocGlobal + Clock, E: Write>(
     run: PairRun<'_, R>,
-    texts: Texts,
-    inputs: &[Input],
-    duplicates: Duplicates,
-    percent: Percent,
+    job: &MergeJob<'_>,
     errors: &mut E,
 ) -> Result<Vec<u8>, MergeFailure>
-    requires { All (IsInputOf (typed_len texts.key) (typed_len texts.value)) inputs.now }
-    ensures ok { let F = format_of (typed_len texts.key) (typed_len texts.value) H.hash
-        in IfOk result
-        (λ new. IsMerged F duplicates percent (map input_pairs inputs.now) new.items) }
-    ensures err { let F = format_of (typed_len texts.key) (typed_len texts.value) H.hash
-        in IfErr result
-        (IsStopped texts H.MIN_LEN F duplicates percent (map input_pairs inputs.now)) }
+    requires { let t = job.now.texts
+        in All (IsInputOf (typed_len t.key) (typed_len t.value)) job.now.inputs.now }
+    ensures ok { let j = job.now in let F = format_of (typed_len j.texts.key)
+        (typed_len j.texts.value) H.hash in IfOk result
+        (λ new. IsMerged F j.duplicates j.percent (map input_pairs j.inputs.now) new.items) }
+    ensures err { let j = job.now in let F = format_of (typed_len j.texts.key)
+        (typed_len j.texts.value) H.hash in IfErr result
+        (IsStopped j.texts H.MIN_LEN F j.duplicates j.percent (map input_pairs j.inputs.now)) }
 {
-    match make_table::<H>(run.alloc(), texts, inputs, percent) {
-        Ok(table) => merge_into(run, table, texts, inputs, duplicates, percent, errors),
+    match make_table::<H>(run.alloc(), job.texts, job.inputs, job.percent) {
+        Ok(table) => merge_into(run, table, job, errors),
         Err(failure) => Err(MergeFailure::New(failure)),
     }
 }
@@ -95,22 +105,22 @@ pub fn merge_lengths<H: HashFn, R: AllocGlobal + Clock, E: Write>(
 fn merge_into<H: HashFn, R: AllocGlobal + Clock, E: Write>(
     mut run: PairRun<'_, R>,
     mut table: DynTableOwned<H>,
-    texts: Texts,
-    inputs: &[Input],
-    duplicates: Duplicates,
-    percent: Percent,
+    job: &MergeJob<'_>,
     errors: &mut E,
 ) -> Result<Vec<u8>, MergeFailure>
-    requires inputs { All (IsInputOf (typed_len texts.key) (typed_len texts.value)) inputs.now }
-    requires fresh { IsDynWith (typed_len texts.key) (typed_len texts.value)
-        (λ P. fresh (length (all_of (map input_pairs inputs.now))) percent ≡ Some P) table }
-    ensures ok { let F = format_of (typed_len texts.key) (typed_len texts.value) H.hash
-        in IfOk result
-        (λ new. IsMerged F duplicates percent (map input_pairs inputs.now) new.items) }
-    ensures err { let F = format_of (typed_len texts.key) (typed_len texts.value) H.hash
-        in IfErr result
-        (IsStopped texts H.MIN_LEN F duplicates percent (map input_pairs inputs.now)) }
+    requires inputs { let t = job.now.texts
+        in All (IsInputOf (typed_len t.key) (typed_len t.value)) job.now.inputs.now }
+    requires fresh { let j = job.now
+        in IsDynWith (typed_len j.texts.key) (typed_len j.texts.value)
+        (λ P. fresh (length (all_of (map input_pairs j.inputs.now))) j.percent ≡ Some P) table }
+    ensures ok { let j = job.now in let F = format_of (typed_len j.texts.key)
+        (typed_len j.texts.value) H.hash in IfOk result
+        (λ new. IsMerged F j.duplicates j.percent (map input_pairs j.inputs.now) new.items) }
+    ensures err { let j = job.now in let F = format_of (typed_len j.texts.key)
+        (typed_len j.texts.value) H.hash in IfErr result
+        (IsStopped j.texts H.MIN_LEN F j.duplicates j.percent (map input_pairs j.inputs.now)) }
 {
+    let (texts, inputs, duplicates) = (job.texts, job.inputs, job.duplicates);
     for at in 0..inputs.len() {
         let input = &inputs[at];
         match repeated_in(run.alloc(), texts, &table, input, duplicates) {

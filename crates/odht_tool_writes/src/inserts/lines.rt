@@ -12,6 +12,7 @@ use crate::warnings::warn_of_long;
 use odht_tool_core::arguments::{Duplicates, is_stream};
 use odht_tool_core::failure::Failure;
 use odht_tool_core::forms::Forms;
+use odht_tool_core::job::Streams;
 use odht_tool_core::line_messages::repeated_message;
 use odht_tool_core::lines::read_pair_as;
 use odht_tool_core::new_file::{NewFile, ended, make_new, replace_file};
@@ -22,14 +23,6 @@ use std::alloc::Global;
 use std::io::{BufRead, Write};
 use std::os::fd::AsFd;
 use std::rt::{Clock, Files};
-
-/// What a command reads lines from, and what it writes to.
-#[derive(Drop)]
-pub struct Streams<'i, 'o, 'e, I, O, E> {
-    pub input: &'i mut I,
-    pub output: &'o mut O,
-    pub errors: &'e mut E,
-}
 
 /// Where a table goes.
 #[derive(Drop)]

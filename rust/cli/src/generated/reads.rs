@@ -3,9 +3,8 @@
 
 use crate::host::prelude::*;
 
-mod bounds;
+pub mod bounds;
 pub mod commands;
 mod dynamic;
-mod generated;
 pub mod lookups;
 pub mod positions;

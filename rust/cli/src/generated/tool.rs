@@ -10,6 +10,7 @@ mod pairs;
 mod streams;
 
 use crate::generated::core::arguments::parse;
+use crate::generated::core::job::Streams;
 use crate::generated::core::status::Status;
 use crate::host::env;
 use crate::host::io::{self, BufReader, BufWriter, ErrorKind};
@@ -58,5 +59,6 @@ fn run(rt: &HostRuntime) -> io::Result<Status> {
     let mut input = BufReader::with_capacity(alloc, BUFFER_SIZE, source)?;
     let mut output = BufWriter::with_capacity(alloc, BUFFER_SIZE, sink)?;
     let mut errors = rt.stderr();
-    Ok(commands::run(rt, request, &mut input, &mut output, &mut errors))
+    let mut streams = Streams { input: &mut input, output: &mut output, errors: &mut errors };
+    Ok(commands::run(rt, request, &mut streams))
 }

@@ -7,6 +7,7 @@ use crate::host::prelude::*;
 pub mod checks;
 pub mod dynamic;
 pub mod files;
+pub mod generated;
 mod short_inserts;
 pub mod trials;
 pub mod whole;

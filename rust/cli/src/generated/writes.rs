@@ -5,7 +5,6 @@ use crate::host::prelude::*;
 
 pub mod commands;
 mod dynamic;
-mod generated;
 mod inserts;
 mod reports;
 mod starts;

@@ -189,14 +189,50 @@ impl Command {
 /// `--whole`.
 pub enum Reading {
     // begin readings: generated from lists/commands.txt by make generate
-    Info { bound: Option<usize>, is_json: bool },
-    Check { hash: Option<Hash>, bound: Option<usize>, is_json: bool },
-    Count { hash: Option<Hash>, bound: Option<usize>, is_checked: bool },
-    Get { hash: Option<Hash>, kinds: Kinds, keys: Keys, is_values: bool, is_json: bool },
-    Dump { hash: Option<Hash>, kinds: Kinds, is_slots: bool, is_values: bool, is_json: bool },
-    Keys { hash: Option<Hash>, kinds: Kinds, is_json: bool },
-    Find { bound: Option<usize>, is_json: bool },
-    Order { hash: Option<Hash>, kinds: Kinds, bound: Option<usize> },
+    Info {
+        bound: Option<usize>,
+        is_json: bool,
+    },
+    Check {
+        hash: Option<Hash>,
+        bound: Option<usize>,
+        is_json: bool,
+    },
+    Count {
+        hash: Option<Hash>,
+        bound: Option<usize>,
+        is_checked: bool,
+    },
+    Get {
+        hash: Option<Hash>,
+        kinds: Kinds,
+        bound: Option<usize>,
+        keys: Keys,
+        is_values: bool,
+        is_json: bool,
+    },
+    Dump {
+        hash: Option<Hash>,
+        kinds: Kinds,
+        bound: Option<usize>,
+        is_slots: bool,
+        is_values: bool,
+        is_json: bool,
+    },
+    Keys {
+        hash: Option<Hash>,
+        kinds: Kinds,
+        is_json: bool,
+    },
+    Find {
+        bound: Option<usize>,
+        is_json: bool,
+    },
+    Order {
+        hash: Option<Hash>,
+        kinds: Kinds,
+        bound: Option<usize>,
+    },
     // end readings
 }
 

@@ -6,7 +6,7 @@ use crate::generated::base::hash::HashFn;
 use crate::generated::base::swisstable_group_query::is_empty_or_deleted;
 use crate::generated::core::groups::groups_to;
 use crate::generated::core::json::slots::write_slot_object;
-use crate::generated::core::slots::write_numbers;
+use crate::generated::core::slots::{write_numbers, SlotNumbers};
 use crate::generated::core::typed::Texts;
 use crate::generated::raw::raw_table::DynRawTable;
 use crate::host::prelude::*;
@@ -41,10 +41,11 @@ fn write_dynamic_slot<H: HashFn, O: Write>(
     }
     let (key, value) = (table.key(slot), table.value(slot));
     let groups = groups_to(H::hash(key), slot, slots, None);
+    let numbers = SlotNumbers { slot, tag, groups };
     if is_json {
-        write_slot_object(texts, slot, tag, groups, key, value, output)
+        write_slot_object(texts, numbers, key, value, output)
     } else {
-        write_slot_text(texts, slot, tag, groups, key, value, output)
+        write_slot_text(texts, numbers, key, value, output)
     }
 }
 
@@ -52,13 +53,11 @@ fn write_dynamic_slot<H: HashFn, O: Write>(
 #[inline(always)]
 fn write_slot_text<O: Write>(
     texts: Texts,
-    slot: usize,
-    tag: u8,
-    groups: usize,
+    numbers: SlotNumbers,
     key: &[u8],
     value: &[u8],
     output: &mut O,
 ) -> io::Result<()> {
-    write_numbers(slot, tag, groups, output)?;
+    write_numbers(numbers, output)?;
     texts.write_pair(key, value, output)
 }

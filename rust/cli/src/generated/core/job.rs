@@ -1,5 +1,5 @@
 // Generated from crates/odht_tool_core/src/job.rt by make generate.
-//! What a command that reads a file needs.
+//! What commands need: the job of one that reads a file, and the streams.
 
 use crate::generated::core::json::answers::Printed;
 use crate::host::prelude::*;
@@ -31,4 +31,11 @@ impl Job<'_> {
     pub fn printed(&self) -> Printed {
         Printed { is_json: self.is_json, is_values: self.is_values }
     }
+}
+
+/// What a command reads lines from, and what it writes to.
+pub struct Streams<'i, 'o, 'e, I, O, E> {
+    pub input: &'i mut I,
+    pub output: &'o mut O,
+    pub errors: &'e mut E,
 }

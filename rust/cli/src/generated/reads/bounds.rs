@@ -7,7 +7,7 @@ use crate::host::prelude::*;
 
 /// The error of control bytes by which a search may read more groups than the bound. Where header
 /// or length do not fit, none: opening tells what is wrong.
-pub(crate) fn check_bound(bytes: &[u8], bound: Option<usize>) -> Result<(), Error> {
+pub fn check_bound(bytes: &[u8], bound: Option<usize>) -> Result<(), Error> {
     let Ok(table) = StoredTable::open(bytes) else {
         return Ok(());
     };

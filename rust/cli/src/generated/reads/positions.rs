@@ -75,6 +75,8 @@ pub struct Asked {
     pub hash: Option<Hash>,
     /// What is said of keys and values.
     pub kinds: Kinds,
+    /// The bound of searches, in groups, where there is one.
+    pub bound: Option<usize>,
     /// What is printed of each key.
     pub printed: Printed,
 }
@@ -121,8 +123,9 @@ fn front_len(header: &[u8], found: usize) -> Option<usize> {
 
 /// `odht get` of a source of that many bytes, for the words of the command line. None where the
 /// source is not read by position: a read failed, or its bytes are not opened, or too many of them
-/// would be read to know the hash function. Nothing was written then, and reading all bytes gives
-/// the answer.
+/// would be read to know the hash function, or the search for a key reads more than
+/// [`DEFAULT_GROUPS`](odht::memory_layout::DEFAULT_GROUPS) groups. Nothing was written then, and
+/// reading all bytes gives the answer, with the bound of searches.
 ///
 /// Over any source, for any list of bytes that it gives in each read: what is written is what
 /// [`get_file_words`](crate::generated::reads::commands::get::get_file_words) writes of the table in this list, with
@@ -147,7 +150,7 @@ pub fn get_words_at<S: ReadAt, O: Write>(
 
 /// The same for the lines of an input, each of which is answered before the next one is read. None
 /// where [`get_words_at`] returns it: then nothing was written, and no line was read. A lookup whose
-/// read fails is a failure of the file.
+/// read fails, or whose search is longer than the bound, is a failure of the file.
 ///
 /// Over any source, for any list of bytes that it gives in each read: what is written is what
 /// [`get_file_lines`](crate::generated::reads::commands::get::get_file_lines) writes of the table in this list as one

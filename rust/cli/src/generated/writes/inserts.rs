@@ -23,6 +23,8 @@ mod tables;
 pub struct LineJob<'a, R, F> {
     /// The system, which allocates and has the clock.
     pub rt: &'a R,
+    /// The lengths of keys and values.
+    pub layout: Layout,
     /// The forms of keys and values, and the byte between them.
     pub forms: F,
     /// Which pair of a key counts.

@@ -18,7 +18,7 @@ returns g c =
     let r = c.write_pair_fields.result in
     let f = key_text c.args.texts in
     let h = value_text c.args.texts in
-    let numbers = number_fields_text c.args.slot c.args.tag c.args.groups in
-    let parts = slot_parts (number_field (codes "slot") c.args.slot) (number_field (codes "control") c.args.tag) (number_field (codes "groups") c.args.groups) (text_field (codes "key") (f c.args.key.now)) (text_field (codes "value") (h c.args.value.now)) in
+    let numbers = number_fields_text c.args.numbers.slot c.args.numbers.tag c.args.numbers.groups in
+    let parts = slot_parts (number_field (codes "slot") c.args.numbers.slot) (number_field (codes "control") c.args.numbers.tag) (number_field (codes "groups") c.args.numbers.groups) (text_field (codes "key") (f c.args.key.now)) (text_field (codes "value") (h c.args.value.now)) in
     let written = then_appends r old (o c.write_number_fields.new.output) new numbers (pair_fields_text f h (c.args.key.now, c.args.value.now)) c.in_ok-write_number_fields.ensures c.write_pair_fields.ensures in
     subst (λ t. OnOk r (Appends old new t)) parts written

@@ -12,7 +12,7 @@ use Rattle.odht_tool_writes.proofs.commands.delete.deleted_for.Goals as goal
 pub returns-in-Fx-clause-ok : goal.returns-in-Fx-clause-ok
 returns-in-Fx-clause-ok g c =
     let format = format_as c.args.shape c.lengths_of-layout.result.key_len c.lengths_of-layout.result.value_len Fx (c.lengths_of-layout.ensures.key ∙ ap typed_len c.key.ensures) (c.lengths_of-layout.ensures.value ∙ ap typed_len c.value.ensures) (sym c.hash.ensures ∙ c.in-Fx.is) in
-    subst (λ (F : Format). OfTable F c.args.bytes.now (λ P. IfOk c.delete_lengths.result (λ x. IsLeft F c.args.keys.now P x.0.items x.1))) format c.delete_lengths.ensures.ok
+    subst (λ (F : Format). OfTable F c.args.bytes.now (λ P. IfOk c.delete_lengths.result (λ x. IsLeft F c.args.named.now.keys.now P x.0.items x.1))) format c.delete_lengths.ensures.ok
 
 pub delete_lengths-requires-in-Unhash-clause-valid : goal.delete_lengths-requires-in-Unhash-clause-valid
 delete_lengths-requires-in-Unhash-clause-valid g c =
@@ -27,9 +27,9 @@ delete_lengths-requires-in-Xxh64-clause-valid g c =
 pub returns-in-Unhash-clause-ok : goal.returns-in-Unhash-clause-ok
 returns-in-Unhash-clause-ok g c =
     let format = format_as c.args.shape c.lengths_of-layout.result.key_len c.lengths_of-layout.result.value_len Unhash (c.lengths_of-layout.ensures.key ∙ ap typed_len c.key.ensures) (c.lengths_of-layout.ensures.value ∙ ap typed_len c.value.ensures) (sym c.hash.ensures ∙ c.in-Unhash.is) in
-    subst (λ (F : Format). OfTable F c.args.bytes.now (λ P. IfOk c.delete_lengths-in-Unhash.result (λ x. IsLeft F c.args.keys.now P x.0.items x.1))) format c.delete_lengths-in-Unhash.ensures.ok
+    subst (λ (F : Format). OfTable F c.args.bytes.now (λ P. IfOk c.delete_lengths-in-Unhash.result (λ x. IsLeft F c.args.named.now.keys.now P x.0.items x.1))) format c.delete_lengths-in-Unhash.ensures.ok
 
 pub returns-in-Xxh64-clause-ok : goal.returns-in-Xxh64-clause-ok
 returns-in-Xxh64-clause-ok g c =
     let format = format_as c.args.shape c.lengths_of-layout.result.key_len c.lengths_of-layout.result.value_len Xxh64 (c.lengths_of-layout.ensures.key ∙ ap typed_len c.key.ensures) (c.lengths_of-layout.ensures.value ∙ ap typed_len c.value.ensures) (sym c.hash.ensures ∙ c.in-Xxh64.is) in
-    subst (λ (F : Format). OfTable F c.args.bytes.now (λ P. IfOk c.delete_lengths-in-Xxh64.result (λ x. IsLeft F c.args.keys.now P x.0.items x.1))) format c.delete_lengths-in-Xxh64.ensures.ok
+    subst (λ (F : Format). OfTable F c.args.bytes.now (λ P. IfOk c.delete_lengths-in-Xxh64.result (λ x. IsLeft F c.args.named.now.keys.now P x.0.items x.1))) format c.delete_lengths-in-Xxh64.ensures.ok

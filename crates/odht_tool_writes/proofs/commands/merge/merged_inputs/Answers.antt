@@ -21,7 +21,7 @@ returns-in-Fx-clause-ok g c =
     let o = c.args.options.now in
     let texts = c.of-texts.ensures in
     let xss : List (List Pair) = map input_pairs c.args.inputs.now in
-    let format = format_as c.args.shape (typed_len c.of-texts.result.key) (typed_len c.of-texts.result.value) Fx (ap (λ (t : Texts). typed_len t.key) texts) (ap (λ (t : Texts). typed_len t.value) texts) (sym c.hash.ensures ∙ c.in-Fx.is) in
+    let format = format_as c.args.found.0 (typed_len c.of-texts.result.key) (typed_len c.of-texts.result.value) Fx (ap (λ (t : Texts). typed_len t.key) texts) (ap (λ (t : Texts). typed_len t.value) texts) (sym c.hash.ensures ∙ c.in-Fx.is) in
     subst (λ (F : Format). IfOk c.merge_lengths.result (λ new. IsMerged F o.duplicates c.args.percent xss new.items)) format c.merge_lengths.ensures.ok
 
 pub returns-in-Fx-clause-err : goal.returns-in-Fx-clause-err
@@ -30,8 +30,8 @@ returns-in-Fx-clause-err g c =
     let texts = c.of-texts.ensures in
     let xss : List (List Pair) = map input_pairs c.args.inputs.now in
     let hash = sym c.hash.ensures ∙ c.in-Fx.is in
-    let least : least_key_len Fx ≡ least_key_len (any_hash c.args.shape) = ap least_key_len (sym hash) in
-    let format = format_as c.args.shape (typed_len c.of-texts.result.key) (typed_len c.of-texts.result.value) Fx (ap (λ (t : Texts). typed_len t.key) texts) (ap (λ (t : Texts). typed_len t.value) texts) hash in
+    let least : least_key_len Fx ≡ least_key_len (any_hash c.args.found.0) = ap least_key_len (sym hash) in
+    let format = format_as c.args.found.0 (typed_len c.of-texts.result.key) (typed_len c.of-texts.result.value) Fx (ap (λ (t : Texts). typed_len t.key) texts) (ap (λ (t : Texts). typed_len t.value) texts) hash in
     subst (λ (x : (Texts × ℕ) × Format). IfErr c.merge_lengths.result (IsStopped x.0.0 x.0.1 x.1 o.duplicates c.args.percent xss)) (λ i. ((texts i, least i), format i)) c.merge_lengths.ensures.err
 
 pub merge_lengths-requires-in-Unhash : goal.merge_lengths-requires-in-Unhash
@@ -49,7 +49,7 @@ returns-in-Unhash-clause-ok g c =
     let o = c.args.options.now in
     let texts = c.of-texts.ensures in
     let xss : List (List Pair) = map input_pairs c.args.inputs.now in
-    let format = format_as c.args.shape (typed_len c.of-texts.result.key) (typed_len c.of-texts.result.value) Unhash (ap (λ (t : Texts). typed_len t.key) texts) (ap (λ (t : Texts). typed_len t.value) texts) (sym c.hash.ensures ∙ c.in-Unhash.is) in
+    let format = format_as c.args.found.0 (typed_len c.of-texts.result.key) (typed_len c.of-texts.result.value) Unhash (ap (λ (t : Texts). typed_len t.key) texts) (ap (λ (t : Texts). typed_len t.value) texts) (sym c.hash.ensures ∙ c.in-Unhash.is) in
     subst (λ (F : Format). IfOk c.merge_lengths-in-Unhash.result (λ new. IsMerged F o.duplicates c.args.percent xss new.items)) format c.merge_lengths-in-Unhash.ensures.ok
 
 pub returns-in-Xxh64-clause-ok : goal.returns-in-Xxh64-clause-ok
@@ -57,7 +57,7 @@ returns-in-Xxh64-clause-ok g c =
     let o = c.args.options.now in
     let texts = c.of-texts.ensures in
     let xss : List (List Pair) = map input_pairs c.args.inputs.now in
-    let format = format_as c.args.shape (typed_len c.of-texts.result.key) (typed_len c.of-texts.result.value) Xxh64 (ap (λ (t : Texts). typed_len t.key) texts) (ap (λ (t : Texts). typed_len t.value) texts) (sym c.hash.ensures ∙ c.in-Xxh64.is) in
+    let format = format_as c.args.found.0 (typed_len c.of-texts.result.key) (typed_len c.of-texts.result.value) Xxh64 (ap (λ (t : Texts). typed_len t.key) texts) (ap (λ (t : Texts). typed_len t.value) texts) (sym c.hash.ensures ∙ c.in-Xxh64.is) in
     subst (λ (F : Format). IfOk c.merge_lengths-in-Xxh64.result (λ new. IsMerged F o.duplicates c.args.percent xss new.items)) format c.merge_lengths-in-Xxh64.ensures.ok
 
 pub returns-in-Unhash-clause-err : goal.returns-in-Unhash-clause-err
@@ -66,8 +66,8 @@ returns-in-Unhash-clause-err g c =
     let texts = c.of-texts.ensures in
     let xss : List (List Pair) = map input_pairs c.args.inputs.now in
     let hash = sym c.hash.ensures ∙ c.in-Unhash.is in
-    let least : least_key_len Unhash ≡ least_key_len (any_hash c.args.shape) = ap least_key_len (sym hash) in
-    let format = format_as c.args.shape (typed_len c.of-texts.result.key) (typed_len c.of-texts.result.value) Unhash (ap (λ (t : Texts). typed_len t.key) texts) (ap (λ (t : Texts). typed_len t.value) texts) hash in
+    let least : least_key_len Unhash ≡ least_key_len (any_hash c.args.found.0) = ap least_key_len (sym hash) in
+    let format = format_as c.args.found.0 (typed_len c.of-texts.result.key) (typed_len c.of-texts.result.value) Unhash (ap (λ (t : Texts). typed_len t.key) texts) (ap (λ (t : Texts). typed_len t.value) texts) hash in
     subst (λ (x : (Texts × ℕ) × Format). IfErr c.merge_lengths-in-Unhash.result (IsStopped x.0.0 x.0.1 x.1 o.duplicates c.args.percent xss)) (λ i. ((texts i, least i), format i)) c.merge_lengths-in-Unhash.ensures.err
 
 pub returns-in-Xxh64-clause-err : goal.returns-in-Xxh64-clause-err
@@ -76,6 +76,6 @@ returns-in-Xxh64-clause-err g c =
     let texts = c.of-texts.ensures in
     let xss : List (List Pair) = map input_pairs c.args.inputs.now in
     let hash = sym c.hash.ensures ∙ c.in-Xxh64.is in
-    let least : least_key_len Xxh64 ≡ least_key_len (any_hash c.args.shape) = ap least_key_len (sym hash) in
-    let format = format_as c.args.shape (typed_len c.of-texts.result.key) (typed_len c.of-texts.result.value) Xxh64 (ap (λ (t : Texts). typed_len t.key) texts) (ap (λ (t : Texts). typed_len t.value) texts) hash in
+    let least : least_key_len Xxh64 ≡ least_key_len (any_hash c.args.found.0) = ap least_key_len (sym hash) in
+    let format = format_as c.args.found.0 (typed_len c.of-texts.result.key) (typed_len c.of-texts.result.value) Xxh64 (ap (λ (t : Texts). typed_len t.key) texts) (ap (λ (t : Texts). typed_len t.value) texts) hash in
     subst (λ (x : (Texts × ℕ) × Format). IfErr c.merge_lengths-in-Xxh64.result (IsStopped x.0.0 x.0.1 x.1 o.duplicates c.args.percent xss)) (λ i. ((texts i, least i), format i)) c.merge_lengths-in-Xxh64.ensures.err

@@ -16,7 +16,7 @@ pub returns-clause-ok : goal.returns-clause-ok
 returns-clause-ok g c P is =
     let h = g.H.HashFn.hash in
     let F : Format = format_of c.args.layout.key_len c.args.layout.value_len h in
-    let keys = c.args.keys.now in
+    let keys = c.args.named.now.keys.now in
     let old = c.open_unchecked-old.result in
     let key : c.args.layout.key_len ≡ old.key_len = search rules in
     let value : c.args.layout.value_len ≡ old.value_len = search rules in

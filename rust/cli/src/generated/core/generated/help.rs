@@ -126,13 +126,16 @@ odht count FILE.. [--check] [--whole] [--hash fx|unhash|xxh64]
 
 const GET: &str = "\
 odht get FILE KEY.. [--values] [--json] [--null] [--key SHAPE]
-                    [--value SHAPE] [--hash fx|unhash|xxh64]
+                    [--value SHAPE] [--whole] [--hash fx|unhash|xxh64]
                     [--at OFFSET]
     Prints a line for each key, in their order: KEY, a tab and VALUE. The line of an
     absent key is only KEY. A KEY that cannot be a key of the table is absent.
     Status 0: all keys are present; 1: a key is absent; 2: the command failed.
     With - as the only KEY, the keys are the lines of standard input. An empty last
-    line is left out if it is no key. Any other line that is no key is an error.
+    line is left out if it is no key. Any other line that is no key is an error. If
+    a search may read more than 128 groups of control bytes, the command fails, so
+    that no file takes long. If it looks keys up in a part of a regular file, it
+    fails only if the search for one of them reads more.
     --values       prints only VALUE on each line; the line of an absent key is
                    empty
     --json         prints a JSON object for each key: key and value, strings like
@@ -144,6 +147,7 @@ odht get FILE KEY.. [--values] [--json] [--null] [--key SHAPE]
                    the lengths in the file. If left out, each length decides: 4
                    bytes are u32, 8 are u64, and others hexadecimal digits (keys
                    under unhash too, unless the file is of a ready shape of numbers)
+    --whole        searches without this bound of 128 groups
     --hash         the hash function; if left out, the one that the first slots fit,
                    or with - as KEY the one that all control bytes fit, unless the
                    lines are a file of at most one byte for 16,384 bytes of FILE
@@ -155,10 +159,13 @@ odht get FILE KEY.. [--values] [--json] [--null] [--key SHAPE]
 
 const DUMP: &str = "\
 odht dump FILE [--slots] [--values] [--json] [--null] [--key SHAPE]
-               [--value SHAPE] [--hash fx|unhash|xxh64] [--at OFFSET]
+               [--value SHAPE] [--whole] [--hash fx|unhash|xxh64]
+               [--at OFFSET]
     Prints a line for each pair, in slot order: KEY, a tab and VALUE.
     --slots        prints three numbers and tabs before them: the slot, the control
-                   byte, and the groups that a search for the key reads
+                   byte, and the groups that a search for the key reads. It fails if
+                   a search may read more than 128 groups, so that no file takes
+                   long
     --values       prints only VALUE on each line, in the order of `odht keys`; not
                    with --slots
     --json         prints a JSON object on each line: key and value, which are
@@ -172,6 +179,7 @@ odht dump FILE [--slots] [--values] [--json] [--null] [--key SHAPE]
                    the lengths in the file. If left out, each length decides: 4
                    bytes are u32, 8 are u64, and others hexadecimal digits (keys
                    under unhash too, unless the file is of a ready shape of numbers)
+    --whole        with --slots: searches without this bound of 128 groups
     --hash         the hash function; if left out, the one that all control bytes
                    fit
     --at           the table begins at this byte of the file; bytes after its end

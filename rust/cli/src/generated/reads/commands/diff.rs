@@ -5,6 +5,7 @@ use crate::generated::core::any::AnyShape;
 use crate::generated::core::arguments::DiffOptions;
 use crate::generated::core::failure::Failure;
 use crate::generated::core::forms::{GivenForms, Kinds};
+use crate::generated::core::job::Streams;
 use crate::generated::core::shapes::Hash;
 use crate::generated::core::status::Status;
 use crate::generated::core::typed::Texts;
@@ -17,33 +18,44 @@ use crate::host::prelude::*;
 use crate::host::rt::Files;
 use std::io::{BufRead, Write};
 
+/// The first one of two files: a valid table, whose texts the lines have.
+#[derive(Clone, Copy)]
+pub struct First<'a> {
+    /// The name of the file.
+    pub file: &'a str,
+    /// The shape of its table.
+    pub shape: AnyShape,
+    /// The forms of keys and values.
+    pub forms: GivenForms,
+    /// All its bytes.
+    pub bytes: &'a [u8],
+}
+
 /// Compares a file with another one. A failure of the other is reported here.
 pub fn diff<R: Files + AllocGlobal, I: BufRead, O: Write, E: Write>(
     rt: &R,
     file: &str,
     options: DiffOptions,
-    input: &mut I,
-    output: &mut O,
-    errors: &mut E,
+    streams: &mut Streams<'_, '_, '_, I, O, E>,
 ) -> Result<Status, Failure> {
-    let first = read_bytes(rt, file, input)?;
-    let first = first.as_slice();
-    let (shape, forms) = read_whole(first, options.hash, options.kinds, options.bound)?;
+    let first = read_bytes(rt, file, streams.input)?;
+    let bytes = first.as_slice();
+    let (shape, forms) = read_whole(bytes, options.hash, options.kinds, options.bound)?;
+    let first = First { file, shape, forms, bytes };
     let other = options.other.as_str();
-    let second = match read_bytes(rt, other, input) {
+    let second = match read_bytes(rt, other, streams.input) {
         Ok(second) => second,
-        Err(failure) => return Ok(finish_as(other, Err(failure), Status::Trouble, errors)),
+        Err(failure) => {
+            return Ok(finish_as(other, Err(failure), Status::Trouble, streams.errors));
+        }
     };
-    diff_beside(file, shape, forms, first, &options, second.as_slice(), output, errors)
+    let second = second.as_slice();
+    diff_beside(&first, &options, second, streams.output, streams.errors)
 }
 
-// The same where the first file is a valid table of this shape, and the second one has these
-// bytes. A failure of the second one is reported here.
+// The same where the second file has these bytes. A failure of it is reported here.
 fn diff_beside<O: Write, E: Write>(
-    file: &str,
-    shape: AnyShape,
-    forms: GivenForms,
-    first: &[u8],
+    first: &First<'_>,
     options: &DiffOptions,
     second: &[u8],
     output: &mut O,
@@ -53,34 +65,35 @@ fn diff_beside<O: Write, E: Write>(
     // Its keys and values are written in the texts of the first one.
     let kinds = Kinds { key: None, value: None, hash: None };
     match read_whole(second, options.hash, kinds, options.bound) {
-        Ok((beside, _)) if have_same_sizes(shape, beside) => {
-            diff_tables(shape, forms, first, beside, second, output)
+        Ok((beside, _)) if have_same_sizes(first.shape, beside) => {
+            diff_tables(first, beside, second, output)
         }
         Ok((beside, _)) => {
+            let (sizes, wanted) = (sizes_of(beside), sizes_of(first.shape));
             // A line that cannot be written is no failure.
-            let _ = write_sizes(other, file, sizes_of(beside), sizes_of(shape), errors);
+            let _ = write_sizes(other, first.file, sizes, wanted, errors);
             Ok(Status::Trouble)
         }
         Err(failure) => Ok(finish_as(other, Err(failure), Status::Trouble, errors)),
     }
 }
 
-/// Compares the bytes of two files, which are valid tables of these shapes: writes a line for each
-/// pair that differs, in the texts of the first one, or, where none does, whether the bytes do.
+/// Compares the first file with the bytes of another one, which are a valid table of this shape:
+/// writes a line for each pair that differs, in the texts of the first one, or, where none does,
+/// whether the bytes do.
 pub fn diff_tables<O: Write>(
-    shape: AnyShape,
-    forms: GivenForms,
-    first: &[u8],
+    first: &First<'_>,
     beside: AnyShape,
     second: &[u8],
     output: &mut O,
 ) -> Result<Status, Failure> {
-    let texts = Texts::of(shape, forms);
+    let (shape, bytes) = (first.shape, first.bytes);
+    let texts = Texts::of(shape, first.forms);
     let hash = beside.hash();
     match shape.hash() {
-        Hash::Fx => diff_with::<FxHashFn, O>(texts, first, hash, second, output),
-        Hash::Unhash => diff_with::<UnHashFn, O>(texts, first, hash, second, output),
-        Hash::Xxh64 => diff_with::<Xxh64HashFn, O>(texts, first, hash, second, output),
+        Hash::Fx => diff_with::<FxHashFn, O>(texts, bytes, hash, second, output),
+        Hash::Unhash => diff_with::<UnHashFn, O>(texts, bytes, hash, second, output),
+        Hash::Xxh64 => diff_with::<Xxh64HashFn, O>(texts, bytes, hash, second, output),
     }
 }
 

@@ -1,6 +1,7 @@
 // Generated from crates/odht_tool_reads/src/commands/get.rt by make generate.
 //! `odht get`: lookups in a table file.
 
+use crate::for_shape;
 use crate::generated::core::any::{read_any, AnyShape};
 use crate::generated::core::failure::Failure;
 use crate::generated::core::forms::{Forms, GivenForms, Kinds, OwnForms};
@@ -9,21 +10,36 @@ use crate::generated::core::json::answers::AnswerStyle;
 use crate::generated::core::shapes::{Hash, Shape};
 use crate::generated::core::status::Status;
 use crate::generated::core::text::Text;
+use crate::generated::reads::bounds::check_bound;
 use crate::generated::reads::dynamic::gets::{get_lines_dynamic, get_words_dynamic};
-use crate::generated::reads::generated::shapes::for_shape;
 use crate::generated::reads::lookups::arriving::Arriving;
 use crate::generated::reads::lookups::{answer_lines, LineStyle};
 use crate::generated::tables::bytes::Borrowed;
 use crate::generated::tables::config::Config;
 use crate::generated::tables::HashTable;
+use crate::generated::tool_tables::generated::shapes::Itself;
 use crate::host::prelude::*;
 use crate::shim::Global;
 use std::io::{BufRead, Write};
 
 /// `odht get` of the bytes of a file, for the words of the command line: writes a line for each
 /// key, with a tab and its value, or the key alone; or an object of JSON of both. Or the line has
-/// only the value.
+/// only the value. Where a search may read more groups than the bound, it fails before it writes.
 pub fn get_file_words<O: Write>(
+    job: &Job<'_>,
+    hash: Option<Hash>,
+    kinds: Kinds,
+    words: &[String],
+    output: &mut O,
+) -> Result<Status, Failure> {
+    match check_bound(job.bytes, job.bound) {
+        Ok(()) => get_words(job, hash, kinds, words, output),
+        Err(error) => Err(Failure::Refused(error)),
+    }
+}
+
+// The same without a bound.
+fn get_words<O: Write>(
     job: &Job<'_>,
     hash: Option<Hash>,
     kinds: Kinds,
@@ -36,8 +52,24 @@ pub fn get_file_words<O: Write>(
 }
 
 /// `odht get` of the bytes of a file, for the lines of an input, which are answered as they come
-/// where `is_live` holds.
+/// where `is_live` holds. Where a search may read more groups than the bound, it fails before it
+/// reads a line.
 pub fn get_file_lines<I: BufRead + Arriving, O: Write>(
+    job: &Job<'_>,
+    hash: Option<Hash>,
+    kinds: Kinds,
+    is_live: bool,
+    input: &mut I,
+    output: &mut O,
+) -> Result<Status, Failure> {
+    match check_bound(job.bytes, job.bound) {
+        Ok(()) => get_lines_of_file(job, hash, kinds, is_live, input, output),
+        Err(error) => Err(Failure::Refused(error)),
+    }
+}
+
+// The same without a bound.
+fn get_lines_of_file<I: BufRead + Arriving, O: Write>(
     job: &Job<'_>,
     hash: Option<Hash>,
     kinds: Kinds,
@@ -80,7 +112,7 @@ fn get_lines_of<F: Forms, I: BufRead + Arriving, O: Write>(
     input: &mut I,
     output: &mut O,
 ) -> Result<Status, Failure> {
-    for_shape!(shape, get_lines[F, I, O](alloc, bytes, style, input, output))
+    for_shape!(shape, Itself, get_lines[F, I, O](alloc, bytes, style, input, output))
 }
 
 // Looks up the keys of the lines, a batch at a time.

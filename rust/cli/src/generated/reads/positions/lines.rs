@@ -1,6 +1,7 @@
 // Generated from crates/odht_tool_reads/src/positions/lines.rt by make generate.
 //! Keys of lines that are looked up in a table that is read by position.
 
+use super::Asked;
 use crate::generated::core::failure::Failure;
 use crate::generated::core::forms::GivenForms;
 use crate::generated::core::json::answers::{write_answer_in, AnswerStyle};
@@ -16,18 +17,18 @@ use std::io::{self, BufRead, ErrorKind, Write};
 
 /// Looks up the keys of the lines, one after the other, and writes a line for each.
 pub(super) fn answer_lines_at<H: HashFn, S: ReadAt, I: BufRead, O: Write>(
-    alloc: Global,
+    asked: &Asked,
     table: &FileTable<H, S>,
     style: AnswerStyle<GivenForms>,
     input: &mut I,
     output: &mut O,
 ) -> Result<Status, Failure> {
-    let mut line = crate::host::lists::empty(alloc);
+    let mut line = crate::host::lists::empty(asked.alloc);
     let mut is_all_found = true;
     for number in 1..u64::MAX {
-        match line_key(alloc, number, input, &mut line, style.forms)? {
+        match line_key(asked.alloc, number, input, &mut line, style.forms)? {
             Some(key) => {
-                let is_found = answer_key(table, &key, style, output)?;
+                let is_found = answer_key(table, &key, asked.bound, style, output)?;
                 is_all_found = is_found && is_all_found;
             }
             None => break,
@@ -60,21 +61,29 @@ fn line_key<I: BufRead>(
 fn answer_key<H: HashFn, S: ReadAt, O: Write>(
     table: &FileTable<H, S>,
     key: &ShortBytes,
+    bound: Option<usize>,
     style: AnswerStyle<GivenForms>,
     output: &mut O,
 ) -> Result<bool, Failure> {
-    let value = value_at(table, key)?;
+    let value = value_at(table, key, bound)?;
     write_answer_in(key, &value, style, output).map_err(Failure::Output)?;
     Ok(value.is_some())
 }
 
-// The value of a key, if it has one.
+// The value of a key, if it has one. A search that is longer than the bound counts as a read that
+// failed.
 fn value_at<H: HashFn, S: ReadAt>(
     table: &FileTable<H, S>,
     key: &ShortBytes,
+    bound: Option<usize>,
 ) -> Result<Option<ShortBytes>, Failure> {
-    match table.get(key.as_slice()) {
-        Ok(value) => Ok(value),
+    match table.get_counted(key.as_slice()) {
+        Ok((value, groups)) => {
+            if groups > bound.unwrap_or(usize::MAX) {
+                return Err(Failure::Read(io::Error::from(ErrorKind::InvalidData)));
+            }
+            Ok(value)
+        }
         Err(error) => Err(Failure::Read(unread(error))),
     }
 }

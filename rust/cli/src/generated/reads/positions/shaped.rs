@@ -90,7 +90,7 @@ fn lines_hashed<H: HashFn, S: ReadAt, I: BufRead, O: Write>(
     let Some(table) = open_file::<H, S>(layout, source, found.at, found.len) else {
         return Ok(None);
     };
-    let status = answer_lines_at(asked.alloc, &table, style, input, output)?;
+    let status = answer_lines_at(asked, &table, style, input, output)?;
     Ok(Some(status))
 }
 

@@ -4,7 +4,7 @@ use crate::generated::core::arguments::{Keys, Reading};
 use crate::generated::core::failure::Failure;
 use crate::generated::core::forms::Kinds;
 use crate::generated::core::info::info_file;
-use crate::generated::core::job::Job;
+use crate::generated::core::job::{Job, Streams};
 use crate::generated::core::shapes::Hash;
 use crate::generated::core::status::Status;
 use crate::generated::core::typed::Side;
@@ -18,22 +18,21 @@ use std::io::{BufRead, Write};
 /// Runs a command that only reads its file. Where `is_live` holds, lines that it reads are answered
 /// as they come.
 pub fn run_reading<I: BufRead + Arriving, O: Write, E: Write>(
-    job: Job<'_>,
+    job: &Job<'_>,
     reading: &Reading,
     is_live: bool,
-    input: &mut I,
-    output: &mut O,
-    errors: &mut E,
+    streams: &mut Streams<'_, '_, '_, I, O, E>,
 ) -> Result<Status, Failure> {
-    let Job { alloc, file, is_one, bytes, .. } = job;
+    let Job { alloc, file, is_one, bytes, .. } = *job;
+    let (output, errors) = (&mut *streams.output, &mut *streams.errors);
     match reading {
         Reading::Info { bound, is_json } => {
             let advice = advice_of(alloc, bytes)?;
-            let job = Job { bound: *bound, is_json: *is_json, ..job };
+            let job = Job { bound: *bound, is_json: *is_json, ..*job };
             info_file(&job, advice, output)
         }
         Reading::Check { hash, bound, is_json } => {
-            let job = Job { bound: *bound, is_json: *is_json, ..job };
+            let job = Job { bound: *bound, is_json: *is_json, ..*job };
             check_one(&job, *hash, output, errors)
         }
         Reading::Count { hash, bound, is_checked } => {
@@ -41,29 +40,33 @@ pub fn run_reading<I: BufRead + Arriving, O: Write, E: Write>(
             let label = count_label(alloc, file, is_one)?;
             count::count_file(label.as_str(), bytes, checked, output)
         }
-        Reading::Get { hash, kinds, keys: Keys::Words(words), is_values, is_json } => {
-            let job = Job { is_values: *is_values, is_json: *is_json, ..job };
+        Reading::Get { hash, kinds, bound, keys: Keys::Words(words), is_values, is_json } => {
+            let job = Job { bound: *bound, is_values: *is_values, is_json: *is_json, ..*job };
             get::get_file_words(&job, *hash, *kinds, words.as_slice(), output)
         }
-        Reading::Get { hash, kinds, keys: Keys::Lines, is_values, is_json } => {
-            let job = Job { is_values: *is_values, is_json: *is_json, ..job };
-            get::get_file_lines(&job, *hash, *kinds, is_live, input, output)
+        Reading::Get { hash, kinds, bound, keys: Keys::Lines, is_values, is_json } => {
+            let job = Job { bound: *bound, is_values: *is_values, is_json: *is_json, ..*job };
+            get::get_file_lines(&job, *hash, *kinds, is_live, streams.input, output)
         }
         Reading::Find { bound, is_json } => {
-            let job = Job { bound: *bound, is_json: *is_json, ..job };
+            let job = Job { bound: *bound, is_json: *is_json, ..*job };
             find_in(&job, output, errors)
         }
         Reading::Dump { hash, kinds, is_values: true, is_json, .. } => {
             keys::list_file(Side::Value, bytes, *hash, *kinds, *is_json, output)
         }
-        Reading::Dump { hash, kinds, is_slots, is_json, .. } => {
-            dump::dump_file(bytes, *hash, *kinds, *is_slots, *is_json, output)
+        Reading::Dump { hash, kinds, bound, is_slots: true, is_json, .. } => {
+            dump::dump_slots(bytes, *hash, *kinds, *bound, *is_json, output)
+        }
+        Reading::Dump { hash, kinds, is_json, .. } => {
+            dump::dump_file(bytes, *hash, *kinds, false, *is_json, output)
         }
         Reading::Keys { hash, kinds, is_json } => {
             keys::list_file(Side::Key, bytes, *hash, *kinds, *is_json, output)
         }
         Reading::Order { hash, kinds, bound } => {
-            order_in(alloc, file, bytes, *hash, *kinds, *bound, output, errors)
+            let job = Job { bound: *bound, ..*job };
+            order_in(&job, *hash, *kinds, output, errors)
         }
     }
 }
@@ -120,19 +123,16 @@ fn find_in<O: Write, E: Write>(
 // Writes the pairs of a file in an order of inserts. Where no inserts make the table, a line on
 // `errors` says so.
 fn order_in<O: Write, E: Write>(
-    alloc: Global,
-    file: &str,
-    bytes: &[u8],
+    job: &Job<'_>,
     hash: Option<Hash>,
     kinds: Kinds,
-    bound: Option<usize>,
     output: &mut O,
     errors: &mut E,
 ) -> Result<Status, Failure> {
-    let status = order::order_file(alloc, bytes, hash, kinds, bound, output)?;
+    let status = order::order_file(job.alloc, job.bytes, hash, kinds, job.bound, output)?;
     if !status.is_done() {
         // A line that cannot be written is no failure.
-        let _ = order::write_unmade(file, errors);
+        let _ = order::write_unmade(job.file, errors);
     }
     Ok(status)
 }

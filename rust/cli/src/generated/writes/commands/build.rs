@@ -1,22 +1,23 @@
 // Generated from crates/odht_tool_writes/src/commands/build.rt by make generate.
 //! `odht build` and `odht put`: tables from the lines of standard input.
 
+use crate::for_shape;
 use crate::generated::core::any::{read_any, AnyShape, OtherShape};
 use crate::generated::core::arguments::{BuildOptions, PutOptions};
 use crate::generated::core::evidence::ask_kinds;
 use crate::generated::core::failure::Failure;
 use crate::generated::core::files::read_file;
 use crate::generated::core::forms::{Forms, GivenForms, LineForms, OwnForms};
+use crate::generated::core::job::Streams;
 use crate::generated::core::new_file::make_new;
 use crate::generated::core::shapes::{Hash, Shape};
 use crate::generated::core::status::Status;
 use crate::generated::core::targets::Target;
-use crate::generated::tables::dynamic::{DynTableOwned, Layout};
-use crate::generated::tables::{configs, FxHashFn, HashTableOwned, UnHashFn, Xxh64HashFn};
+use crate::generated::tables::dynamic::DynTableOwned;
+use crate::generated::tables::{FxHashFn, HashTableOwned, UnHashFn, Xxh64HashFn};
 use crate::generated::tool_tables::dynamic::lengths_of;
-use crate::generated::writes::generated::shapes::for_shape;
 use crate::generated::writes::inserts::lines::{
-    check_lines, insert_lines, left, makes_no_table, place_of, Place, Streams,
+    check_lines, insert_lines, left, makes_no_table, place_of, Place,
 };
 use crate::generated::writes::inserts::{Inserts, LineJob};
 use crate::host::prelude::*;
@@ -25,38 +26,46 @@ use std::io::{BufRead, Write};
 use std::os::fd::AsFd;
 
 // Calls a function for the lines of a table of a shape: its first two type parameters are the kind
-// of the table and that of the forms, and its first two arguments the forms and the lengths.
+// of the table and that of the forms, and its first argument is the job of the lines.
 macro_rules! for_lines {
     (
-        $shape:expr, $forms:expr, $delimiter:expr,
+        $rt:expr, $options:expr, $shape:expr, $forms:expr,
         $function:ident[$($more:ty),*]($($argument:expr),*)
     ) => {{
-        let (forms, delimiter): (GivenForms, u8) = ($forms, $delimiter);
+        let (given, delimiter): (GivenForms, u8) = ($forms, $options.delimiter);
+        let (rt, duplicates, watch) = ($rt, $options.duplicates, $options.watch);
         let layout = lengths_of($shape.key(), $shape.value());
         match $shape {
-            AnyShape::Ready(shape) if forms.are_own() && delimiter == b'\t' => {
-                for_shape!(shape, $function[OwnForms, $($more),*](OwnForms, layout, $($argument),*))
+            AnyShape::Ready(shape) if given.are_own() && delimiter == b'\t' => {
+                let job = LineJob { rt, layout, forms: OwnForms, duplicates, watch };
+                for_shape!(
+                    shape, HashTableOwned, $function[OwnForms, $($more),*](&job, $($argument),*)
+                )
             }
             AnyShape::Ready(shape) => {
-                let forms = LineForms { forms, delimiter };
-                for_shape!(shape, $function[LineForms, $($more),*](forms, layout, $($argument),*))
+                let forms = LineForms { forms: given, delimiter };
+                let job = LineJob { rt, layout, forms, duplicates, watch };
+                for_shape!(
+                    shape, HashTableOwned, $function[LineForms, $($more),*](&job, $($argument),*)
+                )
             }
             AnyShape::Other(shape) => {
-                let forms = line_forms(shape, forms, delimiter);
+                let forms = line_forms(shape, given, delimiter);
+                let job = LineJob { rt, layout, forms, duplicates, watch };
                 match shape.hash {
                     Hash::Fx => {
                         $function::<DynTableOwned<FxHashFn>, LineForms, $($more),*>(
-                            forms, layout, $($argument),*
+                            &job, $($argument),*
                         )
                     }
                     Hash::Unhash => {
                         $function::<DynTableOwned<UnHashFn>, LineForms, $($more),*>(
-                            forms, layout, $($argument),*
+                            &job, $($argument),*
                         )
                     }
                     Hash::Xxh64 => {
                         $function::<DynTableOwned<Xxh64HashFn>, LineForms, $($more),*>(
-                            forms, layout, $($argument),*
+                            &job, $($argument),*
                         )
                     }
                 }
@@ -71,16 +80,13 @@ pub fn build<R: Files + AllocGlobal + Clock, I: BufRead, O: Write, E: Write>(
     rt: &R,
     file: &str,
     options: BuildOptions,
-    input: &mut I,
-    output: &mut O,
-    errors: &mut E,
+    streams: &mut Streams<'_, '_, '_, I, O, E>,
 ) -> Result<Status, Failure>
 where
     R::File: AsFd,
 {
     let mut place = place_of(rt, file, options.is_check, options.allowed)?;
-    let mut streams = Streams { input, output, errors };
-    let done = build_at(rt, &mut place, options, &mut streams);
+    let done = build_at(rt, &mut place, options, streams);
     left(rt, place, done)
 }
 
@@ -95,10 +101,11 @@ where
     R::File: AsFd,
 {
     for_lines!(
+        rt,
+        options,
         options.shape,
         options.forms,
-        options.delimiter,
-        build_table[R, I, O, E](rt, place, options, streams)
+        build_table[R, I, O, E](place, options, streams)
     )
 }
 
@@ -111,9 +118,7 @@ fn build_table<
     O: Write,
     E: Write,
 >(
-    forms: F,
-    layout: Layout,
-    rt: &R,
+    job: &LineJob<'_, R, F>,
     place: &mut Place<R::File>,
     options: BuildOptions,
     streams: &mut Streams<'_, '_, '_, I, O, E>,
@@ -121,13 +126,11 @@ fn build_table<
 where
     R::File: AsFd,
 {
-    let (duplicates, watch) = (options.duplicates, options.watch);
-    let job = LineJob { rt, forms, duplicates, watch };
-    if makes_no_table(duplicates, options.is_check) {
-        return check_lines::<T::Key, T::Value, F, R, I, E>(&job, streams.input, streams.errors);
+    if makes_no_table(job.duplicates, options.is_check) {
+        return check_lines::<T::Key, T::Value, F, R, I, E>(job, streams.input, streams.errors);
     }
-    let table = T::empty(rt.alloc(), layout, options.capacity, options.percent)?;
-    insert_lines(&job, place, table, streams)
+    let table = T::empty(job.rt.alloc(), job.layout, options.capacity, options.percent)?;
+    insert_lines(job, place, table, streams)
 }
 
 /// Adds the lines to the table in the file, and stores the new one in its place. The older one is
@@ -137,19 +140,16 @@ pub fn put<R: Files + AllocGlobal + Clock, I: BufRead, O: Write, E: Write>(
     rt: &R,
     file: &str,
     options: PutOptions,
-    input: &mut I,
-    output: &mut O,
-    errors: &mut E,
+    streams: &mut Streams<'_, '_, '_, I, O, E>,
 ) -> Result<Status, Failure>
 where
     R::File: AsFd,
 {
     let target = Target::find_table(rt, file, options.breaks_links)?;
     let new = make_new(rt, target)?;
-    let mut streams = Streams { input, output, errors };
     let bytes = read_file(rt, new.path());
     let mut place = Place::File(new);
-    let done = put_at(rt, &mut place, bytes, options, &mut streams);
+    let done = put_at(rt, &mut place, bytes, options, streams);
     left(rt, place, done)
 }
 
@@ -168,29 +168,27 @@ where
     let (shape, forms) = read_any(bytes.as_slice(), options.hash, options.kinds)?;
     ask_kinds(bytes.as_slice(), shape, options.kinds)?;
     for_lines!(
+        rt,
+        options,
         shape,
         forms,
-        options.delimiter,
-        put_table[R, I, O, E](rt, place, bytes, options, streams)
+        put_table[R, I, O, E](place, bytes, options.bound, streams)
     )
 }
 
 // The same where the kind of the table and the forms are known.
 fn put_table<T: Inserts, F: Forms, R: Files + AllocGlobal + Clock, I: BufRead, O: Write, E: Write>(
-    forms: F,
-    layout: Layout,
-    rt: &R,
+    job: &LineJob<'_, R, F>,
     place: &mut Place<R::File>,
     bytes: Vec<u8>,
-    options: PutOptions,
+    bound: Option<usize>,
     streams: &mut Streams<'_, '_, '_, I, O, E>,
 ) -> Result<Status, Failure>
 where
     R::File: AsFd,
 {
-    let table = T::copy(rt.alloc(), layout, bytes, options.bound)?;
-    let job = LineJob { rt, forms, duplicates: options.duplicates, watch: options.watch };
-    insert_lines(&job, place, table, streams)
+    let table = T::copy(job.rt.alloc(), job.layout, bytes, bound)?;
+    insert_lines(job, place, table, streams)
 }
 
 // The forms of the lines of a table of this shape, with this byte between key and value.

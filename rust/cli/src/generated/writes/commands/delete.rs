@@ -16,7 +16,7 @@ use crate::generated::tables::{FxHashFn, UnHashFn, Xxh64HashFn};
 use crate::generated::tool_tables::dynamic::lengths_of;
 use crate::generated::tool_tables::whole::read_whole;
 use crate::generated::writes::commands::delete_lines::keys_of_lines;
-use crate::generated::writes::dynamic::deletes::delete_lengths;
+use crate::generated::writes::dynamic::deletes::{delete_lengths, NamedKeys};
 use crate::generated::writes::reports::PairRun;
 use crate::host::prelude::*;
 use crate::host::rt::{Clock, Files};
@@ -80,37 +80,36 @@ fn deleted<R: AllocGlobal + Clock, I: BufRead, E: Write>(
             let words = words.as_slice();
             let keys = keys_of_words(rt.alloc(), shape, forms.key, words)?;
             let run = PairRun::new(rt, options.has_progress);
-            deleted_for(run, file, shape, bytes, words, keys.as_slice(), errors)
+            let named = NamedKeys { words, keys: keys.as_slice() };
+            deleted_for(run, file, shape, bytes, &named, errors)
         }
         Keys::Lines => {
             let read = keys_of_lines(rt.alloc(), shape, forms.key, input)?;
             let (lines, keys) = (read.lines.as_slice(), read.keys.as_slice());
             let run = PairRun::new(rt, options.has_progress);
-            deleted_for(run, file, shape, bytes, lines, keys, errors)
+            let named = NamedKeys { words: lines, keys };
+            deleted_for(run, file, shape, bytes, &named, errors)
         }
     }
 }
 
-// The same of valid bytes of a shape, and of the keys of these words or lines.
+// The same of valid bytes of a shape, and of these keys.
 fn deleted_for<W: Word, R: AllocGlobal + Clock, E: Write>(
     run: PairRun<'_, R>,
     file: &str,
     shape: AnyShape,
     bytes: &[u8],
-    words: &[W],
-    keys: &[ShortBytes],
+    named: &NamedKeys<'_, W>,
     errors: &mut E,
 ) -> Result<(Vec<u8>, Status), Failure> {
     let layout = lengths_of(shape.key(), shape.value());
     match shape.hash() {
-        Hash::Fx => {
-            delete_lengths::<FxHashFn, W, R, E>(run, file, layout, bytes, words, keys, errors)
-        }
+        Hash::Fx => delete_lengths::<FxHashFn, W, R, E>(run, file, layout, bytes, named, errors),
         Hash::Unhash => {
-            delete_lengths::<UnHashFn, W, R, E>(run, file, layout, bytes, words, keys, errors)
+            delete_lengths::<UnHashFn, W, R, E>(run, file, layout, bytes, named, errors)
         }
         Hash::Xxh64 => {
-            delete_lengths::<Xxh64HashFn, W, R, E>(run, file, layout, bytes, words, keys, errors)
+            delete_lengths::<Xxh64HashFn, W, R, E>(run, file, layout, bytes, named, errors)
         }
     }
 }

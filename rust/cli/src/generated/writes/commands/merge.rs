@@ -5,6 +5,7 @@ use crate::generated::core::any::AnyShape;
 use crate::generated::core::arguments::{is_stream, MergeOptions};
 use crate::generated::core::failure::Failure;
 use crate::generated::core::forms::{GivenForms, Kinds};
+use crate::generated::core::job::Streams;
 use crate::generated::core::keys::write_repeated;
 use crate::generated::core::new_file::{ended, make_new, replace_file, NewFile};
 use crate::generated::core::percents::new_percent;
@@ -16,7 +17,7 @@ use crate::generated::tables::load::Percent;
 use crate::generated::tables::{FxHashFn, UnHashFn, Xxh64HashFn};
 use crate::generated::tool_tables::files::{finish, read_bytes};
 use crate::generated::tool_tables::whole::{have_same_sizes, read_whole, sizes_of, write_sizes};
-use crate::generated::writes::dynamic::merges::{merge_lengths, Input, MergeFailure};
+use crate::generated::writes::dynamic::merges::{merge_lengths, Input, MergeFailure, MergeJob};
 use crate::generated::writes::reports::PairRun;
 use crate::host::prelude::*;
 use crate::host::rt::{Clock, Files};
@@ -31,22 +32,20 @@ pub fn merge<R: Files + AllocGlobal + Clock, I: BufRead, O: Write, E: Write>(
     rt: &R,
     file: &str,
     options: MergeOptions,
-    input: &mut I,
-    output: &mut O,
-    errors: &mut E,
+    streams: &mut Streams<'_, '_, '_, I, O, E>,
 ) -> Result<Status, Failure>
 where
     R::File: AsFd,
 {
     if is_stream(file) {
-        return match merged_files(rt, &options, input, errors)? {
-            Some(bytes) => of_output(output.write_all(bytes.as_slice())),
+        return match merged_files(rt, &options, streams.input, streams.errors)? {
+            Some(bytes) => of_output(streams.output.write_all(bytes.as_slice())),
             None => Ok(Status::NotDone),
         };
     }
     let target = Target::find(rt, file, options.allowed)?;
     let mut new = make_new(rt, target)?;
-    let done = merge_as(rt, &mut new, &options, input, errors);
+    let done = merge_as(rt, &mut new, &options, streams.input, streams.errors);
     ended(rt, new, done)
 }
 
@@ -151,56 +150,45 @@ fn merged<R: AllocGlobal + Clock, E: Write>(
     options: &MergeOptions,
     errors: &mut E,
 ) -> Result<Vec<u8>, MergeFailure> {
-    let bytes = first.as_slice();
-    match read_whole(bytes, options.hash, options.kinds, options.bound) {
-        Ok((shape, forms)) => {
-            let percent = new_percent(bytes, options.percent);
-            merged_for(rt, shape, forms, first, others, percent, options, errors)
-        }
+    match read_whole(first.as_slice(), options.hash, options.kinds, options.bound) {
+        Ok(found) => merged_for(rt, found, first, others, options, errors),
         Err(failure) => Err(MergeFailure::Failed { at: 0, failure }),
     }
 }
 
-// The same at this load factor, where the first file is a valid table of this shape, in these
-// forms.
+// The same where the first file is a valid table of this shape, in these forms.
 fn merged_for<R: AllocGlobal + Clock, E: Write>(
     rt: &R,
-    shape: AnyShape,
-    forms: GivenForms,
+    found: (AnyShape, GivenForms),
     first: Vec<u8>,
     others: Vec<Vec<u8>>,
-    percent: Percent,
     options: &MergeOptions,
     errors: &mut E,
 ) -> Result<Vec<u8>, MergeFailure> {
-    let inputs = inputs_of(rt.alloc(), shape, first, others, options.hash, options.bound)?;
-    merged_inputs(rt, shape, forms, inputs.as_slice(), percent, options, errors)
+    let bytes = first.as_slice();
+    let percent = new_percent(bytes, options.percent);
+    let inputs = inputs_of(rt.alloc(), found.0, first, others, options.hash, options.bound)?;
+    merged_inputs(rt, found, inputs.as_slice(), percent, options, errors)
 }
 
-// The same of files that are all valid tables of the lengths of this shape, which is that of the
-// first.
+// The same at this load factor, of files that are all valid tables of the lengths of this shape,
+// which is that of the first.
 fn merged_inputs<R: AllocGlobal + Clock, E: Write>(
     rt: &R,
-    shape: AnyShape,
-    forms: GivenForms,
+    found: (AnyShape, GivenForms),
     inputs: &[Input],
     percent: Percent,
     options: &MergeOptions,
     errors: &mut E,
 ) -> Result<Vec<u8>, MergeFailure> {
+    let (shape, forms) = found;
     let texts = Texts::of(shape, forms);
+    let job = MergeJob { texts, inputs, duplicates: options.duplicates, percent };
     let run = PairRun::new(rt, options.has_progress);
-    let duplicates = options.duplicates;
     match shape.hash() {
-        Hash::Fx => {
-            merge_lengths::<FxHashFn, R, E>(run, texts, inputs, duplicates, percent, errors)
-        }
-        Hash::Unhash => {
-            merge_lengths::<UnHashFn, R, E>(run, texts, inputs, duplicates, percent, errors)
-        }
-        Hash::Xxh64 => {
-            merge_lengths::<Xxh64HashFn, R, E>(run, texts, inputs, duplicates, percent, errors)
-        }
+        Hash::Fx => merge_lengths::<FxHashFn, R, E>(run, &job, errors),
+        Hash::Unhash => merge_lengths::<UnHashFn, R, E>(run, &job, errors),
+        Hash::Xxh64 => merge_lengths::<Xxh64HashFn, R, E>(run, &job, errors),
     }
 }
 

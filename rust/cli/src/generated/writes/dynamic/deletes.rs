@@ -17,23 +17,28 @@ use crate::host::rt::Clock;
 use crate::shim::Global;
 use std::io::{self, Write};
 
-/// The bytes of the table without the keys of the words or lines, and whether each had a value; a
-/// line on `errors` tells of each that had none.
+/// Keys, each with the word or the line that is its text.
+pub struct NamedKeys<'a, W> {
+    pub words: &'a [W],
+    pub keys: &'a [ShortBytes],
+}
+
+/// The bytes of the table without these keys, and whether each had a value; a line on `errors`
+/// tells of each that had none.
 pub fn delete_lengths<H: HashFn, W: Word, R: AllocGlobal + Clock, E: Write>(
     run: PairRun<'_, R>,
     file: &str,
     layout: Layout,
     bytes: &[u8],
-    words: &[W],
-    keys: &[ShortBytes],
+    named: &NamedKeys<'_, W>,
     errors: &mut E,
 ) -> Result<(Vec<u8>, Status), Failure> {
     let old: DynTable<H, Borrowed<'_>> = DynTable::open_unchecked(layout, Borrowed::new(bytes));
-    let left = left_pairs(run, &old, keys, errors)?;
-    let are_there = are_there(&old, keys);
+    let left = left_pairs(run, &old, named.keys, errors)?;
+    let are_there = are_there(&old, named.keys);
     if !are_there {
         // A line that cannot be written is no failure.
-        let _ = write_absent_keys(file, &old, words, keys, errors);
+        let _ = write_absent_keys(file, &old, named.words, named.keys, errors);
     }
     Ok((left, Status::of(are_there)))
 }

@@ -42,18 +42,26 @@ pub enum MergeFailure {
     New(Failure),
 }
 
-/// The bytes of a new table of the pairs of the files, whose keys and values have the lengths of
-/// these texts.
+/// What is merged, and how.
+pub struct MergeJob<'a> {
+    /// The texts of keys and values, which all files have in the same lengths.
+    pub texts: Texts,
+    /// The files.
+    pub inputs: &'a [Input],
+    /// Which file's pair of a key counts.
+    pub duplicates: Duplicates,
+    /// The load factor of the new table.
+    pub percent: Percent,
+}
+
+/// The bytes of a new table of the pairs of the files.
 pub fn merge_lengths<H: HashFn, R: AllocGlobal + Clock, E: Write>(
     run: PairRun<'_, R>,
-    texts: Texts,
-    inputs: &[Input],
-    duplicates: Duplicates,
-    percent: Percent,
+    job: &MergeJob<'_>,
     errors: &mut E,
 ) -> Result<Vec<u8>, MergeFailure> {
-    match make_table::<H>(run.alloc(), texts, inputs, percent) {
-        Ok(table) => merge_into(run, table, texts, inputs, duplicates, percent, errors),
+    match make_table::<H>(run.alloc(), job.texts, job.inputs, job.percent) {
+        Ok(table) => merge_into(run, table, job, errors),
         Err(failure) => Err(MergeFailure::New(failure)),
     }
 }
@@ -62,12 +70,10 @@ pub fn merge_lengths<H: HashFn, R: AllocGlobal + Clock, E: Write>(
 fn merge_into<H: HashFn, R: AllocGlobal + Clock, E: Write>(
     mut run: PairRun<'_, R>,
     mut table: DynTableOwned<H>,
-    texts: Texts,
-    inputs: &[Input],
-    duplicates: Duplicates,
-    percent: Percent,
+    job: &MergeJob<'_>,
     errors: &mut E,
 ) -> Result<Vec<u8>, MergeFailure> {
+    let (texts, inputs, duplicates) = (job.texts, job.inputs, job.duplicates);
     for at in 0..inputs.len() {
         let input = &inputs[at];
         match repeated_in(run.alloc(), texts, &table, input, duplicates) {

@@ -5,6 +5,7 @@
 use crate::generated::core::arguments::{is_stream, Duplicates};
 use crate::generated::core::failure::Failure;
 use crate::generated::core::forms::Forms;
+use crate::generated::core::job::Streams;
 use crate::generated::core::line_messages::repeated_message;
 use crate::generated::core::lines::read_pair_as;
 use crate::generated::core::new_file::{ended, make_new, replace_file, NewFile};
@@ -19,13 +20,6 @@ use crate::host::rt::{Clock, Files};
 use crate::shim::Global;
 use std::io::{BufRead, Write};
 use std::os::fd::AsFd;
-
-/// What a command reads lines from, and what it writes to.
-pub struct Streams<'i, 'o, 'e, I, O, E> {
-    pub input: &'i mut I,
-    pub output: &'o mut O,
-    pub errors: &'e mut E,
-}
 
 /// Where a table goes.
 pub enum Place<F> {

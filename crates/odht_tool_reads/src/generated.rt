@@ -1,3 +1,0 @@
-//! What is generated: the configuration of each shape.
-
-pub(crate) mod shapes;

@@ -1,0 +1,3 @@
+//! What is generated: the way from a shape to its configuration.
+
+pub mod shapes;
