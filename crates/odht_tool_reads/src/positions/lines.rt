@@ -1,12 +1,13 @@
 //! Keys of lines that are looked up in a table that is read by position.
-ghost use Rattle.std.specs.Prelude.{◌≡◌, List, ℕ, [], ◌∷◌, IfErr, IfOk, IfSome, Ok, string_bytes};
+ghost use Rattle.std.specs.Prelude.{◌≡◌, List, ℕ, [], ◌∷◌, IfErr, IfOk, IfSome, Ok, OnOk, Some};
+ghost use Rattle.std.specs.Prelude.{string_bytes};
 ghost use Rattle.odht.specs.Files.{file_coding};
 ghost use Rattle.odht.specs.Gets.{IsGet};
 ghost use Rattle.odht_tool_core.specs.DynTexts.{IsDynamicOf, dynamic_text, dynamic_wanted};
 ghost use Rattle.odht_tool_core.specs.JsonAnswers.{answer_in};
 ghost use Rattle.odht_tool_reads.specs.GetParts.{AreKeysAnswered, IsReadKey};
 ghost use Rattle.odht_tool_reads.specs.PositionLines.{AreLinesRead, IsKeyFailure, IsReadFailure, IsUnreadKey};
-ghost use Rattle.odht_tool_reads.specs.Positions.{IsTableAt};
+ghost use Rattle.odht_tool_reads.specs.Positions.{IsShortSearch, IsTableAt};
 
 use super::Asked;
 use crate::lookups::{key_of_line, wrong_line};
@@ -107,7 +108,7 @@ fn value_at<H: HashFn, S: ReadAt + Drop>(
         → IfOk result (IsGet (file_coding t H.hash) B key.now) }
     ensures short { (B : List ℕ)
         → IsTableAt S.gives H.hash table.now.key_len table.now.value_len table.now B
-        → bound ≡ Some DEFAULT_GROUPS → OnOk result
+        → bound ≡ Some 128 → OnOk result
         (IsShortSearch (file_coding table.now H.hash) B (Some key.now)) }
     ensures err { IfErr result IsReadFailure }
 {
