@@ -120,7 +120,7 @@ FAULTS = [
     ("src/generated/tables/growth.rs", "'_", "'static"),
     ("src/generated/header/error.rs", "Table is full", "The table is full"),
     ("src/generated/header/error.rs", "pub enum Part", "#[non_exhaustive] pub enum Part"),
-    ("c/src/generated/calls/walk.rs", "*cursor = slot;", ""),
+    ("c/src/generated/calls/read.rs", "*cursor = slot;", ""),
     ("c/src/generated/exports/version.rs", "400", "401"),
     ("c/src/generated/exports/generated/u64_u32.rs", "lists::list(keys, keys_len)", "lists::list(keys, values_len)"),
     ("c/src/generated/exports/generated/u64_u32.rs", "let alloc = Global;", "let alloc = Other;"),
