@@ -1,20 +1,18 @@
 //! Dynamic tables: the lengths of keys and values are known only at run time, for example from a
 //! file.
-ghost use Rattle.odht.specs.Tables.{OfTable, HasParts};
 ghost use Rattle.std.specs.Prelude.{◌≡◌, ◌≢◌, ◌<◌, ◌≤◌, ◌↔◌, ℕ, None, All, length, slice_index};
 ghost use Rattle.std.specs.Prelude.{IfOk, IfErr, IsOk, IsTrue, map};
 ghost use Rattle.std.specs.Option.{option_copied};
 ghost use Rattle.std.specs.Result.{result_err};
-ghost use Rattle.odht_base.specs.Format.{format_of, IsFormat};
-ghost use Rattle.odht_base.specs.Valid.{IsValidBytes};
-ghost use Rattle.odht_header.specs.declared.error.Error.TheVariants.{TooShort};
+ghost use Rattle.odht_raw.specs.Words.{format_of, IsFormat, IsValidBytes, TooShort};
+ghost use Rattle.odht.specs.Tables.{OfTable, HasParts};
 ghost use Rattle.odht_raw.specs.Frame.{IsAccepted};
 ghost use Rattle.odht_raw.specs.DynParts.{HasLengthsOf};
 ghost use Rattle.odht.specs.Dynamic.{dyn_coding, dyn_format, dyn_refusal, stated_refusal};
+ghost use Rattle.odht.specs.Dynamic.{dyn_store, dyn_parts};
 ghost use Rattle.odht.specs.Gets.{IsGet, IsCountedGet, IsKnown, AreGot};
 ghost use Rattle.odht.specs.Walks.{IsItemCount, ArePairs, AreSlots};
 ghost use Rattle.odht.specs.SearchBounds.{IsValidWithin, IsBound};
-ghost use Rattle.odht.specs.Dynamic.{dyn_store, dyn_parts};
 ghost use Rattle.odht.specs.declared.dynamic.DynError.TheVariants.{Rejected};
 
 use crate::bytes::ByteStore;

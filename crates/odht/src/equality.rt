@@ -1,9 +1,7 @@
 //! Whether two tables are the same map, and whether they have the same bytes.
-ghost use Rattle.odht.specs.Tables.{OfTable, InTable};
 ghost use Rattle.std.specs.Prelude.{◌≡◌, ◌↔◌, IsTrue, map};
-ghost use Rattle.odht_base.specs.Format.{format_of};
-ghost use Rattle.odht_base.specs.Table.{Table};
-ghost use Rattle.odht_base.specs.Valid.{IsPartsOf};
+ghost use Rattle.odht_raw.specs.Words.{format_of, IsPartsOf, Table};
+ghost use Rattle.odht.specs.Tables.{OfTable, InTable};
 ghost use Rattle.odht_raw.specs.Walks.{stored};
 ghost use Rattle.odht.specs.Equality.{HasAll, IsSameMap};
 

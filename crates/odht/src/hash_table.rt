@@ -1,13 +1,12 @@
 //! A table in the bytes of any store.
 ghost use Rattle.std.specs.Prelude.{◌≡◌, ◌≤◌, ◌↔◌, length, IfOk, IsOk, IsTrue, OnErr, OnOk};
 ghost use Rattle.std.specs.Result.{result_err};
+ghost use Rattle.odht_raw.specs.Words.{IsPartsOf, IsValidBytes, opening_refusal, view_refusal};
 ghost use Rattle.odht_base.specs.Load.{IsPercent};
-ghost use Rattle.odht_base.specs.Valid.{IsPartsOf, IsValidBytes};
 ghost use Rattle.odht.specs.Gets.{IsGet, IsCountedGet, IsKnown, AreGot};
 ghost use Rattle.odht.specs.Inserts.{IsFresh, IsInsertInto, IsInsertIntoAny};
 ghost use Rattle.odht.specs.Tables.{OfTable, InTable};
 ghost use Rattle.odht_raw.specs.Frame.{IsAccepted};
-ghost use Rattle.odht_header.specs.Refusals.{opening_refusal, view_refusal};
 ghost use Rattle.odht.specs.NewTables.{new_len, init_refusal};
 ghost use Rattle.odht.specs.Walks.{IsWalk, IsItemCount, IsWalkFrom};
 ghost use Rattle.odht_raw.specs.Dumps.{parts_of};

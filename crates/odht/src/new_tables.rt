@@ -1,8 +1,8 @@
 //! New tables. The lengths of keys and values are types or numbers.
 ghost use Rattle.std.specs.Prelude.{◌≡◌, ◌≤◌, length, OnErr, OnOk};
 ghost use Rattle.std.specs.Result.{result_err};
-ghost use Rattle.odht_base.specs.Format.{format_of};
-ghost use Rattle.odht_base.specs.Load.{factor_of, IsPercent};
+ghost use Rattle.odht_raw.specs.Words.{factor_of, format_of};
+ghost use Rattle.odht_base.specs.Load.{IsPercent};
 ghost use Rattle.odht_header.specs.Refusals.{new_refusal};
 ghost use Rattle.odht_raw.specs.Frame.{IsAccepted};
 ghost use Rattle.odht.specs.Inserts.{IsFresh};

@@ -1,8 +1,7 @@
 //! A table that is read by position where it lies, such as in a file: a lookup reads a few groups
 //! of control bytes and a few entries, and nothing else.
 ghost use Rattle.std.specs.Prelude.{◌≡◌, ◌≢◌, ◌+◌, ◌<◌, ◌≤◌, ◌^◌, ◌/◌, ℕ, List, length, Err, IfOk};
-ghost use Rattle.odht_base.specs.Bytes.{bytes_at};
-ghost use Rattle.odht_base.specs.Format.{format_of};
+ghost use Rattle.odht_raw.specs.Words.{bytes_at, format_of};
 ghost use Rattle.odht.specs.Dynamic.{dyn_refusal, stated_refusal};
 ghost use Rattle.odht.specs.Files.{IsFileOf, IsFileAt, IsOver, IsStatedOver, IsFileResult};
 ghost use Rattle.odht.specs.Files.{file_format, file_coding, file_bytes, key_refusal};

@@ -1,10 +1,7 @@
 //! An order of inserts that makes a dynamic table.
-ghost use Rattle.odht.specs.Tables.{OfTable};
 ghost use Rattle.std.specs.Prelude.{◌≡◌, ◌↔◌, ◌*◌, ◌-◌, ◌^◌, length, min, IsTrue};
-ghost use Rattle.odht_base.specs.Decoded.{header_slots};
-ghost use Rattle.odht_base.specs.Made.{IsMade, IsInsertOrder};
-ghost use Rattle.odht_base.specs.Table.{count};
-ghost use Rattle.odht_base.specs.Valid.{IsValidBytes};
+ghost use Rattle.odht_raw.specs.Words.{count, header_slots, IsInsertOrder, IsMade, IsValidBytes};
+ghost use Rattle.odht.specs.Tables.{OfTable};
 ghost use Rattle.odht.specs.Dynamic.{dyn_format};
 
 use super::DynTable;

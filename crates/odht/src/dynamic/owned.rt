@@ -3,19 +3,15 @@
 ghost use Rattle.std.specs.Prelude.{◌≡◌, ◌≢◌, ◌≤◌, ◌<◌, ◌↔◌, None, Some, All, length, IfOk, Err};
 ghost use Rattle.std.specs.Prelude.{IsSome, IsTrue, IfSome, OnErr, OnOk};
 ghost use Rattle.std.specs.Option.{option_copied};
-ghost use Rattle.odht_base.specs.Format.{format_of};
-ghost use Rattle.odht_base.specs.Load.{factor_of, IsPercent};
-ghost use Rattle.odht_base.specs.Map.{map_of};
-ghost use Rattle.odht_base.specs.Search.{groups_read};
-ghost use Rattle.odht_base.specs.Table.{count, fresh, walk};
-ghost use Rattle.odht_base.specs.Valid.{IsImage, IsValidBytes};
-ghost use Rattle.odht_header.specs.Refusals.{check_refusal};
+ghost use Rattle.odht_raw.specs.Words.{check_refusal, count, encoded, factor_of, format_of};
+ghost use Rattle.odht_raw.specs.Words.{groups_read, IsImage, IsValidBytes, map_of, walk};
+ghost use Rattle.odht_base.specs.Load.{IsPercent};
+ghost use Rattle.odht_base.specs.Table.{fresh};
 ghost use Rattle.odht_raw.specs.DynParts.{HasLengthsOf, bytes_coding};
 ghost use Rattle.odht.specs.Dynamic.{dyn_format, dyn_coding, dyn_store};
 ghost use Rattle.odht.specs.DynOwned.{IsDynWith, IsRejecting};
 ghost use Rattle.odht.specs.NewTables.{FailsAsNew, FailsBy};
 ghost use Rattle.odht_base.specs.Insert.{insert_owned, IsFullFor};
-ghost use Rattle.odht_header.specs.Coding.{encoded};
 ghost use Rattle.odht.specs.DynLists.{length_error};
 ghost use Rattle.odht.specs.Plain.{HasMapWith, KeepsSize, IsPlainReserve};
 ghost use Rattle.odht.specs.Inserts.{IsFresh};
@@ -43,7 +39,7 @@ pub struct DynTableOwned<H: HashFn> {
 }
 
 impl<H: HashFn> Model for DynTableOwned<H> {
-    ghost use Rattle.odht_base.specs.Table.{Table};
+    ghost use Rattle.odht_raw.specs.Words.{Table};
     ghost use Rattle.odht.specs.Dynamic.{DynStore, dyn_plain, IsDynImage};
 
     ghost Value = { DynStore Table };

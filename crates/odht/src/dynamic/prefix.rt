@@ -1,9 +1,7 @@
 //! A table at the front of longer bytes, of lengths that are known only at run time.
 ghost use Rattle.std.specs.Prelude.{◌≡◌, ◌++◌, ◌≤◌, List, ℕ, Ok, IfOk, IsOk};
 ghost use Rattle.std.specs.Result.{result_err};
-ghost use Rattle.odht_base.specs.Format.{format_of};
-ghost use Rattle.odht_base.specs.Valid.{IsValidBytes};
-ghost use Rattle.odht_header.specs.Refusals.{prefix_refusal};
+ghost use Rattle.odht_raw.specs.Words.{format_of, IsValidBytes, prefix_refusal};
 ghost use Rattle.odht_raw.specs.Prefixes.{IsFront};
 ghost use Rattle.odht.specs.DynPrefixes.{IsDynCut, dyn_front_refusal, stated_front_refusal};
 ghost use Rattle.odht.specs.Dynamic.{stated_format};

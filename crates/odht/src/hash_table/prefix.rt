@@ -1,7 +1,7 @@
 //! A table at the front of longer bytes.
 ghost use Rattle.std.specs.Prelude.{◌≡◌, ◌++◌, List, ℕ, IfOk, IsOk};
 ghost use Rattle.std.specs.Result.{result_err};
-ghost use Rattle.odht_base.specs.Valid.{IsValidBytes};
+ghost use Rattle.odht_raw.specs.Words.{IsValidBytes};
 ghost use Rattle.odht_raw.specs.Prefixes.{IsCut, front_refusal};
 
 use super::HashTable;

@@ -1,6 +1,6 @@
 //! What `Debug` writes of an owned table: the numbers of its header, and each slot on a line.
-ghost use Rattle.odht_base.specs.Image.{image};
 ghost use Rattle.std.specs.Fmt.{WritesOnOk};
+ghost use Rattle.odht_raw.specs.Words.{image};
 ghost use Rattle.odht_raw.specs.Dumps.{counts_text};
 
 use super::HashTableOwned;
@@ -27,9 +27,8 @@ impl<C: Config> HashTableOwned<C> {
 }
 
 impl<C: Config> fmt::Debug for HashTableOwned<C> {
-    ghost use Rattle.odht_base.specs.Format.{format_of};
+    ghost use Rattle.odht_raw.specs.Words.{format_of, image};
     ghost use Rattle.odht_raw.specs.Dumps.{owned_dump_text};
-    ghost use Rattle.odht_base.specs.Image.{image};
 
     ghost debug_output = { λ t. let F = format_of C.EncodedKey.LEN C.EncodedValue.LEN C.H.hash
         in owned_dump_text F

@@ -1,7 +1,6 @@
 //! An order of inserts that makes a table.
 ghost use Rattle.std.specs.Prelude.{◌≡◌, ◌↔◌, ◌*◌, ◌-◌, ◌^◌, length, min, IsTrue};
-ghost use Rattle.odht_base.specs.Made.{IsMade, IsInsertOrder};
-ghost use Rattle.odht_base.specs.Table.{count, slot_count};
+ghost use Rattle.odht_raw.specs.Words.{count, IsInsertOrder, IsMade, slot_count};
 
 use super::HashTableOwned;
 use crate::config::{Coded, Config};

@@ -1,12 +1,9 @@
 //! What is read of a table by position: its header, its first slots, and the value of a key.
 ghost use Rattle.std.specs.Prelude.{◌≡◌, ◌+◌, ◌*◌, ◌<◌, ◌≤◌, ◌^◌, ◌/◌, ⊤, ℕ, List, length, IfOk};
 ghost use Rattle.std.specs.Prelude.{option_map, slice_index, MatchResult};
-ghost use Rattle.odht_base.specs.Bytes.{bytes_at};
-ghost use Rattle.odht_base.specs.Decoded.{header_slots, header_count};
-ghost use Rattle.odht_base.specs.Format.{format_of};
-ghost use Rattle.odht_base.specs.Image.{image_len};
-ghost use Rattle.odht_base.specs.Load.{IsSlotCount};
-ghost use Rattle.odht_header.specs.Refusals.{opening_refusal, view_refusal, hashes_refusal};
+ghost use Rattle.odht_raw.specs.Words.{bytes_at, format_of, hashes_refusal, header_count};
+ghost use Rattle.odht_raw.specs.Words.{header_slots, image_len, IsSlotCount, opening_refusal};
+ghost use Rattle.odht_raw.specs.Words.{view_refusal};
 ghost use Rattle.odht_raw.specs.Finds.{IsCountedFind};
 ghost use Rattle.odht_raw.specs.Parts.{entry_format};
 ghost use Rattle.odht_raw.specs.Reads.{IsHeldBy, IsPlaceFitting, read_entries, read_controls};
