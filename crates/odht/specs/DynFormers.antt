@@ -6,7 +6,7 @@
 --                          is that of an insert (`IsDynInsert`), and r and f' tell of it (`IsFormerTo`)
 use Rattle.std.specs.Prelude.{ℕ, Bool, List, Option, Result}
 use Rattle.std.specs.Option.{option_or}
-use Rattle.odht_header.specs.Coding.{Coding}
+use Rattle.odht_raw.specs.Words.{Coding}
 use Rattle.odht_raw.specs.FormerWrites.{IsFormerTo}
 use Rattle.odht.specs.Dynamic.{DynStore}
 use Rattle.odht.specs.declared.dynamic.DynError.{DynError}

@@ -6,8 +6,7 @@
 --                          `Rejected`
 use Rattle.std.specs.Prelude.{◌≡◌, List, ℕ, Option, Result}
 use Rattle.std.specs.Result.{result_map_both}
-use Rattle.odht_header.specs.Coding.{Coding}
-use Rattle.odht_header.specs.declared.error.Error.{Error}
+use Rattle.odht_raw.specs.Words.{Coding, Error}
 use Rattle.odht.specs.declared.dynamic.DynError.{DynError}
 use Rattle.odht.specs.declared.dynamic.DynError.TheVariants.{Rejected}
 use Rattle.odht.specs.Inserts.{IsInsertInto, IsInsertIntoAny}

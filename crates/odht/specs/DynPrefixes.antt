@@ -8,8 +8,7 @@
 use Rattle.std.specs.Prelude.{◌≡◌, ℕ, nat_lt, List, Option, option_map}
 use Rattle.std.specs.Bool.{then_some}
 use Rattle.std.specs.Option.{option_or}
-use Rattle.odht_base.specs.Format.{Format}
-use Rattle.odht_header.specs.Refusals.{prefix_refusal}
+use Rattle.odht_raw.specs.Words.{Format, prefix_refusal}
 use Rattle.odht_raw.specs.Prefixes.{IsCut, front_refusal}
 use Rattle.odht.specs.Dynamic.{DynStore, stated_format}
 use Rattle.odht.specs.declared.dynamic.DynError.{DynError}

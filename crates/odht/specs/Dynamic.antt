@@ -18,12 +18,8 @@
 use Rattle.std.specs.Prelude.{ℕ, ◌<◌, ◌≤◌, ◌^◌, nat_lt, List, length, slice_index, Option, option_map}
 use Rattle.std.specs.Bool.{then_some}
 use Rattle.std.specs.Option.{option_or}
-use Rattle.odht_base.specs.Decoded.{decoded_table}
-use Rattle.odht_base.specs.Format.{Format, format_of, IsFormat}
-use Rattle.odht_base.specs.Table.{Table}
-use Rattle.odht_base.specs.Valid.{IsImage}
-use Rattle.odht_header.specs.Coding.{Coding}
-use Rattle.odht_header.specs.Refusals.{new_refusal, opening_refusal, view_refusal}
+use Rattle.odht_raw.specs.Words.{Coding, decoded_table, Format, format_of, IsFormat, IsImage, opening_refusal, Table, view_refusal}
+use Rattle.odht_header.specs.Refusals.{new_refusal}
 use Rattle.odht_raw.specs.Dumps.{parts_of}
 use Rattle.odht_raw.specs.Frame.{IsAccepted}
 use Rattle.odht_raw.specs.DynParts.{DynParts, bytes_coding}

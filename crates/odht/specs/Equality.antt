@@ -2,8 +2,7 @@
 --     IsSameMap P Q        P and Q have the same keys, with the same values
 --     HasAll Q ps          Q has the key of each pair of ps, with the pair's value
 use Rattle.std.specs.Prelude.{◌≡◌, ℕ, List, Some, All}
-use Rattle.odht_base.specs.Map.{map_of}
-use Rattle.odht_base.specs.Table.{Pair, Table}
+use Rattle.odht_raw.specs.Words.{map_of, Pair, Table}
 
 abbrev pub IsSameMap : Table → Table → Type 0
 IsSameMap P Q = (k : List ℕ) → map_of P k ≡ map_of Q k

@@ -19,12 +19,7 @@
 --     key_refusal t k      the error of a lookup of the key k: that of a key of another length
 use Rattle.std.specs.Prelude.{◌≡◌, ℕ, ◌+◌, ◌*◌, ◌<◌, ◌≤◌, ◌^◌, ◌==◌, not, List, length, slice_index, Option, Some, None, Result, Ok, Err}
 use Rattle.std.specs.Bool.{then_some}
-use Rattle.odht_base.specs.Bytes.{bytes_at}
-use Rattle.odht_base.specs.Decoded.{header_slots, header_count, slot_value}
-use Rattle.odht_base.specs.Format.{Format, format_of}
-use Rattle.odht_base.specs.Image.{image_len}
-use Rattle.odht_base.specs.Load.{IsSlotCount}
-use Rattle.odht_header.specs.Coding.{Coding}
+use Rattle.odht_raw.specs.Words.{bytes_at, Coding, Format, format_of, header_count, header_slots, image_len, IsSlotCount, slot_value}
 use Rattle.odht_raw.specs.Frame.{IsAccepted}
 use Rattle.odht_raw.specs.Parts.{TableParts, entry_format}
 use Rattle.odht_raw.specs.Reads.{read_controls, read_entries}

@@ -6,10 +6,9 @@
 --     IsKnown c B k b       b is whether the key has a value; on any bytes it is true only where a slot holds this key
 --     AreGot c B ks os      os are those values for the keys ks, in this order
 use Rattle.std.specs.Prelude.{◌≡◌, ℕ, ◌/◌, ◌≤◌, ◌↔◌, Bool, List, map, Option, IfSome, IsSome, IsTrue}
-use Rattle.odht_base.specs.Decoded.{header_slots, HoldsKey}
-use Rattle.odht_base.specs.Map.{map_of}
-use Rattle.odht_base.specs.Search.{groups_read}
-use Rattle.odht_header.specs.Coding.{Coding, value_for, HasStored}
+use Rattle.odht_raw.specs.Words.{Coding, groups_read, header_slots, map_of, value_for}
+use Rattle.odht_base.specs.Decoded.{HoldsKey}
+use Rattle.odht_header.specs.Coding.{HasStored}
 use Rattle.odht.specs.Lookups.{HaveStored}
 use Rattle.odht.specs.Tables.{OfTable}
 

@@ -16,15 +16,10 @@
 --                          and the parts of that table
 use Rattle.std.specs.Prelude.{◌≡◌, ℕ, ◌*◌, ◌^◌, ◌++◌, max, nat_lt, take, length, List, All, Option, Some, None, MatchOption, option_and_then}
 use Rattle.std.specs.Bool.{then_some}
-use Rattle.odht_base.specs.Bytes.{bytes_at}
-use Rattle.odht_base.specs.Format.{Format, entry_len}
-use Rattle.odht_base.specs.Image.{header_bytes, image_len, parts}
-use Rattle.odht_base.specs.Insert.{grown, place_all}
+use Rattle.odht_raw.specs.Words.{bytes_at, empty, entry_len, Format, header_bytes, header_count, header_factor, image_len, IsImage, Pair, parts, place_all, Table}
+use Rattle.odht_base.specs.Insert.{grown}
 use Rattle.odht_base.specs.Load.{slots_for}
-use Rattle.odht_base.specs.Decoded.{header_count, header_factor}
 use Rattle.odht_base.specs.Map.{KeysApart}
-use Rattle.odht_base.specs.Table.{Pair, Table, empty}
-use Rattle.odht_base.specs.Valid.{IsImage}
 use Rattle.odht_header.specs.Layouts.{IsLayout}
 use Rattle.odht_raw.specs.Frame.{IsAccepted}
 use Rattle.odht_raw.specs.Parts.{IsZeros}

@@ -9,14 +9,9 @@
 --                          bytes B'. It overwrites one value, adds one entry or fails, and no other byte changes
 --                          (`frame`); its only error is `Full` (`only_full`); header and length still fit (`accepted`)
 use Rattle.std.specs.Prelude.{◌≡◌, ◌↔◌, ℕ, List, Option, Some, Result, Err, bytes_eq, if◌then◌else◌, IfOk, OnOk, OnErr}
-use Rattle.odht_base.specs.Format.{Format}
+use Rattle.odht_raw.specs.Words.{Coding, encoded, Error, Format, Full, IsImage, map_of, Pair, Table, value_for}
 use Rattle.odht_base.specs.Insert.{insert_view, IsFullFor}
-use Rattle.odht_base.specs.Map.{map_of}
-use Rattle.odht_base.specs.Table.{Pair, Table, fresh}
-use Rattle.odht_base.specs.Valid.{IsImage}
-use Rattle.odht_header.specs.Coding.{Coding, encoded, value_for}
-use Rattle.odht_header.specs.declared.error.Error.{Error}
-use Rattle.odht_header.specs.declared.error.Error.TheVariants.{Full}
+use Rattle.odht_base.specs.Table.{fresh}
 use Rattle.odht_raw.specs.Frame.{IsAccepted, IsFramed}
 
 pub record IsFresh (F : Format) (n percent : ℕ) (B : List ℕ) : Type 0 where

@@ -4,10 +4,8 @@
 --     IsLastValue items k o    o is the value of the last item with the key k, None where no item has it
 --     HasLastValues c items B  B are the bytes of a table whose map has the last values of the items, as bytes
 use Rattle.std.specs.Prelude.{◌≡◌, ◌≢◌, ℕ, List, ◌∷◌, ◌++◌, Option, Some, None, All}
-use Rattle.odht_base.specs.Map.{map_of, last}
-use Rattle.odht_base.specs.Table.{Table}
-use Rattle.odht_base.specs.Valid.{IsImage}
-use Rattle.odht_header.specs.Coding.{Coding}
+use Rattle.odht_raw.specs.Words.{Coding, IsImage, map_of, Table}
+use Rattle.odht_base.specs.Map.{last}
 use Rattle.odht.specs.Lists.{encoded_all}
 
 abbrev pub HasNoKey : {K V : Type 0} → List (K × V) → K → Type 0

@@ -7,11 +7,7 @@
 --                          error than `Full`, and it stays the same store
 use Rattle.std.specs.Prelude.{◌≡◌, ◌↔◌, ◌≤◌, ℕ, List, length, take, Result, Err, IsOk, OnErr}
 use Rattle.odht_base.specs.Insert.{insert_view}
-use Rattle.odht_base.specs.Table.{Table}
-use Rattle.odht_base.specs.Valid.{IsImage}
-use Rattle.odht_header.specs.Coding.{Coding}
-use Rattle.odht_header.specs.declared.error.Error.{Error}
-use Rattle.odht_header.specs.declared.error.Error.TheVariants.{Full}
+use Rattle.odht_raw.specs.Words.{Coding, Error, Full, IsImage, Table}
 use Rattle.odht_raw.specs.Frame.{IsAccepted}
 use Rattle.odht.specs.Lists.{encoded_all, IsAfterInserts, IsFramedRun, IsRefusedAt, IsStoppedAt}
 

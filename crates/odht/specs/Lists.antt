@@ -10,13 +10,10 @@
 --     EndsAfter steps it T     the iterator `it` ends after items of which T holds; `steps` is what it gives at each step
 use Rattle.std.specs.Prelude.{◌≡◌, ℕ, ◌+◌, ◌≤◌, List, length, Option, Some, slice_get}
 use Rattle.std.specs.Iterator.{Drains}
-use Rattle.odht_base.specs.Format.{Format}
+use Rattle.odht_raw.specs.Words.{Coding, count, Format, IsImage, map_of, max_items, Pair, slot_count, Table}
 use Rattle.odht_base.specs.Insert.{run, insert_owned, IsFullFor}
-use Rattle.odht_base.specs.Load.{max_items}
-use Rattle.odht_base.specs.Map.{map_of, last, overwritten}
-use Rattle.odht_base.specs.Table.{Pair, Table, fresh, slot_count, count}
-use Rattle.odht_base.specs.Valid.{IsImage}
-use Rattle.odht_header.specs.Coding.{Coding}
+use Rattle.odht_base.specs.Map.{last, overwritten}
+use Rattle.odht_base.specs.Table.{fresh}
 pub use Rattle.odht_raw.specs.Runs.{encoded_all, IsFramedRun, IsStoppedAt}
 
 abbrev pub HasSizeOf : Table → Table → Type 0

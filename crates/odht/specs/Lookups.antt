@@ -10,9 +10,8 @@
 --     PutsOn l s s' n m       where s is after the results of the first n, s' is after those of the first m
 --     HaveStored c B ks os    each value of os is stored in the bytes B with the key of ks at its index
 use Rattle.std.specs.Prelude.{◌≡◌, ℕ, zero, suc, List, Option, Some, IfSome, slice_get}
-use Rattle.odht_base.specs.Table.{Table}
-use Rattle.odht_base.specs.Valid.{IsPartsOf}
-use Rattle.odht_header.specs.Coding.{Coding, value_for, HasStored}
+use Rattle.odht_raw.specs.Words.{Coding, IsPartsOf, Table, value_for}
+use Rattle.odht_header.specs.Coding.{HasStored}
 use Rattle.odht_raw.specs.FirstLooks.{FirstLookOf, first_look_of}
 use Rattle.odht_raw.specs.Parts.{TableParts}
 use Rattle.odht_raw.specs.SearchEnds.{IsBesideKey}

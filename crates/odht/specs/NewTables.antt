@@ -8,12 +8,9 @@
 --                          where it is too large, and otherwise `Memory`
 --     FailsBy o r          r is the error o, where there is one; otherwise there is no other error than `Memory`
 use Rattle.std.specs.Prelude.{◌≡◌, ◌↔◌, ◌⊎◌, ℕ, List, length, Option, Some, None, Result, Err, OnErr}
-use Rattle.odht_base.specs.Load.{factor_of, slots_for}
-use Rattle.odht_base.specs.Table.{empty}
-use Rattle.odht_base.specs.Valid.{IsImage}
-use Rattle.odht_header.specs.Coding.{Coding}
+use Rattle.odht_raw.specs.Words.{Coding, empty, Error, factor_of, IsImage}
+use Rattle.odht_base.specs.Load.{slots_for}
 use Rattle.odht_header.specs.Refusals.{IsTooLarge, new_refusal}
-use Rattle.odht_header.specs.declared.error.Error.{Error}
 use Rattle.odht_header.specs.declared.error.Error.TheVariants.{Capacity, Memory}
 use Rattle.odht.specs.Growths.{table_len}
 

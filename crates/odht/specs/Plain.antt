@@ -16,14 +16,11 @@
 --                          `reserved` of P (`table`), with the map of P and the room; it is `Capacity` exactly where the
 --                          room is lacking and no table is that large, and an error only where the room is lacking
 use Rattle.std.specs.Prelude.{◌≡◌, ◌↔◌, ◌≤◌, ◌+◌, ℕ, List, length, take, Some, Result, Err, IsOk, OnOk, OnErr, bytes_eq, if◌then◌else◌}
-use Rattle.odht_base.specs.Format.{Format}
+use Rattle.odht_raw.specs.Words.{Coding, count, Error, factor_of, Format, map_of, max_items, Pair, slot_count, Table}
 use Rattle.odht_base.specs.Insert.{insert_owned, run}
-use Rattle.odht_base.specs.Load.{factor_of, max_items}
-use Rattle.odht_base.specs.Map.{map_of, last, overwritten}
-use Rattle.odht_base.specs.Table.{Pair, Table, fresh, count, slot_count}
-use Rattle.odht_header.specs.Coding.{Coding}
+use Rattle.odht_base.specs.Map.{last, overwritten}
+use Rattle.odht_base.specs.Table.{fresh}
 use Rattle.odht_header.specs.Refusals.{IsTooLarge}
-use Rattle.odht_header.specs.declared.error.Error.{Error}
 use Rattle.odht_header.specs.declared.error.Error.TheVariants.{Capacity, Memory}
 use Rattle.odht.specs.Equality.{IsSameMap}
 use Rattle.odht.specs.Lists.{encoded_all, HasSizeOf, IsRefusedAt}

@@ -7,10 +7,9 @@
 --                          into it by the owned table, which may grow; `IsFreshAfterInserts` is of as many items, and of one that does not
 use Rattle.std.specs.Prelude.{◌≡◌, ℕ, List, Some}
 use Rattle.odht_base.specs.Insert.{insert_owned}
-use Rattle.odht_base.specs.Made.{IsInsertOrder, pairs_of}
-use Rattle.odht_base.specs.Table.{Table, slot_count, empty, fresh}
-use Rattle.odht_base.specs.Valid.{IsValid}
-use Rattle.odht_header.specs.Coding.{Coding}
+use Rattle.odht_raw.specs.Words.{Coding, empty, IsInsertOrder, IsValid, slot_count, Table}
+use Rattle.odht_base.specs.Made.{pairs_of}
+use Rattle.odht_base.specs.Table.{fresh}
 use Rattle.odht.specs.Lists.{encoded_all, IsAfterInserts}
 
 abbrev pub IsNewSizeOf : Table → ℕ → ℕ → Type 0

@@ -10,14 +10,10 @@
 --     IsMoveFor F P n r    r is what P moves into for room for n more items: None where it has the room; else the slots for
 --                          as many as it has and n more, and the length for them, or an error where no table is that large
 use Rattle.std.specs.Prelude.{◌≡◌, ℕ, ◌+◌, ◌<◌, ◌≤◌, nat_le, Bool, List, Option, Some, Result, MatchOption, MatchResult, option_and_then, if◌then◌else◌}
-use Rattle.odht_base.specs.Format.{Format}
-use Rattle.odht_base.specs.Insert.{place_all}
-use Rattle.odht_base.specs.Load.{max_items, slots_for}
-use Rattle.odht_base.specs.Table.{Table, slot_count, count, walk, empty}
-use Rattle.odht_base.specs.Valid.{IsImage}
+use Rattle.odht_raw.specs.Words.{count, empty, Error, Format, IsImage, max_items, place_all, slot_count, Table, walk}
+use Rattle.odht_base.specs.Load.{slots_for}
 use Rattle.odht_header.specs.Layouts.{IsLayout}
 use Rattle.odht_header.specs.Refusals.{IsTooLarge}
-use Rattle.odht_header.specs.declared.error.Error.{Error}
 use Rattle.odht_raw.specs.Frame.{IsAccepted}
 use Rattle.odht.specs.Tables.{OfTable}
 

@@ -4,11 +4,7 @@
 --     IsBound c B n b      b is whether each home has such a control byte (`bytes`); in a valid table then no search, of a
 --                          present or an absent key, reads more than n groups (`bound`)
 use Rattle.std.specs.Prelude.{◌≡◌, ◌≤◌, ◌↔◌, ℕ, Bool, IsTrue, List, None}
-use Rattle.odht_base.specs.Bounds.{first_longer}
-use Rattle.odht_base.specs.Decoded.{controls_of}
-use Rattle.odht_base.specs.Search.{groups_read}
-use Rattle.odht_base.specs.Valid.{IsValidBytes}
-use Rattle.odht_header.specs.Coding.{Coding}
+use Rattle.odht_raw.specs.Words.{Coding, controls_of, first_longer, groups_read, IsValidBytes}
 use Rattle.odht.specs.Tables.{OfTable}
 
 abbrev pub IsValidWithin : {K V : Type 0} → Coding K V → List ℕ → ℕ → Type 0

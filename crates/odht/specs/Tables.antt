@@ -4,11 +4,7 @@
 --     InTable c B S        the same of the format of the coding c, with S about this coding and the plain table
 --     HasParts F B         the parts of the bytes B are those of this table
 use Rattle.std.specs.Prelude.{ℕ, List}
-use Rattle.odht_base.specs.Decoded.{entries_of, controls_of}
-use Rattle.odht_base.specs.Format.{Format}
-use Rattle.odht_base.specs.Table.{Table}
-use Rattle.odht_base.specs.Valid.{IsImage, IsPartsOf}
-use Rattle.odht_header.specs.Coding.{Coding}
+use Rattle.odht_raw.specs.Words.{Coding, controls_of, entries_of, Format, IsImage, IsPartsOf, Table}
 
 abbrev pub OfTable : Format → List ℕ → (Table → Type 0) → Type 0
 OfTable F B S = (P : Table) → IsImage F P B → S P

@@ -6,11 +6,7 @@
 --     IsWalkFrom c B i xs  xs are the slots from slot i on, each with its key and value
 --     IsItemCount F B n    n is the item count of the header (`by_header`), on valid bytes the number of items
 use Rattle.std.specs.Prelude.{◌≡◌, ℕ, List}
-use Rattle.odht_base.specs.Decoded.{decoded_pairs, decoded_table, header_count}
-use Rattle.odht_base.specs.Format.{Format}
-use Rattle.odht_base.specs.SlotWalks.{slots_from}
-use Rattle.odht_base.specs.Table.{Pair, count, walk}
-use Rattle.odht_header.specs.Coding.{Coding}
+use Rattle.odht_raw.specs.Words.{Coding, count, decoded_pairs, decoded_table, Format, header_count, Pair, slots_from, walk}
 use Rattle.odht_raw.specs.Walks.{decoded_all, decoded_slots}
 use Rattle.odht.specs.Tables.{OfTable}
 

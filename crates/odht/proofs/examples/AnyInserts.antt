@@ -3,13 +3,8 @@ use Rattle.std.proofs.Common.{◌≡◌, ℕ, refl, sym, Option, List, [], ◌�
 use Rattle.std.specs.Prelude.{option_map}
 use Rattle.std.specs.Result.{result_map_both}
 use Rattle.std.proofs.lemmas.Option.{none-some}
-use Rattle.odht_base.specs.Bytes.{overwritten_at}
-use Rattle.odht_base.specs.Decoded.{controls_of}
-use Rattle.odht_base.specs.Numbers.{le_bytes}
+use Rattle.odht_raw.specs.Words.{Coding, controls_of, encoded, Error, Full, le_bytes, overwritten_at, TooShort}
 use Rattle.odht_base.proofs.examples.Configs.{my_config}
-use Rattle.odht_header.specs.Coding.{Coding, encoded}
-use Rattle.odht_header.specs.declared.error.Error.{Error}
-use Rattle.odht_header.specs.declared.error.Error.TheVariants.{Full, TooShort}
 use Rattle.odht_header.proofs.examples.Opened.{opened}
 use Rattle.odht_raw.specs.Frame.{InsertFrame, entries_in}
 use Rattle.odht_raw.proofs.examples.FrameRefusals.{free_slot_refused}

@@ -2,10 +2,8 @@
 use Rattle.std.proofs.Common.{◌≡◌, ◌∙◌, ◌^◌, ℕ, Bool, true, false, refl, sym, ap, arith, length, List, [], ◌∷◌, Some, None, option_map, if◌then◌else◌, bytes_eq, lit≤}
 use Rattle.std.proofs.lemmas.Option.{none-some}
 use Rattle.odht_base.specs.Insert.{insert_owned, run}
-use Rattle.odht_base.specs.Load.{factor_of, slots_for}
-use Rattle.odht_base.specs.Map.{map_of}
-use Rattle.odht_base.specs.Numbers.{le_bytes}
-use Rattle.odht_base.specs.Table.{Pair, Table, slot_count}
+use Rattle.odht_raw.specs.Words.{factor_of, le_bytes, map_of, Pair, slot_count, Table}
+use Rattle.odht_base.specs.Load.{slots_for}
 use Rattle.odht_base.proofs.lemmas.Options.{some_same}
 use Rattle.odht_base.proofs.examples.Configs.{my_config, pair64}
 use Rattle.odht_header.proofs.examples.Apart.{some_unequal_lists}

@@ -2,10 +2,7 @@
 use Rattle.std.proofs.Common.{◌≡◌, ℕ, List, refl, Option, Some, Result, Ok, Err}
 use Rattle.std.specs.Prelude.{OnErr}
 use Rattle.std.specs.Result.{result_map_both}
-use Rattle.odht_base.specs.Format.{format_of}
-use Rattle.odht_header.specs.Coding.{Coding}
-use Rattle.odht_header.specs.declared.error.Error.{Error}
-use Rattle.odht_header.specs.declared.error.Error.TheVariants.{Full, TooShort}
+use Rattle.odht_raw.specs.Words.{Coding, Error, format_of, Full, TooShort}
 use Rattle.odht.specs.Dynamic.{dyn_refusal, dyn_new_refusal}
 use Rattle.odht.specs.DynInserts.{IsDynInsert}
 use Rattle.odht.specs.declared.dynamic.DynError.TheVariants.{KeyTooShort, WrongKeyLength, Rejected}

@@ -1,8 +1,7 @@
 -- Worked examples: lists of inserts, lookups of no keys, and tables at the front of longer bytes, where lengths are
 -- known only at run time.
 use Rattle.std.proofs.Common.{◌≡◌, ℕ, List, [], ◌∷◌, refl, Some, None}
-use Rattle.odht_base.specs.Format.{format_of}
-use Rattle.odht_header.specs.Coding.{Coding}
+use Rattle.odht_raw.specs.Words.{Coding, format_of}
 use Rattle.odht.specs.Dynamic.{DynStore, dyn_store}
 use Rattle.odht.specs.DynFormers.{lengths_error}
 use Rattle.odht.specs.DynLists.{length_error}

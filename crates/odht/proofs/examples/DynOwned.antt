@@ -1,7 +1,7 @@
 -- Worked examples: what the owned table of lengths that are known only at run time returns.
 use Rattle.std.proofs.Common.{◌≡◌, ℕ, List, refl, Result, Ok, Err}
 use Rattle.std.specs.Result.{result_map_both}
-use Rattle.odht_header.specs.declared.error.Error.{Error}
+use Rattle.odht_raw.specs.Words.{Error}
 use Rattle.odht_header.specs.declared.error.Error.TheVariants.{Memory}
 use Rattle.odht.specs.Dynamic.{dyn_store}
 use Rattle.odht.specs.DynOwned.{IsDynWith, IsRejecting}

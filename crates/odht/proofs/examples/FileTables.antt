@@ -1,7 +1,6 @@
 -- Worked examples: a table of sixteen slots, of keys of two bytes and values of one, that lies behind 100 other bytes.
 use Rattle.std.proofs.Common.{◌≡◌, ℕ, List, [], ◌∷◌, ◌++◌, refl, arith, lit<, length, replicate, Some, None, Ok, Err}
-use Rattle.odht_base.specs.Format.{format_of}
-use Rattle.odht_base.specs.Load.{IsSlotCount}
+use Rattle.odht_raw.specs.Words.{format_of, IsSlotCount}
 use Rattle.odht_raw.specs.DynParts.{bytes_coding}
 use Rattle.odht_raw.specs.declared.read_at.ReadError.{ReadError}
 use Rattle.odht_raw.specs.declared.read_at.ReadError.TheVariants.{EarlyEnd}

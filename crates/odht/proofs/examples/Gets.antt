@@ -3,13 +3,10 @@ use Rattle.std.proofs.Common.{◌≡◌, ◌↔◌, zero, suc, refl, ap, subst, 
 use Rattle.std.proofs.lemmas.Bool.{false≢true}
 use Rattle.std.proofs.lemmas.Option.{none-some}
 use Rattle.std.specs.Prelude.{IsSome, map}
-use Rattle.odht_base.specs.Map.{map_of}
-use Rattle.odht_base.specs.Numbers.{le_bytes}
-use Rattle.odht_base.specs.Search.{groups_read}
-use Rattle.odht_base.specs.Table.{Table}
+use Rattle.odht_raw.specs.Words.{groups_read, le_bytes, map_of, Table, value_for}
 use Rattle.odht_base.proofs.examples.Configs.{my_config}
 use Rattle.odht_base.proofs.lemmas.Options.{some_same}
-use Rattle.odht_header.specs.Coding.{value_for, HasStored}
+use Rattle.odht_header.specs.Coding.{HasStored}
 use Rattle.odht_header.proofs.examples.Opened.{opened}
 use Rattle.odht.specs.Gets.{IsGet, IsCountedGet, IsKnown, AreGot}
 use Rattle.odht.specs.Lookups.{HaveStored}

@@ -2,14 +2,9 @@
 use Rattle.std.proofs.Common.{◌≡◌, ◌∙◌, Bool, true, false, refl, sym, ap, arith, Some, None, Ok, Err, option_map, if◌then◌else◌, bytes_eq, []}
 use Rattle.std.proofs.lemmas.Option.{none-some}
 use Rattle.odht_base.specs.Insert.{insert_owned}
-use Rattle.odht_base.specs.Load.{factor_of}
-use Rattle.odht_base.specs.Map.{map_of}
-use Rattle.odht_base.specs.Numbers.{le_bytes}
-use Rattle.odht_base.specs.Table.{Pair, Table, empty}
+use Rattle.odht_raw.specs.Words.{empty, factor_of, Full, le_bytes, map_of, Pair, Table, value_for}
 use Rattle.odht_base.proofs.lemmas.Options.{some_same}
 use Rattle.odht_base.proofs.examples.Configs.{my_config, pair64}
-use Rattle.odht_header.specs.Coding.{value_for}
-use Rattle.odht_header.specs.declared.error.Error.TheVariants.{Full}
 use Rattle.odht_header.proofs.examples.Opened.{opened}
 use Rattle.odht.specs.Inserts.{IsFresh, IsInserted, IsInsertInto}
 use Rattle.odht_header.proofs.examples.Apart.{unequal_lists, some_unequal_lists}

@@ -1,9 +1,7 @@
 -- Worked examples: the last value of a key in a list of items.
 use Rattle.std.proofs.Common.{◌≡◌, ◌≢◌, ◌∙◌, ◌++◌, ℕ, Bool, true, false, refl, ap, arith, length, length-append, List, [], ◌∷◌, Some, None, option_map, if◌then◌else◌, bytes_eq, subst, ◌⊎◌, inl, inr, lit<}
 use Rattle.std.proofs.lemmas.List.Elements.{All-nil, All-cons}
-use Rattle.odht_base.specs.Map.{map_of}
-use Rattle.odht_base.specs.Numbers.{le_bytes}
-use Rattle.odht_base.specs.Table.{Pair, Table}
+use Rattle.odht_raw.specs.Words.{le_bytes, map_of, Pair, Table}
 use Rattle.odht_base.proofs.examples.Configs.{pair64}
 use Rattle.odht_header.proofs.examples.Opened.{opened}
 use Rattle.odht.specs.LastValues.{HasNoKey, IsLastItem, IsLastValue, HasLastValues}

@@ -3,21 +3,13 @@ use Rattle.std.proofs.Common.{◌≡◌, ◌∙◌, ℕ, Bool, true, false, refl
 use Rattle.std.specs.Option.{option_or}
 use Rattle.std.proofs.lemmas.Option.{none-some}
 use Rattle.odht_base.specs.Insert.{insert_owned, run}
-use Rattle.odht_base.specs.Image.{image}
-use Rattle.odht_base.specs.Load.{factor_of}
-use Rattle.odht_base.specs.Map.{map_of}
-use Rattle.odht_base.specs.Numbers.{le_bytes}
-use Rattle.odht_base.specs.Decoded.{controls_of}
-use Rattle.odht_base.specs.Table.{Pair, Table, empty, slot_count}
+use Rattle.odht_raw.specs.Words.{controls_of, empty, encoded, Error, factor_of, Full, image, le_bytes, map_of, Pair, slot_count, Table}
 use Rattle.odht_base.proofs.lemmas.Options.{some_same}
 use Rattle.odht_base.proofs.examples.Configs.{my_config, direct_config, pair64, pair32}
 use Rattle.odht_raw.proofs.examples.FrameRefusals.{free_slot_refused}
 use Rattle.odht_header.proofs.examples.Opened.{opened}
-use Rattle.odht_header.specs.Coding.{encoded}
 use Rattle.odht_raw.proofs.examples.Missing.{missing_at_home}
 use Rattle.odht_raw.specs.Frame.{InsertFrame, entries_in}
-use Rattle.odht_header.specs.declared.error.Error.{Error}
-use Rattle.odht_header.specs.declared.error.Error.TheVariants.{Full}
 use Rattle.std.specs.Result.{result_map_both}
 use Rattle.odht.specs.Rebuilds.{IsBuilt}
 use Rattle.odht.specs.Lists.{encoded_all, HasSizeOf, IsAfterInserts, IsRefusedAt, IsStoppedAt, IsFreshAfterInserts}

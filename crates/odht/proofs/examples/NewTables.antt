@@ -1,12 +1,13 @@
 -- Worked examples: how long new tables are, why there is none, and what is written into their bytes. A slot of
 -- number_coding takes thirteen bytes.
 use Rattle.std.proofs.Common.{◌≡◌, ◌^◌, ℕ, refl, arith, replicate, get_or, [], ◌∷◌, Some, None, Err, inl, inr}
-use Rattle.odht_base.specs.Load.{factor_of, slots_for}
+use Rattle.odht_raw.specs.Words.{factor_of, TooShort}
+use Rattle.odht_base.specs.Load.{slots_for}
 use Rattle.odht_base.proofs.examples.Configs.{my_config, pair64}
 use Rattle.odht_base.proofs.lemmas.FreeSlots.{map_of-empty}
 use Rattle.odht_base.proofs.lemmas.Least.{slots_for-IsLeastSlots}
 use Rattle.odht_base.proofs.lemmas.Options.{some_same}
-use Rattle.odht_header.specs.declared.error.Error.TheVariants.{Capacity, InitLength, Memory, TooShort}
+use Rattle.odht_header.specs.declared.error.Error.TheVariants.{Capacity, InitLength, Memory}
 use Rattle.odht_header.specs.Refusals.{new_refusal}
 use Rattle.odht_header.proofs.examples.Opened.{opened}
 use Rattle.odht.specs.Growths.{grown_len, HasGrownLen, IsGrownLayout, IsRoomFor, IsPlacing}

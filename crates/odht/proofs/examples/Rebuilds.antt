@@ -3,10 +3,7 @@ use Rattle.std.proofs.Common.{◌≡◌, ◌∙◌, ℕ, refl, ap, arith, List, 
 use Rattle.std.specs.Prelude.{option_and_then}
 use Rattle.std.proofs.lemmas.List.Sorted.{IsPermutation-refl}
 use Rattle.std.proofs.lemmas.Option.{none-some}
-use Rattle.odht_base.specs.Insert.{place_all}
-use Rattle.odht_base.specs.Map.{map_of}
-use Rattle.odht_base.specs.Numbers.{le_bytes}
-use Rattle.odht_base.specs.Table.{Table, slot_count, empty}
+use Rattle.odht_raw.specs.Words.{empty, le_bytes, map_of, place_all, slot_count, Table}
 use Rattle.odht_base.proofs.examples.Configs.{my_config}
 use Rattle.odht_base.proofs.lemmas.Options.{some_same}
 use Rattle.odht_header.proofs.examples.Apart.{some_unequal_lists}

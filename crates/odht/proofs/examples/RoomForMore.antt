@@ -1,8 +1,6 @@
 -- Worked examples: a table that is given room for more items. Sixteen slots at 87 percent take 13 items, 32 slots 27.
 use Rattle.std.proofs.Common.{◌≡◌, ◌∙◌, ◌^◌, Bool, true, false, refl, sym, ap, lit≤, lit<, Some, None, option_map, if◌then◌else◌, List, ℕ, bytes_eq, subst, arith, Ok, Err}
-use Rattle.odht_base.specs.Map.{map_of}
-use Rattle.odht_base.specs.Numbers.{le_bytes}
-use Rattle.odht_base.specs.Table.{Pair}
+use Rattle.odht_raw.specs.Words.{le_bytes, map_of, Pair}
 use Rattle.odht_base.proofs.lemmas.Least.{slots_for-IsLeastSlots}
 use Rattle.odht_base.proofs.lemmas.Options.{some_same}
 use Rattle.odht_base.proofs.examples.Configs.{my_config, pair64}

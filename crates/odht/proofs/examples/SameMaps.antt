@@ -1,8 +1,7 @@
 -- Worked examples: tables that are the same map, whatever their slots.
 use Rattle.std.proofs.Common.{◌≡◌, Bool, refl, Some, None, option_map, if◌then◌else◌, bytes_eq}
 use Rattle.std.proofs.lemmas.Option.{none-some}
-use Rattle.odht_base.specs.Numbers.{le_bytes}
-use Rattle.odht_base.specs.Table.{Pair}
+use Rattle.odht_raw.specs.Words.{le_bytes, Pair}
 use Rattle.odht_base.proofs.examples.Configs.{pair64}
 use Rattle.odht_header.proofs.examples.Apart.{some_unequal_lists}
 use Rattle.odht_header.proofs.examples.Opened.{opened}

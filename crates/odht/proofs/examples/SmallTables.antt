@@ -8,19 +8,13 @@
 use Rattle.std.proofs.Common.{◌≡◌, ◌≤◌, ◌++◌, ◌∙◌, ℕ, true, refl, ap, List, [], ◌∷◌, Some, None, replicate, lit≤}
 use Rattle.std.specs.Prelude.{IsTrue}
 use Rattle.std.specs.List.{list_all}
-use Rattle.odht_base.specs.Format.{IsFormat}
+use Rattle.odht_raw.specs.Words.{Coding, coding_of, count, decoded_table, empty, factor_of, image, is_power_of_two, IsFormat, IsImage, le_bytes, max_items, num, slot_count, Table}
 use Rattle.odht_base.specs.HashLaws.{fx-lt}
 use Rattle.odht_base.specs.Hashes.{fx}
-use Rattle.odht_base.specs.Image.{image}
-use Rattle.odht_base.specs.Load.{factor_of, max_items, is_power_of_two}
-use Rattle.odht_base.specs.Numbers.{le_bytes, num}
-use Rattle.odht_base.specs.Decoded.{decoded_table}
-use Rattle.odht_base.specs.Table.{Table, empty, fresh, slot_count, count}
-use Rattle.odht_base.specs.Valid.{IsImage}
+use Rattle.odht_base.specs.Table.{fresh}
 use Rattle.odht_base.proofs.examples.Configs.{my_config, pair64, owned_of}
 use Rattle.odht_base.proofs.lemmas.Image.{decoded_table-image}
 use Rattle.odht_base.proofs.lemmas.Placed.{IsPlaced-tests, pair_fits, all_arrive}
-use Rattle.odht_header.specs.Coding.{Coding, coding_of}
 use Rattle.odht_header.proofs.examples.Opened.{opened}
 
 abbrev pub number_coding : Coding ℕ ℕ

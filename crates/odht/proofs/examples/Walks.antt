@@ -1,10 +1,8 @@
 -- Worked examples: what walks over the table of 1 to 2 give, in slot 5 of sixteen, and bounds of the searches in it.
 use Rattle.std.proofs.Common.{◌≡◌, refl, ap, arith, true, false, [], ◌∷◌, length}
 use Rattle.std.proofs.lemmas.Bool.{false≢true}
-use Rattle.odht_base.specs.Bounds.{first_longer}
+use Rattle.odht_raw.specs.Words.{count, first_longer, slots_from, walk}
 use Rattle.odht_base.specs.Hashes.{fx}
-use Rattle.odht_base.specs.SlotWalks.{slots_from}
-use Rattle.odht_base.specs.Table.{count, walk}
 use Rattle.odht_base.proofs.examples.Configs.{my_config, pair64}
 use Rattle.odht_header.proofs.examples.Opened.{opened}
 use Rattle.odht_raw.specs.Walks.{decoded_all, decoded_slots}

@@ -2,7 +2,7 @@
 use Rattle.std.proofs.Common.{◌≡◌, ℕ, Bool, List, Option, Result, Ok, Err, ap}
 use Rattle.std.specs.Prelude.{is_some, OnErr}
 use Rattle.std.specs.Result.{result_map_both}
-use Rattle.odht_header.specs.declared.error.Error.{Error}
+use Rattle.odht_raw.specs.Words.{Error}
 use Rattle.odht_raw.specs.FormerWrites.{IsFormerTo}
 use Rattle.odht.specs.declared.dynamic.DynError.TheVariants.{Rejected}
 

@@ -5,7 +5,7 @@ use Rattle.std.specs.Prelude.{IfSome}
 use Rattle.std.specs.Bool.{then_some}
 use Rattle.std.specs.Option.{option_or}
 use Rattle.std.proofs.lemmas.Bool.Decides.{eqb_tells}
-use Rattle.odht_header.specs.declared.error.Error.{Error}
+use Rattle.odht_raw.specs.Words.{Error}
 use Rattle.odht.specs.Dynamic.{DynStore}
 use Rattle.odht.specs.DynLists.{length_error}
 use Rattle.odht.specs.declared.dynamic.DynError.{DynError}

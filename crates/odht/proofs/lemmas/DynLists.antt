@@ -5,11 +5,9 @@ use Rattle.std.proofs.lemmas.List.{take_more, map-append}
 use Rattle.std.proofs.lemmas.List.Elements.{All-nil, All-cons, All-append}
 use Rattle.std.proofs.lemmas.Option.{get_or_from_slice_get, slice_get_within}
 use Rattle.odht_base.specs.Insert.{insert_view}
-use Rattle.odht_base.specs.Table.{Pair}
+use Rattle.odht_raw.specs.Words.{Coding, encoded, Error, Pair}
 use Rattle.odht_base.proofs.lemmas.FreshRuns.{insert_view-PlacesBelow}
 use Rattle.odht_base.proofs.lemmas.TableInserts.{insert_view-IsInsert}
-use Rattle.odht_header.specs.Coding.{Coding, encoded}
-use Rattle.odht_header.specs.declared.error.Error.{Error}
 use Rattle.odht_raw.specs.Frame.{IsAccepted, IsFramed}
 use Rattle.odht_raw.specs.DynParts.{HasLengthsOf}
 use Rattle.odht.specs.Dynamic.{DynStore, dyn_coding, dyn_format, dyn_store}

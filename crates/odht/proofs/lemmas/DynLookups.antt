@@ -1,12 +1,8 @@
 -- Lookups of keys that are lists of bytes.
 use Rattle.std.proofs.Common.{◌≡◌, ◌∙◌, ℕ, List, Option, Some, None, sym, ap, refl, length}
 use Rattle.std.specs.Prelude.{option_map}
-use Rattle.odht_base.specs.Format.{Format}
-use Rattle.odht_base.specs.Map.{map_of}
-use Rattle.odht_base.specs.Table.{Table}
-use Rattle.odht_base.specs.Valid.{IsPlaced}
+use Rattle.odht_raw.specs.Words.{Format, IsPlaced, map_of, Table, value_for}
 use Rattle.odht_base.proofs.lemmas.Pairs.{value_in-Some}
-use Rattle.odht_header.specs.Coding.{value_for}
 use Rattle.odht_raw.specs.DynParts.{bytes_coding}
 
 -- a table has no value for a key of another length

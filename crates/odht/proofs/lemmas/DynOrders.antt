@@ -1,9 +1,6 @@
 -- An order of inserts of a dynamic table, by that of its parts.
 use Rattle.std.proofs.Common.{◌≡◌, ◌↔◌, ℕ, Bool, IsTrue, List}
-use Rattle.odht_base.specs.Format.{Format}
-use Rattle.odht_base.specs.Made.{IsMade, IsInsertOrder}
-use Rattle.odht_base.specs.Table.{Table, count}
-use Rattle.odht_base.specs.Valid.{IsImage, IsValidBytes}
+use Rattle.odht_raw.specs.Words.{count, Format, IsImage, IsInsertOrder, IsMade, IsValidBytes, Table}
 use Rattle.odht_raw.specs.Dumps.{parts_of}
 use Rattle.odht_raw.specs.Waiting.{AreWholeParts, IsWhole, IsOrderAnswer}
 use Rattle.odht.specs.Tables.{OfTable, HasParts}

@@ -3,14 +3,11 @@ use Rattle.std.proofs.Common.{◌≡◌, ℕ, List, Option, Result, Ok, Err, OnE
 use Rattle.std.specs.Result.{result_map_both}
 use Rattle.std.proofs.lemmas.Option.{none-some}
 use Rattle.odht_base.specs.Insert.{IsFullFor}
-use Rattle.odht_base.specs.Table.{Table}
-use Rattle.odht_base.specs.Valid.{IsImage}
+use Rattle.odht_raw.specs.Words.{checked, Coding, Error, Full, IsImage, Table}
 use Rattle.odht_base.proofs.lemmas.Options.{some_same}
-use Rattle.odht_header.specs.Coding.{Coding}
-use Rattle.odht_header.specs.declared.error.Error.{Error}
 use Rattle.odht_header.specs.Layouts.{IsLayout}
-use Rattle.odht_header.specs.Refusals.{IsTooLarge, checked}
-use Rattle.odht_header.specs.declared.error.Error.TheVariants.{Capacity, Full, Memory}
+use Rattle.odht_header.specs.Refusals.{IsTooLarge}
+use Rattle.odht_header.specs.declared.error.Error.TheVariants.{Capacity, Memory}
 use Rattle.odht.specs.DynInserts.{IsDynInsert}
 use Rattle.odht.specs.Inserts.{IsInsertInto}
 use Rattle.odht.specs.NewTables.{FailsAsNew, FailsBy}

@@ -1,13 +1,8 @@
 -- The owned dynamic table, as its lengths and its plain table.
 use Rattle.std.proofs.Common.{◌≡◌, ◌≢◌, ◌==◌, ◌∙◌, ℕ, Bool, true, false, List, Option, Some, None, Ok, refl, sym, ap, subst, eqb-true, eq-eqb, true≢false, length}
 use Rattle.std.specs.Prelude.{option_map}
-use Rattle.odht_base.specs.Decoded.{decoded_table}
-use Rattle.odht_base.specs.Format.{Format, IsFormat, format_of}
+use Rattle.odht_raw.specs.Words.{decoded_table, encoded, Format, format_of, IsFormat, IsImage, map_of, Table}
 use Rattle.odht_base.specs.Insert.{insert_owned}
-use Rattle.odht_base.specs.Map.{map_of}
-use Rattle.odht_base.specs.Table.{Table}
-use Rattle.odht_base.specs.Valid.{IsImage}
-use Rattle.odht_header.specs.Coding.{encoded}
 use Rattle.odht.specs.Dynamic.{DynStore, dyn_coding, dyn_format, dyn_plain, dyn_store, IsDynImage}
 use Rattle.odht.specs.DynOwned.{IsDynWith}
 use Rattle.odht.specs.Inserts.{IsInsertInto}

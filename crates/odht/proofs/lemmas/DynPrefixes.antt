@@ -5,10 +5,7 @@ use Rattle.std.specs.Bool.{then_some}
 use Rattle.std.specs.Option.{option_or}
 use Rattle.std.specs.Result.{result_err}
 use Rattle.std.proofs.Math.ListN.{get_or-append}
-use Rattle.odht_base.specs.Format.{Format, IsFormat, format_of}
-use Rattle.odht_base.specs.Valid.{IsValidBytes}
-use Rattle.odht_header.specs.declared.error.Error.{Error}
-use Rattle.odht_header.specs.Refusals.{checked, prefix_refusal}
+use Rattle.odht_raw.specs.Words.{checked, Error, Format, format_of, IsFormat, IsValidBytes, prefix_refusal}
 use Rattle.odht_header.proofs.lemmas.FirstErrors.{IsOk-checked}
 use Rattle.odht_header.proofs.lemmas.HeaderFits.{IsOpening-opening_refusal}
 use Rattle.odht_raw.specs.Prefixes.{IsFront, front_refusal}

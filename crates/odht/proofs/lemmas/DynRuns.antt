@@ -3,14 +3,11 @@ use Rattle.std.proofs.Common.{◌≡◌, ◌∙◌, ◌⊎◌, inl, inr, ℕ, sy
 use Rattle.std.specs.List.{slice_range}
 use Rattle.std.specs.Option.{option_or}
 use Rattle.std.proofs.lemmas.List.Elements.{All-nil, All-cons, All-head, All-tail}
-use Rattle.odht_base.specs.Format.{Format, IsFormat}
+use Rattle.odht_raw.specs.Words.{Format, Full, IsFormat, IsPairOf, Pair}
 use Rattle.odht_base.specs.Insert.{insert_view, IsFullFor}
-use Rattle.odht_base.specs.Table.{Pair}
-use Rattle.odht_base.specs.Valid.{IsPairOf}
 use Rattle.odht_base.proofs.lemmas.FreshRuns.{insert_view-PlacesBelow}
 use Rattle.odht_base.proofs.lemmas.Options.{some_same}
 use Rattle.odht_base.proofs.lemmas.TableInserts.{insert_view-IsInsert}
-use Rattle.odht_header.specs.declared.error.Error.TheVariants.{Full}
 use Rattle.odht_raw.specs.DynParts.{HasLengthsOf}
 use Rattle.odht_raw.specs.Frame.{IsFramed}
 use Rattle.odht_raw.specs.Runs.{HasLengthsAt, IsEncodedRun}

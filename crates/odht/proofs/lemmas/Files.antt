@@ -4,23 +4,12 @@ use Rattle.std.specs.Prelude.{IfSome, option_map, slice_index}
 use Rattle.std.specs.List.{range_with_len, list_all}
 use Rattle.std.specs.Option.{option_or}
 use Rattle.std.proofs.lemmas.List.{drop-take}
-use Rattle.odht_base.specs.Bytes.{bytes_at}
-use Rattle.odht_base.specs.Decoded.{header_slots, header_count, entries_of, controls_of, counts_as_free, slot_entry, slot_value}
-use Rattle.odht_base.specs.Format.{Format, entry_len, tag}
-use Rattle.odht_base.specs.Image.{image_len}
-use Rattle.odht_base.specs.Numbers.{num}
-use Rattle.odht_base.specs.Load.{IsSlotCount}
-use Rattle.odht_base.specs.Map.{map_of}
-use Rattle.odht_base.specs.Search.{groups_read}
+use Rattle.odht_raw.specs.Words.{bytes_at, ControlMismatch, controls_of, counts_as_free, differs, entries_of, entry_len, Error, first_of, first_slot, Format, groups_read, hashes_refusal, hashes_refusal_at, header_count, header_refusal, header_slots, image_len, IsPartsOf, IsSlotCount, map_of, NonZeroEmpty, num, opening_refusal, slot_entry, slot_value, tag, view_refusal, WrongLength, ◌gives◌}
 use Rattle.odht_base.specs.Table.{Table as PlainTable}
-use Rattle.odht_base.specs.Valid.{IsPartsOf}
 use Rattle.odht_base.proofs.lemmas.SlotCounts.{few_slots}
 use Rattle.odht_base.proofs.lemmas.ByteRanges.{bytes_at-bytes_at, bytes_at-take, bytes_at-take_front, bytes_at-drop, index-bytes_at, length-bytes_at}
 use Rattle.odht_base.proofs.lemmas.PartsOf.{slot_within}
 use Rattle.odht_header.specs.Coding.{HasStored}
-use Rattle.odht_header.specs.Refusals.{◌gives◌, first_of, first_slot, differs, header_refusal, opening_refusal, hashes_refusal, hashes_refusal_at, view_refusal}
-use Rattle.odht_header.specs.declared.error.Error.{Error}
-use Rattle.odht_header.specs.declared.error.Error.TheVariants.{WrongLength, NonZeroEmpty, ControlMismatch}
 use Rattle.odht_header.proofs.lemmas.HeaderChecks.{header_refusal-fields}
 use Rattle.odht_raw.specs.Dumps.{parts_of}
 use Rattle.odht_raw.specs.Finds.{IsCountedFind}

@@ -2,12 +2,8 @@
 use Rattle.std.proofs.Common.{inl, inr, ◌≡◌, ◌≤◌, ◌+◌, ◌∙◌, ℕ, Bool, true, false, cond, ap, refl, List, [], ◌∷◌, Option, Some, None, arith, All}
 use Rattle.std.specs.Prelude.{is_none, option_and_then}
 use Rattle.std.proofs.lemmas.List.Elements.{All-head, All-tail}
-use Rattle.odht_base.specs.Format.{Format}
-use Rattle.odht_base.specs.Insert.{place, run, place_all, insert_owned, insert_view}
-use Rattle.odht_base.specs.Load.{max_items}
-use Rattle.odht_base.specs.Map.{map_of}
-use Rattle.odht_base.specs.Table.{Pair, Table, slot_count, count}
-use Rattle.odht_base.specs.Valid.{IsPairOf, IsPlaced, IsValid}
+use Rattle.odht_raw.specs.Words.{count, Format, IsPairOf, IsPlaced, IsValid, map_of, max_items, Pair, place, place_all, slot_count, Table}
+use Rattle.odht_base.specs.Insert.{run, insert_owned, insert_view}
 use Rattle.odht_base.proofs.lemmas.Grown.{place-IsInsert, slot_count-place_all}
 use Rattle.odht_base.proofs.lemmas.InsertRuns.{factor-run}
 use Rattle.odht_base.proofs.lemmas.Options.{some_same, and_then_some}

@@ -3,13 +3,9 @@ use Rattle.std.proofs.Common.{◌≡◌, ◌<◌, ◌≤◌, ◌∙◌, ◌*◌,
 use Rattle.std.specs.Prelude.{max, IfSome, IsNone, MatchOption}
 use Rattle.std.specs.Bool.{then_some}
 use Rattle.std.proofs.Math.Nat.{le-max_left, le-max_right, mul-le-mul_left}
-use Rattle.odht_base.specs.Format.{Format}
-use Rattle.odht_base.specs.Image.{header_bytes, image_len}
-use Rattle.odht_base.specs.Load.{slots_for, IsSlotCount}
+use Rattle.odht_raw.specs.Words.{Format, header_bytes, header_count, header_factor, image_len, IsImage, IsSlotCount, Table}
+use Rattle.odht_base.specs.Load.{slots_for}
 use Rattle.odht_base.specs.Insert.{grown_slots}
-use Rattle.odht_base.specs.Decoded.{header_count, header_factor}
-use Rattle.odht_base.specs.Table.{Table}
-use Rattle.odht_base.specs.Valid.{IsImage}
 use Rattle.odht_base.proofs.lemmas.Least.{slots_for-IsLeastSlots}
 use Rattle.odht_base.proofs.lemmas.Numbers.{num-le_bytes}
 use Rattle.odht_base.proofs.lemmas.Options.{some_same}

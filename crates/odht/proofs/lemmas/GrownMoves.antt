@@ -1,12 +1,8 @@
 -- A growth is a move into the grown slots.
 use Rattle.std.proofs.Common.{◌≡◌, ◌≤◌, ◌∙◌, ℕ, sym, ap, arith, List, Some}
 use Rattle.std.specs.Prelude.{option_and_then}
-use Rattle.odht_base.specs.Decoded.{header_count, header_factor}
-use Rattle.odht_base.specs.Format.{Format}
-use Rattle.odht_base.specs.Insert.{grown, grown_slots, place_all}
-use Rattle.odht_base.specs.Load.{max_items}
-use Rattle.odht_base.specs.Table.{Table, count, empty, walk}
-use Rattle.odht_base.specs.Valid.{IsValid}
+use Rattle.odht_raw.specs.Words.{count, empty, Format, header_count, header_factor, IsValid, max_items, place_all, Table, walk}
+use Rattle.odht_base.specs.Insert.{grown, grown_slots}
 use Rattle.odht_base.proofs.lemmas.Grown.{room_above}
 use Rattle.odht_base.proofs.lemmas.Least.{slots_for-IsLeastSlots}
 use Rattle.odht.specs.Growths.{grown_slots_of, IsGrownImage, IsGrownFrom}

@@ -3,11 +3,9 @@ use Rattle.std.proofs.Common.{◌≡◌, ◌∙◌, ℕ, Bool, true, false, cond
 use Rattle.std.proofs.lemmas.List.Elements.{All-head, All-tail}
 use Rattle.std.proofs.lemmas.Option.{none-some}
 use Rattle.std.specs.Prelude.{option_and_then}
-use Rattle.odht_base.specs.Format.{Format}
-use Rattle.odht_base.specs.Insert.{grown, place, place_all, insert_owned, insert_view, run, IsFullFor}
-use Rattle.odht_base.specs.Map.{map_of, value_in, KeysApart}
-use Rattle.odht_base.specs.Table.{Pair, Table}
-use Rattle.odht_base.specs.Valid.{IsPartsOf, IsValid}
+use Rattle.odht_raw.specs.Words.{Error, Format, Full, IsPartsOf, IsValid, map_of, Pair, place, place_all, Table}
+use Rattle.odht_base.specs.Insert.{grown, insert_owned, insert_view, run, IsFullFor}
+use Rattle.odht_base.specs.Map.{value_in, KeysApart}
 use Rattle.odht_base.proofs.lemmas.Grown.{AreNew, new-head, new-tail, grown-IsGrown}
 use Rattle.odht_base.proofs.lemmas.Keys.{same_bytes}
 use Rattle.odht_base.proofs.lemmas.Options.{and_then_some, some_same}
@@ -16,8 +14,6 @@ use Rattle.odht_base.proofs.lemmas.Places.{map_of-place}
 use Rattle.odht_base.proofs.lemmas.TableInserts.{insert_view-takes, insert_owned-full}
 use Rattle.odht_raw.specs.PartsInserts.{ArePartsPlaced}
 use Rattle.odht_raw.specs.PartsPlacings.{IsNewTo}
-use Rattle.odht_header.specs.declared.error.Error.{Error}
-use Rattle.odht_header.specs.declared.error.Error.TheVariants.{Full}
 
 -- what holds of an Ok result holds where the result is not `Full`
 pub accepted_holds : {T : Type 0} (X : Type 0) (r : Result T Error) → OnErr r (r ≡ Err Full) → (r ≡ Err Full → ⊥) → OnOk r X → X

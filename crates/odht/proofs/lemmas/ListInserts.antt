@@ -4,21 +4,17 @@ use Rattle.std.proofs.lemmas.List.{take_all, take_more, map-append, length-map}
 use Rattle.std.specs.Prelude.{option_and_then}
 use Rattle.std.specs.Option.{option_or}
 use Rattle.std.specs.List.{slice_range}
-use Rattle.odht_base.specs.Format.{Format, IsFormat}
-use Rattle.odht_base.specs.Insert.{place, run, insert_owned}
-use Rattle.odht_base.specs.Load.{max_items, factor_of}
-use Rattle.odht_base.specs.Map.{map_of, last, overwritten}
-use Rattle.odht_base.specs.Table.{Pair, Table, count, slot_count, fresh}
-use Rattle.odht_base.specs.Valid.{IsImage, IsValid}
+use Rattle.odht_raw.specs.Words.{Coding, count, encoded, factor_of, Format, Full, IsFormat, IsImage, IsValid, map_of, max_items, Pair, place, slot_count, Table}
+use Rattle.odht_base.specs.Insert.{run, insert_owned}
+use Rattle.odht_base.specs.Map.{last, overwritten}
+use Rattle.odht_base.specs.Table.{fresh}
 use Rattle.odht_base.proofs.lemmas.FreshRuns.{PlacesBelow}
 use Rattle.odht_base.proofs.lemmas.Grown.{slot_count-place_all}
 use Rattle.odht_base.proofs.lemmas.Places.{slot_count-place, factor-place, count-place_le}
 use Rattle.odht_base.proofs.lemmas.FreeSlots.{fresh-slots, slot_count-empty, count-empty, max_items-holds}
 use Rattle.odht_base.proofs.lemmas.InsertRuns.{IsInsert, run-append, run-push, last-append, last-cons, map_of-run, factor-run, count-run}
-use Rattle.odht_header.specs.Coding.{Coding, encoded}
 use Rattle.odht_raw.specs.Runs.{IsAllPlaced}
 use Rattle.odht_raw.proofs.lemmas.PartRuns.{take-range}
-use Rattle.odht_header.specs.declared.error.Error.TheVariants.{Full}
 use Rattle.odht.proofs.lemmas.FittingRuns.{PlacesTaken, run-fitting}
 use Rattle.odht.proofs.lemmas.ViewInserts.{framed-full}
 use Rattle.odht.specs.Lists.{encoded_all, HasSizeOf, IsAfterInserts, IsFreshAfterInserts, IsRefusedAt, IsStoppedAt}

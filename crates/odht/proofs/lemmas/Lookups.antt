@@ -5,11 +5,8 @@ use Rattle.std.proofs.Math.Nat.{eq-or-lt_of_le}
 use Rattle.std.proofs.lemmas.List.{length-set}
 use Rattle.std.proofs.lemmas.Option.{slice_get_within}
 use Rattle.odht_base.proofs.lemmas.Options.{some_same}
-use Rattle.odht_base.specs.Format.{Format}
-use Rattle.odht_base.specs.Decoded.{Stores, entries_of, header_slots, slot_key, slot_value}
-use Rattle.odht_base.specs.Table.{Table}
-use Rattle.odht_base.specs.Valid.{IsPartsOf}
-use Rattle.odht_header.specs.Coding.{Coding, value_for}
+use Rattle.odht_raw.specs.Words.{Coding, entries_of, Format, header_slots, IsPartsOf, slot_key, slot_value, Table, value_for}
+use Rattle.odht_base.specs.Decoded.{Stores}
 use Rattle.odht_raw.specs.Parts.{EntryBytes, TableParts}
 use Rattle.odht_raw.specs.SearchEnds.{IsBesideKey}
 use Rattle.odht.specs.declared.lookups.InSlice.{InSlice}

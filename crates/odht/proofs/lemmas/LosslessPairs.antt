@@ -4,12 +4,12 @@ use Rattle.std.specs.Prelude.{option_map}
 use Rattle.std.specs.Option.{option_or}
 use Rattle.std.proofs.lemmas.List.Elements.{All-nil, All-cons, All-head, All-tail}
 use Rattle.odht_base.specs.Map.{last}
-use Rattle.odht_base.specs.Table.{Pair, Table, fresh}
+use Rattle.odht_raw.specs.Words.{Coding, encoded, Pair, Table}
+use Rattle.odht_base.specs.Table.{fresh}
 use Rattle.odht_base.proofs.lemmas.Keys.{same_bytes, key_itself}
 use Rattle.odht_base.proofs.lemmas.Options.{option_or-none_right}
 use Rattle.odht_base.proofs.lemmas.FreeSlots.{map_of-fresh}
 use Rattle.odht_base.proofs.lemmas.InsertRuns.{last-cons}
-use Rattle.odht_header.specs.Coding.{Coding, encoded}
 use Rattle.odht.specs.LastValues.{IsLastValue, HasLastValues}
 use Rattle.odht.specs.Lists.{encoded_all, IsAfterInserts}
 

@@ -4,7 +4,8 @@ use Rattle.std.specs.Prelude.{option_map}
 use Rattle.std.proofs.Math.Nat.{eq-or-lt_of_le}
 use Rattle.std.proofs.lemmas.Option.{slice_get-map, slice_get_within}
 use Rattle.odht_base.proofs.lemmas.Options.{some_same}
-use Rattle.odht_header.specs.Coding.{Coding, value_for, HasStored}
+use Rattle.odht_raw.specs.Words.{Coding, value_for}
+use Rattle.odht_header.specs.Coding.{HasStored}
 use Rattle.odht.specs.Gets.{IsGet, AreGot}
 use Rattle.odht.specs.Lookups.{HaveStored}
 use Rattle.odht.proofs.lemmas.Lookups.{slice_get-set_same, slice_get-set_other}

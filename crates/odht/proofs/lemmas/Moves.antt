@@ -5,14 +5,9 @@ use Rattle.std.specs.Prelude.{option_and_then}
 use Rattle.std.specs.Option.{option_or}
 use Rattle.std.proofs.Math.Nat.{mul-le-mul_left}
 use Rattle.std.proofs.lemmas.List.Sorted.{length_permutation}
-use Rattle.odht_base.specs.Decoded.{header_slots, header_factor}
-use Rattle.odht_base.specs.Format.{Format}
-use Rattle.odht_base.specs.Image.{header_bytes, image, parts}
-use Rattle.odht_base.specs.Insert.{place}
-use Rattle.odht_base.specs.Load.{max_items, slots_for, IsSlotCount}
-use Rattle.odht_base.specs.Map.{map_of, last}
-use Rattle.odht_base.specs.Table.{Table, slot_count, count, empty, walk}
-use Rattle.odht_base.specs.Valid.{IsImage, IsPlaced, IsValid}
+use Rattle.odht_raw.specs.Words.{Coding, count, empty, Format, header_bytes, header_factor, header_slots, image, IsImage, IsPlaced, IsSlotCount, IsValid, map_of, max_items, parts, place, slot_count, Table, walk}
+use Rattle.odht_base.specs.Load.{slots_for}
+use Rattle.odht_base.specs.Map.{last}
 use Rattle.odht_base.proofs.lemmas.DistinctKeys.{last-apart, walk-KeysApart, walk-IsPairOf}
 use Rattle.odht_base.proofs.lemmas.Fits.{IsSized-IsPlaced}
 use Rattle.odht_base.proofs.lemmas.FreeSlots.{slot_count-empty, count-empty, walk-empty, map_of-empty, empty-IsPlaced, empty-IsValid, max_items-lt, max_items-holds}
@@ -22,7 +17,6 @@ use Rattle.odht_base.proofs.lemmas.InsertRuns.{run-keeps, factor-run, map_of-run
 use Rattle.odht_base.proofs.lemmas.Least.{slots_for-IsLeastSlots}
 use Rattle.odht_base.proofs.lemmas.Options.{option_or-none_right}
 use Rattle.odht_base.proofs.lemmas.SlotCounts.{slots_pos, few_slots}
-use Rattle.odht_header.specs.Coding.{Coding}
 use Rattle.odht_header.specs.Layouts.{IsLayout}
 use Rattle.odht_header.specs.Refusals.{IsTooLarge}
 use Rattle.odht_header.specs.declared.error.Error.TheVariants.{Capacity, Memory}

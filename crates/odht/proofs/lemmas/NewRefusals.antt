@@ -1,18 +1,15 @@
 -- The errors of a new table, case by case.
 use Rattle.std.proofs.Common.{◌≡◌, ◌≢◌, ◌≤◌, ◌<◌, ◌^◌, ◌∙◌, ℕ, Bool, true, false, not, nat_le, ap, sym, subst, refl, [], ◌∷◌, Option, Some, None, Result, Ok, Err, OnErr, ◌⊎◌, inl, inr, arith, leb-true, le-leb, le-ltb, ltb-false, ne_eqb}
 use Rattle.std.proofs.lemmas.Result.{IfErr-at_err}
-use Rattle.odht_base.specs.Format.{Format}
-use Rattle.odht_base.specs.Load.{slots_for, factor_of}
-use Rattle.odht_base.specs.Image.{image_len}
+use Rattle.odht_raw.specs.Words.{Coding, differs, Error, factor_of, first_of, Format, image_len, ◌gives◌}
+use Rattle.odht_base.specs.Load.{slots_for}
 use Rattle.std.specs.Option.{option_map_or}
 use Rattle.std.specs.Bool.{then_some}
 use Rattle.std.specs.Prelude.{nat_lt, ◌↔◌}
 use Rattle.std.proofs.lemmas.Option.{none-some}
 use Rattle.odht_base.proofs.lemmas.Options.{some_same}
-use Rattle.odht_header.specs.Coding.{Coding}
-use Rattle.odht_header.specs.Refusals.{IsTooLarge, new_refusal, slots_new_refusal, first_of, differs, ◌gives◌}
+use Rattle.odht_header.specs.Refusals.{IsTooLarge, new_refusal, slots_new_refusal}
 use Rattle.odht_header.specs.declared.error.Error.TheVariants.{Capacity, InitLength, Memory}
-use Rattle.odht_header.specs.declared.error.Error.{Error}
 use Rattle.odht_header.proofs.lemmas.FirstErrors.{false-differs}
 use Rattle.odht.specs.Growths.{table_len}
 use Rattle.odht.specs.NewTables.{FailsAsNew}

@@ -1,9 +1,8 @@
 -- An insert that a view takes is the one that an owned table takes.
 use Rattle.std.proofs.Common.{◌≡◌, ◌∙◌, Option, Some, Ok, List, ℕ}
 use Rattle.odht_base.specs.Insert.{insert_owned}
-use Rattle.odht_base.specs.Table.{Table}
+use Rattle.odht_raw.specs.Words.{Coding, encoded, Table}
 use Rattle.odht_base.proofs.lemmas.TableInserts.{insert_owned-view}
-use Rattle.odht_header.specs.Coding.{Coding, encoded}
 use Rattle.odht.specs.Inserts.{IsInsertInto}
 
 pub owned_of_view : {K V : Type 0} (c : Coding K V) (P : Table) (k : K) (v : V) (o : Option V) (B : List ℕ) (into : IsInsertInto c P k v (Ok o) B)

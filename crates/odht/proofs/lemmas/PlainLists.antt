@@ -3,12 +3,9 @@ use Rattle.std.proofs.Common.{◌≡◌, ◌≤◌, ◌+◌, ◌∙◌, ℕ, ref
 use Rattle.std.specs.Prelude.{IsOk, OnOk}
 use Rattle.std.proofs.lemmas.List.{length-map, length-take-le}
 use Rattle.odht_base.specs.Insert.{insert_owned}
-use Rattle.odht_base.specs.Load.{factor_of, max_items}
-use Rattle.odht_base.specs.Table.{Table, count, fresh, slot_count}
-use Rattle.odht_base.specs.Valid.{IsImage}
+use Rattle.odht_raw.specs.Words.{Coding, count, encoded, Error, factor_of, IsImage, max_items, slot_count, Table}
+use Rattle.odht_base.specs.Table.{fresh}
 use Rattle.odht_base.proofs.lemmas.FreeSlots.{fresh-slots, slot_count-empty, count-empty, max_items-holds}
-use Rattle.odht_header.specs.Coding.{Coding, encoded}
-use Rattle.odht_header.specs.declared.error.Error.{Error}
 use Rattle.odht.specs.Lists.{encoded_all, HasSizeOf, IsAfterInserts, IsFreshAfterInserts}
 use Rattle.odht.specs.Plain.{KeepsSize, IsPlainList}
 use Rattle.odht.proofs.lemmas.ListInserts.{fresh_inserted, inserted_all}

@@ -1,11 +1,11 @@
 -- Inserts in an insert order make a table again.
 use Rattle.std.proofs.Common.{◌≡◌, ◌∙◌, ℕ, sym, ap, List, Some}
 use Rattle.odht_base.specs.Insert.{run, insert_owned}
-use Rattle.odht_base.specs.Table.{Table, slot_count, empty, fresh}
+use Rattle.odht_raw.specs.Words.{Coding, empty, slot_count, Table}
+use Rattle.odht_base.specs.Table.{fresh}
 use Rattle.odht_base.proofs.lemmas.FreshRuns.{insert_owned-PlacesBelow}
 use Rattle.odht_base.proofs.lemmas.MadeTables.{order-runs}
 use Rattle.odht_base.proofs.lemmas.Options.{some_same}
-use Rattle.odht_header.specs.Coding.{Coding}
 use Rattle.odht.specs.Lists.{encoded_all}
 use Rattle.odht.specs.Rebuilds.{IsRebuilding}
 

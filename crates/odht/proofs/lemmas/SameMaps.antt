@@ -4,10 +4,8 @@ use Rattle.std.specs.Prelude.{option_map}
 use Rattle.std.proofs.lemmas.List.Elements.{All-contains, Contains-get_or}
 use Rattle.std.proofs.lemmas.List.Sorted.{IsPermutation-sym, Contains-permutation}
 use Rattle.std.proofs.lemmas.Option.{none-some}
-use Rattle.odht_base.specs.Format.{Format}
-use Rattle.odht_base.specs.Map.{map_of, value_in, KeysApart}
-use Rattle.odht_base.specs.Table.{Pair, Table, walk, count}
-use Rattle.odht_base.specs.Valid.{IsPlaced}
+use Rattle.odht_raw.specs.Words.{count, Format, IsPlaced, map_of, Pair, Table, walk}
+use Rattle.odht_base.specs.Map.{value_in, KeysApart}
 use Rattle.odht_base.proofs.lemmas.DistinctKeys.{walk-KeysApart}
 use Rattle.odht_base.proofs.lemmas.Keys.{same_bytes, key_itself}
 use Rattle.odht_base.proofs.lemmas.Options.{some_same}

@@ -2,11 +2,7 @@
 use Rattle.std.proofs.Common.{◌≡◌, ◌∙◌, List, ℕ, Option, Result, OnErr, ap, sym, subst, length}
 use Rattle.std.specs.Prelude.{IfOk}
 use Rattle.std.proofs.lemmas.Result.{on_err_weaker}
-use Rattle.odht_base.specs.Format.{IsFormat}
-use Rattle.odht_base.specs.Table.{Table}
-use Rattle.odht_base.specs.Valid.{IsImage}
-use Rattle.odht_header.specs.Coding.{Coding}
-use Rattle.odht_header.specs.declared.error.Error.{Error}
+use Rattle.odht_raw.specs.Words.{Coding, Error, IsFormat, IsImage, Table}
 use Rattle.odht_raw.specs.Frame.{IsAccepted, IsFramed}
 use Rattle.odht_raw.specs.Runs.{IsOnePlaced}
 use Rattle.odht_raw.proofs.lemmas.Borrows.{borrowed-bytes, borrowed-same}

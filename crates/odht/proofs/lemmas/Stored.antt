@@ -3,9 +3,7 @@ use Rattle.std.proofs.Common.{◌≡◌, ◌<◌, ◌≤◌, ◌+◌, ◌-◌, �
 use Rattle.std.specs.Prelude.{position}
 use Rattle.std.specs.Option.{option_map_or}
 use Rattle.std.proofs.lemmas.List.Quantifiers.{position-Some}
-use Rattle.odht_base.specs.Format.{Format, home}
-use Rattle.odht_base.specs.Search.{groups_read, reach, search_order, stops_at}
-use Rattle.odht_base.specs.Table.{Cells}
+use Rattle.odht_raw.specs.Words.{Cells, Format, groups_read, home, reach, search_order, stops_at}
 use Rattle.odht_base.proofs.lemmas.Orders.{length-order}
 
 -- a search reads no more groups than there are

@@ -3,22 +3,14 @@ use Rattle.std.proofs.Common.{◌≡◌, ◌∙◌, ◌+◌, ◌-◌, ℕ, sym, 
 use Rattle.std.specs.Prelude.{option_map, option_and_then, IfOk, OnErr, OnOk}
 use Rattle.std.specs.Result.{result_map_both}
 use Rattle.std.proofs.lemmas.Option.{none-some}
-use Rattle.odht_base.specs.Format.{Format, IsFormat}
+use Rattle.odht_raw.specs.Words.{Coding, controls_of, count, encoded, entries_of, Error, Format, Full, header_count, header_factor, header_slots, IsFormat, IsImage, IsPartsOf, map_of, max_items, slot_count, Table, value_at, value_for}
 use Rattle.odht_base.specs.Insert.{insert_view, IsFullFor}
-use Rattle.odht_base.specs.Load.{max_items}
-use Rattle.odht_base.specs.Map.{map_of}
-use Rattle.odht_base.specs.Table.{Table, count, slot_count}
-use Rattle.odht_base.specs.Valid.{IsImage, IsPartsOf}
-use Rattle.odht_base.specs.Decoded.{header_slots, header_count, header_factor, entries_of, controls_of, value_at}
 use Rattle.odht_base.proofs.lemmas.Fits.{IsSized-IsPlaced}
 use Rattle.odht_base.proofs.lemmas.FreeSlots.{max_items-lt}
 use Rattle.odht_base.proofs.lemmas.Image.{header_count-image, header_slots-image, header_factor-image, entries_of-image, controls_of-image}
 use Rattle.odht_base.proofs.lemmas.Parts.{length-controls}
 use Rattle.odht_base.proofs.lemmas.SlotCounts.{slots_pos}
 use Rattle.odht_base.proofs.lemmas.TableInserts.{insert_view-IsInsert, insert_view-None}
-use Rattle.odht_header.specs.Coding.{Coding, encoded, value_for}
-use Rattle.odht_header.specs.declared.error.Error.{Error}
-use Rattle.odht_header.specs.declared.error.Error.TheVariants.{Full}
 use Rattle.odht_raw.specs.Frame.{EachCountsAsOccupied, IsAbsent, IsMissing, InsertFrame, IsFramed}
 use Rattle.odht_raw.specs.Runs.{IsOnePlaced}
 use Rattle.odht_raw.proofs.lemmas.Steps.{missing-absent, has_free_slot}

@@ -1,9 +1,6 @@
 use Rattle.std.proofs.Common.{refl, ℕ, List, ◌∷◌, map, ◌∙◌, ◌≡◌, sym, ap, subst, Some}
 use Rattle.std.proofs.lemmas.List.Elements.{All-nil, All-cons, All-head, All-tail}
-use Rattle.odht_base.specs.Format.{Format, format_of}
-use Rattle.odht_base.specs.Map.{map_of}
-use Rattle.odht_base.specs.Table.{Pair, Table}
-use Rattle.odht_base.specs.Valid.{IsPartsOf}
+use Rattle.odht_raw.specs.Words.{Format, format_of, IsPartsOf, map_of, Pair, Table}
 use Rattle.odht_raw.specs.Walks.{Item, stored}
 use Rattle.odht.specs.Equality.{HasAll}
 use Rattle.odht.proofs.lemmas.SameMaps.{Holds, not_true, absent_value, other_value, same_value, value_long}

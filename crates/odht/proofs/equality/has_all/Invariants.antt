@@ -1,7 +1,5 @@
 use Rattle.std.proofs.Common.{map}
-use Rattle.odht_base.specs.Format.{format_of}
-use Rattle.odht_base.specs.Table.{Table}
-use Rattle.odht_base.specs.Valid.{IsPartsOf}
+use Rattle.odht_raw.specs.Words.{format_of, IsPartsOf, Table}
 use Rattle.odht_raw.specs.Walks.{stored}
 use Rattle.odht.specs.Equality.{HasAll}
 use Rattle.odht.proofs.equality.has_all.Given as goal

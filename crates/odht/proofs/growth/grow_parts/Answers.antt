@@ -1,6 +1,5 @@
 use Rattle.std.proofs.Common.{◌≡◌, ◌∙◌, length}
-use Rattle.odht_base.specs.Format.{Format, format_of}
-use Rattle.odht_base.specs.Image.{image_len}
+use Rattle.odht_raw.specs.Words.{Format, format_of, image_len}
 use Rattle.odht_raw.proofs.lemmas.ClearedEntries.{zeros-cleared}
 use Rattle.odht.proofs.lemmas.GrownBytes.{asked_len}
 use Rattle.odht.proofs.lemmas.GrownMoves.{grown_from}

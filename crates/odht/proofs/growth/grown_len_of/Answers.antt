@@ -1,5 +1,5 @@
 use Rattle.std.proofs.Common.{◌≡◌, ◌∙◌, sym, None}
-use Rattle.odht_base.specs.Format.{format_of}
+use Rattle.odht_raw.specs.Words.{format_of}
 use Rattle.odht.specs.Growths.{grown_len}
 use Rattle.odht.proofs.lemmas.GrownBytes.{grown_len-layout, grown_len-image}
 use Rattle.odht.proofs.growth.grown_len_of.Goals as goal

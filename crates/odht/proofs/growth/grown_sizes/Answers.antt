@@ -1,8 +1,7 @@
 use Rattle.std.proofs.Common.{◌≡◌, ◌<◌, ◌*◌, ◌^◌, ◌∙◌, sym, ap, arith}
 use Rattle.std.proofs.Math.Nat.{max_comm}
 use Rattle.std.specs.Prelude.{max}
-use Rattle.odht_base.specs.Format.{Format, format_of}
-use Rattle.odht_base.specs.Decoded.{header_count, header_factor}
+use Rattle.odht_raw.specs.Words.{Format, format_of, header_count, header_factor}
 use Rattle.odht_raw.proofs.lemmas.Accepted.{accepted_opening}
 use Rattle.odht.proofs.lemmas.GrownBytes.{none_at_zero, none_of_many, asked_layout}
 use Rattle.odht.proofs.growth.grown_sizes.Goals as goal

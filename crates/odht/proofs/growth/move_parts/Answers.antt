@@ -1,11 +1,7 @@
 use Rattle.std.proofs.Common.{◌++◌, ◌∙◌, ◌≡◌, ℕ, List, All, Some, sym, ap, subst, arith}
 use Rattle.std.specs.List.{filter_map}
-use Rattle.odht_base.specs.Decoded.{header_count, header_factor}
-use Rattle.odht_base.specs.Format.{Format, format_of}
-use Rattle.odht_base.specs.Image.{header_bytes, parts}
-use Rattle.odht_base.specs.Insert.{place_all}
+use Rattle.odht_raw.specs.Words.{count, empty, Format, format_of, header_bytes, header_count, header_factor, parts, place_all, walk}
 use Rattle.odht_base.specs.Map.{KeysApart}
-use Rattle.odht_base.specs.Table.{walk, count, empty}
 use Rattle.odht_base.proofs.lemmas.DistinctKeys.{walk-KeysApart}
 use Rattle.odht_header.proofs.lemmas.Formats.{IsFormat-format_of}
 use Rattle.odht_raw.specs.Checks.{cells_of}

@@ -1,7 +1,6 @@
 use Rattle.std.proofs.Common.{◌≡◌, ◌*◌, ◌∙◌, ap, arith, length, replicate}
 use Rattle.std.proofs.lemmas.List.{length-replicate}
-use Rattle.odht_base.specs.Bytes.{bytes_at}
-use Rattle.odht_base.specs.Format.{Format, format_of, entry_len}
+use Rattle.odht_raw.specs.Words.{bytes_at, entry_len, Format, format_of}
 use Rattle.odht_raw.proofs.lemmas.NewTables.{bytes_at-zeros}
 use Rattle.odht.proofs.growth.moved_bytes.Goals as goal
 

@@ -1,9 +1,6 @@
 use Rattle.std.proofs.Common.{List, ◌∷◌, All, ◌∙◌, ◌≡◌, sym, ap, subst, Some}
 use Rattle.std.proofs.lemmas.List.Elements.{All-head, All-tail}
-use Rattle.odht_base.specs.Format.{Format, format_of}
-use Rattle.odht_base.specs.Insert.{place_all}
-use Rattle.odht_base.specs.Table.{Pair}
-use Rattle.odht_base.specs.Valid.{IsPartsOf}
+use Rattle.odht_raw.specs.Words.{Format, format_of, IsPartsOf, Pair, place_all}
 use Rattle.odht_base.proofs.lemmas.Options.{some_same}
 use Rattle.odht_raw.specs.DynParts.{HasLengthsOf}
 use Rattle.odht_raw.specs.PartsInserts.{ArePartsPlaced}

@@ -1,7 +1,5 @@
 use Rattle.std.proofs.Common.{All}
-use Rattle.odht_base.specs.Format.{format_of}
-use Rattle.odht_base.specs.Table.{Table}
-use Rattle.odht_base.specs.Valid.{IsPartsOf}
+use Rattle.odht_raw.specs.Words.{format_of, IsPartsOf, Table}
 use Rattle.odht_raw.specs.DynParts.{HasLengthsOf}
 use Rattle.odht.specs.Growths.{IsPlacing}
 use Rattle.odht.proofs.lemmas.Growths.{LeadsTo}

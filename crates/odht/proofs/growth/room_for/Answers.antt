@@ -1,10 +1,5 @@
 use Rattle.std.proofs.Common.{◌≡◌, ◌∙◌, List, ℕ, Result, Ok, Err, Some, sym, subst, arith}
-use Rattle.odht_base.specs.Decoded.{decoded_table}
-use Rattle.odht_base.specs.Format.{Format, IsFormat, format_of}
-use Rattle.odht_base.specs.Table.{Table}
-use Rattle.odht_base.specs.Valid.{IsImage}
-use Rattle.odht_header.specs.Coding.{Coding}
-use Rattle.odht_header.specs.declared.error.Error.{Error}
+use Rattle.odht_raw.specs.Words.{Coding, decoded_table, Error, Format, format_of, IsFormat, IsImage, Table}
 use Rattle.odht_header.specs.declared.error.Error.TheVariants.{Capacity}
 use Rattle.odht_header.proofs.lemmas.Formats.{IsFormat-format_of}
 use Rattle.odht_raw.specs.DynParts.{bytes_coding}

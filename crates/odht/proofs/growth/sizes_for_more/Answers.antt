@@ -1,8 +1,5 @@
 use Rattle.std.proofs.Common.{◌≡◌, ◌<◌, ◌+◌, ◌^◌, ◌∙◌, subst, refl, arith}
-use Rattle.odht_base.specs.Format.{Format, format_of}
-use Rattle.odht_base.specs.Load.{max_items}
-use Rattle.odht_base.specs.Table.{Table, count, slot_count}
-use Rattle.odht_base.specs.Valid.{IsImage}
+use Rattle.odht_raw.specs.Words.{count, Format, format_of, IsImage, max_items, slot_count, Table}
 use Rattle.odht_header.specs.Layouts.{IsLayout}
 use Rattle.odht_header.specs.Refusals.{IsTooLarge}
 use Rattle.odht.specs.Reserves.{LacksRoom}

@@ -1,9 +1,6 @@
 use Rattle.std.proofs.Common.{ℕ, List, ◌≡◌, ◌+◌, ◌*◌, ◌∙◌, ◌++◌, sym, ap, append_assoc, length, length-append, replicate, take, take_at, drop, drop_at}
 use Rattle.std.proofs.lemmas.List.{length-replicate}
-use Rattle.odht_base.specs.Format.{Format, format_of, entry_len}
-use Rattle.odht_base.specs.Image.{header_bytes}
-use Rattle.odht_base.specs.Table.{empty}
-use Rattle.odht_base.specs.Valid.{IsPartsOf}
+use Rattle.odht_raw.specs.Words.{empty, entry_len, Format, format_of, header_bytes, IsPartsOf}
 use Rattle.odht_base.proofs.lemmas.Image.{entries-empty, controls-empty}
 use Rattle.odht_base.proofs.lemmas.Parts.{length-header_bytes}
 use Rattle.odht_base.proofs.lemmas.FreeSlots.{map_of-empty, empty-IsPlaced}

@@ -1,5 +1,5 @@
 use Rattle.std.proofs.Common.{◌∙◌, rules, sym}
-use Rattle.odht_base.specs.Format.{format_of}
+use Rattle.odht_raw.specs.Words.{format_of}
 use Rattle.odht_base.proofs.lemmas.FreeSlots.{empty-IsValid}
 use Rattle.odht_raw.proofs.lemmas.NewTables.{with_count-new}
 use Rattle.odht.proofs.hash_table_owned.empty_table.Goals as goal

@@ -1,4 +1,4 @@
-use Rattle.odht_base.specs.Format.{Format, format_of}
+use Rattle.odht_raw.specs.Words.{Format, format_of}
 use Rattle.odht_header.proofs.lemmas.Formats.{IsFormat-format_of}
 use Rattle.odht_raw.proofs.lemmas.BoundedSearches.{image_bounded}
 use Rattle.odht.proofs.laws.bounded_searches_end_in_time.Goals as goal

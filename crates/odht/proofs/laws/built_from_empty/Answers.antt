@@ -1,7 +1,7 @@
 use Rattle.std.proofs.Common.{subst}
 use Rattle.std.proofs.lemmas.Result.{IfOk-from_err, IfErr-at_err, err_from_is_err_and}
 use Rattle.std.specs.Prelude.{OnOk}
-use Rattle.odht_header.specs.Coding.{coding_of}
+use Rattle.odht_raw.specs.Words.{coding_of}
 use Rattle.odht.specs.Plain.{HasLastValuesIn}
 use Rattle.odht.proofs.lemmas.NewRefusals.{passed_on, fails-passed, fails-made, fails-later}
 use Rattle.odht.proofs.laws.built_from_empty.Goals as goal

@@ -2,7 +2,7 @@ use Rattle.std.proofs.Common.{◌∙◌, arith, ap, sym, subst, All}
 use Rattle.std.proofs.lemmas.List.{take_all}
 use Rattle.std.proofs.lemmas.List.Elements.{All-more}
 use Rattle.std.specs.Prelude.{option_map}
-use Rattle.odht_header.specs.Coding.{coding_of}
+use Rattle.odht_raw.specs.Words.{coding_of}
 use Rattle.odht.specs.LastValues.{IsLastValue}
 use Rattle.odht.proofs.lemmas.LosslessPairs.{IsKept, last-kept}
 use Rattle.odht.proofs.laws.keys_have_last_values.Goals as goal

@@ -1,5 +1,5 @@
 use Rattle.std.proofs.Common.{All, take}
-use Rattle.odht_header.specs.Coding.{coding_of}
+use Rattle.odht_raw.specs.Words.{coding_of}
 use Rattle.odht.proofs.lemmas.LosslessPairs.{IsKept}
 use Rattle.odht.proofs.laws.keys_have_last_values.Given as goal
 

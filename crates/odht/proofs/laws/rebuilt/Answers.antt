@@ -2,7 +2,7 @@ use Rattle.std.proofs.Common.{◌≡◌, sym, subst, refl, take, List, Some, IsO
 use Rattle.std.proofs.lemmas.List.{take_all}
 use Rattle.std.proofs.lemmas.Result.{IfErr-at_err, err_from_is_err_and}
 use Rattle.odht_base.specs.Insert.{insert_owned, run}
-use Rattle.odht_header.specs.Coding.{coding_of}
+use Rattle.odht_raw.specs.Words.{coding_of}
 use Rattle.odht.specs.Lists.{encoded_all}
 use Rattle.odht.proofs.lemmas.NewRefusals.{passed_on, fails-later}
 use Rattle.odht.proofs.lemmas.Rebuilding.{rebuilt-is}

@@ -1,4 +1,4 @@
-use Rattle.odht_base.specs.Format.{format_of}
+use Rattle.odht_raw.specs.Words.{format_of}
 use Rattle.odht_raw.proofs.lemmas.Accepted.{IsAccepted-IsValidBytes}
 use Rattle.odht.proofs.laws.valid_bytes_are_accepted.Goals as goal
 

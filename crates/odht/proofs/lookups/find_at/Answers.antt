@@ -1,8 +1,7 @@
 use Rattle.std.proofs.Common.{◌≡◌, ◌∙◌, ℕ, List, sym, ap, Some, slice_get, arith}
 use Rattle.std.specs.Prelude.{option_map}
 use Rattle.std.proofs.lemmas.Option.{slice_get-get_or}
-use Rattle.odht_base.specs.Format.{format_of}
-use Rattle.odht_base.specs.Map.{map_of}
+use Rattle.odht_raw.specs.Words.{format_of, map_of}
 use Rattle.odht_base.proofs.lemmas.Options.{some_same}
 use Rattle.odht_raw.specs.FirstLooks.{first_look_of}
 use Rattle.odht.proofs.lemmas.Lookups.{option_map-twice}

@@ -1,6 +1,6 @@
 use Rattle.std.proofs.Common.{◌≡◌, ◌∙◌, sym, ap, Some, arith}
 use Rattle.std.proofs.lemmas.Option.{slice_get-get_or}
-use Rattle.odht_base.specs.Format.{format_of}
+use Rattle.odht_raw.specs.Words.{format_of}
 use Rattle.odht_base.proofs.lemmas.Options.{some_same}
 use Rattle.odht_raw.specs.FirstLooks.{first_look_of}
 use Rattle.odht.proofs.lookups.first_look_at.Goals as goal

@@ -1,5 +1,5 @@
 use Rattle.std.proofs.Common.{◌≡◌}
-use Rattle.odht_header.specs.Coding.{coding_of}
+use Rattle.odht_raw.specs.Words.{coding_of}
 use Rattle.odht.specs.Lookups.{lookups_of, ArePut}
 use Rattle.odht.proofs.lookups.get_all.Given as goal
 

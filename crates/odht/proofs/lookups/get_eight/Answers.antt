@@ -1,4 +1,4 @@
-use Rattle.odht_header.specs.Coding.{coding_of}
+use Rattle.odht_raw.specs.Words.{coding_of}
 use Rattle.odht.specs.Lookups.{lookups_of, ArePut}
 use Rattle.odht.proofs.lemmas.Lookups.{eight_steps}
 use Rattle.odht.proofs.lookups.get_eight.Goals as goal

@@ -1,6 +1,5 @@
 use Rattle.std.proofs.Common.{◌≡◌, ◌∙◌, ap, subst, arith}
-use Rattle.odht_base.specs.Decoded.{header_slots}
-use Rattle.odht_base.specs.Format.{IsFormat, format_of}
+use Rattle.odht_raw.specs.Words.{format_of, header_slots, IsFormat}
 use Rattle.odht_base.proofs.lemmas.SlotCounts.{few_slots}
 use Rattle.odht_header.proofs.lemmas.Formats.{IsFormat-format_of}
 use Rattle.odht_raw.specs.DynParts.{DynParts}

@@ -1,5 +1,5 @@
 use Rattle.std.proofs.Common.{◌∙◌, sym, subst, refl}
-use Rattle.odht_base.specs.Format.{Format, format_of}
+use Rattle.odht_raw.specs.Words.{Format, format_of}
 use Rattle.odht_header.specs.Layouts.{IsLayout}
 use Rattle.odht_header.specs.Refusals.{IsTooLarge}
 use Rattle.odht.proofs.lemmas.GrownBytes.{table_len-layout}

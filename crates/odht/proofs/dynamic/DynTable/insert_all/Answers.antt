@@ -8,7 +8,7 @@ use Rattle.odht_raw.specs.Runs.{HasLengthsAt, IsEncodedRun}
 use Rattle.odht_raw.proofs.lemmas.Borrows.{borrowed-bytes, borrowed-same}
 use Rattle.odht_raw.proofs.lemmas.ItemBytes.{bytes_of, item_at}
 use Rattle.odht.specs.Dynamic.{DynStore, dyn_coding, dyn_store}
-use Rattle.odht_header.specs.declared.error.Error.TheVariants.{Full}
+use Rattle.odht_raw.specs.Words.{Full}
 use Rattle.odht.specs.DynLists.{length_error, IsDynList, IsDynStop}
 use Rattle.odht.specs.declared.dynamic.DynError.{DynError}
 use Rattle.odht.specs.declared.dynamic.DynError.TheVariants.{Rejected}

@@ -1,7 +1,7 @@
 use Rattle.std.proofs.Common.{◌≡◌, ◌∙◌, ℕ, Bool, List, Option, Result, ap, refl, subst, sym}
 use Rattle.std.specs.Prelude.{OnErr}
 use Rattle.std.specs.Result.{result_map_both}
-use Rattle.odht_header.specs.declared.error.Error.{Error}
+use Rattle.odht_raw.specs.Words.{Error}
 use Rattle.odht_header.proofs.lemmas.Formats.{IsFormat-format_of}
 use Rattle.odht_raw.specs.FormerWrites.{IsFormerTo}
 use Rattle.odht.specs.Dynamic.{DynStore, dyn_coding, dyn_store}

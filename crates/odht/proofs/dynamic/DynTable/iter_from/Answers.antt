@@ -1,5 +1,5 @@
 use Rattle.std.proofs.Common.{◌∙◌, ap, drop}
-use Rattle.odht_base.specs.SlotWalks.{numbered}
+use Rattle.odht_raw.specs.Words.{numbered}
 use Rattle.odht_raw.specs.Checks.{cells_of}
 use Rattle.odht_raw.specs.DynParts.{DynParts, parts_format}
 use Rattle.odht_raw.proofs.lemmas.Walks.{slots-image}

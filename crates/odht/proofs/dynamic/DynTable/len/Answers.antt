@@ -1,5 +1,5 @@
 use Rattle.std.proofs.Common.{◌∙◌, ap}
-use Rattle.odht_base.specs.Decoded.{header_count}
+use Rattle.odht_raw.specs.Words.{header_count}
 use Rattle.odht_base.proofs.lemmas.Fits.{IsSized-IsPlaced}
 use Rattle.odht_base.proofs.lemmas.Image.{header_count-image}
 use Rattle.odht.specs.Dynamic.{dyn_format}

@@ -1,7 +1,5 @@
 use Rattle.std.proofs.Common.{rules, ◌∙◌, ◌<◌, ◌≤◌, ◌^◌, Result, Err, sym, ap, subst, arith, length}
-use Rattle.odht_base.specs.Format.{Format, format_of}
-use Rattle.odht_header.specs.Refusals.{checked, view_refusal}
-use Rattle.odht_header.specs.declared.error.Error.{Error}
+use Rattle.odht_raw.specs.Words.{checked, Error, Format, format_of, view_refusal}
 use Rattle.odht_header.proofs.lemmas.FirstErrors.{Ok-checked, Err-checked}
 use Rattle.odht_header.proofs.lemmas.Formats.{IsFormat-format_of}
 use Rattle.odht_raw.proofs.lemmas.ImagesOpen.{image_is_accepted}

@@ -1,10 +1,7 @@
 use Rattle.std.proofs.Common.{rules, ◌≡◌, ◌∙◌, ℕ, List, Err, Some, sym, ap, subst, arith, length}
 use Rattle.std.specs.Prelude.{slice_index}
 use Rattle.std.specs.Result.{result_err}
-use Rattle.odht_base.specs.Format.{Format, format_of}
-use Rattle.odht_base.specs.Valid.{IsImage}
-use Rattle.odht_header.specs.Refusals.{checked, opening_refusal}
-use Rattle.odht_header.specs.declared.error.Error.TheVariants.{TooShort}
+use Rattle.odht_raw.specs.Words.{checked, Format, format_of, IsImage, opening_refusal, TooShort}
 use Rattle.odht_header.proofs.lemmas.FirstErrors.{Err-checked}
 use Rattle.odht_raw.proofs.lemmas.Openings.{opening_refusal-short}
 use Rattle.odht.specs.Dynamic.{stated_format}

@@ -1,4 +1,4 @@
-use Rattle.odht_base.specs.Format.{format_of}
+use Rattle.odht_raw.specs.Words.{format_of}
 use Rattle.odht_raw.proofs.lemmas.Accepted.{accepted_opening}
 use Rattle.odht.proofs.dynamic.DynTable.raw_bytes.Goals as goal
 

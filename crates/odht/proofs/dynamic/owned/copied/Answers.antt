@@ -1,6 +1,5 @@
 use Rattle.std.proofs.Common.{◌≡◌, ◌∙◌, sym, None}
-use Rattle.odht_base.specs.Format.{format_of}
-use Rattle.odht_header.specs.Refusals.{check_refusal, view_refusal}
+use Rattle.odht_raw.specs.Words.{check_refusal, format_of, view_refusal}
 use Rattle.odht_header.proofs.lemmas.FirstErrors.{Err-checked}
 use Rattle.odht_raw.proofs.lemmas.Openings.{check_refusal-view, check_refusal-late, view_refusal-accepted}
 use Rattle.odht.proofs.lemmas.DynOwned.{no_error, fails_by, fails_by_memory, fails_by_never}

@@ -1,11 +1,7 @@
 use Rattle.std.proofs.Common.{◌≡◌, ◌∙◌, ap, refl, subst, arith, length, replicate, take_at}
 use Rattle.std.proofs.lemmas.List.{length-replicate}
 use Rattle.std.specs.Prelude.{option_map}
-use Rattle.odht_base.specs.Format.{format_of}
-use Rattle.odht_base.specs.Image.{image}
-use Rattle.odht_base.specs.Load.{factor_of}
-use Rattle.odht_base.specs.Table.{empty}
-use Rattle.odht_base.specs.Writes.{with_count}
+use Rattle.odht_raw.specs.Words.{empty, factor_of, format_of, image, with_count}
 use Rattle.odht_base.proofs.lemmas.FreeSlots.{empty-IsValid}
 use Rattle.odht_header.specs.Layouts.{IsLayout}
 use Rattle.odht_header.specs.Refusals.{IsTooLarge}

@@ -2,9 +2,8 @@ use Rattle.std.proofs.Common.{◌≡◌, ◌∙◌, ◌<◌, ℕ, List, Option, 
 use Rattle.std.specs.Prelude.{◌↔◌, option_map, IfSome, IsSome, IsTrue}
 use Rattle.std.specs.Option.{is_some}
 use Rattle.odht_raw.specs.Parts.{TableParts}
-use Rattle.odht_base.specs.Format.{Format, format_of}
-use Rattle.odht_base.specs.Map.{map_of}
-use Rattle.odht_base.specs.Decoded.{header_slots, entries_of, slot_key, HoldsKey}
+use Rattle.odht_raw.specs.Words.{entries_of, Format, format_of, header_slots, map_of, slot_key}
+use Rattle.odht_base.specs.Decoded.{HoldsKey}
 use Rattle.odht_raw.specs.Parts.{EntryBytes}
 use Rattle.odht_raw.specs.SearchEnds.{IsBesideKey}
 use Rattle.odht.proofs.hash_table.HashTable.contains_key.Goals as goal

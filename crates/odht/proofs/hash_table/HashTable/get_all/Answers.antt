@@ -1,6 +1,6 @@
 use Rattle.std.proofs.Common.{rules, ap}
 use Rattle.odht_raw.specs.Parts.{TableParts}
-use Rattle.odht_header.specs.Coding.{Coding, coding_of}
+use Rattle.odht_raw.specs.Words.{Coding, coding_of}
 use Rattle.odht.proofs.lemmas.Lookups.{puts-answered}
 use Rattle.odht.proofs.hash_table.HashTable.get_all.Given.{Over}
 use Rattle.odht.proofs.hash_table.HashTable.get_all.Goals as goal

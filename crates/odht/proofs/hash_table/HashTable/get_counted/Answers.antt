@@ -1,9 +1,7 @@
 use Rattle.std.proofs.Common.{◌∙◌, ◌≤◌, ◌/◌, ap, subst}
 use Rattle.std.specs.Prelude.{option_map}
 use Rattle.odht_raw.specs.Parts.{TableParts}
-use Rattle.odht_base.specs.Format.{format_of}
-use Rattle.odht_base.specs.Map.{map_of}
-use Rattle.odht_base.specs.Search.{groups_read}
+use Rattle.odht_raw.specs.Words.{format_of, groups_read, map_of}
 use Rattle.odht.proofs.lemmas.Lookups.{decoded_value, decoded_none, decoded_stored}
 use Rattle.odht.proofs.hash_table.HashTable.get_counted.Goals as goal
 

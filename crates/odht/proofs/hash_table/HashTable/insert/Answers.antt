@@ -1,7 +1,6 @@
 use Rattle.std.proofs.Common.{◌≡◌, subst}
 use Rattle.std.proofs.lemmas.Result.{on_err_weaker}
-use Rattle.odht_base.specs.Format.{IsFormat}
-use Rattle.odht_header.specs.Coding.{Coding, coding_of}
+use Rattle.odht_raw.specs.Words.{Coding, coding_of, IsFormat}
 use Rattle.odht_header.proofs.lemmas.Formats.{IsFormat-format_of}
 use Rattle.odht.specs.DynInserts.{IsStoreInsert}
 use Rattle.odht.proofs.lemmas.StoreInserts.{view_insert}

@@ -1,13 +1,10 @@
 use Rattle.std.proofs.Common.{◌≡◌, ◌<◌, refl, subst, take, length, List, arith, inl, inr}
 use Rattle.std.proofs.lemmas.Bool.{false≢true}
 use Rattle.std.specs.List.{slice_range}
-use Rattle.odht_base.specs.Format.{IsFormat}
+use Rattle.odht_raw.specs.Words.{Coding, coding_of, IsFormat, IsImage, Pair, Table}
 use Rattle.odht_base.specs.Insert.{insert_view}
-use Rattle.odht_base.specs.Table.{Pair, Table}
-use Rattle.odht_base.specs.Valid.{IsImage}
 use Rattle.odht_base.proofs.lemmas.FreshRuns.{insert_view-PlacesBelow}
 use Rattle.odht_base.proofs.lemmas.TableInserts.{insert_view-IsInsert}
-use Rattle.odht_header.specs.Coding.{Coding, coding_of}
 use Rattle.odht_header.proofs.lemmas.Formats.{IsFormat-format_of}
 use Rattle.odht_raw.proofs.lemmas.PartRuns.{take-range}
 use Rattle.odht_raw.specs.Runs.{IsListRun}

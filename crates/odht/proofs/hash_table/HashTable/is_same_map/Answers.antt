@@ -1,7 +1,5 @@
 use Rattle.std.proofs.Common.{◌≡◌, ◌∙◌, filter_map, map, sym, ap, subst}
-use Rattle.odht_base.specs.Decoded.{decoded_cells}
-use Rattle.odht_base.specs.Format.{Format, format_of}
-use Rattle.odht_base.specs.Table.{walk, count}
+use Rattle.odht_raw.specs.Words.{count, decoded_cells, Format, format_of, walk}
 use Rattle.odht_header.proofs.lemmas.Formats.{IsFormat-format_of}
 use Rattle.odht_raw.specs.Walks.{stored}
 use Rattle.odht_raw.proofs.lemmas.Walks.{stored-walk, decoded_pairs-image}

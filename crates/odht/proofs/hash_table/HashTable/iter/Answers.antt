@@ -1,8 +1,7 @@
 use Rattle.std.proofs.Common.{◌∙◌, ap, map}
 use Rattle.std.specs.List.{filter_map}
-use Rattle.odht_base.specs.Decoded.{decoded_pairs, decoded_cells}
+use Rattle.odht_raw.specs.Words.{Coding, coding_of, decoded_cells, decoded_pairs}
 use Rattle.odht_raw.specs.Walks.{decoded, decoded_items}
-use Rattle.odht_header.specs.Coding.{Coding, coding_of}
 use Rattle.odht_header.proofs.lemmas.Formats.{IsFormat-format_of}
 use Rattle.odht_raw.proofs.lemmas.Walks.{decoded_items-decoded_cells, decoded_pairs-image}
 use Rattle.odht.proofs.hash_table.HashTable.iter.Given.{Over}

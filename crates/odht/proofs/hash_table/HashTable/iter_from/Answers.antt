@@ -1,7 +1,6 @@
 use Rattle.std.proofs.Common.{◌∙◌, ap}
-use Rattle.odht_base.specs.Decoded.{entries_of, controls_of}
+use Rattle.odht_raw.specs.Words.{Coding, coding_of, controls_of, entries_of}
 use Rattle.odht_raw.specs.Walks.{decoded_numbered, decoded_slots}
-use Rattle.odht_header.specs.Coding.{Coding, coding_of}
 use Rattle.odht_header.proofs.lemmas.Formats.{IsFormat-format_of}
 use Rattle.odht_raw.proofs.lemmas.Walks.{decoded_numbered-decoded_table, slots-image}
 use Rattle.odht.proofs.hash_table.HashTable.iter_from.Given.{Over}

@@ -1,6 +1,5 @@
 use Rattle.std.proofs.Common.{◌∙◌, ap}
-use Rattle.odht_base.specs.Format.{format_of}
-use Rattle.odht_base.specs.Decoded.{header_count}
+use Rattle.odht_raw.specs.Words.{format_of, header_count}
 use Rattle.odht_base.proofs.lemmas.Fits.{IsSized-IsPlaced}
 use Rattle.odht_base.proofs.lemmas.Image.{header_count-image}
 use Rattle.odht.proofs.hash_table.HashTable.len.Goals as goal

@@ -1,8 +1,5 @@
 use Rattle.std.proofs.Common.{◌∙◌, ap}
-use Rattle.odht_base.specs.Decoded.{header_slots, header_factor}
-use Rattle.odht_base.specs.Format.{Format, format_of, IsFormat}
-use Rattle.odht_base.specs.Image.{image}
-use Rattle.odht_base.specs.Table.{empty, slot_count}
+use Rattle.odht_raw.specs.Words.{empty, Format, format_of, header_factor, header_slots, image, IsFormat, slot_count}
 use Rattle.odht_header.proofs.lemmas.Formats.{IsFormat-format_of}
 use Rattle.odht.proofs.lemmas.Moves.{cleared_image}
 use Rattle.odht.proofs.lemmas.Plain.{the_table, decoded_image}

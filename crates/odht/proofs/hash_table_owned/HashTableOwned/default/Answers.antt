@@ -1,4 +1,4 @@
-use Rattle.odht_base.specs.Format.{format_of}
+use Rattle.odht_raw.specs.Words.{format_of}
 use Rattle.odht.proofs.lemmas.NewRefusals.{default_fits, only_memory}
 use Rattle.odht.proofs.hash_table_owned.HashTableOwned.default.Goals as goal
 

@@ -1,6 +1,6 @@
 use Rattle.std.proofs.Common.{◌≡◌, ◌∙◌, subst, inr, List, Result, Ok, Err}
 use Rattle.std.specs.Prelude.{OnOk}
-use Rattle.odht_header.specs.Coding.{coding_of}
+use Rattle.odht_raw.specs.Words.{coding_of}
 use Rattle.odht.specs.Plain.{IsPlainList}
 use Rattle.odht.specs.Lists.{EndsAfter}
 use Rattle.odht.proofs.lemmas.NewRefusals.{on_err}

@@ -1,8 +1,8 @@
 use Rattle.std.proofs.Common.{◌≡◌, ◌∙◌, sym, ap, subst, length, List, Err, inr, refl, take, Some, IsOk, arith}
 use Rattle.std.proofs.lemmas.Result.{IfOk-from_err, IfErr-at_err, err_from_is_err_and}
 use Rattle.std.specs.Prelude.{OnOk}
-use Rattle.odht_base.specs.Load.{factor_of, slots_for}
-use Rattle.odht_header.specs.Coding.{coding_of}
+use Rattle.odht_raw.specs.Words.{coding_of, factor_of}
+use Rattle.odht_base.specs.Load.{slots_for}
 use Rattle.odht.proofs.lemmas.NewRefusals.{not_both, passed_on, either, on_err}
 use Rattle.std.proofs.lemmas.List.{take_all}
 use Rattle.odht_base.specs.Insert.{insert_owned, run}

@@ -1,7 +1,5 @@
 use Rattle.std.proofs.Common.{rules, ◌≡◌, ◌↔◌, ◌∙◌, ap, sym, IsTrue}
-use Rattle.odht_base.specs.Decoded.{decoded_table}
-use Rattle.odht_base.specs.Format.{Format, format_of, IsFormat}
-use Rattle.odht_base.specs.Image.{image}
+use Rattle.odht_raw.specs.Words.{decoded_table, Format, format_of, image, IsFormat}
 use Rattle.odht_header.proofs.lemmas.Formats.{IsFormat-format_of}
 use Rattle.odht.proofs.lemmas.Plain.{the_table}
 use Rattle.odht.proofs.hash_table_owned.HashTableOwned.has_same_bytes.Given.{Over}

@@ -1,7 +1,6 @@
 use Rattle.std.proofs.Common.{◌-◌, ◌≤◌, take, length}
 use Rattle.odht_base.specs.Insert.{insert_owned}
-use Rattle.odht_base.specs.Image.{image}
-use Rattle.odht_header.specs.Coding.{coding_of}
+use Rattle.odht_raw.specs.Words.{coding_of, image}
 use Rattle.odht.specs.Lists.{encoded_all, IsAfterInserts}
 use Rattle.odht.proofs.hash_table_owned.HashTableOwned.insert_items.Given as goal
 

@@ -1,8 +1,6 @@
 use Rattle.std.proofs.Common.{◌≡◌, ◌∙◌, ◌*◌, ◌-◌, ◌^◌, ap}
 use Rattle.std.specs.Prelude.{min}
-use Rattle.odht_base.specs.Format.{Format, format_of}
-use Rattle.odht_base.specs.Decoded.{header_slots}
-use Rattle.odht_base.specs.Table.{slot_count}
+use Rattle.odht_raw.specs.Words.{Format, format_of, header_slots, slot_count}
 use Rattle.odht_base.proofs.lemmas.Image.{header_slots-image}
 use Rattle.odht_base.proofs.lemmas.Fits.{IsSized-IsPlaced}
 use Rattle.odht.proofs.hash_table_owned.HashTableOwned.insert_order_scratch.Goals as goal

@@ -1,6 +1,5 @@
 use Rattle.std.proofs.Common.{subst}
-use Rattle.odht_base.specs.Format.{Format, format_of}
-use Rattle.odht_base.specs.Valid.{IsImage}
+use Rattle.odht_raw.specs.Words.{Format, format_of, IsImage}
 use Rattle.odht.proofs.hash_table_owned.HashTableOwned.insert_order_with.Goals as goal
 
 pub returns-clause-order : goal.returns-clause-order

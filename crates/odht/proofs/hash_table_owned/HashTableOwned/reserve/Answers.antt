@@ -1,6 +1,5 @@
 use Rattle.std.proofs.Common.{rules, ◌≡◌, ◌∙◌, Some, subst, sym}
-use Rattle.odht_base.specs.Format.{Format, format_of}
-use Rattle.odht_base.specs.Valid.{IsValidBytes}
+use Rattle.odht_raw.specs.Words.{Format, format_of, IsValidBytes}
 use Rattle.odht_header.proofs.lemmas.Formats.{IsFormat-format_of}
 use Rattle.odht_raw.specs.Frame.{IsAccepted}
 use Rattle.odht_raw.proofs.lemmas.Accepted.{IsAccepted-IsValidBytes}

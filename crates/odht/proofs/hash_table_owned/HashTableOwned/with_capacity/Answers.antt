@@ -1,9 +1,8 @@
 use Rattle.std.proofs.Common.{◌≡◌, ◌∙◌, sym, ap, subst, Some}
 use Rattle.std.proofs.lemmas.Result.{IfOk-from_err, err_from_is_err_and}
 use Rattle.std.specs.Prelude.{option_map}
-use Rattle.odht_base.specs.Format.{Format, format_of, IsFormat}
-use Rattle.odht_base.specs.Load.{factor_of, slots_for}
-use Rattle.odht_base.specs.Table.{empty}
+use Rattle.odht_raw.specs.Words.{empty, factor_of, Format, format_of, IsFormat}
+use Rattle.odht_base.specs.Load.{slots_for}
 use Rattle.odht.proofs.lemmas.NewRefusals.{fails-factor, fails-passed, fails-made}
 use Rattle.odht_header.proofs.lemmas.Formats.{IsFormat-format_of}
 use Rattle.odht.proofs.lemmas.Plain.{the_table, decoded_image}

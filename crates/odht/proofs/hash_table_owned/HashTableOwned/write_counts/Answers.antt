@@ -1,9 +1,6 @@
 use Rattle.std.proofs.Common.{◌∙◌, ap}
 use Rattle.std.proofs.Output.{has_written_of_eq}
-use Rattle.odht_base.specs.Format.{Format, format_of}
-use Rattle.odht_base.specs.Image.{image}
-use Rattle.odht_base.specs.Load.{max_items, percent_of}
-use Rattle.odht_base.specs.Decoded.{header_count, header_slots, header_factor}
+use Rattle.odht_raw.specs.Words.{Format, format_of, header_count, header_factor, header_slots, image, max_items, percent_of}
 use Rattle.odht_raw.specs.Dumps.{counts_text}
 use Rattle.odht_raw.proofs.lemmas.Dumps.{counts_text-written}
 use Rattle.odht.proofs.hash_table_owned.HashTableOwned.write_counts.Goals as goal

@@ -1,8 +1,6 @@
 use Rattle.std.proofs.Common.{arith, refl, ◌≡◌, not, ℕ, List, None, sym, ap, subst, length, eq-eqb}
 use Rattle.std.specs.Bool.{then_some}
-use Rattle.odht_base.specs.Bytes.{bytes_at}
-use Rattle.odht_base.specs.Format.{Format, format_of}
-use Rattle.odht_base.specs.Image.{image_len}
+use Rattle.odht_raw.specs.Words.{bytes_at, Format, format_of, image_len}
 use Rattle.odht_raw.specs.Dumps.{parts_of}
 use Rattle.odht_raw.specs.Finds.{IsCountedFind}
 use Rattle.odht_raw.specs.Parts.{entry_format}

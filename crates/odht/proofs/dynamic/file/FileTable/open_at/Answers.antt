@@ -2,10 +2,7 @@ use Rattle.std.proofs.Common.{arith, ◌≡◌, ◌∙◌, ℕ, List, false, nat
 use Rattle.std.specs.Prelude.{option_map}
 use Rattle.std.specs.Bool.{then_some}
 use Rattle.std.specs.Option.{option_or}
-use Rattle.odht_base.specs.Bytes.{bytes_at}
-use Rattle.odht_base.specs.Decoded.{header_slots, header_count}
-use Rattle.odht_base.specs.Format.{Format, format_of}
-use Rattle.odht_header.specs.Refusals.{view_refusal}
+use Rattle.odht_raw.specs.Words.{bytes_at, Format, format_of, header_count, header_slots, view_refusal}
 use Rattle.odht_raw.specs.Frame.{IsAccepted}
 use Rattle.odht_raw.proofs.lemmas.Openings.{view_refusal-accepted}
 use Rattle.odht.specs.declared.dynamic.DynError.TheVariants.{KeyTooShort, Rejected}

@@ -1,6 +1,6 @@
 use Rattle.std.proofs.Common.{rules, ◌≡◌, ℕ, List, Err, subst, sym}
 use Rattle.std.specs.Prelude.{slice_index}
-use Rattle.odht_base.specs.Bytes.{bytes_at}
+use Rattle.odht_raw.specs.Words.{bytes_at}
 use Rattle.odht_header.specs.declared.layout.Layout.{Layout}
 use Rattle.odht.specs.Dynamic.{stated_refusal}
 use Rattle.odht.specs.Files.{IsFileResult, IsStatedOver}

@@ -1,9 +1,7 @@
 use Rattle.std.proofs.Common.{arith, refl, ◌≡◌, ◌∙◌, ◌*◌, ℕ, List, sym, ap}
 use Rattle.std.specs.Prelude.{option_map}
-use Rattle.odht_base.specs.Bytes.{bytes_at}
-use Rattle.odht_base.specs.Format.{Format, format_of}
+use Rattle.odht_raw.specs.Words.{bytes_at, checked, Format, format_of, hashes_refusal}
 use Rattle.odht_base.proofs.lemmas.SlotCounts.{IsSlotCount-pow}
-use Rattle.odht_header.specs.Refusals.{checked, hashes_refusal}
 use Rattle.odht_header.proofs.lemmas.FirstErrors.{Ok-checked, Err-checked}
 use Rattle.odht_raw.specs.Reads.{entry_size, read_entries, read_controls, IsHeldBy}
 use Rattle.odht_raw.specs.DynParts.{DynParts, parts_format}

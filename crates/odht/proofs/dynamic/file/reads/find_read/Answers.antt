@@ -1,5 +1,5 @@
 use Rattle.std.proofs.Common.{subst}
-use Rattle.odht_base.specs.Format.{Format, format_of}
+use Rattle.odht_raw.specs.Words.{Format, format_of}
 use Rattle.odht_raw.specs.Reads.{read_entries, read_groups}
 use Rattle.odht_raw.specs.Searches.{IsSearch}
 use Rattle.odht.proofs.lemmas.Files.{found_read, free_read, neither_read}

@@ -1,12 +1,6 @@
 use Rattle.std.proofs.Common.{arith, ◌≡◌, ◌∙◌, ◌+◌, ◌≤◌, ℕ, List, Some, sym, ap, subst, length}
 use Rattle.std.specs.Prelude.{option_map}
-use Rattle.odht_base.specs.Bytes.{bytes_at}
-use Rattle.odht_base.specs.Decoded.{header_slots, header_count}
-use Rattle.odht_base.specs.Format.{Format, format_of}
-use Rattle.odht_base.specs.Image.{image_len}
-use Rattle.odht_base.specs.Load.{IsSlotCount}
-use Rattle.odht_header.specs.Refusals.{checked, header_refusal, opening_refusal}
-use Rattle.odht_header.specs.declared.error.Error.TheVariants.{TooShort}
+use Rattle.odht_raw.specs.Words.{bytes_at, checked, Format, format_of, header_count, header_refusal, header_slots, image_len, IsSlotCount, opening_refusal, TooShort}
 use Rattle.odht_header.proofs.lemmas.FirstErrors.{Ok-checked, Err-checked}
 use Rattle.odht_header.proofs.lemmas.HeaderFits.{IsHeader-header_refusal}
 use Rattle.odht_raw.proofs.lemmas.Openings.{opening_refusal-short}

@@ -1,10 +1,6 @@
 use Rattle.std.proofs.Common.{rules, Err, arith, ◌≡◌, ◌∙◌, ◌+◌, ◌≤◌, ℕ, List, None, Option, sym, ap, subst, length}
 use Rattle.std.specs.Prelude.{⊤, option_map}
-use Rattle.odht_base.specs.Bytes.{bytes_at}
-use Rattle.odht_base.specs.Decoded.{header_slots, header_count, entries_of, controls_of}
-use Rattle.odht_base.specs.Format.{Format, format_of}
-use Rattle.odht_header.specs.Refusals.{opening_refusal, hashes_refusal, view_refusal}
-use Rattle.odht_header.specs.declared.error.Error.{Error}
+use Rattle.odht_raw.specs.Words.{bytes_at, controls_of, entries_of, Error, Format, format_of, hashes_refusal, header_count, header_slots, opening_refusal, view_refusal}
 use Rattle.odht_raw.specs.Frame.{IsAccepted}
 use Rattle.odht_raw.specs.Reads.{read_entries, read_controls, IsHeldBy}
 use Rattle.odht_raw.specs.declared.raw_table.read_search.ReadPlace.{ReadPlace}

@@ -1,6 +1,6 @@
 use Rattle.std.proofs.Common.{rules, Err, subst, arith, ◌≡◌, ◌∙◌, ◌+◌, ◌*◌, ℕ, sym, ap, length}
 use Rattle.std.specs.Prelude.{MatchResult}
-use Rattle.odht_base.specs.Bytes.{bytes_at}
+use Rattle.odht_raw.specs.Words.{bytes_at}
 use Rattle.odht_raw.specs.Reads.{entry_size}
 use Rattle.odht_raw.proofs.lemmas.Reads.{entry_within}
 use Rattle.odht.specs.Files.{read_slot_value}

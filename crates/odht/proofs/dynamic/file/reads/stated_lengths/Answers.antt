@@ -1,10 +1,7 @@
 use Rattle.std.proofs.Common.{arith, ◌≡◌, ◌∙◌, ◌+◌, ◌≤◌, ℕ, List, Some, sym, ap, length}
 use Rattle.std.specs.Prelude.{option_map, slice_index}
-use Rattle.odht_base.specs.Bytes.{bytes_at}
-use Rattle.odht_base.specs.Format.{format_of}
+use Rattle.odht_raw.specs.Words.{bytes_at, checked, format_of, header_refusal, opening_refusal, TooShort}
 use Rattle.odht_base.proofs.lemmas.ByteRanges.{index-bytes_at}
-use Rattle.odht_header.specs.Refusals.{checked, header_refusal, opening_refusal}
-use Rattle.odht_header.specs.declared.error.Error.TheVariants.{TooShort}
 use Rattle.odht_header.proofs.lemmas.FirstErrors.{Ok-checked, Err-checked}
 use Rattle.odht_raw.proofs.lemmas.Openings.{opening_refusal-short}
 use Rattle.odht.specs.Dynamic.{stated_format}

@@ -1,6 +1,5 @@
 use Rattle.std.proofs.Common.{rules, ◌≡◌, ◌≤◌, ◌∙◌, sym, ap, subst, refl, Ok, Err, arith}
-use Rattle.odht_base.specs.Format.{IsFormat, format_of}
-use Rattle.odht_base.specs.Valid.{IsImage}
+use Rattle.odht_raw.specs.Words.{format_of, IsFormat, IsImage}
 use Rattle.odht_header.proofs.lemmas.Formats.{IsFormat-format_of}
 use Rattle.odht_raw.specs.Frame.{IsAccepted}
 use Rattle.odht.specs.Dynamic.{dyn_plain, dyn_store}

@@ -1,7 +1,6 @@
 use Rattle.std.proofs.Common.{◌≡◌, ◌∙◌, ap, subst, Bor, List, ℕ, Option}
 use Rattle.std.specs.Option.{option_copied}
-use Rattle.odht_base.specs.Map.{map_of}
-use Rattle.odht_base.specs.Table.{Table}
+use Rattle.odht_raw.specs.Words.{map_of, Table}
 use Rattle.odht.specs.Dynamic.{DynStore}
 use Rattle.odht.proofs.lemmas.DynPlain.{same_value, value_of_length}
 use Rattle.odht.proofs.dynamic.owned.DynTableOwned.get_counted.Goals as goal

@@ -1,10 +1,7 @@
 use Rattle.std.proofs.Common.{rules, ◌≡◌, ◌∙◌, sym, ap, subst, Ok, Err, ℕ, List, Option}
 use Rattle.std.specs.Prelude.{IfOk, OnOk}
-use Rattle.odht_base.specs.Decoded.{decoded_table}
+use Rattle.odht_raw.specs.Words.{decoded_table, encoded, map_of, Table}
 use Rattle.odht_base.specs.Insert.{IsFullFor}
-use Rattle.odht_base.specs.Map.{map_of}
-use Rattle.odht_base.specs.Table.{Table}
-use Rattle.odht_header.specs.Coding.{encoded}
 use Rattle.odht.specs.Dynamic.{DynStore, dyn_coding, dyn_format, dyn_plain}
 use Rattle.odht.specs.Inserts.{IsInsertInto}
 use Rattle.odht.specs.Plain.{HasMapWith}

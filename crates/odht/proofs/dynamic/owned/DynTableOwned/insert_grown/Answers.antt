@@ -1,9 +1,5 @@
 use Rattle.std.proofs.Common.{◌≡◌, ◌∙◌, sym, ap, subst, cond, bytes_eq, Some, [], Ok, Err, ℕ, List, Option}
-use Rattle.odht_base.specs.Decoded.{decoded_table}
-use Rattle.odht_base.specs.Format.{Format, IsFormat, format_of}
-use Rattle.odht_base.specs.Map.{map_of}
-use Rattle.odht_base.specs.Table.{Pair, Table}
-use Rattle.odht_base.specs.Valid.{IsImage, IsValid}
+use Rattle.odht_raw.specs.Words.{decoded_table, Format, format_of, IsFormat, IsImage, IsValid, map_of, Pair, Table}
 use Rattle.odht.specs.Dynamic.{DynStore, dyn_coding, dyn_format}
 use Rattle.odht.specs.DynInserts.{IsDynInsert}
 use Rattle.odht.specs.DynOwned.{IsDynWith}

@@ -1,5 +1,5 @@
 use Rattle.std.proofs.Common.{rules, ◌≡◌, ◌≤◌, ◌∙◌, sym, ap, subst, refl, Some, Ok, Err, arith}
-use Rattle.odht_base.specs.Format.{IsFormat, format_of}
+use Rattle.odht_raw.specs.Words.{format_of, IsFormat}
 use Rattle.odht_base.specs.Table.{fresh}
 use Rattle.odht_header.proofs.lemmas.Formats.{IsFormat-format_of}
 use Rattle.odht_raw.specs.Frame.{IsAccepted}

@@ -1,5 +1,5 @@
 use Rattle.std.proofs.Common.{rules, ◌≤◌, ◌∙◌, sym, ap, arith}
-use Rattle.odht_base.specs.Format.{Format, format_of}
+use Rattle.odht_raw.specs.Words.{Format, format_of}
 use Rattle.odht_header.proofs.lemmas.Formats.{IsFormat-format_of}
 use Rattle.odht.specs.DynPrefixes.{dyn_front_refusal}
 use Rattle.odht.specs.declared.dynamic.DynError.TheVariants.{Rejected}

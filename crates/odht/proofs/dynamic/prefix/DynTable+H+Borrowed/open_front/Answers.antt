@@ -1,6 +1,6 @@
 use Rattle.std.proofs.Common.{rules, ◌≡◌, ◌∙◌, Err, sym, ap}
 use Rattle.std.specs.Result.{result_err}
-use Rattle.odht_base.specs.Format.{Format, format_of}
+use Rattle.odht_raw.specs.Words.{Format, format_of}
 use Rattle.odht.specs.Dynamic.{dyn_refusal}
 use Rattle.odht.proofs.lemmas.DynPrefixes.{front_as_view}
 use Rattle.odht.proofs.dynamic.prefix.DynTable+H+Borrowed.open_front.Goals as goal

@@ -1,8 +1,7 @@
 use Rattle.std.proofs.Common.{rules, ◌≡◌, ◌∙◌, sym, ap, Err, Some, None, take}
 use Rattle.std.specs.Result.{result_err}
-use Rattle.odht_base.specs.Format.{Format, format_of}
+use Rattle.odht_raw.specs.Words.{Format, format_of, view_refusal}
 use Rattle.odht_header.proofs.lemmas.Formats.{IsFormat-format_of}
-use Rattle.odht_header.specs.Refusals.{view_refusal}
 use Rattle.odht_raw.specs.Prefixes.{IsFront, front_refusal}
 use Rattle.odht_raw.proofs.lemmas.Prefixes.{front_refusal-prefix, front_refusal-view, valid_front}
 use Rattle.odht.proofs.hash_table.prefix.HashTable+C+Borrowed.from_prefix.Goals as goal

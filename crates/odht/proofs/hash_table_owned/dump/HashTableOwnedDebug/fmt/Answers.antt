@@ -1,8 +1,7 @@
 use Rattle.std.proofs.Common.{◌≡◌, ◌∙◌, ℕ, ap, Option, Some, List, codes}
 use Rattle.std.proofs.Output.{displays_on_ok_of_eq}
 use Rattle.std.specs.Fmt.{◌++?◌}
-use Rattle.odht_base.specs.Format.{Format, format_of}
-use Rattle.odht_base.specs.Image.{image}
+use Rattle.odht_raw.specs.Words.{Format, format_of, image}
 use Rattle.odht_raw.specs.Parts.{TableParts}
 use Rattle.odht_raw.specs.Dumps.{DebugText, counts_text, dump_text, parts_of}
 use Rattle.odht_raw.proofs.lemmas.Dumps.{displayed-append}
