@@ -28,7 +28,6 @@ use crate::raw_table::{DynIter, DynRawTable, DynSlots};
 use std::marker::{Model, PhantomData};
 
 mod file;
-mod insert_order;
 mod inserts;
 mod new_tables;
 mod owned;

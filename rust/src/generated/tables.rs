@@ -18,6 +18,7 @@ mod equality;
 mod growth;
 mod hash_table;
 mod hash_table_owned;
+mod insert_order;
 mod iter;
 pub mod lookups;
 mod new_tables;

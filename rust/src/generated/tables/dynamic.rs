@@ -15,7 +15,6 @@ use crate::generated::tables::raw_table::{DynIter, DynRawTable, DynSlots};
 use std::marker::PhantomData;
 
 mod file;
-mod insert_order;
 mod inserts;
 mod new_tables;
 mod owned;

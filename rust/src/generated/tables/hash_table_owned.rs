@@ -14,7 +14,6 @@ use crate::shim::Global;
 use alloc::vec::Vec;
 
 mod dump;
-mod insert_order;
 mod lists;
 
 /// A table that owns its bytes, and grows when an absent key is inserted at the maximum. Its bytes

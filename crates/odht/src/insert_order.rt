@@ -1,9 +1,15 @@
 //! An order of inserts that makes a table.
 ghost use Rattle.std.specs.Prelude.{◌≡◌, ◌↔◌, ◌*◌, ◌-◌, ◌^◌, length, min, IsTrue};
-ghost use Rattle.odht_raw.specs.Words.{count, IsInsertOrder, IsMade, slot_count};
+ghost use Rattle.odht_raw.specs.Words.{count, header_slots, IsInsertOrder, IsMade, IsValidBytes};
+ghost use Rattle.odht_raw.specs.Words.{slot_count};
+ghost use Rattle.odht.specs.Tables.{OfTable};
+ghost use Rattle.odht.specs.Dynamic.{dyn_format};
 
-use super::HashTableOwned;
+use crate::bytes::ByteStore;
 use crate::config::{Coded, Config};
+use crate::dynamic::DynTable;
+use crate::hash::HashFn;
+use crate::hash_table_owned::HashTableOwned;
 
 impl<C: Config> HashTableOwned<C> {
     /// Returns whether some list of inserts, growths included, makes this table from an empty one
@@ -49,5 +55,42 @@ impl<C: Config> HashTableOwned<C> {
         ensures { result ≡ min (3 * slot_count self.now) (2 ^ 64 - 1) }
     {
         self.table.as_raw().insert_order_scratch()
+    }
+}
+
+impl<H: HashFn, D: ByteStore> DynTable<H, D> {
+    /// Like [`HashTableOwned::insert_order`]. The bytes must be valid ([`DynTable::verify`]): for
+    /// others the result and `out` have no meaning.
+    pub fn insert_order(&self, out: &mut [usize]) -> bool
+        requires valid { IsValidBytes (dyn_format self.now H.hash) (D.bytes self.now.store) }
+        requires counted { OfTable (dyn_format self.now H.hash) (D.bytes self.now.store)
+            (λ P. length out.old ≡ count P) }
+        ensures order { let F = dyn_format self.now H.hash
+            in OfTable F (D.bytes self.now.store) (λ P. IsTrue result → IsInsertOrder F P out.new) }
+        ensures made { let F = dyn_format self.now H.hash
+            in OfTable F (D.bytes self.now.store) (λ P. IsTrue result ↔ IsMade F P) }
+    {
+        self.as_dynamic().insert_order(out)
+    }
+
+    /// Like [`HashTableOwned::insert_order_with`]. The bytes must be valid
+    /// ([`DynTable::verify`]): for others the result and `out` have no meaning.
+    pub fn insert_order_with(&self, out: &mut [usize], scratch: &mut [usize]) -> bool
+        requires valid { IsValidBytes (dyn_format self.now H.hash) (D.bytes self.now.store) }
+        requires counted { OfTable (dyn_format self.now H.hash) (D.bytes self.now.store)
+            (λ P. length out.old ≡ count P) }
+        ensures order { let F = dyn_format self.now H.hash
+            in OfTable F (D.bytes self.now.store) (λ P. IsTrue result → IsInsertOrder F P out.new) }
+        ensures made { let F = dyn_format self.now H.hash
+            in OfTable F (D.bytes self.now.store) (λ P. IsTrue result ↔ IsMade F P) }
+    {
+        self.as_dynamic().insert_order_with(out, scratch)
+    }
+
+    /// Like [`HashTableOwned::insert_order_scratch`].
+    pub fn insert_order_scratch(&self) -> usize
+        ensures { result ≡ min (3 * header_slots (D.bytes self.now.store)) (2 ^ 64 - 1) }
+    {
+        self.as_dynamic().insert_order_scratch()
     }
 }

@@ -1,8 +1,11 @@
-// Generated from crates/odht/src/hash_table_owned/insert_order.rt by make generate.
+// Generated from crates/odht/src/insert_order.rt by make generate.
 //! An order of inserts that makes a table.
 
-use super::HashTableOwned;
+use crate::generated::tables::bytes::ByteStore;
 use crate::generated::tables::config::Config;
+use crate::generated::tables::dynamic::DynTable;
+use crate::generated::tables::hash::HashFn;
+use crate::generated::tables::hash_table_owned::HashTableOwned;
 
 impl<C: Config> HashTableOwned<C> {
     /// Returns whether some list of inserts, growths included, makes this table from an empty one
@@ -36,5 +39,24 @@ impl<C: Config> HashTableOwned<C> {
     /// slot.
     pub fn insert_order_scratch(&self) -> usize {
         self.table.as_raw().insert_order_scratch()
+    }
+}
+
+impl<H: HashFn, D: ByteStore> DynTable<H, D> {
+    /// Like [`HashTableOwned::insert_order`]. The bytes must be valid ([`DynTable::verify`]): for
+    /// others the result and `out` have no meaning.
+    pub fn insert_order(&self, out: &mut [usize]) -> bool {
+        self.as_dynamic().insert_order(out)
+    }
+
+    /// Like [`HashTableOwned::insert_order_with`]. The bytes must be valid
+    /// ([`DynTable::verify`]): for others the result and `out` have no meaning.
+    pub fn insert_order_with(&self, out: &mut [usize], scratch: &mut [usize]) -> bool {
+        self.as_dynamic().insert_order_with(out, scratch)
+    }
+
+    /// Like [`HashTableOwned::insert_order_scratch`].
+    pub fn insert_order_scratch(&self) -> usize {
+        self.as_dynamic().insert_order_scratch()
     }
 }
