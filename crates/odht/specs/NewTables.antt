@@ -2,13 +2,12 @@
 --     new_len c n p        how many bytes a new table for n items at p percent has; None where no slot count is enough, or
 --                          the length passes 64 bits
 --     init_refusal c n p B the error of making this table in the bytes B: it is too large, or B are more or fewer
---     IsEmptyFor c n f B   B are the bytes of the empty table with the slots for n items at the load factor f
 --     IsCapacityOrMemory r r is one of these two errors
 --     FailsAsNew c n f r   the errors of r are those of a new table for n items at the load factor f: `Capacity` exactly
 --                          where it is too large, and otherwise `Memory`
 --     FailsBy o r          r is the error o, where there is one; otherwise there is no other error than `Memory`
 use Rattle.std.specs.Prelude.{◌≡◌, ◌↔◌, ◌⊎◌, ℕ, List, length, Option, Some, None, Result, Err, OnErr}
-use Rattle.odht_raw.specs.Words.{Coding, empty, Error, factor_of, IsImage}
+use Rattle.odht_raw.specs.Words.{Coding, Error, factor_of}
 use Rattle.odht_base.specs.Load.{slots_for}
 use Rattle.odht_header.specs.Refusals.{IsTooLarge, new_refusal}
 use Rattle.odht_header.specs.declared.error.Error.TheVariants.{Capacity, Memory}
@@ -19,9 +18,6 @@ new_len c n percent = table_len c.format (slots_for n (factor_of percent))
 
 abbrev pub init_refusal : {K V : Type 0} → Coding K V → ℕ → ℕ → List ℕ → Option Error
 init_refusal c n percent B = new_refusal c.format n (factor_of percent) (length B)
-
-abbrev pub IsEmptyFor : {K V : Type 0} → Coding K V → ℕ → ℕ → List ℕ → Type 0
-IsEmptyFor c n f B = (s : ℕ) × (slots_for n f ≡ Some s) × IsImage c.format (empty s f) B
 
 abbrev pub IsCapacityOrMemory : {T : Type 0} → Result T Error → Type 0
 IsCapacityOrMemory r = (r ≡ Err Capacity) ⊎ (r ≡ Err Memory)

@@ -1,7 +1,7 @@
 //! Dynamic tables: the lengths of keys and values are known only at run time, for example from a
 //! file.
 ghost use Rattle.std.specs.Prelude.{◌≡◌, ◌≢◌, ◌<◌, ◌≤◌, ◌↔◌, ℕ, None, All, length, slice_index};
-ghost use Rattle.std.specs.Prelude.{IfOk, IfErr, IsOk, IsTrue, map};
+ghost use Rattle.std.specs.Prelude.{Err, IfErr, IfOk, IsOk, IsTrue, OnErr, OnOk, map};
 ghost use Rattle.std.specs.Option.{option_copied};
 ghost use Rattle.std.specs.Result.{result_err};
 ghost use Rattle.odht_raw.specs.Words.{format_of, IsFormat, IsValidBytes, TooShort};
@@ -10,10 +10,10 @@ ghost use Rattle.odht_raw.specs.Frame.{IsAccepted};
 ghost use Rattle.odht_raw.specs.DynParts.{HasLengthsOf};
 ghost use Rattle.odht.specs.Dynamic.{dyn_coding, dyn_format, dyn_refusal, stated_refusal};
 ghost use Rattle.odht.specs.Dynamic.{dyn_store, dyn_parts};
+ghost use Rattle.odht.specs.declared.dynamic.DynError.TheVariants.{Rejected};
 ghost use Rattle.odht.specs.Gets.{IsGet, IsCountedGet, IsKnown, AreGot};
 ghost use Rattle.odht.specs.Walks.{IsItemCount, ArePairs, AreSlots};
 ghost use Rattle.odht.specs.SearchBounds.{IsValidWithin, IsBound};
-ghost use Rattle.odht.specs.declared.dynamic.DynError.TheVariants.{Rejected};
 
 use crate::bytes::ByteStore;
 use crate::error::Error;
@@ -23,19 +23,17 @@ use crate::memory_layout::{
     self, Header, check_by_header, check_dynamic, check_dynamic_within, check_opening,
     dynamic_parts,
 };
+pub use crate::prefix::table_len;
 pub use crate::raw_table::ShortBytes;
 use crate::raw_table::{DynIter, DynRawTable, DynSlots};
 use std::marker::{Model, PhantomData};
 
 mod file;
 mod inserts;
-mod new_tables;
 mod owned;
-mod prefix;
 
 pub use file::{FileError, FileTable};
 pub use owned::DynTableOwned;
-pub use prefix::table_len;
 
 /// Why bytes cannot be opened as a dynamic table, or why such a table does not accept a pair.
 #[derive(Debug, PartialEq, Eq, Drop)]
@@ -97,7 +95,7 @@ impl<H: HashFn, D: ByteStore> Model for DynTable<H, D> {
 
 // The lengths of keys and values that the header at the front of the bytes states, or that they
 // are too few for one.
-fn stated_layout(bytes: &[u8]) -> Result<Layout, DynError>
+pub(crate) fn stated_layout(bytes: &[u8]) -> Result<Layout, DynError>
     ensures long { IfOk result (λ _. 32 ≤ length bytes.now) }
     ensures key { IfOk result (λ l. l.key_len ≡ slice_index bytes.now 5) }
     ensures value { IfOk result (λ l. l.value_len ≡ slice_index bytes.now 6) }
@@ -108,6 +106,22 @@ fn stated_layout(bytes: &[u8]) -> Result<Layout, DynError>
         Ok(layout) => Ok(layout),
         Err(rejected) => Err(DynError::Rejected(rejected)),
     }
+}
+
+// The error of keys that are shorter than the hash function needs, if these are.
+pub(crate) fn check_key_len<H: HashFn>(layout: Layout) -> Result<(), DynError>
+    ensures long { OnOk result (H.MIN_LEN ≤ layout.key_len) }
+    ensures short { OnErr result (layout.key_len < H.MIN_LEN) }
+    ensures err { OnErr result
+        (result ≡ Err (DynError.KeyTooShort layout.key_len H.MIN_LEN)) }
+{
+    if (layout.key_len as usize) < H::MIN_LEN {
+        return Err(DynError::KeyTooShort {
+            key_len: layout.key_len,
+            least: H::MIN_LEN,
+        });
+    }
+    Ok(())
 }
 
 impl<H: HashFn, D: ByteStore> DynTable<H, D> {
@@ -126,18 +140,9 @@ impl<H: HashFn, D: ByteStore> DynTable<H, D> {
         ensures valid { let F = format_of layout.key_len layout.value_len H.hash
             in H.MIN_LEN ≤ layout.key_len → OfTable F (D.bytes «data») (λ _. IsOk result) }
     {
-        if (layout.key_len as usize) < H::MIN_LEN {
-            return Err(DynError::KeyTooShort {
-                key_len: layout.key_len,
-                least: H::MIN_LEN,
-            });
-        }
+        check_key_len::<H>(layout)?;
         match check_opening::<H>(data.bytes(), layout) {
-            Ok(()) => Ok(DynTable {
-                store: data,
-                layout,
-                hash: PhantomData,
-            }),
+            Ok(()) => Ok(DynTable::open_unchecked(layout, data)),
             Err(rejected) => Err(DynError::Rejected(rejected)),
         }
     }

@@ -27,8 +27,6 @@ use crate::raw_table::{RawIter, RawSlots, RawTable};
 use crate::swisstable_group_query::GroupQuery;
 use std::marker::Model;
 
-mod prefix;
-
 /// Returns the length in bytes of a new table for `max_item_count` items, at a load factor in
 /// percent of the slots. Returns `None` exactly if no slot count is large enough, or the length
 /// exceeds `usize::MAX`. docs/FORMAT.md, "Load factors", specifies the rule.
@@ -71,10 +69,8 @@ impl<C: Config, D: ByteStore> HashTable<C, D> {
             ≡ view_refusal ⟦<C as Coded>⟧.coding.format (D.bytes «data») }
         ensures valid { OfTable ⟦<C as Coded>⟧.coding.format (D.bytes «data») (λ _. IsOk result) }
     {
-        match Allocation::from_raw_bytes(data) {
-            Ok(allocation) => Ok(HashTable { allocation }),
-            Err(refused) => Err(refused),
-        }
+        let allocation = Allocation::from_raw_bytes(data)?;
+        Ok(HashTable { allocation })
     }
 
     /// Opens bytes as a table, and checks only their header and length. Returns the first error:
@@ -89,10 +85,8 @@ impl<C: Config, D: ByteStore> HashTable<C, D> {
         ensures err { result_err result
             ≡ opening_refusal ⟦<C as Coded>⟧.coding.format (D.bytes «data») }
     {
-        match Allocation::from_raw_bytes_by_header(data) {
-            Ok(allocation) => Ok(HashTable { allocation }),
-            Err(refused) => Err(refused),
-        }
+        let allocation = Allocation::from_raw_bytes_by_header(data)?;
+        Ok(HashTable { allocation })
     }
 
     /// Opens bytes as a table without a check. The caller ensures that their header and length fit.

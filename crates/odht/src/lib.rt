@@ -23,3 +23,4 @@ mod iter;
 pub mod laws;
 pub mod lookups;
 mod new_tables;
+mod prefix;

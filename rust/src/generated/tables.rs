@@ -22,3 +22,4 @@ mod insert_order;
 mod iter;
 pub mod lookups;
 mod new_tables;
+mod prefix;

@@ -11,8 +11,8 @@ use Rattle.odht_header.specs.declared.error.Error.TheVariants.{Capacity, InitLen
 use Rattle.odht_header.specs.Refusals.{new_refusal}
 use Rattle.odht_header.proofs.examples.Opened.{opened}
 use Rattle.odht.specs.Growths.{grown_len, HasGrownLen, IsGrownLayout, IsRoomFor, IsPlacing}
-use Rattle.odht.specs.NewTables.{new_len, init_refusal, IsEmptyFor, IsCapacityOrMemory, FailsAsNew, FailsBy}
-use Rattle.odht.proofs.examples.SmallTables.{number_coding, no_pairs, one_pair, bytes_of, no_pairs_image}
+use Rattle.odht.specs.NewTables.{new_len, init_refusal, IsCapacityOrMemory, FailsAsNew, FailsBy}
+use Rattle.odht.proofs.examples.SmallTables.{number_coding, no_pairs, one_pair, bytes_of}
 
 -- sixteen slots for thirteen items, 32 for fourteen, and none for 2^63
 pub lengths : (new_len number_coding 13 87 ≡ Some 256) × (new_len number_coding 14 87 ≡ Some 464) × (new_len number_coding (2 ^ 63) 87 ≡ None)
@@ -24,11 +24,6 @@ pub refusals : (init_refusal number_coding 13 87 (replicate 256 0) ≡ None) × 
     × (init_refusal number_coding (2 ^ 63) 87 (replicate 256 0) ≡ Some Capacity)
 unfolding opened slots_for new_refusal
 refusals = (refl, refl, refl)
-
--- the empty table
-pub empty_for : IsEmptyFor number_coding 13 (factor_of 87) (bytes_of no_pairs)
-unfolding opened slots_for
-empty_for = (16, refl, no_pairs_image)
 
 -- the empty table grows into one of sixteen slots, as for one item
 pub grown_layout : IsGrownLayout my_config (bytes_of no_pairs) (Some (16, 256))

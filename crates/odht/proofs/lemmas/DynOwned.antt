@@ -13,7 +13,7 @@ use Rattle.odht.specs.Inserts.{IsInsertInto}
 use Rattle.odht.specs.NewTables.{FailsAsNew, FailsBy}
 use Rattle.odht.specs.declared.dynamic.DynError.{DynError}
 use Rattle.odht.specs.declared.dynamic.DynError.TheVariants.{Rejected}
-use Rattle.odht.proofs.lemmas.NewRefusals.{not_both, not_ok, passed_on}
+use Rattle.odht.proofs.lemmas.NewRefusals.{not_both, not_ok}
 
 module _ {K V : Type 0} (c : Coding K V) (B B' : List ℕ) (k : K) (v : V) (r : Result (Option V) DynError) (h : IsDynInsert c B k v r B') (P : Table) (is : IsImage c.format P B) where
   -- an insert that succeeds is that into the view
@@ -67,15 +67,3 @@ module _ {T : Type 0} (o : Option Error) where
 
   pub fails_by_never : o ≡ None → (t : T) → FailsBy o (Ok t)
   fails_by_never none t = record { refused = λ x is. absurd (none-some x (sym none ∙ is)); memory = λ e. tt }
-
--- the same of a result of another type
-module _ {S T : Type 0} (o : Option Error) (s : Result S Error) (fails : FailsBy o s) where
-  pub fails_by_passed : (e : Error) → s ≡ Err e → FailsBy {T = T} o (Err e)
-  fails_by_passed e was = record { refused = λ x is. passed_on (Err e) s refl refl was (fails.refused x is); memory = λ none. ap Err (go s e was (fails.memory none)) }
-    where
-      go : (r : Result S Error) (e : Error) → r ≡ Err e → OnErr r (r ≡ Err Memory) → e ≡ Memory
-      go (Ok t) e was only = absurd cc
-      go (Err x) e was only = cc
-
-  pub fails_by_made : (u : S) (t : T) → s ≡ Ok u → FailsBy o (Ok t)
-  fails_by_made u t made = record { refused = λ x is. absurd (not_ok s made (fails.refused x is)); memory = λ e. tt }

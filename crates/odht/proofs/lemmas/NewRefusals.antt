@@ -1,5 +1,5 @@
 -- The errors of a new table, case by case.
-use Rattle.std.proofs.Common.{◌≡◌, ◌≢◌, ◌≤◌, ◌<◌, ◌^◌, ◌∙◌, ℕ, Bool, true, false, not, nat_le, ap, sym, subst, refl, [], ◌∷◌, Option, Some, None, Result, Ok, Err, OnErr, ◌⊎◌, inl, inr, arith, leb-true, le-leb, le-ltb, ltb-false, ne_eqb}
+use Rattle.std.proofs.Common.{◌≡◌, ◌≢◌, ◌≤◌, ◌<◌, ◌^◌, ◌∙◌, ℕ, Bool, true, false, not, nat_le, ap, sym, refl, [], ◌∷◌, Option, Some, None, Result, Ok, Err, OnErr, ◌⊎◌, inl, inr, arith, leb-true, le-leb, le-ltb, ltb-false, ne_eqb}
 use Rattle.std.proofs.lemmas.Result.{IfErr-at_err}
 use Rattle.odht_raw.specs.Words.{Coding, differs, Error, factor_of, first_of, Format, image_len, ◌gives◌}
 use Rattle.odht_base.specs.Load.{slots_for}
@@ -136,10 +136,6 @@ either r {s = s} {y = y} a b h = on_err r (go (IfErr-at_err (λ _. (s ≡ Err Ca
 
 -- ---- the errors of a new table
 module _ {K V : Type 0} (c : Coding K V) (n : ℕ) where
-  -- at the same load factor they are the same
-  pub fails-factor : {T : Type 0} (f f' : ℕ) (r : Result T Error) → f ≡ f' → FailsAsNew c n f r → FailsAsNew c n f' r
-  fails-factor f f' r same fails = subst (λ x. FailsAsNew c n x r) same fails
-
   module _ (f : ℕ) {U : Type 0} (s : Result U Error) (fails : FailsAsNew c n f s) where
     -- an error that is passed on is as it was
     pub fails-passed : {T : Type 0} (r : Result T Error) {x y : Error} → r ≡ Err x → x ≡ y → s ≡ Err y → FailsAsNew c n f r

@@ -14,16 +14,15 @@ ghost use Rattle.odht.specs.NewTables.{FailsAsNew, FailsBy};
 ghost use Rattle.odht_base.specs.Insert.{insert_owned, IsFullFor};
 ghost use Rattle.odht.specs.DynLists.{length_error};
 ghost use Rattle.odht.specs.Plain.{HasMapWith, KeepsSize, IsPlainReserve};
-ghost use Rattle.odht.specs.Inserts.{IsFresh};
 
-use super::{DynError, DynTable};
+use super::{DynError, DynTable, check_key_len};
 use crate::bytes::OwnedBytes;
 use crate::error::Error;
 use crate::growth::{grown_bytes, room_for};
 use crate::hash::HashFn;
 use crate::layout::Layout;
-use crate::load::Factor;
-use crate::memory_layout::{check_dynamic, check_opening, init_parts};
+use crate::memory_layout::{check_dynamic, check_opening};
+use crate::new_tables::new_bytes;
 use crate::raw_table::{DynIter, ShortBytes};
 use std::alloc::Global;
 use std::marker::Model;
@@ -72,13 +71,8 @@ impl<H: HashFn> DynTableOwned<H> {
             in H.MIN_LEN ≤ layout.key_len → IsRejecting
             (FailsAsNew c max_item_count (factor_of max_load_factor_percent)) result }
     {
-        if (layout.key_len as usize) < H::MIN_LEN {
-            return Err(DynError::KeyTooShort {
-                key_len: layout.key_len,
-                least: H::MIN_LEN,
-            });
-        }
-        match empty::<H>(alloc, layout, max_item_count, max_load_factor_percent) {
+        check_key_len::<H>(layout)?;
+        match new_bytes::<Layout, H>(alloc, layout, max_item_count, max_load_factor_percent) {
             Ok(bytes) => {
                 let table = DynTable::open_unchecked(layout, OwnedBytes::new(bytes));
                 Ok(DynTableOwned { table, alloc })
@@ -103,19 +97,18 @@ impl<H: HashFn> DynTableOwned<H> {
             in H.MIN_LEN ≤ layout.key_len → IsRejecting
             (FailsBy (check_refusal F raw_bytes.now)) result }
     {
-        if (layout.key_len as usize) < H::MIN_LEN {
-            return Err(DynError::KeyTooShort {
-                key_len: layout.key_len,
-                least: H::MIN_LEN,
-            });
+        check_key_len::<H>(layout)?;
+        if let Err(refused) = check_opening::<H>(raw_bytes, layout) {
+            return Err(DynError::Rejected(refused));
         }
-        match copied::<H>(alloc, layout, raw_bytes) {
-            Ok(bytes) => {
-                let table = DynTable::open_unchecked(layout, OwnedBytes::new(bytes));
-                Ok(DynTableOwned { table, alloc })
-            }
-            Err(rejected) => Err(DynError::Rejected(rejected)),
+        if let Err(refused) = check_dynamic::<H>(raw_bytes, layout) {
+            return Err(DynError::Rejected(refused));
         }
+        let Ok(bytes) = raw_bytes.to_vec(alloc) else {
+            return Err(DynError::Rejected(Error::Memory));
+        };
+        let table = DynTable::open_unchecked(layout, OwnedBytes::new(bytes));
+        Ok(DynTableOwned { table, alloc })
     }
 
     /// The lengths of keys and values.
@@ -290,49 +283,4 @@ impl<H: HashFn> DynTableOwned<H> {
         let DynTableOwned { table, alloc: _ } = self;
         table.into_data().into_vec()
     }
-}
-
-// The bytes of an empty table of these lengths with the slots for that many items.
-fn empty<H: HashFn>(
-    alloc: Global,
-    layout: Layout,
-    max_item_count: usize,
-    max_load_factor_percent: u8,
-) -> Result<Vec<u8>, Error>
-    requires percent { IsPercent max_load_factor_percent }
-    ensures ok { let F = format_of layout.key_len layout.value_len H.hash
-        in IfOk result (λ v. IsFresh F max_item_count max_load_factor_percent v.items) }
-    ensures err { let c = bytes_coding (format_of layout.key_len layout.value_len H.hash)
-        in FailsAsNew c max_item_count (factor_of max_load_factor_percent) result }
-{
-    let factor = Factor::from_percent(max_load_factor_percent);
-    let Some((slot_count, len)) = layout.table_for(max_item_count, factor) else {
-        return Err(Error::Capacity);
-    };
-    let Ok(mut bytes) = vec![in alloc; 0; len] else {
-        return Err(Error::Memory);
-    };
-    init_parts(bytes.as_mut_slice(), layout, slot_count, 0, factor);
-    Ok(bytes)
-}
-
-// A copy of the bytes, after all of them were checked as those of a table of these lengths.
-fn copied<H: HashFn>(alloc: Global, layout: Layout, raw_bytes: &[u8]) -> Result<Vec<u8>, Error>
-    requires hashes { H.MIN_LEN ≤ layout.key_len }
-    ensures ok { IfOk result (λ v. v.items ≡ raw_bytes.now) }
-    ensures valid { let F = format_of layout.key_len layout.value_len H.hash
-        in IfOk result (λ v. IsValidBytes F raw_bytes.now) }
-    ensures err { let F = format_of layout.key_len layout.value_len H.hash
-        in FailsBy (check_refusal F raw_bytes.now) result }
-{
-    if let Err(refused) = check_opening::<H>(raw_bytes, layout) {
-        return Err(refused);
-    }
-    if let Err(refused) = check_dynamic::<H>(raw_bytes, layout) {
-        return Err(refused);
-    }
-    let Ok(bytes) = raw_bytes.to_vec(alloc) else {
-        return Err(Error::Memory);
-    };
-    Ok(bytes)
 }

@@ -10,19 +10,17 @@ use crate::generated::tables::memory_layout::{
     self, check_by_header, check_dynamic, check_dynamic_within, check_opening, dynamic_parts,
     Header,
 };
+pub use crate::generated::tables::prefix::table_len;
 pub use crate::generated::tables::raw_table::ShortBytes;
 use crate::generated::tables::raw_table::{DynIter, DynRawTable, DynSlots};
 use std::marker::PhantomData;
 
 mod file;
 mod inserts;
-mod new_tables;
 mod owned;
-mod prefix;
 
 pub use file::{FileError, FileTable};
 pub use owned::DynTableOwned;
-pub use prefix::table_len;
 
 /// Why bytes cannot be opened as a dynamic table, or why such a table does not accept a pair.
 #[derive(Debug, PartialEq, Eq)]
@@ -65,11 +63,19 @@ pub struct DynTable<H: HashFn, D: ByteStore> {
 
 // The lengths of keys and values that the header at the front of the bytes states, or that they
 // are too few for one.
-fn stated_layout(bytes: &[u8]) -> Result<Layout, DynError> {
+pub(crate) fn stated_layout(bytes: &[u8]) -> Result<Layout, DynError> {
     match memory_layout::stated_layout(bytes) {
         Ok(layout) => Ok(layout),
         Err(rejected) => Err(DynError::Rejected(rejected)),
     }
+}
+
+// The error of keys that are shorter than the hash function needs, if these are.
+pub(crate) fn check_key_len<H: HashFn>(layout: Layout) -> Result<(), DynError> {
+    if (layout.key_len as usize) < H::MIN_LEN {
+        return Err(DynError::KeyTooShort { key_len: layout.key_len, least: H::MIN_LEN });
+    }
+    Ok(())
 }
 
 impl<H: HashFn, D: ByteStore> DynTable<H, D> {
@@ -82,11 +88,9 @@ impl<H: HashFn, D: ByteStore> DynTable<H, D> {
     /// Nothing else is checked. A table of accepted bytes that are not valid is safe to use, but
     /// its calls guarantee only what their clauses state for any bytes.
     pub fn open(layout: Layout, data: D) -> Result<Self, DynError> {
-        if (layout.key_len as usize) < H::MIN_LEN {
-            return Err(DynError::KeyTooShort { key_len: layout.key_len, least: H::MIN_LEN });
-        }
+        check_key_len::<H>(layout)?;
         match check_opening::<H>(data.bytes(), layout) {
-            Ok(()) => Ok(DynTable { store: data, layout, hash: PhantomData }),
+            Ok(()) => Ok(DynTable::open_unchecked(layout, data)),
             Err(rejected) => Err(DynError::Rejected(rejected)),
         }
     }

@@ -14,8 +14,6 @@ use crate::generated::tables::new_tables::init_bytes;
 use crate::generated::tables::raw_table::{RawIter, RawSlots, RawTable};
 use crate::generated::tables::swisstable_group_query::GroupQuery;
 
-mod prefix;
-
 /// Returns the length in bytes of a new table for `max_item_count` items, at a load factor in
 /// percent of the slots. Returns `None` exactly if no slot count is large enough, or the length
 /// exceeds `usize::MAX`. docs/FORMAT.md, "Load factors", specifies the rule.
@@ -46,10 +44,8 @@ impl<C: Config, D: ByteStore> HashTable<C, D> {
     /// calls guarantee only what their clauses state for any bytes.
     #[inline(always)]
     pub fn from_raw_bytes(data: D) -> Result<Self, Error> {
-        match Allocation::from_raw_bytes(data) {
-            Ok(allocation) => Ok(HashTable { allocation }),
-            Err(refused) => Err(refused),
-        }
+        let allocation = Allocation::from_raw_bytes(data)?;
+        Ok(HashTable { allocation })
     }
 
     /// Opens bytes as a table, and checks only their header and length. Returns the first error:
@@ -60,10 +56,8 @@ impl<C: Config, D: ByteStore> HashTable<C, D> {
     /// guarantee only what their clauses state for any bytes.
     #[inline(always)]
     pub fn from_raw_bytes_by_header(data: D) -> Result<Self, Error> {
-        match Allocation::from_raw_bytes_by_header(data) {
-            Ok(allocation) => Ok(HashTable { allocation }),
-            Err(refused) => Err(refused),
-        }
+        let allocation = Allocation::from_raw_bytes_by_header(data)?;
+        Ok(HashTable { allocation })
     }
 
     /// Opens bytes as a table without a check. The caller ensures that their header and length fit.

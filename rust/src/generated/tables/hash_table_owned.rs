@@ -8,8 +8,8 @@ use crate::generated::tables::growth::{grown_bytes, room_for};
 use crate::generated::tables::hash_table::HashTable;
 use crate::generated::tables::iter::Iter;
 use crate::generated::tables::layout::Fixed;
-use crate::generated::tables::load::{slots_needed, Factor};
 use crate::generated::tables::memory_layout;
+use crate::generated::tables::new_tables::new_bytes;
 use crate::shim::Global;
 use alloc::vec::Vec;
 
@@ -34,8 +34,14 @@ impl<C: Config> HashTableOwned<C> {
         max_item_count: usize,
         max_load_factor_percent: u8,
     ) -> Result<Self, Error> {
-        let factor = Factor::from_percent(max_load_factor_percent);
-        let table = empty_table(alloc, max_item_count, factor)?;
+        let lengths: Fixed<C::EncodedKey, C::EncodedValue> = Fixed::new();
+        let bytes = new_bytes::<Fixed<C::EncodedKey, C::EncodedValue>, C::H>(
+            alloc,
+            lengths,
+            max_item_count,
+            max_load_factor_percent,
+        )?;
+        let table = HashTable::from_raw_bytes_unchecked(OwnedBytes::new(bytes));
         Ok(HashTableOwned { table, alloc })
     }
 
@@ -128,9 +134,7 @@ impl<C: Config> HashTableOwned<C> {
     ///
     /// The error is `Memory` if allocation fails.
     pub fn from_raw_bytes(alloc: Global, raw_bytes: &[u8]) -> Result<Self, Error> {
-        if let Err(refused) = memory_layout::check_all::<C>(raw_bytes) {
-            return Err(refused);
-        }
+        memory_layout::check_all::<C>(raw_bytes)?;
         Self::from_raw_bytes_unchecked(alloc, raw_bytes)
     }
 
@@ -144,9 +148,7 @@ impl<C: Config> HashTableOwned<C> {
         raw_bytes: &[u8],
         groups: usize,
     ) -> Result<Self, Error> {
-        if let Err(refused) = memory_layout::check_all_within::<C>(raw_bytes, groups) {
-            return Err(refused);
-        }
+        memory_layout::check_all_within::<C>(raw_bytes, groups)?;
         Self::from_raw_bytes_unchecked(alloc, raw_bytes)
     }
 
@@ -154,9 +156,7 @@ impl<C: Config> HashTableOwned<C> {
     ///
     /// The error is `Memory` if allocation fails.
     pub fn from_raw_bytes_unchecked(alloc: Global, raw_bytes: &[u8]) -> Result<Self, Error> {
-        let Ok(bytes) = crate::shim::to_vec(raw_bytes, alloc) else {
-            return Err(Error::Memory);
-        };
+        let bytes = crate::shim::to_vec(raw_bytes, alloc)?;
         let table = HashTable::from_raw_bytes_unchecked(OwnedBytes::new(bytes));
         Ok(HashTableOwned { table, alloc })
     }
@@ -237,20 +237,5 @@ impl<C: Config> HashTableOwned<C> {
         };
         self.table = grown;
         Ok(old)
-    }
-}
-
-// An empty table with the slots for that many items at this load factor.
-fn empty_table<C: Config>(
-    alloc: Global,
-    max_item_count: usize,
-    max_load_factor: Factor,
-) -> Result<HashTable<C, OwnedBytes>, Error> {
-    let Some(slot_count) = slots_needed(max_item_count, max_load_factor) else {
-        return Err(Error::Capacity);
-    };
-    match memory_layout::allocate(alloc, slot_count, 0, max_load_factor) {
-        Ok(allocation) => Ok(HashTable { allocation }),
-        Err(refused) => Err(refused),
     }
 }

@@ -2,14 +2,14 @@
 //! The table that owns its bytes and grows, with key and value lengths that are known only at run
 //! time.
 
-use super::{DynError, DynTable};
+use super::{check_key_len, DynError, DynTable};
 use crate::generated::tables::bytes::OwnedBytes;
 use crate::generated::tables::error::Error;
 use crate::generated::tables::growth::{grown_bytes, room_for};
 use crate::generated::tables::hash::HashFn;
 use crate::generated::tables::layout::Layout;
-use crate::generated::tables::load::Factor;
-use crate::generated::tables::memory_layout::{check_dynamic, check_opening, init_parts};
+use crate::generated::tables::memory_layout::{check_dynamic, check_opening};
+use crate::generated::tables::new_tables::new_bytes;
 use crate::generated::tables::raw_table::{DynIter, ShortBytes};
 use crate::shim::Global;
 use alloc::vec::Vec;
@@ -37,10 +37,8 @@ impl<H: HashFn> DynTableOwned<H> {
         max_item_count: usize,
         max_load_factor_percent: u8,
     ) -> Result<Self, DynError> {
-        if (layout.key_len as usize) < H::MIN_LEN {
-            return Err(DynError::KeyTooShort { key_len: layout.key_len, least: H::MIN_LEN });
-        }
-        match empty::<H>(alloc, layout, max_item_count, max_load_factor_percent) {
+        check_key_len::<H>(layout)?;
+        match new_bytes::<Layout, H>(alloc, layout, max_item_count, max_load_factor_percent) {
             Ok(bytes) => {
                 let table = DynTable::open_unchecked(layout, OwnedBytes::new(bytes));
                 Ok(DynTableOwned { table, alloc })
@@ -60,16 +58,18 @@ impl<H: HashFn> DynTableOwned<H> {
         layout: Layout,
         raw_bytes: &[u8],
     ) -> Result<Self, DynError> {
-        if (layout.key_len as usize) < H::MIN_LEN {
-            return Err(DynError::KeyTooShort { key_len: layout.key_len, least: H::MIN_LEN });
+        check_key_len::<H>(layout)?;
+        if let Err(refused) = check_opening::<H>(raw_bytes, layout) {
+            return Err(DynError::Rejected(refused));
         }
-        match copied::<H>(alloc, layout, raw_bytes) {
-            Ok(bytes) => {
-                let table = DynTable::open_unchecked(layout, OwnedBytes::new(bytes));
-                Ok(DynTableOwned { table, alloc })
-            }
-            Err(rejected) => Err(DynError::Rejected(rejected)),
+        if let Err(refused) = check_dynamic::<H>(raw_bytes, layout) {
+            return Err(DynError::Rejected(refused));
         }
+        let Ok(bytes) = crate::shim::to_vec(raw_bytes, alloc) else {
+            return Err(DynError::Rejected(Error::Memory));
+        };
+        let table = DynTable::open_unchecked(layout, OwnedBytes::new(bytes));
+        Ok(DynTableOwned { table, alloc })
     }
 
     /// The lengths of keys and values.
@@ -186,36 +186,4 @@ impl<H: HashFn> DynTableOwned<H> {
         let DynTableOwned { table, alloc: _ } = self;
         table.into_data().into_vec()
     }
-}
-
-// The bytes of an empty table of these lengths with the slots for that many items.
-fn empty<H: HashFn>(
-    alloc: Global,
-    layout: Layout,
-    max_item_count: usize,
-    max_load_factor_percent: u8,
-) -> Result<Vec<u8>, Error> {
-    let factor = Factor::from_percent(max_load_factor_percent);
-    let Some((slot_count, len)) = layout.table_for(max_item_count, factor) else {
-        return Err(Error::Capacity);
-    };
-    let Ok(mut bytes) = crate::shim::zeroed_bytes(alloc, len) else {
-        return Err(Error::Memory);
-    };
-    init_parts(bytes.as_mut_slice(), layout, slot_count, 0, factor);
-    Ok(bytes)
-}
-
-// A copy of the bytes, after all of them were checked as those of a table of these lengths.
-fn copied<H: HashFn>(alloc: Global, layout: Layout, raw_bytes: &[u8]) -> Result<Vec<u8>, Error> {
-    if let Err(refused) = check_opening::<H>(raw_bytes, layout) {
-        return Err(refused);
-    }
-    if let Err(refused) = check_dynamic::<H>(raw_bytes, layout) {
-        return Err(refused);
-    }
-    let Ok(bytes) = crate::shim::to_vec(raw_bytes, alloc) else {
-        return Err(Error::Memory);
-    };
-    Ok(bytes)
 }

@@ -1,4 +1,4 @@
-use Rattle.std.proofs.Common.{rules, ◌∙◌, ◌<◌, ◌≤◌, ◌^◌, Result, Err, sym, ap, subst, arith, length}
+use Rattle.std.proofs.Common.{rules, ◌∙◌, ◌≤◌, Result, Err, sym, ap}
 use Rattle.odht_raw.specs.Words.{checked, Error, Format, format_of, view_refusal}
 use Rattle.odht_header.proofs.lemmas.FirstErrors.{Ok-checked, Err-checked}
 use Rattle.odht_header.proofs.lemmas.Formats.{IsFormat-format_of}
@@ -6,17 +6,11 @@ use Rattle.odht_raw.proofs.lemmas.ImagesOpen.{image_is_accepted}
 use Rattle.odht_raw.proofs.lemmas.Openings.{view_refusal-accepted}
 use Rattle.odht.proofs.dynamic.DynTable.open.Goals as goal
 
-pub invariant_of-result : goal.invariant_of-result
-invariant_of-result g c =
+pub open_unchecked-requires-clause-accepted : goal.open_unchecked-requires-clause-accepted
+open_unchecked-requires-clause-accepted g c =
     let F : Format = format_of c.args.layout.key_len c.args.layout.value_len g.H.HashFn.hash in
     let B = g.D.ByteStore.bytes c.args.data in
-    record {
-      hashes = omega (arith, c.MIN_LEN.ensures, c.if-layout-MIN_LEN.false);
-      key_short = search rules;
-      value_short = search rules;
-      accepted = view_refusal-accepted F B (Ok-checked _ (sym c.in-Ok.is ∙ c.check_opening.ensures ∙ ap (λ b. checked (view_refusal F b)) c.bytes.ensures));
-      fits = subst (λ b. length b < 2 ^ 64) c.bytes.ensures c.bytes.type_inv.0;
-    }
+    view_refusal-accepted F B (Ok-checked _ (sym c.in-Ok.is ∙ c.check_opening.ensures ∙ ap (λ b. checked (view_refusal F b)) c.bytes.ensures))
 
 pub returns-in-Err-clause-valid : goal.returns-in-Err-clause-valid
 returns-in-Err-clause-valid g c long P is =

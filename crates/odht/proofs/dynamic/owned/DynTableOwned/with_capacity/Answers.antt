@@ -1,4 +1,4 @@
-use Rattle.std.proofs.Common.{rules, ◌≡◌, ◌≤◌, ◌∙◌, sym, ap, subst, refl, Some, Ok, Err, arith}
+use Rattle.std.proofs.Common.{rules, ◌≡◌, ◌≤◌, ◌∙◌, sym, ap, subst, refl, Some, Ok, Err}
 use Rattle.odht_raw.specs.Words.{format_of, IsFormat}
 use Rattle.odht_base.specs.Table.{fresh}
 use Rattle.odht_header.proofs.lemmas.Formats.{IsFormat-format_of}
@@ -25,7 +25,7 @@ returns-in-Ok-clause-err g c hashes =
     record {
       answer = Ok (dyn_plain c.open_unchecked-table.result g.H.HashFn.hash);
       is = refl;
-      holds = fails-made (bytes_coding F) _ _ c.empty.result c.empty.ensures.err _ c.in-Ok.is;
+      holds = fails-made (bytes_coding F) _ _ c.new_bytes.result c.new_bytes.ensures.err _ c.in-Ok.is;
     }
 
 pub returns-in-Err-clause-err : goal.returns-in-Err-clause-err
@@ -34,7 +34,7 @@ returns-in-Err-clause-err g c hashes =
     record {
       answer = Err c.in-Err.rejected;
       is = refl;
-      holds = fails-passed (bytes_coding F) _ _ c.empty.result c.empty.ensures.err _ refl refl c.in-Err.is;
+      holds = fails-passed (bytes_coding F) _ _ c.new_bytes.result c.new_bytes.ensures.err _ refl refl c.in-Err.is;
     }
 
 -- the lengths fit
@@ -42,8 +42,7 @@ fits : (g : Over) (c : After-open_unchecked-table g) → IsFormat (format_of c.a
 fits g c =
     let key : c.args.layout.key_len ≤ 255 = search rules in
     let value : c.args.layout.value_len ≤ 255 = search rules in
-    let enough : g.H.HashFn.MIN_LEN ≤ c.args.layout.key_len = omega (arith, c.MIN_LEN.ensures, c.if-layout-MIN_LEN.false) in
-    IsFormat-format_of _ _ _ _ key value enough g.met.H.HashFn.fits
+    IsFormat-format_of _ _ _ _ key value c.in_ok-check_key_len.ensures.long g.met.H.HashFn.fits
 
 -- the table that was opened
 opened : (g : Over) (c : After-open_unchecked-table g) → c.open_unchecked-table.result ≡ dyn_store c.args.layout.key_len c.args.layout.value_len c.in-Ok.bytes.items

@@ -10,9 +10,9 @@ use Rattle.odht.specs.Dynamic.{stated_format}
 use Rattle.odht.specs.DynPrefixes.{dyn_front_refusal}
 use Rattle.odht.specs.declared.dynamic.DynError.TheVariants.{Rejected}
 use Rattle.odht.proofs.lemmas.DynPrefixes.{front_header, front_key, front_value, front_of_lengths, valid_of_lengths, opened}
-use Rattle.odht.proofs.dynamic.prefix.DynTable+H+Borrowed.from_prefix_as_stated.Given.{Over}
-use Rattle.odht.proofs.dynamic.prefix.DynTable+H+Borrowed.from_prefix_as_stated.Goals.{After-table_len}
-use Rattle.odht.proofs.dynamic.prefix.DynTable+H+Borrowed.from_prefix_as_stated.Goals as goal
+use Rattle.odht.proofs.prefix.DynTable+H+Borrowed.from_prefix_as_stated.Given.{Over}
+use Rattle.odht.proofs.prefix.DynTable+H+Borrowed.from_prefix_as_stated.Goals.{After-table_len}
+use Rattle.odht.proofs.prefix.DynTable+H+Borrowed.from_prefix_as_stated.Goals as goal
 
 -- the lengths that the code reads are those of a valid table at the front
 module _ (g : Over) (c : After-table_len g) (key_len value_len : ℕ) (table rest : List ℕ) (valid : IsValidBytes (format_of key_len value_len g.H.HashFn.hash) table) (joined : c.args.bytes.now ≡ table ++ rest) where

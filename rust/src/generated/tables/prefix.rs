@@ -1,19 +1,38 @@
-// Generated from crates/odht/src/dynamic/prefix.rt by make generate.
-//! A table at the front of longer bytes, of lengths that are known only at run time.
+// Generated from crates/odht/src/prefix.rt by make generate.
+//! A table at the front of longer bytes.
 
-use super::{stated_layout, DynError, DynTable};
 use crate::generated::tables::bytes::Borrowed;
+use crate::generated::tables::config::Config;
+use crate::generated::tables::dynamic::{check_key_len, stated_layout, DynError, DynTable};
 use crate::generated::tables::error::Error;
 use crate::generated::tables::hash::HashFn;
+use crate::generated::tables::hash_table::HashTable;
 use crate::generated::tables::layout::Layout;
-use crate::generated::tables::memory_layout::dynamic_table_len;
+use crate::generated::tables::memory_layout::{self, dynamic_table_len};
 
 /// How many bytes the table of these lengths at the front of `bytes` has, by its header. What
 /// follows is not looked at, nor is any slot, and the hash function does not matter.
 ///
-/// The first error: as [`table_len`](crate::generated::tables::memory_layout::table_len) returns it. Constant time.
+/// The first error: as [`memory_layout::table_len`] returns it. Constant time.
 pub fn table_len(layout: Layout, bytes: &[u8]) -> Result<usize, Error> {
     dynamic_table_len(bytes, layout)
+}
+
+impl<'a, C: Config> HashTable<C, Borrowed<'a>> {
+    /// Opens the table at the front of `bytes`, and returns it with the bytes behind it, which are
+    /// not looked at. How many bytes are the table's its header says, as
+    /// [`memory_layout::table_len`].
+    ///
+    /// Or the first error: those of that call, then those of the first ten slots, as
+    /// [`HashTable::from_raw_bytes`]. Valid bytes with anything behind them are always opened.
+    /// Constant time.
+    #[inline]
+    pub fn from_prefix(bytes: &'a [u8]) -> Result<(Self, &'a [u8]), Error> {
+        let len = memory_layout::table_len::<C>(bytes)?;
+        let (front, rest) = bytes.split_at(len);
+        let table = HashTable::from_raw_bytes(Borrowed::new(front))?;
+        Ok((table, rest))
+    }
 }
 
 impl<'a, H: HashFn> DynTable<H, Borrowed<'a>> {
@@ -25,9 +44,7 @@ impl<'a, H: HashFn> DynTable<H, Borrowed<'a>> {
     /// `Rejected` with those of [`table_len`], then those of the first ten slots, as
     /// [`DynTable::open`]. Valid bytes with anything behind them are always opened. Constant time.
     pub fn from_prefix(layout: Layout, bytes: &'a [u8]) -> Result<(Self, &'a [u8]), DynError> {
-        if (layout.key_len as usize) < H::MIN_LEN {
-            return Err(DynError::KeyTooShort { key_len: layout.key_len, least: H::MIN_LEN });
-        }
+        check_key_len::<H>(layout)?;
         match table_len(layout, bytes) {
             Ok(len) => DynTable::open_front(layout, bytes, len),
             Err(rejected) => Err(DynError::Rejected(rejected)),
@@ -48,13 +65,13 @@ impl<'a, H: HashFn> DynTable<H, Borrowed<'a>> {
         }
     }
 
-    // Opens the table of that many bytes at the front, and returns it with the bytes behind it.
+    // Opens the table that ends at an index, and returns it with the bytes behind it.
     fn open_front(
         layout: Layout,
         bytes: &'a [u8],
-        len: usize,
+        end: usize,
     ) -> Result<(Self, &'a [u8]), DynError> {
-        let (front, rest) = bytes.split_at(len);
+        let (front, rest) = bytes.split_at(end);
         let table = DynTable::open(layout, Borrowed::new(front))?;
         Ok((table, rest))
     }

@@ -4,7 +4,7 @@ use Rattle.odht_raw.specs.Words.{Format, format_of, view_refusal}
 use Rattle.odht_header.proofs.lemmas.Formats.{IsFormat-format_of}
 use Rattle.odht_raw.specs.Prefixes.{IsFront, front_refusal}
 use Rattle.odht_raw.proofs.lemmas.Prefixes.{front_refusal-prefix, front_refusal-view, valid_front}
-use Rattle.odht.proofs.hash_table.prefix.HashTable+C+Borrowed.from_prefix.Goals as goal
+use Rattle.odht.proofs.prefix.HashTable+C+Borrowed.from_prefix.Goals as goal
 
 pub returns-in_err-len-clause-err : goal.returns-in_err-len-clause-err
 returns-in_err-len-clause-err g c =
