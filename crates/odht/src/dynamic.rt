@@ -225,10 +225,8 @@ impl<H: HashFn, D: ByteStore> DynTable<H, D> {
         }
     }
 
-    /// Like `get`, and also returns how many groups of control bytes it read. On valid bytes these
-    /// are the groups up to the first slot of the key's probe order that is free or contains the
-    /// key. On any bytes it is at most one group for sixteen slots. docs/FORMAT.md, "Search",
-    /// defines the count. For a key of another length no group is read.
+    /// Like [`HashTable::get_counted`](crate::hash_table::HashTable::get_counted). A key of another
+    /// length has no value, and no group is read for it.
     pub fn get_counted(&self, key: &[u8]) -> (Option<&[u8]>, usize)
         ensures counted { length key.now ≡ self.now.key_len
             → IsCountedGet (dyn_coding self.now H.hash) (D.bytes self.now.store) key.now
@@ -267,9 +265,7 @@ impl<H: HashFn, D: ByteStore> DynTable<H, D> {
         self.as_dynamic().iter()
     }
 
-    /// Iterates over the slots from `from` on whose own control byte is below 128, in slot order,
-    /// each with its key and value. On valid bytes these are the pairs in these slots, each once.
-    /// If `from` is past the last slot, the iterator is empty.
+    /// Like [`HashTable::iter_from`](crate::hash_table::HashTable::iter_from).
     pub fn iter_from(&self, from: usize) -> DynSlots<'_, H>
         ensures slots { AreSlots (dyn_format self.now H.hash) (D.bytes self.now.store) from result }
         ensures few { length result ≤ usize.MAX }
@@ -285,12 +281,8 @@ impl<H: HashFn, D: ByteStore> DynTable<H, D> {
         Header::of(self.raw_bytes()).item_count()
     }
 
-    /// Returns whether the bytes are valid: those of a table that the format allows, to the last
-    /// byte (docs/FORMAT.md, "Valid bytes"). On valid bytes each lookup returns what a map would.
-    ///
-    /// It checks all of the bytes, and allocates nothing. It costs what
-    /// [`crate::memory_layout::check_all`] costs. [`crate::memory_layout::check_dynamic`] returns
-    /// the error.
+    /// Like [`HashTable::verify`](crate::hash_table::HashTable::verify).
+    /// [`crate::memory_layout::check_dynamic`] returns the error.
     pub fn verify(&self) -> bool
         ensures { IsTrue result
             ↔ IsValidBytes (dyn_format self.now H.hash) (D.bytes self.now.store) }
@@ -298,15 +290,8 @@ impl<H: HashFn, D: ByteStore> DynTable<H, D> {
         check_dynamic::<H>(self.store.bytes(), self.layout).is_ok()
     }
 
-    /// Returns whether the bytes are valid and all searches are short. Each home (the slot where a
-    /// search begins) must have a control byte that counts as free among the first `groups` groups
-    /// of its probe order. Then no search reads more groups, whether the key is present or absent.
-    /// Tables whose hashes vary keep within
-    /// [`DEFAULT_GROUPS`](crate::memory_layout::DEFAULT_GROUPS).
-    ///
-    /// Use it for untrusted bytes: for any bytes it costs no more than
-    /// [`crate::memory_layout::check_all_within`]. [`crate::memory_layout::check_dynamic_within`]
-    /// returns the error.
+    /// Like [`HashTable::verify_within`](crate::hash_table::HashTable::verify_within).
+    /// [`crate::memory_layout::check_dynamic_within`] returns the error.
     pub fn verify_within(&self, groups: usize) -> bool
         ensures { IsTrue result
             ↔ IsValidWithin (dyn_coding self.now H.hash) (D.bytes self.now.store) groups }
@@ -314,10 +299,7 @@ impl<H: HashFn, D: ByteStore> DynTable<H, D> {
         check_dynamic_within::<H>(self.store.bytes(), self.layout, groups).is_ok()
     }
 
-    /// Returns whether each home (the slot where a search begins) has a control byte that counts as
-    /// free among the first `groups` groups of its probe order. Then no search in valid bytes reads
-    /// more groups, whether the key is present or absent. It reads only control bytes: for `s`
-    /// slots at most `s * groups` groups.
+    /// Like [`HashTable::searches_within`](crate::hash_table::HashTable::searches_within).
     pub fn searches_within(&self, groups: usize) -> bool
         ensures { IsBound (dyn_coding self.now H.hash) (D.bytes self.now.store) groups result }
     {

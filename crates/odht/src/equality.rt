@@ -43,19 +43,14 @@ impl<C: Config, D: ByteStore> HashTable<C, D> {
 }
 
 impl<C: Config> HashTableOwned<C> {
-    /// Whether this table and another have the same keys with the same values, as bytes, whatever
-    /// their slot counts, their load factors and the order of their inserts. It costs what
-    /// [`HashTable::is_same_map`] does.
+    /// Like [`HashTable::is_same_map`], of two tables whose bytes are valid.
     pub fn is_same_map(&self, other: &HashTableOwned<C>) -> bool
         ensures { IsTrue result ↔ IsSameMap self.now other.now }
     {
         self.table.is_same_map(&other.table)
     }
 
-    /// Whether this table and another have the same bytes. Tables that are the same map may differ
-    /// in theirs.
-    ///
-    /// One pass over the bytes, up to the first that differ.
+    /// Like [`HashTable::has_same_bytes`].
     pub fn has_same_bytes(&self, other: &HashTableOwned<C>) -> bool
         ensures { IsTrue result ↔ (self.now ≡ other.now) }
     {

@@ -108,9 +108,7 @@ impl<H: HashFn, D: ByteStore> DynTable<H, D> {
         grow_parts::<Layout, H>(self.raw_bytes(), self.layout(), out);
     }
 
-    /// The length in bytes of a new table of these lengths for `max_item_count` items, at a load
-    /// factor in percent of the slots. None exactly where no slot count is enough, or the length
-    /// passes `usize`. docs/FORMAT.md, "Load factors", has the rule.
+    /// Like [`bytes_needed`](crate::hash_table::bytes_needed), of a table with these lengths.
     pub fn bytes_needed(
         layout: Layout,
         max_item_count: usize,
@@ -127,13 +125,10 @@ impl<H: HashFn, D: ByteStore> DynTable<H, D> {
 }
 
 impl<H: HashFn, D: ByteStoreMut> DynTable<H, D> {
-    /// Makes an empty table of these lengths for `max_item_count` items in a store, whatever its
-    /// bytes were. The load factor is in percent of the slots.
-    ///
-    /// `KeyTooShort` where the hash function needs longer keys; then `Rejected` with `Capacity` or
-    /// `InitLength`, as [`HashTable::init_store`](crate::hash_table::HashTable::init_store)
-    /// returns them. An error leaves the store as it was. Where there is none,
-    /// [`DynTable::open_unchecked`] accepts the store. One pass over the bytes.
+    /// Like [`HashTable::init_store`](crate::hash_table::HashTable::init_store), with these key and
+    /// value lengths. The error is `KeyTooShort` if the hash function needs longer keys. Otherwise
+    /// it is `Rejected` with the error of that call. If there is none,
+    /// [`DynTable::open_unchecked`] accepts the store.
     pub fn init_store(
         layout: Layout,
         store: &mut D,

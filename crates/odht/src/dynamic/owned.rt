@@ -49,13 +49,9 @@ impl<H: HashFn> Model for DynTableOwned<H> {
 }
 
 impl<H: HashFn> DynTableOwned<H> {
-    /// Creates an empty table with these key and value lengths, which takes at least
-    /// `max_item_count` items before it grows. The load factor is in percent of the slots.
-    /// docs/FORMAT.md, "Load factors", specifies the rule.
-    ///
-    /// The error is `KeyTooShort` if the hash function needs longer keys. Otherwise it is
-    /// `Rejected` with `Capacity` exactly if no slot count is large enough, or the length exceeds
-    /// `usize::MAX`. Otherwise it is `Rejected` with `Memory` if allocation fails.
+    /// Like [`with_capacity`](crate::hash_table_owned::HashTableOwned::with_capacity) of a typed
+    /// table, with these key and value lengths. The error is `KeyTooShort` if the hash function
+    /// needs longer keys. Otherwise it is `Rejected` with the error of that call.
     pub fn with_capacity(
         alloc: Global,
         layout: Layout,
@@ -81,12 +77,9 @@ impl<H: HashFn> DynTableOwned<H> {
         }
     }
 
-    /// Checks all of the bytes as a table with these key and value lengths, and copies them.
-    ///
-    /// The error is `KeyTooShort` if the hash function needs longer keys. Otherwise it is
-    /// `Rejected` with the error of [`memory_layout::check_all`](crate::memory_layout::check_all),
-    /// before anything is allocated. Otherwise it is `Rejected` with `Memory` if allocation fails.
-    /// The check never rejects valid bytes, and costs what that call costs.
+    /// Like [`from_raw_bytes`](crate::hash_table_owned::HashTableOwned::from_raw_bytes) of a typed
+    /// table, with these key and value lengths. The error is `KeyTooShort` if the hash function
+    /// needs longer keys. Otherwise it is `Rejected` with the error of that call.
     pub fn from_raw_bytes(alloc: Global, layout: Layout, raw_bytes: &[u8]) -> Result<Self, DynError>
         ensures ok { let F = format_of layout.key_len layout.value_len H.hash
             in IfOk result (IsDynWith layout.key_len layout.value_len
@@ -140,9 +133,7 @@ impl<H: HashFn> DynTableOwned<H> {
         self.table.get(key)
     }
 
-    /// Like `get`, and also returns how many groups of control bytes it read: the groups up to the
-    /// first slot of the key's probe order that is free or contains the key. docs/FORMAT.md,
-    /// "Search", defines the count. For a key of another length no group is read.
+    /// Like [`DynTable::get_counted`].
     #[inline]
     pub fn get_counted(&self, key: &[u8]) -> (Option<&[u8]>, usize)
         ensures value { option_copied result.0 ≡ map_of self.now.store key.now }
@@ -161,17 +152,12 @@ impl<H: HashFn> DynTableOwned<H> {
         self.table.contains_key(key)
     }
 
-    /// Gives the key this value, and returns its former one, or None. At the maximum the table
-    /// grows for an absent key; a present key is given its value in place, which takes no memory.
-    /// docs/FORMAT.md, "Insert" and "Growth", has the rules.
+    /// Like [`HashTableOwned::insert`](crate::hash_table_owned::HashTableOwned::insert). It returns
+    /// the first error, and then nothing changes:
     ///
-    /// The first error: `WrongKeyLength` where the key has another length than the table's keys;
-    /// `WrongValueLength` where the value has another one than its values; then `Rejected` with
-    /// `Memory`, only at the maximum and for an absent key, where the allocator gives none, or the
-    /// grown table would need more than 2^63 slots, or more bytes than a `usize` counts; that it
-    /// comes for no other reason, no clause says. On an error nothing changes.
-    ///
-    /// The key is hashed once, and again at a growth, which hashes and places each item again.
+    /// - `WrongKeyLength` if the key has another length than the table's keys.
+    /// - `WrongValueLength` if the value has another length than the table's values.
+    /// - `Rejected` with the error of that call.
     pub fn insert(&mut self, key: &[u8], value: &[u8]) -> Result<Option<ShortBytes>, DynError>
         ensures former { IfOk result (λ former. former ≡ map_of self.old.store key.now) }
         ensures inserted { let c = dyn_coding self.old H.hash in OnOk result (insert_owned
@@ -222,16 +208,8 @@ impl<H: HashFn> DynTableOwned<H> {
         Ok(former)
     }
 
-    /// Makes room for `additional` more items: that many new keys can be inserted before the table
-    /// grows. Where it has the room nothing changes, and no memory is asked for. Otherwise the
-    /// pairs are placed in slot order into the least slot count that is enough for as many items
-    /// as there are and `additional` more, at the same load factor, as at a growth.
-    ///
-    /// Where the room is lacking, `Rejected` with `Capacity` exactly where no slot count is
-    /// enough, or the length passes `usize`; otherwise with `Memory` where the allocator gives
-    /// none. On an error nothing changes.
-    ///
-    /// Where it moves, one pass over the slots; each item is hashed once. No key is compared.
+    /// Like [`HashTableOwned::reserve`](crate::hash_table_owned::HashTableOwned::reserve), with its
+    /// error as `Rejected`.
     pub fn reserve(&mut self, additional: usize) -> Result<(), DynError>
         ensures reserved { let c = dyn_coding self.old H.hash in IsRejecting
             (λ r. IsPlainReserve c self.old.store additional r self.new.store) result }

@@ -147,10 +147,8 @@ impl<H: HashFn, D: ByteStore> DynTable<H, D> {
         }
     }
 
-    /// Like `get`, and also returns how many groups of control bytes it read. On valid bytes these
-    /// are the groups up to the first slot of the key's probe order that is free or contains the
-    /// key. On any bytes it is at most one group for sixteen slots. docs/FORMAT.md, "Search",
-    /// defines the count. For a key of another length no group is read.
+    /// Like [`HashTable::get_counted`](crate::generated::tables::hash_table::HashTable::get_counted). A key of another
+    /// length has no value, and no group is read for it.
     pub fn get_counted(&self, key: &[u8]) -> (Option<&[u8]>, usize) {
         if !self.takes(key) {
             return (None, 0);
@@ -176,9 +174,7 @@ impl<H: HashFn, D: ByteStore> DynTable<H, D> {
         self.as_dynamic().iter()
     }
 
-    /// Iterates over the slots from `from` on whose own control byte is below 128, in slot order,
-    /// each with its key and value. On valid bytes these are the pairs in these slots, each once.
-    /// If `from` is past the last slot, the iterator is empty.
+    /// Like [`HashTable::iter_from`](crate::generated::tables::hash_table::HashTable::iter_from).
     pub fn iter_from(&self, from: usize) -> DynSlots<'_, H> {
         self.as_dynamic().iter_from(from)
     }
@@ -189,33 +185,19 @@ impl<H: HashFn, D: ByteStore> DynTable<H, D> {
         Header::of(self.raw_bytes()).item_count()
     }
 
-    /// Returns whether the bytes are valid: those of a table that the format allows, to the last
-    /// byte (docs/FORMAT.md, "Valid bytes"). On valid bytes each lookup returns what a map would.
-    ///
-    /// It checks all of the bytes, and allocates nothing. It costs what
-    /// [`crate::generated::tables::memory_layout::check_all`] costs. [`crate::generated::tables::memory_layout::check_dynamic`] returns
-    /// the error.
+    /// Like [`HashTable::verify`](crate::generated::tables::hash_table::HashTable::verify).
+    /// [`crate::generated::tables::memory_layout::check_dynamic`] returns the error.
     pub fn verify(&self) -> bool {
         check_dynamic::<H>(self.store.bytes(), self.layout).is_ok()
     }
 
-    /// Returns whether the bytes are valid and all searches are short. Each home (the slot where a
-    /// search begins) must have a control byte that counts as free among the first `groups` groups
-    /// of its probe order. Then no search reads more groups, whether the key is present or absent.
-    /// Tables whose hashes vary keep within
-    /// [`DEFAULT_GROUPS`](crate::generated::tables::memory_layout::DEFAULT_GROUPS).
-    ///
-    /// Use it for untrusted bytes: for any bytes it costs no more than
-    /// [`crate::generated::tables::memory_layout::check_all_within`]. [`crate::generated::tables::memory_layout::check_dynamic_within`]
-    /// returns the error.
+    /// Like [`HashTable::verify_within`](crate::generated::tables::hash_table::HashTable::verify_within).
+    /// [`crate::generated::tables::memory_layout::check_dynamic_within`] returns the error.
     pub fn verify_within(&self, groups: usize) -> bool {
         check_dynamic_within::<H>(self.store.bytes(), self.layout, groups).is_ok()
     }
 
-    /// Returns whether each home (the slot where a search begins) has a control byte that counts as
-    /// free among the first `groups` groups of its probe order. Then no search in valid bytes reads
-    /// more groups, whether the key is present or absent. It reads only control bytes: for `s`
-    /// slots at most `s * groups` groups.
+    /// Like [`HashTable::searches_within`](crate::generated::tables::hash_table::HashTable::searches_within).
     pub fn searches_within(&self, groups: usize) -> bool {
         self.as_dynamic().searches_within(groups)
     }

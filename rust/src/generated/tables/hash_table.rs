@@ -117,9 +117,9 @@ impl<C: Config, D: ByteStore> HashTable<C, D> {
         Iter { raw: RawIter::new(control, entries) }
     }
 
-    /// The slots from slot `from` on whose own control byte is below 128, in slot order, each with
-    /// its key and value: on valid bytes each pair in these slots once. Nothing where `from` is
-    /// past the last slot.
+    /// Iterates over the slots from `from` on whose own control byte is below 128, in slot order,
+    /// each with its key and value. On valid bytes these are the pairs in these slots, each once.
+    /// If `from` is past the last slot, the iterator is empty.
     #[inline]
     pub fn iter_from(&self, from: usize) -> Slots<'_, C> {
         let (control, entries) = self.allocation.data_slices();
@@ -142,22 +142,22 @@ impl<C: Config, D: ByteStore> HashTable<C, D> {
         self.allocation.check_rest().is_ok()
     }
 
-    /// Whether the bytes are valid and each home has, among the first `groups` groups of its probe
-    /// order, a control byte that counts as free. Then no search, of a present or an absent key,
-    /// reads more. [`DEFAULT_GROUPS`](crate::generated::tables::memory_layout::DEFAULT_GROUPS) is a bound that tables
-    /// of hashes that vary keep.
+    /// Returns whether the bytes are valid and all searches are short. Each home (the slot where a
+    /// search begins) must have a control byte that counts as free among the first `groups` groups
+    /// of its probe order. Then no search reads more groups, whether the key is present or absent.
+    /// Tables whose hashes vary keep within
+    /// [`DEFAULT_GROUPS`](crate::generated::tables::memory_layout::DEFAULT_GROUPS).
     ///
-    /// It is for untrusted bytes: whatever they are it costs no more than
-    /// [`memory_layout::check_all_within`](crate::generated::tables::memory_layout::check_all_within), which returns
-    /// the error.
+    /// Use it for untrusted bytes: for any bytes it costs no more than
+    /// [`memory_layout::check_all_within`], which returns the error.
     pub fn verify_within(&self, groups: usize) -> bool {
         self.allocation.check_rest_within(groups).is_ok()
     }
 
-    /// Whether each home has, among the first `groups` groups of its probe order, a control byte
-    /// that counts as free. Then no search in valid bytes, of a present or an absent key, reads
-    /// more. It reads only control bytes: for `s` slots at most `s * groups` groups. An insert
-    /// may lengthen searches, so what holds before inserts need not hold after them.
+    /// Returns whether each home (the slot where a search begins) has a control byte that counts as
+    /// free among the first `groups` groups of its probe order. Then no search in valid bytes reads
+    /// more groups, whether the key is present or absent. It reads only control bytes: for `s`
+    /// slots at most `s * groups` groups. Inserts may lengthen searches: call it again after them.
     pub fn searches_within(&self, groups: usize) -> bool {
         self.as_raw().searches_within(groups)
     }

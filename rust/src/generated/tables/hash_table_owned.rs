@@ -81,17 +81,13 @@ impl<C: Config> HashTableOwned<C> {
         self.table.get(key)
     }
 
-    /// `get` of many keys: the value of each key is written to its index. The loads of eight keys
-    /// overlap, so that many lookups in a large table are faster than one `get` after the other.
-    /// It costs what `get_all` of a view does.
+    /// Like [`HashTable::get_all`].
     #[inline]
     pub fn get_all(&self, keys: &[C::Key], values: &mut [Option<C::Value>]) {
         self.table.get_all(keys, values);
     }
 
-    /// Like `get`, and also returns how many groups of control bytes it read: the groups up to the
-    /// first slot of the key's probe order that is free or contains the key. docs/FORMAT.md,
-    /// "Search", defines the count.
+    /// Like [`HashTable::get_counted`].
     #[inline]
     pub fn get_counted(&self, key: &C::Key) -> (Option<C::Value>, usize) {
         self.table.get_counted(key)

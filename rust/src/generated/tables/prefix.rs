@@ -36,13 +36,8 @@ impl<'a, C: Config> HashTable<C, Borrowed<'a>> {
 }
 
 impl<'a, H: HashFn> DynTable<H, Borrowed<'a>> {
-    /// Opens the table of these lengths at the front of `bytes`, and returns it with the bytes
-    /// behind it, which are not looked at. How many bytes are the table's its header says, as
-    /// [`table_len`].
-    ///
-    /// Or the first error: `KeyTooShort` where the hash function needs longer keys; then
-    /// `Rejected` with those of [`table_len`], then those of the first ten slots, as
-    /// [`DynTable::open`]. Valid bytes with anything behind them are always opened. Constant time.
+    /// Like [`HashTable::from_prefix`], with these lengths. The first error is `KeyTooShort` if the
+    /// hash function needs longer keys. Otherwise it is `Rejected` with the error of that call.
     pub fn from_prefix(layout: Layout, bytes: &'a [u8]) -> Result<(Self, &'a [u8]), DynError> {
         check_key_len::<H>(layout)?;
         match table_len(layout, bytes) {

@@ -32,8 +32,7 @@ impl<C: Config> HashTableOwned<C> {
         self.insert_all(items.as_slice())
     }
 
-    /// `insert_all` of items in any form, such as the keys and the values of two slices
-    /// ([`Zipped`](crate::generated::tables::items::Zipped)).
+    /// `insert_all` of items in any form, such as [`Zipped`](crate::generated::tables::items::Zipped).
     #[inline(always)]
     pub fn insert_items<I: Items<C::Key, C::Value>>(
         &mut self,
