@@ -84,7 +84,7 @@ impl<C: Config, M: ByteStore> Allocation<C, M> {
         requires { IsAccepted ⟦<C as Coded>⟧.coding.format (M.bytes «data») }
         ensures { result ≡ «data» }
     {
-        // A slice's length is below 2^64, so that of the store's bytes is too.
+        // For the prover: the length of a slice, and so of the store's bytes, is below 2^64.
         let _ = data.bytes();
         Allocation {
             store: data,
@@ -145,6 +145,7 @@ impl<C: Config, M: ByteStore> Allocation<C, M> {
     {
         let lengths: Fixed<C::EncodedKey, C::EncodedValue> = Fixed::new();
         let bytes = self.store.bytes();
+        // As in `parts_in`, but an owned store needs no check of its slot count (`tools/erase`).
         let slots = Header::of(bytes).slot_count();
         let parts = cut::<Fixed<C::EncodedKey, C::EncodedValue>, C::H>(bytes, slots, lengths);
         (parts.controls(), Entries::of(parts.stored()))

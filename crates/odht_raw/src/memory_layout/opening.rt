@@ -156,7 +156,7 @@ pub(super) fn cut<L: Lengths, H: HashFn>(bytes: &[u8], slots: usize, lengths: L)
     let control_at = HEADER_SIZE + slots * lengths.entry_len();
     let stored = Stored::new(&bytes[HEADER_SIZE..control_at], slots, lengths);
     let parts = Parts::of(&bytes[control_at..], stored);
-    // To read them is what tells the prover how many they are.
+    // For the prover: they are 16 more than the slots.
     let _ = parts.controls();
     parts
 }

@@ -353,7 +353,7 @@ impl<'a, L: Lengths, H: HashFn> Parts<'a, L, H> {
         ensures { let F = parts_format self.now H.hash
             in result ≡ former_of F self.now.parts.entries.bytes end }
     {
-        // Its lengths are used: a value has at most 255 bytes.
+        // For the prover: a value has at most 255 bytes.
         let _ = self.len();
         match self.value_at(end) {
             Some(value) => Some(ShortBytes::of(value)),

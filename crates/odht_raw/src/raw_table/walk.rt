@@ -238,7 +238,7 @@ impl<'a, L: Lengths, H: HashFn> PartPairs<'a, L, H> {
         ensures lengths { All (HasLengthsOf table.entry.key_len table.entry.value_len) result }
         ensures few { length result ≤ table.entry.parts.entries.slots }
     {
-        // Its lengths are used: those of the entries are those of the slots.
+        // For the prover: the entries have the lengths of the slots.
         let _ = table.len();
         PartPairs {
             slots: PartSlots::new(table, 0),
