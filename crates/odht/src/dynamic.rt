@@ -225,8 +225,9 @@ impl<H: HashFn, D: ByteStore> DynTable<H, D> {
         }
     }
 
-    /// Like [`HashTable::get_counted`](crate::hash_table::HashTable::get_counted). A key of another
-    /// length has no value, and no group is read for it.
+    /// Like `get`, and also returns how many groups of control bytes it read, as
+    /// [`HashTable::get_counted`](crate::hash_table::HashTable::get_counted) counts them. For a key
+    /// of another length no group is read.
     pub fn get_counted(&self, key: &[u8]) -> (Option<&[u8]>, usize)
         ensures counted { length key.now ≡ self.now.key_len
             → IsCountedGet (dyn_coding self.now H.hash) (D.bytes self.now.store) key.now
@@ -265,7 +266,8 @@ impl<H: HashFn, D: ByteStore> DynTable<H, D> {
         self.as_dynamic().iter()
     }
 
-    /// Like [`HashTable::iter_from`](crate::hash_table::HashTable::iter_from).
+    /// Iterates over the pairs in the slots from `from` on, each with its slot, like
+    /// [`HashTable::iter_from`](crate::hash_table::HashTable::iter_from).
     pub fn iter_from(&self, from: usize) -> DynSlots<'_, H>
         ensures slots { AreSlots (dyn_format self.now H.hash) (D.bytes self.now.store) from result }
         ensures few { length result ≤ usize.MAX }
@@ -281,7 +283,8 @@ impl<H: HashFn, D: ByteStore> DynTable<H, D> {
         Header::of(self.raw_bytes()).item_count()
     }
 
-    /// Like [`HashTable::verify`](crate::hash_table::HashTable::verify).
+    /// Returns whether the bytes are valid, like
+    /// [`HashTable::verify`](crate::hash_table::HashTable::verify).
     /// [`crate::memory_layout::check_dynamic`] returns the error.
     pub fn verify(&self) -> bool
         ensures { IsTrue result
@@ -290,7 +293,8 @@ impl<H: HashFn, D: ByteStore> DynTable<H, D> {
         check_dynamic::<H>(self.store.bytes(), self.layout).is_ok()
     }
 
-    /// Like [`HashTable::verify_within`](crate::hash_table::HashTable::verify_within).
+    /// Returns whether the bytes are valid and no search reads more than `groups` groups, like
+    /// [`HashTable::verify_within`](crate::hash_table::HashTable::verify_within).
     /// [`crate::memory_layout::check_dynamic_within`] returns the error.
     pub fn verify_within(&self, groups: usize) -> bool
         ensures { IsTrue result
@@ -299,7 +303,8 @@ impl<H: HashFn, D: ByteStore> DynTable<H, D> {
         check_dynamic_within::<H>(self.store.bytes(), self.layout, groups).is_ok()
     }
 
-    /// Like [`HashTable::searches_within`](crate::hash_table::HashTable::searches_within).
+    /// Returns whether no search reads more than `groups` groups, by the control bytes, like
+    /// [`HashTable::searches_within`](crate::hash_table::HashTable::searches_within).
     pub fn searches_within(&self, groups: usize) -> bool
         ensures { IsBound (dyn_coding self.now H.hash) (D.bytes self.now.store) groups result }
     {

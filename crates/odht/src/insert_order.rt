@@ -59,8 +59,9 @@ impl<C: Config> HashTableOwned<C> {
 }
 
 impl<H: HashFn, D: ByteStore> DynTable<H, D> {
-    /// Like [`HashTableOwned::insert_order`]. The bytes must be valid ([`DynTable::verify`]): for
-    /// others the result and `out` have no meaning.
+    /// Lists the occupied slots in an order of inserts that makes this table, and returns whether
+    /// there is one, like [`HashTableOwned::insert_order`]. The bytes must be valid
+    /// ([`DynTable::verify`]): for others the result and `out` have no meaning.
     pub fn insert_order(&self, out: &mut [usize]) -> bool
         requires valid { IsValidBytes (dyn_format self.now H.hash) (D.bytes self.now.store) }
         requires counted { OfTable (dyn_format self.now H.hash) (D.bytes self.now.store)
@@ -73,8 +74,9 @@ impl<H: HashFn, D: ByteStore> DynTable<H, D> {
         self.as_dynamic().insert_order(out)
     }
 
-    /// Like [`HashTableOwned::insert_order_with`]. The bytes must be valid
-    /// ([`DynTable::verify`]): for others the result and `out` have no meaning.
+    /// Like `insert_order`, for untrusted tables: its time has a bound, as that of
+    /// [`HashTableOwned::insert_order_with`]. The bytes must be valid ([`DynTable::verify`]): for
+    /// others the result and `out` have no meaning.
     pub fn insert_order_with(&self, out: &mut [usize], scratch: &mut [usize]) -> bool
         requires valid { IsValidBytes (dyn_format self.now H.hash) (D.bytes self.now.store) }
         requires counted { OfTable (dyn_format self.now H.hash) (D.bytes self.now.store)
@@ -87,7 +89,8 @@ impl<H: HashFn, D: ByteStore> DynTable<H, D> {
         self.as_dynamic().insert_order_with(out, scratch)
     }
 
-    /// Like [`HashTableOwned::insert_order_scratch`].
+    /// Returns the length of the scratch that `insert_order_with` needs: three numbers for each
+    /// slot.
     pub fn insert_order_scratch(&self) -> usize
         ensures { result ≡ min (3 * header_slots (D.bytes self.now.store)) (2 ^ 64 - 1) }
     {

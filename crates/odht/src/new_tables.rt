@@ -108,7 +108,8 @@ impl<H: HashFn, D: ByteStore> DynTable<H, D> {
         grow_parts::<Layout, H>(self.raw_bytes(), self.layout(), out);
     }
 
-    /// Like [`bytes_needed`](crate::hash_table::bytes_needed), of a table with these lengths.
+    /// Returns the length in bytes of a new table with these lengths for `max_item_count` items, like
+    /// [`bytes_needed`](crate::hash_table::bytes_needed) of a typed table.
     pub fn bytes_needed(
         layout: Layout,
         max_item_count: usize,
@@ -125,8 +126,8 @@ impl<H: HashFn, D: ByteStore> DynTable<H, D> {
 }
 
 impl<H: HashFn, D: ByteStoreMut> DynTable<H, D> {
-    /// Like [`HashTable::init_store`](crate::hash_table::HashTable::init_store), with these key and
-    /// value lengths. The error is `KeyTooShort` if the hash function needs longer keys. Otherwise
+    /// Makes an empty table with these key and value lengths in a store, like
+    /// [`HashTable::init_store`](crate::hash_table::HashTable::init_store). The error is `KeyTooShort` if the hash function needs longer keys. Otherwise
     /// it is `Rejected` with the error of that call. If there is none,
     /// [`DynTable::open_unchecked`] accepts the store.
     pub fn init_store(

@@ -49,8 +49,9 @@ impl<H: HashFn> Model for DynTableOwned<H> {
 }
 
 impl<H: HashFn> DynTableOwned<H> {
-    /// Like [`with_capacity`](crate::hash_table_owned::HashTableOwned::with_capacity) of a typed
-    /// table, with these key and value lengths. The error is `KeyTooShort` if the hash function
+    /// Creates an empty table with these key and value lengths, which takes at least
+    /// `max_item_count` items before it grows, like
+    /// [`with_capacity`](crate::hash_table_owned::HashTableOwned::with_capacity). The error is `KeyTooShort` if the hash function
     /// needs longer keys. Otherwise it is `Rejected` with the error of that call.
     pub fn with_capacity(
         alloc: Global,
@@ -77,8 +78,8 @@ impl<H: HashFn> DynTableOwned<H> {
         }
     }
 
-    /// Like [`from_raw_bytes`](crate::hash_table_owned::HashTableOwned::from_raw_bytes) of a typed
-    /// table, with these key and value lengths. The error is `KeyTooShort` if the hash function
+    /// Checks all of the bytes as a table with these key and value lengths, and copies them, like
+    /// [`from_raw_bytes`](crate::hash_table_owned::HashTableOwned::from_raw_bytes). The error is `KeyTooShort` if the hash function
     /// needs longer keys. Otherwise it is `Rejected` with the error of that call.
     pub fn from_raw_bytes(alloc: Global, layout: Layout, raw_bytes: &[u8]) -> Result<Self, DynError>
         ensures ok { let F = format_of layout.key_len layout.value_len H.hash
@@ -133,7 +134,8 @@ impl<H: HashFn> DynTableOwned<H> {
         self.table.get(key)
     }
 
-    /// Like [`DynTable::get_counted`].
+    /// Like `get`, and also returns how many groups of control bytes it read, like
+    /// [`DynTable::get_counted`].
     #[inline]
     pub fn get_counted(&self, key: &[u8]) -> (Option<&[u8]>, usize)
         ensures value { option_copied result.0 ≡ map_of self.now.store key.now }
@@ -152,8 +154,10 @@ impl<H: HashFn> DynTableOwned<H> {
         self.table.contains_key(key)
     }
 
-    /// Like [`HashTableOwned::insert`](crate::hash_table_owned::HashTableOwned::insert). It returns
-    /// the first error, and then nothing changes:
+    /// Gives the key this value, and returns its former one, or None. At the maximum the table
+    /// grows for a new key, like
+    /// [`HashTableOwned::insert`](crate::hash_table_owned::HashTableOwned::insert). It returns the
+    /// first error, and then nothing changes:
     ///
     /// - `WrongKeyLength` if the key has another length than the table's keys.
     /// - `WrongValueLength` if the value has another length than the table's values.
@@ -208,8 +212,9 @@ impl<H: HashFn> DynTableOwned<H> {
         Ok(former)
     }
 
-    /// Like [`HashTableOwned::reserve`](crate::hash_table_owned::HashTableOwned::reserve), with its
-    /// error as `Rejected`.
+    /// Makes room for `additional` more items, like
+    /// [`HashTableOwned::reserve`](crate::hash_table_owned::HashTableOwned::reserve). The error is
+    /// `Rejected` with the error of that call, and then nothing changes.
     pub fn reserve(&mut self, additional: usize) -> Result<(), DynError>
         ensures reserved { let c = dyn_coding self.old H.hash in IsRejecting
             (λ r. IsPlainReserve c self.old.store additional r self.new.store) result }

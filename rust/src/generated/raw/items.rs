@@ -64,7 +64,7 @@ pub(crate) fn encode_pair<C: Config>(
 ) -> (C::EncodedKey, C::EncodedValue) {
     let key = C::encode_key(key);
     let value = C::encode_value(value);
-    // To read them is what tells the prover how long they are.
+    // For the prover: how long they are.
     let _ = key.as_slice();
     let _ = value.as_slice();
     (key, value)
@@ -127,7 +127,7 @@ impl<'a, C: Config, I: Items<C::Key, C::Value>> EncodedItems for Encoded<'a, C, 
     fn key(&self, index: usize) -> C::EncodedKey {
         let (key, _) = self.items.at(index);
         let key = C::encode_key(key);
-        // To read it is what tells the prover how long it is.
+        // For the prover: how long it is.
         let _ = key.as_slice();
         key
     }

@@ -81,13 +81,14 @@ impl<C: Config> HashTableOwned<C> {
         self.table.get(key)
     }
 
-    /// Like [`HashTable::get_all`].
+    /// Looks up many keys: writes the value of each key to its index, like [`HashTable::get_all`].
     #[inline]
     pub fn get_all(&self, keys: &[C::Key], values: &mut [Option<C::Value>]) {
         self.table.get_all(keys, values);
     }
 
-    /// Like [`HashTable::get_counted`].
+    /// Like `get`, and also returns how many groups of control bytes it read: the groups up to the
+    /// first slot of the key's probe order that is free or contains the key.
     #[inline]
     pub fn get_counted(&self, key: &C::Key) -> (Option<C::Value>, usize) {
         self.table.get_counted(key)

@@ -43,19 +43,22 @@ impl<C: Config> HashTableOwned<C> {
 }
 
 impl<H: HashFn, D: ByteStore> DynTable<H, D> {
-    /// Like [`HashTableOwned::insert_order`]. The bytes must be valid ([`DynTable::verify`]): for
-    /// others the result and `out` have no meaning.
+    /// Lists the occupied slots in an order of inserts that makes this table, and returns whether
+    /// there is one, like [`HashTableOwned::insert_order`]. The bytes must be valid
+    /// ([`DynTable::verify`]): for others the result and `out` have no meaning.
     pub fn insert_order(&self, out: &mut [usize]) -> bool {
         self.as_dynamic().insert_order(out)
     }
 
-    /// Like [`HashTableOwned::insert_order_with`]. The bytes must be valid
-    /// ([`DynTable::verify`]): for others the result and `out` have no meaning.
+    /// Like `insert_order`, for untrusted tables: its time has a bound, as that of
+    /// [`HashTableOwned::insert_order_with`]. The bytes must be valid ([`DynTable::verify`]): for
+    /// others the result and `out` have no meaning.
     pub fn insert_order_with(&self, out: &mut [usize], scratch: &mut [usize]) -> bool {
         self.as_dynamic().insert_order_with(out, scratch)
     }
 
-    /// Like [`HashTableOwned::insert_order_scratch`].
+    /// Returns the length of the scratch that `insert_order_with` needs: three numbers for each
+    /// slot.
     pub fn insert_order_scratch(&self) -> usize {
         self.as_dynamic().insert_order_scratch()
     }

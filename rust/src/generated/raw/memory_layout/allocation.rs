@@ -45,7 +45,7 @@ impl<C: Config, M: ByteStore> Allocation<C, M> {
     /// checked.
     #[inline]
     pub fn from_raw_bytes_unchecked(data: M) -> Self {
-        // A slice's length is below 2^64, so that of the store's bytes is too.
+        // For the prover: the length of a slice, and so of the store's bytes, is below 2^64.
         let _ = data.bytes();
         Allocation { store: data, config: PhantomData }
     }
@@ -75,6 +75,7 @@ impl<C: Config, M: ByteStore> Allocation<C, M> {
     pub fn data_slices(&self) -> (&[EntryMetadata], Entries<'_, C::EncodedKey, C::EncodedValue>) {
         let lengths: Fixed<C::EncodedKey, C::EncodedValue> = Fixed::new();
         let bytes = self.store.bytes();
+        // As in `parts_in`, but an owned store needs no check of its slot count (`tools/erase`).
         let slots = Header::of(bytes).slot_count();
         crate::shim::slots::check::<M>(
             bytes.len(),

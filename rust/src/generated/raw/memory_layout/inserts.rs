@@ -19,9 +19,9 @@ use crate::generated::raw::swisstable_group_query::Group;
 // Writes the pair where the search for its key ended, which comes with the key's tag, and counts
 // a new entry. Returns whether it wrote: not, with nothing changed, where the key is new and the
 // header's item count is its maximum or more, or no slot is free. The caller's error is `Full`
-// then. The slot count is that of the header, which is read once for an insert.
+// then. The slot count is that of the header, which the caller has read.
 //
-// In the clause the former value stands in an Ok. It is not returned.
+// The clause names the key's former value as if it were returned, for the callers that read it.
 #[inline(always)]
 fn insert_in<L: Lengths, H: HashFn>(
     bytes: &mut [u8],
@@ -113,7 +113,7 @@ pub fn insert_items_dynamic<'a, H: HashFn>(
 
 /// Inserts the items from index `from` on in their order, up to the first that does not fit, or
 /// for which an insert returns `Full`, in bytes of that many slots. Returns the index after the
-/// last item that was inserted. The header is read once, and the item count is written once.
+/// last item that was inserted. It reads the item count once, and writes it once.
 #[inline(always)]
 pub(crate) fn insert_items_in<L: Lengths, H: HashFn, I: EncodedItems>(
     bytes: &mut [u8],

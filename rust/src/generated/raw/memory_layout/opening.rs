@@ -105,7 +105,7 @@ pub(super) fn cut<L: Lengths, H: HashFn>(
     );
     let parts =
         Parts::of(&index!(bytes[control_at..], "length bytes.now ≡ image_len F slots"), stored);
-    // To read them is what tells the prover how many they are.
+    // For the prover: they are 16 more than the slots.
     let _ = parts.controls();
     parts
 }

@@ -47,8 +47,8 @@ pub fn search_hashed<K: ByteArray, V: ByteArray, H: HashFn, Q: Group>(
     search_stored::<Fixed<K, V>, H, Q>(scan, &entries.stored(), key.as_slice(), hash)
 }
 
-/// The search for a key with this hash among the keys of the entries. It reads control bytes only
-/// through the scan, which counts each group.
+/// [`search`], which has the rules, for a key with this hash and entries of any lengths. Lookups and
+/// inserts call it. It reads control bytes only through the scan, which counts each group.
 #[inline(always)]
 pub(super) fn search_stored<L: Lengths, H: HashFn, Q: Group>(
     scan: &mut Scan<'_>,

@@ -212,7 +212,7 @@ impl<'a, L: Lengths, H: HashFn> Parts<'a, L, H> {
     /// The value of the key that an insert searched for, by value, where the search found it.
     #[inline(always)]
     pub(crate) fn short_value_at(&self, end: Search) -> Option<ShortBytes> {
-        // Its lengths are used: a value has at most 255 bytes.
+        // For the prover: a value has at most 255 bytes.
         let _ = self.len();
         match self.value_at(end) {
             Some(value) => Some(ShortBytes::of(value)),

@@ -142,7 +142,7 @@ pub type DynIter<'a, H> = PartPairs<'a, Layout, H>;
 impl<'a, L: Lengths, H: HashFn> PartPairs<'a, L, H> {
     /// The walk over all slots.
     pub fn new(table: Parts<'a, L, H>) -> Self {
-        // Its lengths are used: those of the entries are those of the slots.
+        // For the prover: the entries have the lengths of the slots.
         let _ = table.len();
         PartPairs { slots: PartSlots::new(table, 0) }
     }

@@ -19,7 +19,7 @@ use crate::generated::raw::swisstable_group_query::{Group, REFERENCE_GROUP_SIZE}
 /// slot. Returns whether it wrote: not, with nothing changed, where there is no room for a new
 /// entry, or the search met neither slot. The caller's error is `Full` then.
 ///
-/// In the clause the former value stands in an Ok. It is not returned.
+/// The clause names the key's former value as if it were returned, for the callers that read it.
 // It returns no `Result`: the room for its errors is cleared, which kept the compiler from going
 // from where a search ends straight to what is written there.
 #[inline(always)]

@@ -24,8 +24,9 @@ pub struct DynTableOwned<H: HashFn> {
 }
 
 impl<H: HashFn> DynTableOwned<H> {
-    /// Like [`with_capacity`](crate::generated::tables::hash_table_owned::HashTableOwned::with_capacity) of a typed
-    /// table, with these key and value lengths. The error is `KeyTooShort` if the hash function
+    /// Creates an empty table with these key and value lengths, which takes at least
+    /// `max_item_count` items before it grows, like
+    /// [`with_capacity`](crate::generated::tables::hash_table_owned::HashTableOwned::with_capacity). The error is `KeyTooShort` if the hash function
     /// needs longer keys. Otherwise it is `Rejected` with the error of that call.
     pub fn with_capacity(
         alloc: Global,
@@ -43,8 +44,8 @@ impl<H: HashFn> DynTableOwned<H> {
         }
     }
 
-    /// Like [`from_raw_bytes`](crate::generated::tables::hash_table_owned::HashTableOwned::from_raw_bytes) of a typed
-    /// table, with these key and value lengths. The error is `KeyTooShort` if the hash function
+    /// Checks all of the bytes as a table with these key and value lengths, and copies them, like
+    /// [`from_raw_bytes`](crate::generated::tables::hash_table_owned::HashTableOwned::from_raw_bytes). The error is `KeyTooShort` if the hash function
     /// needs longer keys. Otherwise it is `Rejected` with the error of that call.
     pub fn from_raw_bytes(
         alloc: Global,
@@ -85,7 +86,8 @@ impl<H: HashFn> DynTableOwned<H> {
         self.table.get(key)
     }
 
-    /// Like [`DynTable::get_counted`].
+    /// Like `get`, and also returns how many groups of control bytes it read, like
+    /// [`DynTable::get_counted`].
     #[inline]
     pub fn get_counted(&self, key: &[u8]) -> (Option<&[u8]>, usize) {
         self.table.get_counted(key)
@@ -97,8 +99,10 @@ impl<H: HashFn> DynTableOwned<H> {
         self.table.contains_key(key)
     }
 
-    /// Like [`HashTableOwned::insert`](crate::generated::tables::hash_table_owned::HashTableOwned::insert). It returns
-    /// the first error, and then nothing changes:
+    /// Gives the key this value, and returns its former one, or None. At the maximum the table
+    /// grows for a new key, like
+    /// [`HashTableOwned::insert`](crate::generated::tables::hash_table_owned::HashTableOwned::insert). It returns the
+    /// first error, and then nothing changes:
     ///
     /// - `WrongKeyLength` if the key has another length than the table's keys.
     /// - `WrongValueLength` if the value has another length than the table's values.
@@ -126,8 +130,9 @@ impl<H: HashFn> DynTableOwned<H> {
         Ok(former)
     }
 
-    /// Like [`HashTableOwned::reserve`](crate::generated::tables::hash_table_owned::HashTableOwned::reserve), with its
-    /// error as `Rejected`.
+    /// Makes room for `additional` more items, like
+    /// [`HashTableOwned::reserve`](crate::generated::tables::hash_table_owned::HashTableOwned::reserve). The error is
+    /// `Rejected` with the error of that call, and then nothing changes.
     pub fn reserve(&mut self, additional: usize) -> Result<(), DynError> {
         let layout = self.table.layout();
         match room_for::<Layout, H>(self.alloc, self.table.raw_bytes(), layout, additional) {
