@@ -36,7 +36,7 @@ use std::marker::{Model, PhantomData};
 #[derive(Drop)]
 pub struct Parts<'a, L: Lengths, H: HashFn> {
     control: &'a [EntryMetadata],
-    stored: Stored<'a, L>,
+    pub(super) stored: Stored<'a, L>,
     hash: PhantomData<H>,
 }
 

@@ -54,7 +54,7 @@ impl<'a, L: Lengths, H: HashFn> Parts<'a, L, H> {
         ensures whole { AreWhole H.MIN_LEN self.now }
     {
         let mask = self.len() - 1;
-        hash_by_len::<H>(self.stored().listed_key(slot)) as usize & mask
+        hash_by_len::<H>(self.stored.listed_key(slot)) as usize & mask
     }
 
     /// Whether the entry of a slot is zeros.

@@ -20,7 +20,7 @@ use std::marker::PhantomData;
 /// [`RawTable`]: super::RawTable
 pub struct Parts<'a, L: Lengths, H: HashFn> {
     control: &'a [EntryMetadata],
-    stored: Stored<'a, L>,
+    pub(super) stored: Stored<'a, L>,
     hash: PhantomData<H>,
 }
 

@@ -181,8 +181,10 @@ fn write_counted<L: Lengths, H: HashFn>(
             ok.then_some(false)
         }
         Search::Free(_) => {
-            let ok = write_at_end::<L, H>(control, entries, slots, lengths, key, value, end, room);
-            ok.then_some(true)
+            if !write_at_end::<L, H>(control, entries, slots, lengths, key, value, end, room) {
+                return None;
+            }
+            Some(true)
         }
         Search::Neither => {
             let ok = write_at_end::<L, H>(control, entries, slots, lengths, key, value, end, room);

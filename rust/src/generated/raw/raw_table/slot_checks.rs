@@ -34,7 +34,7 @@ impl<'a, L: Lengths, H: HashFn> Parts<'a, L, H> {
     #[inline(always)]
     pub(super) fn home_of(&self, slot: usize) -> usize {
         let mask = self.len() - 1;
-        hash_by_len::<H>(self.stored().listed_key(slot)) as usize & mask
+        hash_by_len::<H>(self.stored.listed_key(slot)) as usize & mask
     }
 
     /// Whether the entry of a slot is zeros.

@@ -25,9 +25,15 @@ pub returns-in-Found-clause-step : goal.returns-in-Found-clause-step
 returns-in-Found-clause-step g c =
     counted _ _ _ _ _ _ _ _ _ _ c.write_at_end-ok.ensures.step (ap (is_new g c.args.lengths c.args.entries.now) (sym c.in-Found.is)) c.then_some.ensures
 
-pub returns-in-Free-clause-step : goal.returns-in-Free-clause-step
-returns-in-Free-clause-step g c =
-    counted _ _ _ _ _ _ _ _ _ _ c.write_at_end-ok-in-Free.ensures.step (ap (is_new g c.args.lengths c.args.entries.now) (sym c.in-Free.is)) c.then_some-in-Free.ensures
+pub returns-then-not-write_at_end-clause-step : goal.returns-then-not-write_at_end-clause-step
+returns-then-not-write_at_end-clause-step g c =
+    counted _ _ _ _ _ _ _ _ _ _ c.write_at_end.ensures.step (ap (is_new g c.args.lengths c.args.entries.now) (sym c.in-Free.is))
+    (ap (λ w. then_some w true) (sym c.if-not-write_at_end.true))
+
+pub returns-else-not-write_at_end-clause-step : goal.returns-else-not-write_at_end-clause-step
+returns-else-not-write_at_end-clause-step g c =
+    counted _ _ _ _ _ _ _ _ _ _ c.write_at_end.ensures.step (ap (is_new g c.args.lengths c.args.entries.now) (sym c.in-Free.is))
+    (ap (λ w. then_some w true) (sym c.if-not-write_at_end.false))
 
 pub returns-in-Neither-clause-step : goal.returns-in-Neither-clause-step
 returns-in-Neither-clause-step g c =
