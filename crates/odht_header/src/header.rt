@@ -110,20 +110,10 @@ impl<'a> Header<'a> {
         self.check_length(layout, raw_bytes_len)
     }
 
-    /// The length in bytes of the table with this header at the front of `found` bytes. Or the
-    /// first error: those of [`Header::sanity_check`], but `WrongLength` only where there are fewer
-    /// bytes than the table has, whose length is then `expected`; a forged one does not wrap.
-    #[inline]
-    pub fn table_len<C: Config>(&self, found: usize) -> Result<usize, Error>
-        ensures len { IfOk result
-            (λ n. n ≡ image_len ⟦<C as Coded>⟧.coding.format (header_slots self.now)) }
-        ensures err { result_err result
-            ≡ front_header_refusal ⟦<C as Coded>⟧.coding.format found self.now }
-    {
-        self.layout_len(Layout::of::<C>(), found)
-    }
-
-    /// [`Header::table_len`] of a table of these lengths. The hash function does not matter.
+    /// The length in bytes of the table of these lengths with this header at the front of `found`
+    /// bytes. Or the first error: those of [`Header::check_layout`], but `WrongLength` only where
+    /// there are fewer bytes than the table has, whose length is then `expected`; a forged one does
+    /// not wrap. The hash function does not matter.
     #[inline]
     pub fn layout_len(&self, layout: Layout, found: usize) -> Result<usize, Error>
         ensures len { (hash : List ℕ → ℕ) → IfOk result (λ n. n

@@ -80,16 +80,6 @@ impl Layout {
         let slots = slot_count as u128;
         HEADER_SIZE as u128 + slots * entry + slots + REFERENCE_GROUP_SIZE as u128
     }
-
-    /// Where the entry of a slot begins in the bytes of a table; for the number of slots, where
-    /// the control bytes begin.
-    #[inline(always)]
-    pub fn entry_at(self, slot: usize) -> usize
-        requires { 32 + slot * (self.key_len + self.value_len) ≤ usize.MAX }
-        ensures { result ≡ 32 + slot * (self.key_len + self.value_len) }
-    {
-        HEADER_SIZE + slot * self.entry_len()
-    }
 }
 
 /// Where the entry of a slot begins in the bytes of a table; for the number of slots, where the
