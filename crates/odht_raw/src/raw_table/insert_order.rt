@@ -1,7 +1,6 @@
 //! An order of inserts that makes a table, found within the buffer that it is written to.
 ghost use Rattle.std.specs.Prelude.{◌≡◌, ◌≤◌, ◌<◌, ◌+◌, ◌^◌, ◌%◌, ◌↔◌, ℕ, List, ◌++◌, length, drop};
-ghost use Rattle.std.specs.Prelude.{slice_index};
-ghost use Rattle.std.specs.Prelude.{IsTrue, All, AllPairs, IsPermutation};
+ghost use Rattle.std.specs.Prelude.{slice_index, IsTrue, All, AllPairs, IsPermutation};
 ghost use Rattle.odht_raw.specs.Words.{HoldsPair, IsPartsOf, IsReady, IsSlotCount, Pair, Table};
 ghost use Rattle.odht_raw.specs.DynParts.{parts_format};
 ghost use Rattle.odht_raw.specs.Frontiers.{AreFrontiers};

@@ -2,10 +2,9 @@
 ghost use Rattle.std.specs.Prelude.{◌≡◌, ◌↔◌, ℕ, ◌/◌, ◌<◌, ◌≤◌, List, length, IfErr, IfOk, IsTrue};
 ghost use Rattle.std.specs.Prelude.{IfSome};
 ghost use Rattle.odht_raw.specs.Words.{format_of, IsSlotCount};
-ghost use Rattle.odht_raw.specs.Reads.{read_entries, read_groups, read_key};
-ghost use Rattle.odht_raw.specs.Reads.{IsPlaceFitting, IsHeldBy};
+ghost use Rattle.odht_raw.specs.Reads.{read_entries, read_groups, read_key, IsPlaceFitting};
+ghost use Rattle.odht_raw.specs.Reads.{IsHeldBy, IsFoundWithin, IsLooking};
 ghost use Rattle.odht_raw.specs.SearchSteps.{IsGroupLook};
-ghost use Rattle.odht_raw.specs.Reads.{IsFoundWithin, IsLooking};
 ghost use Rattle.odht_raw.specs.Searches.{IsSearch};
 
 use super::probe_seq::probed_slot;

@@ -22,19 +22,13 @@ abbrev is_new : (g : Over) → g.row.L.Denot → List ℕ → Search → Bool
 is_new g lengths es end = is_none (former_of (format_of (g.L.Lengths.key_len lengths) (g.L.Lengths.value_len lengths) g.H.HashFn.hash) es end)
 
 pub returns-in-Found-clause-step : goal.returns-in-Found-clause-step
-returns-in-Found-clause-step g c =
-    counted _ _ _ _ _ _ _ _ _ _ c.write_at_end-ok.ensures.step (ap (is_new g c.args.lengths c.args.entries.now) (sym c.in-Found.is)) c.then_some.ensures
+returns-in-Found-clause-step g c = counted _ _ _ _ _ _ _ _ _ _ c.write_at_end-ok.ensures.step (ap (is_new g c.args.lengths c.args.entries.now) (sym c.in-Found.is)) c.then_some.ensures
 
 pub returns-then-not-write_at_end-clause-step : goal.returns-then-not-write_at_end-clause-step
-returns-then-not-write_at_end-clause-step g c =
-    counted _ _ _ _ _ _ _ _ _ _ c.write_at_end.ensures.step (ap (is_new g c.args.lengths c.args.entries.now) (sym c.in-Free.is))
-    (ap (λ w. then_some w true) (sym c.if-not-write_at_end.true))
+returns-then-not-write_at_end-clause-step g c = counted _ _ _ _ _ _ _ _ _ _ c.write_at_end.ensures.step (ap (is_new g c.args.lengths c.args.entries.now) (sym c.in-Free.is)) (ap (λ w. then_some w true) (sym c.if-not-write_at_end.true))
 
 pub returns-else-not-write_at_end-clause-step : goal.returns-else-not-write_at_end-clause-step
-returns-else-not-write_at_end-clause-step g c =
-    counted _ _ _ _ _ _ _ _ _ _ c.write_at_end.ensures.step (ap (is_new g c.args.lengths c.args.entries.now) (sym c.in-Free.is))
-    (ap (λ w. then_some w true) (sym c.if-not-write_at_end.false))
+returns-else-not-write_at_end-clause-step g c = counted _ _ _ _ _ _ _ _ _ _ c.write_at_end.ensures.step (ap (is_new g c.args.lengths c.args.entries.now) (sym c.in-Free.is)) (ap (λ w. then_some w true) (sym c.if-not-write_at_end.false))
 
 pub returns-in-Neither-clause-step : goal.returns-in-Neither-clause-step
-returns-in-Neither-clause-step g c =
-    counted _ _ _ _ _ _ _ _ _ _ c.write_at_end-ok-in-Neither.ensures.step (ap (is_new g c.args.lengths c.args.entries.now) (sym c.in-Neither.is)) c.then_some-in-Neither.ensures
+returns-in-Neither-clause-step g c = counted _ _ _ _ _ _ _ _ _ _ c.write_at_end-ok-in-Neither.ensures.step (ap (is_new g c.args.lengths c.args.entries.now) (sym c.in-Neither.is)) c.then_some-in-Neither.ensures

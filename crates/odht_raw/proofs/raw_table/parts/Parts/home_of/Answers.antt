@@ -7,5 +7,4 @@ use Rattle.odht_raw.proofs.raw_table.parts.Parts.home_of.Goals as goal
 
 pub returns-clause-home : goal.returns-clause-home
 returns-clause-home g c =
-    let s = c.args.self.now.parts.entries.slots in
-    ap (λ n. bit_and c.hash_by_len.result (n - 1)) c.len-mask.ensures.value ∙ bit_and-slots c.hash_by_len.result s c.len-mask.ensures.whole.slots ∙ ap (λ x. x % s) (c.hash_by_len.ensures ∙ ap g.H.HashFn.hash (c.listed_key.ensures.value ∙ ap (λ (S : StoredEntries). slot_key (stored_format S) S.entries.bytes c.args.slot) (ap stored_of c.self.view_is)))
+    ap (λ n. bit_and c.hash_by_len.result (n - 1)) c.len-mask.ensures.value ∙ bit_and-slots c.hash_by_len.result c.args.self.now.parts.entries.slots c.len-mask.ensures.whole.slots ∙ ap (λ x. x % c.args.self.now.parts.entries.slots) (c.hash_by_len.ensures ∙ ap g.H.HashFn.hash (c.listed_key.ensures.value ∙ ap (λ (S : StoredEntries). slot_key (stored_format S) S.entries.bytes c.args.slot) (ap stored_of c.self.view_is)))
