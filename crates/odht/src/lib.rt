@@ -15,7 +15,7 @@ pub use odht_raw::{config, error, items, layout, memory_layout, raw_table, read_
 pub mod configs;
 pub mod dynamic;
 mod equality;
-mod growth;
+pub mod growth;
 mod hash_table;
 mod hash_table_owned;
 mod insert_order;

@@ -24,12 +24,12 @@ use odht::hash::HashFn;
 use odht::layout::Layout;
 use odht_calls::any::build::{build, build_growing};
 use odht_calls::any::read::{contains, get, get_all, layout_of, walk};
-use odht_calls::any::write::{grow, insert, insert_all};
+use odht_calls::any::write::{insert, insert_all};
 use odht_calls::any::{AnyLayout, FX, UNHASH, XXH64, has_hash};
 use odht_calls::places::{check_at, open_at};
 use odht_calls::read::{check, insert_order, len, open, sizes, table_len};
 use odht_calls::status::BAD_LAYOUT;
-use odht_calls::write::{bytes_needed, init};
+use odht_calls::write::{bytes_needed, grow, init};
 use std::alloc::Global;
 
 /// Calls a function for the hash function of a layout, which is its last type parameter, with the
@@ -378,7 +378,7 @@ pub extern "C" fn odht_any_grow(
     ensures { AnyAnswers layout.now result ((out.new ≡ out.old) × (len.new ≡ len.old))
         (λ c. GrowAnswers c bytes.now out.old len.old result out.new len.new) }
 {
-    with_hash!(*layout, grow(bytes, out, len))
+    with_hash!(*layout, grow::<Layout>(bytes, out, len))
 }
 
 /// Makes a table for `count` items at the start of `out`, inserts the pairs in order, writes the

@@ -4,22 +4,23 @@ ghost use Rattle.std.specs.Prelude.{◌≡◌, length};
 ghost use Rattle.odht_base.specs.Format.{format_of};
 ghost use Rattle.odht_raw.specs.Frame.{IsAccepted};
 ghost use Rattle.odht_raw.specs.PartLengths.{ArePairLengths};
-ghost use Rattle.odht_calls.specs.Grows.{GrowAnswers};
+ghost use Rattle.odht_calls.specs.Grows.{GrowAnswersOf};
 ghost use Rattle.odht_calls.specs.Writes.{BytesNeededAnswersOf, InitAnswersOf};
 ghost use Rattle.odht_calls.specs.Writes.{InsertAnswers, InsertAllAnswers};
 
-use crate::read::{refused, view};
+use crate::read::{header_of, refused, view};
 use crate::status::{
     BAD_PERCENT, CAPACITY, INIT_LENGTH, LOAD_FACTOR_TOO_SMALL, OK, REPLACED, TOO_SMALL, status_of,
 };
 use odht::HashTable;
 use odht::bytes::ByteStoreMut;
 use odht::config::{Coded, Config};
+use odht::growth::{grow_parts, grown_len_of};
 use odht::hash::HashFn;
 use odht::items::Zipped;
 use odht::layout::{Layout, Lengths};
 use odht::load::{Factor, Percent};
-use odht::memory_layout::{Header, LEAST_FACTOR, init_parts, is_accepted};
+use odht::memory_layout::{LEAST_FACTOR, init_parts, is_accepted};
 
 /// Writes to `len` how many bytes a new table for that many items has. BAD_PERCENT and CAPACITY
 /// leave `len` unchanged.
@@ -137,24 +138,25 @@ pub fn insert_all<C: Config, M: ByteStoreMut>(
 /// Writes the table that the one in `bytes` grows into to the front of `out`, and its length in
 /// bytes to `len`. TOO_SMALL leaves `out` unchanged, any other error leaves both unchanged.
 #[inline]
-pub fn grow<C: Config>(bytes: &[u8], out: &mut [u8], len: &mut usize) -> u32
-    ensures { GrowAnswers ⟦<C as Coded>⟧.coding bytes.now out.old len.old result out.new len.new }
+pub fn grow<L: Lengths, H: HashFn>(lengths: L, bytes: &[u8], out: &mut [u8], len: &mut usize) -> u32
+    requires { ArePairLengths H.MIN_LEN (L.key_len lengths) (L.value_len lengths) }
+    ensures { GrowAnswersOf (format_of (L.key_len lengths) (L.value_len lengths) H.hash) bytes.now
+        out.old len.old result out.new len.new }
 {
-    let table = match view::<C>(bytes) {
-        Ok(table) => table,
+    let header = match header_of::<L, H>(lengths, bytes) {
+        Ok(header) => header,
         Err(refused) => return status_of(&refused),
     };
-    let factor = Header::of(bytes).max_load_factor();
-    if factor.0 < LEAST_FACTOR {
+    if header.max_load_factor().0 < LEAST_FACTOR {
         return LOAD_FACTOR_TOO_SMALL;
     }
-    let Some(needed) = table.grown_len() else {
+    let Some(needed) = grown_len_of::<L, H>(bytes, lengths) else {
         return CAPACITY;
     };
     *len = needed;
     if out.len() < needed {
         return TOO_SMALL;
     }
-    table.grow_into(&mut out[..needed]);
+    grow_parts::<L, H>(bytes, lengths, &mut out[..needed]);
     OK
 }

@@ -15,7 +15,7 @@ pub use iter::{Iter, Slots};
 pub mod configs;
 pub mod dynamic;
 mod equality;
-mod growth;
+pub mod growth;
 mod hash_table;
 mod hash_table_owned;
 mod insert_order;

@@ -355,7 +355,7 @@ pub extern "C" fn odht_u32_u32_grow(bytes: &[u8], out: &mut [u8], len: &mut usiz
     ensures { GrowAnswers ⟦<Shape as Coded>⟧.coding bytes.now out.old len.old result out.new
         len.new }
 {
-    write::grow::<Shape>(bytes, out, len)
+    write::grow::<Sizes, Hash>(Sizes::new(), bytes, out, len)
 }
 
 /// Makes a table for the number of pairs at the start of `out`, and inserts the key and the value

@@ -3,20 +3,16 @@ ghost use Rattle.std.specs.Prelude.{◌≡◌, ◌≤◌, length};
 ghost use Rattle.odht_base.specs.Format.{format_of};
 ghost use Rattle.odht_raw.specs.DynParts.{bytes_coding};
 ghost use Rattle.odht_raw.specs.Frame.{IsAccepted};
-ghost use Rattle.odht_calls.specs.Grows.{GrowAnswers};
 ghost use Rattle.odht_calls.specs.Layouts.{DynAnswers};
 ghost use Rattle.odht_calls.specs.Pieces.{pieces, ArePieces, DynInsertAllAnswers};
 ghost use Rattle.odht_calls.specs.Writes.{InsertAnswers, InsertAllAnswers};
 
 use super::pieces::{are_pieces, deciding_pairs, piece};
-use super::view::table_of;
 use crate::read::header_of;
-use crate::status::{
-    BAD_LENGTHS, CAPACITY, LOAD_FACTOR_TOO_SMALL, OK, REPLACED, TOO_SMALL, status_of,
-};
+use crate::status::{BAD_LENGTHS, OK, REPLACED, status_of};
 use odht::hash::HashFn;
 use odht::layout::Layout;
-use odht::memory_layout::{LEAST_FACTOR, insert_dynamic, insert_dynamic_into};
+use odht::memory_layout::{insert_dynamic, insert_dynamic_into};
 
 /// Gives the key this value. A value that it had before is written to `former`. BAD_LENGTHS where
 /// the key, the value or `former` has another length than the layout says. An error leaves the
@@ -109,32 +105,4 @@ pub fn insert_all<H: HashFn>(
         return BAD_LENGTHS;
     }
     insert_pieces::<H>(layout, bytes, count, keys, values, accepted)
-}
-
-/// Writes the table that the one in `bytes` grows into to the front of `out`, and its length in
-/// bytes to `len`. TOO_SMALL leaves `out` unchanged, any other error leaves both unchanged.
-#[inline(always)]
-pub fn grow<H: HashFn>(layout: Layout, bytes: &[u8], out: &mut [u8], len: &mut usize) -> u32
-    requires { H.MIN_LEN ≤ layout.key_len }
-    ensures { let c = bytes_coding (format_of layout.key_len layout.value_len H.hash)
-        in GrowAnswers c bytes.now out.old len.old result out.new len.new }
-{
-    let header = match header_of::<Layout, H>(layout, bytes) {
-        Ok(header) => header,
-        Err(refused) => return status_of(&refused),
-    };
-    let table = table_of::<H>(layout, bytes);
-    let factor = header.max_load_factor();
-    if factor.0 < LEAST_FACTOR {
-        return LOAD_FACTOR_TOO_SMALL;
-    }
-    let Some(needed) = table.grown_len() else {
-        return CAPACITY;
-    };
-    *len = needed;
-    if out.len() < needed {
-        return TOO_SMALL;
-    }
-    table.grow_into(&mut out[..needed]);
-    OK
 }

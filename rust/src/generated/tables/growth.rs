@@ -47,9 +47,9 @@ impl<C: Config, D: ByteStore> HashTable<C, D> {
     }
 }
 
-/// `grown_len` of the bytes of a table. All tables grow by these functions, whose lengths of keys
-/// and values are types or numbers.
-pub(crate) fn grown_len_of<L: Lengths, H: HashFn>(bytes: &[u8], lengths: L) -> Option<usize> {
+/// `grown_len` of the bytes of a table. All tables, and the calls for C, grow by these functions.
+/// The lengths of keys and values are types or numbers.
+pub fn grown_len_of<L: Lengths, H: HashFn>(bytes: &[u8], lengths: L) -> Option<usize> {
     match grown_sizes::<L, H>(bytes, lengths) {
         Some((_, len)) => Some(len),
         None => None,
@@ -71,8 +71,8 @@ fn grown_sizes<L: Lengths, H: HashFn>(bytes: &[u8], lengths: L) -> Option<(usize
     Layout::of_lengths(lengths).table_for(twice.max(1), factor)
 }
 
-/// `grow_into` of the bytes of a table.
-pub(crate) fn grow_parts<L: Lengths, H: HashFn>(bytes: &[u8], lengths: L, out: &mut [u8]) {
+/// `grow_into` of the bytes of a table. `out` has the length that [`grown_len_of`] returns.
+pub fn grow_parts<L: Lengths, H: HashFn>(bytes: &[u8], lengths: L, out: &mut [u8]) {
     let Some((slot_count, _)) = grown_sizes::<L, H>(bytes, lengths) else {
         // `out` has the length of the grown table.
         unreachable!()

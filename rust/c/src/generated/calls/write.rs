@@ -2,17 +2,18 @@
 //! The calls that write the bytes of a table. Those that take no key are for lengths that are types
 //! or numbers, the others for every configuration.
 
-use crate::generated::calls::read::{refused, view};
+use crate::generated::calls::read::{header_of, refused, view};
 use crate::generated::calls::status::{
     status_of, BAD_PERCENT, CAPACITY, INIT_LENGTH, LOAD_FACTOR_TOO_SMALL, OK, REPLACED, TOO_SMALL,
 };
 use crate::generated::tables::bytes::ByteStoreMut;
 use crate::generated::tables::config::Config;
+use crate::generated::tables::growth::{grow_parts, grown_len_of};
 use crate::generated::tables::hash::HashFn;
 use crate::generated::tables::items::Zipped;
 use crate::generated::tables::layout::{Layout, Lengths};
 use crate::generated::tables::load::{Factor, Percent};
-use crate::generated::tables::memory_layout::{init_parts, is_accepted, Header, LEAST_FACTOR};
+use crate::generated::tables::memory_layout::{init_parts, is_accepted, LEAST_FACTOR};
 use crate::generated::tables::HashTable;
 
 /// Writes to `len` how many bytes a new table for that many items has. BAD_PERCENT and CAPACITY
@@ -110,22 +111,26 @@ pub fn insert_all<C: Config, M: ByteStoreMut>(
 /// Writes the table that the one in `bytes` grows into to the front of `out`, and its length in
 /// bytes to `len`. TOO_SMALL leaves `out` unchanged, any other error leaves both unchanged.
 #[inline]
-pub fn grow<C: Config>(bytes: &[u8], out: &mut [u8], len: &mut usize) -> u32 {
-    let table = match view::<C>(bytes) {
-        Ok(table) => table,
+pub fn grow<L: Lengths, H: HashFn>(
+    lengths: L,
+    bytes: &[u8],
+    out: &mut [u8],
+    len: &mut usize,
+) -> u32 {
+    let header = match header_of::<L, H>(lengths, bytes) {
+        Ok(header) => header,
         Err(refused) => return status_of(&refused),
     };
-    let factor = Header::of(bytes).max_load_factor();
-    if factor.0 < LEAST_FACTOR {
+    if header.max_load_factor().0 < LEAST_FACTOR {
         return LOAD_FACTOR_TOO_SMALL;
     }
-    let Some(needed) = table.grown_len() else {
+    let Some(needed) = grown_len_of::<L, H>(bytes, lengths) else {
         return CAPACITY;
     };
     *len = needed;
     if out.len() < needed {
         return TOO_SMALL;
     }
-    table.grow_into(&mut out[..needed]);
+    grow_parts::<L, H>(bytes, lengths, &mut out[..needed]);
     OK
 }

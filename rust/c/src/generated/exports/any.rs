@@ -9,12 +9,12 @@
 
 use crate::generated::calls::any::build::{build, build_growing};
 use crate::generated::calls::any::read::{contains, get, get_all, layout_of, walk};
-use crate::generated::calls::any::write::{grow, insert, insert_all};
+use crate::generated::calls::any::write::{insert, insert_all};
 use crate::generated::calls::any::{has_hash, AnyLayout, FX, UNHASH, XXH64};
 use crate::generated::calls::places::{check_at, open_at};
 use crate::generated::calls::read::{check, insert_order, len, open, sizes, table_len};
 use crate::generated::calls::status::BAD_LAYOUT;
-use crate::generated::calls::write::{bytes_needed, init};
+use crate::generated::calls::write::{bytes_needed, grow, init};
 use crate::generated::tables::hash::HashFn;
 use crate::generated::tables::layout::Layout;
 use crate::shim::Global;
@@ -383,7 +383,7 @@ pub unsafe extern "C" fn odht_any_grow(
 ) -> u32 {
     let bytes = unsafe { crate::lists::list(bytes, bytes_len) };
     let out = unsafe { crate::lists::list_mut(out, out_len) };
-    with_hash!(*layout, grow(bytes, out, len))
+    with_hash!(*layout, grow::<Layout>(bytes, out, len))
 }
 
 /// Makes a table for `count` items at the start of `out`, inserts the pairs in order, writes the

@@ -2,14 +2,11 @@
 //! The calls that write a dynamic table.
 
 use super::pieces::{are_pieces, deciding_pairs, piece};
-use super::view::table_of;
 use crate::generated::calls::read::header_of;
-use crate::generated::calls::status::{
-    status_of, BAD_LENGTHS, CAPACITY, LOAD_FACTOR_TOO_SMALL, OK, REPLACED, TOO_SMALL,
-};
+use crate::generated::calls::status::{status_of, BAD_LENGTHS, OK, REPLACED};
 use crate::generated::tables::hash::HashFn;
 use crate::generated::tables::layout::Layout;
-use crate::generated::tables::memory_layout::{insert_dynamic, insert_dynamic_into, LEAST_FACTOR};
+use crate::generated::tables::memory_layout::{insert_dynamic, insert_dynamic_into};
 
 /// Gives the key this value. A value that it had before is written to `former`. BAD_LENGTHS where
 /// the key, the value or `former` has another length than the layout says. An error leaves the
@@ -77,28 +74,4 @@ pub fn insert_all<H: HashFn>(
         return BAD_LENGTHS;
     }
     insert_pieces::<H>(layout, bytes, count, keys, values, accepted)
-}
-
-/// Writes the table that the one in `bytes` grows into to the front of `out`, and its length in
-/// bytes to `len`. TOO_SMALL leaves `out` unchanged, any other error leaves both unchanged.
-#[inline(always)]
-pub fn grow<H: HashFn>(layout: Layout, bytes: &[u8], out: &mut [u8], len: &mut usize) -> u32 {
-    let header = match header_of::<Layout, H>(layout, bytes) {
-        Ok(header) => header,
-        Err(refused) => return status_of(&refused),
-    };
-    let table = table_of::<H>(layout, bytes);
-    let factor = header.max_load_factor();
-    if factor.0 < LEAST_FACTOR {
-        return LOAD_FACTOR_TOO_SMALL;
-    }
-    let Some(needed) = table.grown_len() else {
-        return CAPACITY;
-    };
-    *len = needed;
-    if out.len() < needed {
-        return TOO_SMALL;
-    }
-    table.grow_into(&mut out[..needed]);
-    OK
 }

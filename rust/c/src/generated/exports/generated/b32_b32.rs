@@ -368,7 +368,7 @@ pub unsafe extern "C" fn odht_b32_b32_grow(
 ) -> u32 {
     let bytes = unsafe { crate::lists::list(bytes, bytes_len) };
     let out = unsafe { crate::lists::list_mut(out, out_len) };
-    write::grow::<Shape>(bytes, out, len)
+    write::grow::<Sizes, Hash>(Sizes::new(), bytes, out, len)
 }
 
 /// Makes a table for the number of pairs at the start of `out`, and inserts the key and the value
