@@ -1,21 +1,21 @@
 //! Tables that are built from pairs: in the caller's bytes, or in memory of their own and then
 //! copied to the caller's.
-ghost use Rattle.std.specs.Prelude.{◌≡◌, ◌⊎◌, None, length, All};
+ghost use Rattle.std.specs.Prelude.{◌≡◌, ◌⊎◌, length, All};
 ghost use Rattle.std.specs.List.{zip};
-ghost use Rattle.odht_base.specs.Load.{factor_of};
 ghost use Rattle.odht_base.specs.Valid.{IsPairOf};
-ghost use Rattle.odht_header.specs.Refusals.{new_refusal};
 ghost use Rattle.odht_raw.specs.Runs.{encoded_all};
-ghost use Rattle.odht.specs.Lists.{IsFreshAfterInserts};
 ghost use Rattle.odht_calls.specs.Statuses.{done, too_small};
 ghost use Rattle.odht_calls.specs.Builds.{IsHandedOut, BuildAnswers, BuildGrowingAnswers};
+ghost use Rattle.odht_calls.specs.Writes.{InsertAllAnswers};
 
 use crate::status::{BAD_PERCENT, CAPACITY, OK, TOO_SMALL, status_of};
-use odht::bytes::{BorrowedMut, ByteArray, ByteStoreMut};
+use crate::write::{init, insert_all};
+use odht::bytes::{BorrowedMut, ByteArray};
 use odht::config::{Coded, Config};
 use odht::items::Zipped;
+use odht::layout::Fixed;
 use odht::load::Percent;
-use odht::{HashTable, HashTableOwned, bytes_needed};
+use odht::{HashTableOwned, bytes_needed};
 use std::alloc::Global;
 
 /// Builds a table of the pairs at the front of `out`, with slots for as many items as there are
@@ -36,7 +36,8 @@ pub fn collected<C: Config>(
     let Some(percent) = Percent::new(max_load_factor_percent) else {
         return BAD_PERCENT;
     };
-    let Some(needed) = bytes_needed::<C>(keys.len(), percent.value()) else {
+    let percent = percent.value();
+    let Some(needed) = bytes_needed::<C>(keys.len(), percent) else {
         return CAPACITY;
     };
     *len = needed;
@@ -44,8 +45,27 @@ pub fn collected<C: Config>(
         hold_pairs::<C>(keys, values);
         return TOO_SMALL;
     }
-    insert_into_new::<C>(&mut out[..needed], percent, keys, values);
+    // There is room for each pair.
+    let table = &mut out[..needed];
+    let count = keys.len();
+    let lengths: Fixed<C::EncodedKey, C::EncodedValue> = Fixed::new();
+    let _ = init::<Fixed<C::EncodedKey, C::EncodedValue>, C::H>(lengths, table, count, percent);
+    let _ = insert_into::<C>(table, keys, values);
     OK
+}
+
+// `insert_all` in bytes. It is a function of its own since the prover knows what a slice holds
+// after a store of it was lent to a call, and not after the store was made of a part of `out`.
+#[inline(always)]
+fn insert_into<C: Config>(bytes: &mut [u8], keys: &[C::Key], values: &[C::Value]) -> (u32, usize)
+    requires { length values.now ≡ length keys.now }
+    ensures { InsertAllAnswers ⟦<C as Coded>⟧.coding bytes.old keys.now values.now 0 result.0
+        bytes.new result.1 }
+{
+    let mut store = BorrowedMut::new(bytes);
+    let mut accepted = 0;
+    let status = insert_all::<C, BorrowedMut<'_>>(&mut store, keys, values, &mut accepted);
+    (status, accepted)
 }
 
 // Encodes each key and value and drops the bytes. It changes nothing: only the clause matters,
@@ -64,50 +84,6 @@ fn hold_pairs<C: Config>(keys: &[C::Key], values: &[C::Value])
         let _ = key.as_slice();
         let _ = value.as_slice();
     }
-}
-
-// Makes an empty table in the bytes, whatever they hold, and inserts the pairs in order: there is
-// room for each.
-#[inline(always)]
-fn insert_into_new<C: Config>(
-    bytes: &mut [u8],
-    percent: Percent,
-    keys: &[C::Key],
-    values: &[C::Value],
-)
-    requires lengths { length values.now ≡ length keys.now }
-    requires fits { new_refusal ⟦<C as Coded>⟧.coding.format (length keys.now)
-        (factor_of percent) (length bytes.old) ≡ None }
-    ensures { IsFreshAfterInserts ⟦<C as Coded>⟧.coding percent (zip keys.now values.now)
-        bytes.new }
-{
-    let mut store = BorrowedMut::new(bytes);
-    insert_into_store::<C, BorrowedMut<'_>>(&mut store, percent, keys, values);
-}
-
-// The same in a store. It is a function of its own since the prover knows what a slice holds after
-// a store of it was lent to a call, and not after the store was moved into a table.
-#[inline(always)]
-fn insert_into_store<C: Config, M: ByteStoreMut>(
-    store: &mut M,
-    percent: Percent,
-    keys: &[C::Key],
-    values: &[C::Value],
-)
-    requires lengths { length values.now ≡ length keys.now }
-    requires fits { new_refusal ⟦<C as Coded>⟧.coding.format (length keys.now)
-        (factor_of percent) (length (M.bytes store.old)) ≡ None }
-    ensures inserted { let items = zip keys.now values.now
-        in IsFreshAfterInserts ⟦<C as Coded>⟧.coding percent items (M.bytes store.new) }
-    ensures same_store { store.new ≡ M.holding store.old (M.bytes store.new) }
-{
-    let Ok(()) = HashTable::<C, M>::init_store(store, keys.len(), percent.value()) else {
-        // The bytes are as many as the table needs.
-        unreachable!()
-    };
-    let mut table = HashTable::<C, &mut M>::from_raw_bytes_unchecked(store);
-    let _ = table.insert_items(&Zipped::new(keys, values));
-    let _store = table.into_data();
 }
 
 /// Builds a table of the pairs in memory of its own, which starts with sixteen slots at 87 percent

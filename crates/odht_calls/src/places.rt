@@ -1,8 +1,7 @@
 //! The calls that open or check bytes and tell where the first error is, for lengths that are types
 //! or numbers.
 ghost use Rattle.std.specs.Prelude.{◌≡◌, Some};
-ghost use Rattle.odht_base.specs.Format.{format_of};
-ghost use Rattle.odht_header.specs.Refusals.{view_refusal, check_refusal_by};
+ghost use Rattle.odht_raw.specs.Words.{check_refusal_by, format_of, view_refusal};
 ghost use Rattle.odht_raw.specs.PartLengths.{ArePairLengths};
 ghost use Rattle.odht_calls.specs.Places.{slot_of, PlaceAnswers};
 

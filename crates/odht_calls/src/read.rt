@@ -2,9 +2,8 @@
 //! or numbers, the others for every configuration.
 ghost use Rattle.std.specs.Prelude.{◌≡◌, length, IfOk};
 ghost use Rattle.std.specs.Result.{result_err};
-ghost use Rattle.odht_base.specs.Format.{format_of};
-ghost use Rattle.odht_header.specs.Refusals.{opening_refusal, view_refusal, check_refusal_by};
-ghost use Rattle.odht_header.specs.Refusals.{checked};
+ghost use Rattle.odht_raw.specs.Words.{check_refusal_by, checked, format_of, opening_refusal};
+ghost use Rattle.odht_raw.specs.Words.{view_refusal};
 ghost use Rattle.odht_raw.specs.PartLengths.{ArePairLengths};
 ghost use Rattle.odht_calls.specs.Orders.{ScratchAnswersOf};
 ghost use Rattle.odht_calls.specs.Reads.{GetAnswers, GetAllAnswers, LenAnswersOf, SizesAnswers};
@@ -13,7 +12,7 @@ ghost use Rattle.odht_calls.specs.Statuses.{status_or_ok};
 ghost use Rattle.odht_calls.specs.Walks.{WalkAnswers};
 
 use crate::status::{BAD_LENGTHS, OK, TOO_SMALL, UNMADE, status_of};
-use crate::view;
+use crate::view::{self, View};
 use odht::HashTable;
 use odht::bytes::Borrowed;
 use odht::config::{Coded, Config};
@@ -26,15 +25,6 @@ use odht::memory_layout::{
     parts_in,
 };
 
-/// Opens the bytes by their header and length. Reads no slot.
-#[inline(always)]
-pub(crate) fn view<C: Config>(bytes: &[u8]) -> Result<HashTable<C, Borrowed<'_>>, Error>
-    ensures ok { IfOk result (λ t. t.0.now ≡ bytes.now) }
-    ensures err { result_err result ≡ opening_refusal ⟦<C as Coded>⟧.coding.format bytes.now }
-{
-    HashTable::from_raw_bytes_by_header(Borrowed::new(bytes))
-}
-
 /// The number of the first error of bytes whose header or length does not fit; OK where both do.
 /// It is a function of its own, so that a call that finds the header as it is to be has no code
 /// for errors.
@@ -42,7 +32,7 @@ pub(crate) fn view<C: Config>(bytes: &[u8]) -> Result<HashTable<C, Borrowed<'_>>
 pub(crate) fn refused<C: Config>(bytes: &[u8]) -> u32
     ensures { result ≡ status_or_ok (opening_refusal ⟦<C as Coded>⟧.coding.format bytes.now) }
 {
-    match view::<C>(bytes) {
+    match HashTable::<C, Borrowed<'_>>::from_raw_bytes_by_header(Borrowed::new(bytes)) {
         Ok(_) => OK,
         Err(refused) => status_of(&refused),
     }
@@ -56,10 +46,7 @@ pub fn get<C: Config>(bytes: &[u8], key: &C::Key, value: &mut C::Value) -> u32
     if !is_accepted::<C>(bytes) {
         return refused::<C>(bytes);
     }
-    let table: HashTable<C, Borrowed<'_>> = HashTable::from_raw_bytes_unchecked(Borrowed::new(
-        bytes,
-    ));
-    view::get(&table, key, value)
+    view::get(&view::table::<C>(&View { bytes }), key, value)
 }
 
 /// Looks up many keys: at the index of a key that is found, its value is written to `values` and 1
@@ -76,10 +63,10 @@ pub fn get_all<C: Config>(
     ensures { GetAllAnswers ⟦<C as Coded>⟧.coding bytes.now keys.now
         values.old found.old result values.new found.new }
 {
-    let table = match view::<C>(bytes) {
-        Ok(table) => table,
-        Err(refused) => return status_of(&refused),
-    };
+    if !is_accepted::<C>(bytes) {
+        return refused::<C>(bytes);
+    }
+    let table = view::table::<C>(&View { bytes });
     view::get_all(&table, keys, values, found)
 }
 
@@ -100,10 +87,10 @@ pub fn walk<C: Config>(
         cursor.old keys.old values.old item_count.old result cursor.new keys.new values.new
         item_count.new }
 {
-    let table = match view::<C>(bytes) {
-        Ok(table) => table,
-        Err(refused) => return status_of(&refused),
-    };
+    if !is_accepted::<C>(bytes) {
+        return refused::<C>(bytes);
+    }
+    let table = view::table::<C>(&View { bytes });
     let mut written = 0;
     for (slot, (key, value)) in table.iter_from(*cursor) {
         if written >= keys.len() {

@@ -8,7 +8,7 @@ ghost use Rattle.odht_calls.specs.Grows.{GrowAnswersOf};
 ghost use Rattle.odht_calls.specs.Writes.{BytesNeededAnswersOf, InitAnswersOf};
 ghost use Rattle.odht_calls.specs.Writes.{InsertAnswers, InsertAllAnswers};
 
-use crate::read::{header_of, refused, view};
+use crate::read::{header_of, refused};
 use crate::status::{
     BAD_PERCENT, CAPACITY, INIT_LENGTH, LOAD_FACTOR_TOO_SMALL, OK, REPLACED, TOO_SMALL, status_of,
 };
@@ -108,7 +108,7 @@ pub fn insert<C: Config, M: ByteStoreMut>(
 /// Inserts the pairs in order, up to the first whose insert fails with FULL, and writes to
 /// `accepted` how many were inserted. An error of the header or length leaves everything
 /// unchanged.
-#[inline]
+#[inline(always)]
 pub fn insert_all<C: Config, M: ByteStoreMut>(
     store: &mut M,
     keys: &[C::Key],
@@ -122,8 +122,8 @@ pub fn insert_all<C: Config, M: ByteStoreMut>(
         in IsAccepted F (M.bytes store.old) → IsAccepted F (M.bytes store.new) }
     ensures same_store { store.new ≡ M.holding store.old (M.bytes store.new) }
 {
-    if let Err(refused) = view::<C>(store.bytes()) {
-        return status_of(&refused);
+    if !is_accepted::<C>(store.bytes()) {
+        return refused::<C>(store.bytes());
     }
     let mut table = HashTable::<C, &mut M>::from_raw_bytes_unchecked(store);
     let (count, answer) = table.insert_items(&Zipped::new(keys, values));

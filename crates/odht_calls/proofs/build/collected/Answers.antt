@@ -1,10 +1,12 @@
-use Rattle.std.proofs.Common.{rules, ◌≡◌, ◌∙◌, Some, refl, subst, length, arith}
+use Rattle.std.proofs.Common.{rules, ◌≡◌, ◌∙◌, Some, sym, refl, subst, length, arith}
 use Rattle.std.proofs.lemmas.Bool.{false≢true}
+use Rattle.std.proofs.lemmas.Slice.Zip.{length-zip}
 use Rattle.std.specs.List.{zip}
+use Rattle.odht_base.specs.Load.{IsPercent}
+use Rattle.odht_base.specs.Table.{fresh}
 use Rattle.odht_header.specs.Coding.{Coding, coding_of}
-use Rattle.odht.specs.Lists.{IsFreshAfterInserts}
-use Rattle.odht.specs.NewTables.{new_len}
 use Rattle.odht_calls.proofs.lemmas.HandedOut.{bad_build, no_length_build, no_room_build, fits_build, done_build}
+use Rattle.odht_calls.proofs.lemmas.NewBuilds.{all_inserted}
 use Rattle.odht_calls.proofs.build.collected.Given.{Over}
 use Rattle.odht_calls.proofs.build.collected.Goals as goal
 
@@ -23,25 +25,26 @@ returns-in_default g c =
 pub returns-in_default-bytes_needed : goal.returns-in_default-bytes_needed
 returns-in_default-bytes_needed g c =
     no_length_build (coding g) c.args.keys.now c.args.values.now c.args.max_load_factor_percent c.requires c.args.out.now c.args.len.now
-    (c.in-Some.ensures.some.0 refl) _ _ (c.value.ensures.value ∙ c.in-Some.ensures.value) refl c.in_default-bytes_needed.ensures
+    (c.in-Some.ensures.some.0 refl) _ _ (c.value-percent.ensures.value ∙ c.in-Some.ensures.value) refl c.in_default-bytes_needed.ensures
 
 pub returns-then-out-needed : goal.returns-then-out-needed
 returns-then-out-needed g c =
     no_room_build (coding g) c.args.keys.now c.args.values.now c.args.max_load_factor_percent c.requires c.args.out.now c.args.len.now
-    (c.in-Some.ensures.some.0 refl) _ _ (c.value.ensures.value ∙ c.in-Some.ensures.value) refl _ c.in-Some-bytes_needed.ensures c.if-out-needed.true c.hold_pairs.ensures
-
-pub insert_into_new-requires-clause-fits : goal.insert_into_new-requires-clause-fits
-insert_into_new-requires-clause-fits g c κs within =
-    let needed = c.in-Some-bytes_needed.needed in
-    let is : Some needed ≡ new_len (coding g) (length c.args.keys.now) c.in-Some.percent = subst (λ q. Some needed ≡ new_len (coding g) (length c.args.keys.now) q) c.value.ensures.value c.in-Some-bytes_needed.ensures in
-    fits_build (coding g) c.args.keys.now c.args.values.now c.args.max_load_factor_percent c.requires c.args.out.now c.args.len.now
-    (c.in-Some.ensures.some.0 refl) _ _ c.in-Some.ensures.value refl needed is c.if-out-needed.false (omega (arith, c.if-out-needed.false))
+    (c.in-Some.ensures.some.0 refl) _ _ (c.value-percent.ensures.value ∙ c.in-Some.ensures.value) refl _ c.in-Some-bytes_needed.ensures c.if-out-needed.true c.hold_pairs.ensures
 
 pub returns : goal.returns
 returns g c =
     let K = coding g in
     let p = c.args.max_load_factor_percent in
-    let T = c.insert_into_new.new.bytes in
-    let long : length T ≡ c.in-Some-bytes_needed.needed = search rules in
-    let is : IsFreshAfterInserts K p (zip c.args.keys.now c.args.values.now) T = subst (λ q. IsFreshAfterInserts K q (zip c.args.keys.now c.args.values.now) T) c.in-Some.ensures.value c.insert_into_new.ensures in
-    done_build K c.args.keys.now c.args.values.now p c.requires c.args.out.now c.args.len.now (c.in-Some.ensures.some.0 refl) T c.in-Some-bytes_needed.needed long c.if-out-needed.false is
+    let keys = c.args.keys.now in
+    let values = c.args.values.now in
+    let within : IsPercent p = c.in-Some.ensures.some.0 refl in
+    let same : c.value-percent.result ≡ p = c.value-percent.ensures.value ∙ c.in-Some.ensures.value in
+    let fits = fits_build K keys values p c.requires c.args.out.now c.args.len.now within _ _ same refl _ c.in-Some-bytes_needed.ensures c.if-out-needed.false (omega (arith, c.if-out-needed.false)) in
+    let made = (c.init.ensures.made (subst IsPercent (sym same) within) fits).1 in
+    let T = c.insert_into.new.bytes in
+    let long : length (zip keys values) ≡ length keys = omega (arith, length-zip keys values, c.requires) in
+    let new : fresh (length (zip keys values)) p ≡ Some made.0 = (λ i. fresh (long i) (sym same i)) ∙ made.1 in
+    let size : length T ≡ c.in-Some-bytes_needed.needed = search rules in
+    let is = all_inserted K keys values p made.0 c.requires new _ made.2 _ _ _ _ c.insert_into.ensures in
+    done_build K keys values p c.requires c.args.out.now c.args.len.now within T c.in-Some-bytes_needed.needed size c.if-out-needed.false is

@@ -12,18 +12,19 @@ use Rattle.odht_header.specs.declared.error.Error.{Error}
 use Rattle.odht_header.specs.declared.error.Error.TheVariants.{Full}
 use Rattle.odht.specs.Lists.{encoded_all, IsAfterInserts, IsFramedRun, IsRefusedAt, IsStoppedAt}
 use Rattle.odht_calls.specs.Writes.{InsertAllAnswers}
-use Rattle.odht_calls.specs.Statuses.{status_of}
-use Rattle.odht_calls.proofs.lemmas.Refused.{refused_insert_all}
+use Rattle.odht_calls.specs.Statuses.{status_of, status_or_ok}
+use Rattle.odht_calls.proofs.lemmas.Refused.{refused_insert_all, the_error}
 use Rattle.odht_calls.proofs.lemmas.Inserted.{accepted_insert_all, full_insert_all}
 use Rattle.odht_calls.proofs.write.insert_all.Given.{Over}
 use Rattle.odht_calls.proofs.write.insert_all.Goals as goal
 use Rattle.odht_calls.proofs.write.insert_all.Goals.{After-insert_items-count}
 
-pub returns-in-Err-clause-answer : goal.returns-in-Err-clause-answer
-returns-in-Err-clause-answer g c =
+pub returns-then-not-is_accepted-clause-answer : goal.returns-then-not-is_accepted-clause-answer
+returns-then-not-is_accepted-clause-answer g c =
     let F : Format = format_of g.C.EncodedKey.ByteArray.LEN g.C.EncodedValue.ByteArray.LEN g.C.H.HashFn.hash in
-    let is = c.in-Err.ensures.err ∙ ap (opening_refusal F) c.bytes.ensures in
-    refused_insert_all _ _ c.in-Err.refused _ is c.status_of.ensures _ _ _ c.requires
+    let found = the_error (opening_refusal F c.bytes.result.now) (λ none. true≢false (sym (c.is_accepted.ensures.1 none) ∙ c.if-not-is_accepted.true)) in
+    refused_insert_all _ _ found.0 _ (found.1 ∙ ap (opening_refusal F) c.bytes.ensures)
+    (c.refused.ensures ∙ ap (λ B. status_or_ok (opening_refusal F B)) (c.bytes-then-not-is_accepted.ensures ∙ sym c.bytes.ensures) ∙ found.2) _ _ _ c.requires
 
 -- the coding of the configuration
 abbrev coding : (g : Over) → Coding g.row.C-Key.Denot g.row.C-Value.Denot
@@ -66,25 +67,25 @@ returns-in-Ok-clause-answer g c =
     subst (λ s. InsertAllAnswers K (bytes c.args.store.now) keys values c.args.accepted.now 0 (bytes s) n)
     (sym (search (rules, c.into_data-store.ensures.data, c.insert_items-count.ensures.same_store, c.from_raw_bytes_unchecked-table.ensures)))
     (subst (InsertAllAnswers K (bytes c.args.store.now) keys values c.args.accepted.now 0 (bytes c.insert_items-count.new.self.now)) (sym every)
-    (accepted_insert_all K (bytes c.args.store.now) (bytes c.insert_items-count.new.self.now) keys values c.args.accepted.now n (c.in_default.ensures.err ∙ ap (opening_refusal K.format) c.bytes.ensures) c.requires (framed_here g here) (inserted_here g here) every))
+    (accepted_insert_all K (bytes c.args.store.now) (bytes c.insert_items-count.new.self.now) keys values c.args.accepted.now n (sym (c.is_accepted.ensures.0 c.if-not-is_accepted.false) ∙ ap (opening_refusal K.format) c.bytes.ensures) c.requires (framed_here g here) (inserted_here g here) every))
 
-pub returns-in-Err-answer-clause-answer : goal.returns-in-Err-answer-clause-answer
-returns-in-Err-answer-clause-answer g c =
+pub returns-in-Err-clause-answer : goal.returns-in-Err-clause-answer
+returns-in-Err-clause-answer g c =
     let K = coding g in
     let bytes = g.M.ByteStore.bytes in
     let keys = c.args.keys.now in
     let values = c.args.values.now in
     let n = c.insert_items-count.result.0 in
     let now = bytes c.insert_items-count.new.self.now in
-    let here = (goal.at.returns-in-Err-answer-clause-answer g c).After-insert_items-count in
+    let here = (goal.at.returns-in-Err-clause-answer g c).After-insert_items-count in
     let known = c.insert_items-count.ensures in
-    let is = c.in-Err-answer.is in
-    let only : c.in-Err-answer.refused ≡ Full = (let both = subst (λ (r : Result (Unit {0}) Error). OnErr r (r ≡ Err Full)) is known.only_full in cc) in
+    let is = c.in-Err.is in
+    let only : c.in-Err.refused ≡ Full = (let both = subst (λ (r : Result (Unit {0}) Error). OnErr r (r ≡ Err Full)) is known.only_full in cc) in
     let long = ap length c.new.ensures ∙ length-zip keys values in
     let less : n < length keys = (let ne : n ≡ length c.new.result → ⊥ = λ e. true≢false (sym (known.all.1 e) ∙ ap is_ok is) in omega (arith, known.bound, ne, long, c.requires)) in
-    subst (λ s. InsertAllAnswers K (bytes c.args.store.now) keys values c.args.accepted.now c.status_of-in-Err-answer.result (bytes s) n)
+    subst (λ s. InsertAllAnswers K (bytes c.args.store.now) keys values c.args.accepted.now c.status_of.result (bytes s) n)
     (sym (search (rules, c.into_data-store.ensures.data, c.insert_items-count.ensures.same_store, c.from_raw_bytes_unchecked-table.ensures)))
-    (full_insert_all K (bytes c.args.store.now) now keys values c.args.accepted.now n (c.in_default.ensures.err ∙ ap (opening_refusal K.format) c.bytes.ensures) c.requires (framed_here g here) (inserted_here g here)
-    now c.status_of-in-Err-answer.result refl less (c.status_of-in-Err-answer.ensures ∙ ap status_of only)
+    (full_insert_all K (bytes c.args.store.now) now keys values c.args.accepted.now n (sym (c.is_accepted.ensures.0 c.if-not-is_accepted.false) ∙ ap (opening_refusal K.format) c.bytes.ensures) c.requires (framed_here g here) (inserted_here g here)
+    now c.status_of.result refl less (c.status_of.ensures ∙ ap status_of only)
     (λ P image. subst (λ (xs : List (g.row.C-Key.Denot × g.row.C-Value.Denot)). IsRefusedAt K P xs n) c.new.ensures (subst (λ (r : Result (Unit {0}) Error). OnErr r (IsRefusedAt K P c.new.result n)) is (known.at_maximum P image)))
     (subst (λ (xs : List (g.row.C-Key.Denot × g.row.C-Value.Denot)). IsStoppedAt K xs n now) c.new.ensures (subst (λ (r : Result (Unit {0}) Error). OnErr r (IsStoppedAt K c.new.result n now)) is known.stopped)))

@@ -3,11 +3,13 @@
 //! copied to the caller's.
 
 use crate::generated::calls::status::{status_of, BAD_PERCENT, CAPACITY, OK, TOO_SMALL};
-use crate::generated::tables::bytes::{BorrowedMut, ByteArray, ByteStoreMut};
+use crate::generated::calls::write::{init, insert_all};
+use crate::generated::tables::bytes::{BorrowedMut, ByteArray};
 use crate::generated::tables::config::Config;
 use crate::generated::tables::items::Zipped;
+use crate::generated::tables::layout::Fixed;
 use crate::generated::tables::load::Percent;
-use crate::generated::tables::{bytes_needed, HashTable, HashTableOwned};
+use crate::generated::tables::{bytes_needed, HashTableOwned};
 use crate::shim::Global;
 
 /// Builds a table of the pairs at the front of `out`, with slots for as many items as there are
@@ -24,7 +26,8 @@ pub fn collected<C: Config>(
     let Some(percent) = Percent::new(max_load_factor_percent) else {
         return BAD_PERCENT;
     };
-    let Some(needed) = bytes_needed::<C>(keys.len(), percent.value()) else {
+    let percent = percent.value();
+    let Some(needed) = bytes_needed::<C>(keys.len(), percent) else {
         return CAPACITY;
     };
     *len = needed;
@@ -32,8 +35,23 @@ pub fn collected<C: Config>(
         hold_pairs::<C>(keys, values);
         return TOO_SMALL;
     }
-    insert_into_new::<C>(&mut out[..needed], percent, keys, values);
+    // There is room for each pair.
+    let table = &mut out[..needed];
+    let count = keys.len();
+    let lengths: Fixed<C::EncodedKey, C::EncodedValue> = Fixed::new();
+    let _ = init::<Fixed<C::EncodedKey, C::EncodedValue>, C::H>(lengths, table, count, percent);
+    let _ = insert_into::<C>(table, keys, values);
     OK
+}
+
+// `insert_all` in bytes. It is a function of its own since the prover knows what a slice holds
+// after a store of it was lent to a call, and not after the store was made of a part of `out`.
+#[inline(always)]
+fn insert_into<C: Config>(bytes: &mut [u8], keys: &[C::Key], values: &[C::Value]) -> (u32, usize) {
+    let mut store = BorrowedMut::new(bytes);
+    let mut accepted = 0;
+    let status = insert_all::<C, BorrowedMut<'_>>(&mut store, keys, values, &mut accepted);
+    (status, accepted)
 }
 
 // Encodes each key and value and drops the bytes. It changes nothing: only the clause matters,
@@ -48,37 +66,6 @@ fn hold_pairs<C: Config>(keys: &[C::Key], values: &[C::Value]) {
         let _ = key.as_slice();
         let _ = value.as_slice();
     }
-}
-
-// Makes an empty table in the bytes, whatever they hold, and inserts the pairs in order: there is
-// room for each.
-#[inline(always)]
-fn insert_into_new<C: Config>(
-    bytes: &mut [u8],
-    percent: Percent,
-    keys: &[C::Key],
-    values: &[C::Value],
-) {
-    let mut store = BorrowedMut::new(bytes);
-    insert_into_store::<C, BorrowedMut<'_>>(&mut store, percent, keys, values);
-}
-
-// The same in a store. It is a function of its own since the prover knows what a slice holds after
-// a store of it was lent to a call, and not after the store was moved into a table.
-#[inline(always)]
-fn insert_into_store<C: Config, M: ByteStoreMut>(
-    store: &mut M,
-    percent: Percent,
-    keys: &[C::Key],
-    values: &[C::Value],
-) {
-    let Ok(()) = HashTable::<C, M>::init_store(store, keys.len(), percent.value()) else {
-        // The bytes are as many as the table needs.
-        unreachable!()
-    };
-    let mut table = HashTable::<C, &mut M>::from_raw_bytes_unchecked(store);
-    let _ = table.insert_items(&Zipped::new(keys, values));
-    let _store = table.into_data();
 }
 
 /// Builds a table of the pairs in memory of its own, which starts with sixteen slots at 87 percent

@@ -3,7 +3,7 @@
 //! or numbers, the others for every configuration.
 
 use crate::generated::calls::status::{status_of, BAD_LENGTHS, OK, TOO_SMALL, UNMADE};
-use crate::generated::calls::view;
+use crate::generated::calls::view::{self, View};
 use crate::generated::tables::bytes::Borrowed;
 use crate::generated::tables::config::Config;
 use crate::generated::tables::error::Error;
@@ -16,18 +16,12 @@ use crate::generated::tables::memory_layout::{
 };
 use crate::generated::tables::HashTable;
 
-/// Opens the bytes by their header and length. Reads no slot.
-#[inline(always)]
-pub(crate) fn view<C: Config>(bytes: &[u8]) -> Result<HashTable<C, Borrowed<'_>>, Error> {
-    HashTable::from_raw_bytes_by_header(Borrowed::new(bytes))
-}
-
 /// The number of the first error of bytes whose header or length does not fit; OK where both do.
 /// It is a function of its own, so that a call that finds the header as it is to be has no code
 /// for errors.
 #[inline(never)]
 pub(crate) fn refused<C: Config>(bytes: &[u8]) -> u32 {
-    match view::<C>(bytes) {
+    match HashTable::<C, Borrowed<'_>>::from_raw_bytes_by_header(Borrowed::new(bytes)) {
         Ok(_) => OK,
         Err(refused) => status_of(&refused),
     }
@@ -39,9 +33,7 @@ pub fn get<C: Config>(bytes: &[u8], key: &C::Key, value: &mut C::Value) -> u32 {
     if !is_accepted::<C>(bytes) {
         return refused::<C>(bytes);
     }
-    let table: HashTable<C, Borrowed<'_>> =
-        HashTable::from_raw_bytes_unchecked(Borrowed::new(bytes));
-    view::get(&table, key, value)
+    view::get(&view::table::<C>(&View { bytes }), key, value)
 }
 
 /// Looks up many keys: at the index of a key that is found, its value is written to `values` and 1
@@ -53,10 +45,10 @@ pub fn get_all<C: Config>(
     values: &mut [C::Value],
     found: &mut [u8],
 ) -> u32 {
-    let table = match view::<C>(bytes) {
-        Ok(table) => table,
-        Err(refused) => return status_of(&refused),
-    };
+    if !is_accepted::<C>(bytes) {
+        return refused::<C>(bytes);
+    }
+    let table = view::table::<C>(&View { bytes });
     view::get_all(&table, keys, values, found)
 }
 
@@ -72,10 +64,10 @@ pub fn walk<C: Config>(
     values: &mut [C::Value],
     item_count: &mut usize,
 ) -> u32 {
-    let table = match view::<C>(bytes) {
-        Ok(table) => table,
-        Err(refused) => return status_of(&refused),
-    };
+    if !is_accepted::<C>(bytes) {
+        return refused::<C>(bytes);
+    }
+    let table = view::table::<C>(&View { bytes });
     let mut written = 0;
     for (slot, (key, value)) in table.iter_from(*cursor) {
         if written >= keys.len() {

@@ -2,7 +2,7 @@
 //! The calls that write the bytes of a table. Those that take no key are for lengths that are types
 //! or numbers, the others for every configuration.
 
-use crate::generated::calls::read::{header_of, refused, view};
+use crate::generated::calls::read::{header_of, refused};
 use crate::generated::calls::status::{
     status_of, BAD_PERCENT, CAPACITY, INIT_LENGTH, LOAD_FACTOR_TOO_SMALL, OK, REPLACED, TOO_SMALL,
 };
@@ -88,15 +88,15 @@ pub fn insert<C: Config, M: ByteStoreMut>(
 /// Inserts the pairs in order, up to the first whose insert fails with FULL, and writes to
 /// `accepted` how many were inserted. An error of the header or length leaves everything
 /// unchanged.
-#[inline]
+#[inline(always)]
 pub fn insert_all<C: Config, M: ByteStoreMut>(
     store: &mut M,
     keys: &[C::Key],
     values: &[C::Value],
     accepted: &mut usize,
 ) -> u32 {
-    if let Err(refused) = view::<C>(store.bytes()) {
-        return status_of(&refused);
+    if !is_accepted::<C>(store.bytes()) {
+        return refused::<C>(store.bytes());
     }
     let mut table = HashTable::<C, &mut M>::from_raw_bytes_unchecked(store);
     let (count, answer) = table.insert_items(&Zipped::new(keys, values));
