@@ -4,6 +4,7 @@ use Rattle.odht_base.specs.Format.{Format}
 use Rattle.odht_header.specs.Coding.{Coding}
 use Rattle.odht_header.specs.Refusals.{opening_refusal}
 use Rattle.odht_header.specs.declared.error.Error.{Error}
+use Rattle.odht_calls.specs.Layouts.{ContainsAnswers}
 use Rattle.odht_calls.specs.Reads.{GetAnswers, GetAllAnswers, LenAnswersOf, SizesAnswers}
 use Rattle.odht_calls.specs.Views.{ViewGetAllAnswers}
 use Rattle.odht_calls.specs.Walks.{WalkAnswers}
@@ -47,6 +48,13 @@ module _ {K V : Type 0} (c : Coding K V) (B : List ℕ) (a : Error) (s : ℕ) (i
   pub refused_get : (k : K) (old : V) → GetAnswers c B k old s old
   refused_get k old = record {
     refused = λ e other. (status ∙ known _ a e (sym is) other, refl);
+    on_valid = λ P image. never_refused c.format P B a image (sym is);
+    on_any = λ none. not_none _ a (sym is) none;
+  }
+
+  pub refused_contains : (k : K) → ContainsAnswers c B k s
+  refused_contains k = record {
+    refused = λ e other. status ∙ known _ a e (sym is) other;
     on_valid = λ P image. never_refused c.format P B a image (sym is);
     on_any = λ none. not_none _ a (sym is) none;
   }

@@ -1,38 +1,18 @@
 //! The calls that read keys and pairs of a dynamic table, and the one that reads its lengths.
-ghost use Rattle.std.specs.Prelude.{◌≡◌, ◌≤◌, length, IfOk};
-ghost use Rattle.std.specs.Result.{result_err};
+ghost use Rattle.std.specs.Prelude.{◌≡◌, ◌≤◌, length};
 ghost use Rattle.odht_base.specs.Format.{format_of};
-ghost use Rattle.odht_header.specs.Refusals.{opening_refusal};
 ghost use Rattle.odht_raw.specs.DynParts.{bytes_coding};
 ghost use Rattle.odht_calls.specs.Layouts.{ContainsAnswers, DynAnswers, LayoutAnswers};
 ghost use Rattle.odht_calls.specs.Pieces.{DynGetAllAnswers, DynWalkAnswers};
 ghost use Rattle.odht_calls.specs.Reads.{GetAnswers};
 
-use super::AnyLayout;
 use super::pieces::{are_pieces, put_piece};
-use super::view::{look_up, table_of};
+use super::{AnyLayout, view};
 use crate::read::header_of;
 use crate::status::{ABSENT, BAD_LENGTHS, OK, TOO_SMALL, status_of};
-use odht::bytes::Borrowed;
-use odht::dynamic::DynTable;
-use odht::error::Error;
 use odht::hash::HashFn;
 use odht::layout::Layout;
 use odht::memory_layout::{check_by_header, stated_layout};
-
-// Opens the bytes by their header and length. Reads no slot.
-fn view<H: HashFn>(layout: Layout, bytes: &[u8]) -> Result<DynTable<H, Borrowed<'_>>, Error>
-    requires { H.MIN_LEN ≤ layout.key_len }
-    ensures ok { IfOk result (λ t. (t.key_len ≡ layout.key_len) × (t.value_len ≡ layout.value_len)
-        × (t.store.0.now ≡ bytes.now)) }
-    ensures err { let F = format_of layout.key_len layout.value_len H.hash
-        in result_err result ≡ opening_refusal F bytes.now }
-{
-    match check_by_header(bytes, layout) {
-        Ok(()) => Ok(DynTable::open_unchecked(layout, Borrowed::new(bytes))),
-        Err(refused) => Err(refused),
-    }
-}
 
 /// Writes the value of a key to `value`. BAD_LENGTHS where the key or `value` has another length
 /// than the layout says. ABSENT and errors leave `value` unchanged.
@@ -47,11 +27,10 @@ pub fn get<H: HashFn>(layout: Layout, bytes: &[u8], key: &[u8], value: &mut [u8]
     if key.len() != layout.key_len as usize || value.len() != layout.value_len as usize {
         return BAD_LENGTHS;
     }
-    let table = match view::<H>(layout, bytes) {
-        Ok(table) => table,
-        Err(refused) => return status_of(&refused),
-    };
-    match table.get(key) {
+    if let Err(refused) = check_by_header(bytes, layout) {
+        return status_of(&refused);
+    }
+    match view::table_of::<H>(layout, bytes).get(key) {
         Some(found) => {
             value.copy_from_slice(found);
             OK
@@ -72,11 +51,10 @@ pub fn contains<H: HashFn>(layout: Layout, bytes: &[u8], key: &[u8]) -> u32
     if key.len() != layout.key_len as usize {
         return BAD_LENGTHS;
     }
-    let table = match view::<H>(layout, bytes) {
-        Ok(table) => table,
-        Err(refused) => return status_of(&refused),
-    };
-    match table.get(key) {
+    if let Err(refused) = check_by_header(bytes, layout) {
+        return status_of(&refused);
+    }
+    match view::table_of::<H>(layout, bytes).get(key) {
         Some(_) => OK,
         None => ABSENT,
     }
@@ -104,7 +82,7 @@ pub fn get_all<H: HashFn>(
     if let Err(refused) = header_of::<Layout, H>(layout, bytes) {
         return status_of(&refused);
     }
-    look_up::<H>(layout, bytes, count, keys, values, found)
+    view::look_up::<H>(layout, bytes, count, keys, values, found)
 }
 
 /// Writes the keys and values in the slots from `cursor` on to the arrays, in slot order, as many
@@ -132,7 +110,7 @@ pub fn walk<H: HashFn>(
         Ok(header) => header,
         Err(refused) => return status_of(&refused),
     };
-    let table = table_of::<H>(layout, bytes);
+    let table = view::table_of::<H>(layout, bytes);
     let mut written = 0;
     for (slot, (key, value)) in table.iter_from(*cursor) {
         if written >= room {

@@ -2,24 +2,12 @@
 //! The calls that read keys and pairs of a dynamic table, and the one that reads its lengths.
 
 use super::pieces::{are_pieces, put_piece};
-use super::view::{look_up, table_of};
-use super::AnyLayout;
+use super::{view, AnyLayout};
 use crate::generated::calls::read::header_of;
 use crate::generated::calls::status::{status_of, ABSENT, BAD_LENGTHS, OK, TOO_SMALL};
-use crate::generated::tables::bytes::Borrowed;
-use crate::generated::tables::dynamic::DynTable;
-use crate::generated::tables::error::Error;
 use crate::generated::tables::hash::HashFn;
 use crate::generated::tables::layout::Layout;
 use crate::generated::tables::memory_layout::{check_by_header, stated_layout};
-
-// Opens the bytes by their header and length. Reads no slot.
-fn view<H: HashFn>(layout: Layout, bytes: &[u8]) -> Result<DynTable<H, Borrowed<'_>>, Error> {
-    match check_by_header(bytes, layout) {
-        Ok(()) => Ok(DynTable::open_unchecked(layout, Borrowed::new(bytes))),
-        Err(refused) => Err(refused),
-    }
-}
 
 /// Writes the value of a key to `value`. BAD_LENGTHS where the key or `value` has another length
 /// than the layout says. ABSENT and errors leave `value` unchanged.
@@ -28,11 +16,10 @@ pub fn get<H: HashFn>(layout: Layout, bytes: &[u8], key: &[u8], value: &mut [u8]
     if key.len() != layout.key_len as usize || value.len() != layout.value_len as usize {
         return BAD_LENGTHS;
     }
-    let table = match view::<H>(layout, bytes) {
-        Ok(table) => table,
-        Err(refused) => return status_of(&refused),
-    };
-    match table.get(key) {
+    if let Err(refused) = check_by_header(bytes, layout) {
+        return status_of(&refused);
+    }
+    match view::table_of::<H>(layout, bytes).get(key) {
         Some(found) => {
             value.copy_from_slice(found);
             OK
@@ -48,11 +35,10 @@ pub fn contains<H: HashFn>(layout: Layout, bytes: &[u8], key: &[u8]) -> u32 {
     if key.len() != layout.key_len as usize {
         return BAD_LENGTHS;
     }
-    let table = match view::<H>(layout, bytes) {
-        Ok(table) => table,
-        Err(refused) => return status_of(&refused),
-    };
-    match table.get(key) {
+    if let Err(refused) = check_by_header(bytes, layout) {
+        return status_of(&refused);
+    }
+    match view::table_of::<H>(layout, bytes).get(key) {
         Some(_) => OK,
         None => ABSENT,
     }
@@ -76,7 +62,7 @@ pub fn get_all<H: HashFn>(
     if let Err(refused) = header_of::<Layout, H>(layout, bytes) {
         return status_of(&refused);
     }
-    look_up::<H>(layout, bytes, count, keys, values, found)
+    view::look_up::<H>(layout, bytes, count, keys, values, found)
 }
 
 /// Writes the keys and values in the slots from `cursor` on to the arrays, in slot order, as many
@@ -99,7 +85,7 @@ pub fn walk<H: HashFn>(
         Ok(header) => header,
         Err(refused) => return status_of(&refused),
     };
-    let table = table_of::<H>(layout, bytes);
+    let table = view::table_of::<H>(layout, bytes);
     let mut written = 0;
     for (slot, (key, value)) in table.iter_from(*cursor) {
         if written >= room {
