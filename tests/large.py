@@ -1,7 +1,7 @@
 #!/usr/bin/env python3
 """Tests that the program `odht` counts the items of a table that is larger than memory: it reads only the header. The
 file is sparse: a header of 2^36 slots for keys of eight bytes and values of four, and no other byte written. And that it
-rejects 3 GB of zeros at once, in little memory.
+rejects 3 GB of zeros at once, in little memory, and `get` a table whose first slots fit no hash function.
 
   tests/large.py PROGRAM..
 
@@ -28,6 +28,8 @@ REJECTED = [
     (["count", "zeros"], (1, "", f"odht: {FOREIGN}")),
     (["get", "zeros", "1"], (2, "", f"odht: {FOREIGN}")),
 ]
+UNFIT = ("odht: unfit: the control bytes fit no hash function with keys of 8 and values of 4 bytes; `odht check` and "
+         "`odht info` say more\n")
 # bytes of memory, and seconds of processor time, that the program may have
 MEMORY, SECONDS = 1 << 28, 2
 
@@ -40,6 +42,19 @@ def limited():
 def run(program, words, folder):
     done = subprocess.run([program, *words], capture_output=True, preexec_fn=limited, timeout=60, cwd=folder)
     return done.returncode, done.stdout.decode(), done.stderr.decode()
+
+
+def test_unfit(program, room):
+    with open(f"{room}/unfit", "wb") as it:
+        it.write(HEADER)
+        it.truncate(LENGTH)
+        # the tag 1 in sixteen slots, by keys that are zero, whose tag it is under no hash function
+        it.seek(32 + SLOTS * (8 + 4))
+        it.write(bytes([1]) * 16)
+    for words, lines in (["0"], None), (["--key", "u64", "0"], None), (["-"], b"0\n"):
+        done = subprocess.run([program, "get", "unfit", *words], input=lines, capture_output=True, preexec_fn=limited,
+                              timeout=60, cwd=room)
+        assert (done.returncode, done.stdout, done.stderr.decode()) == (2, b"", UNFIT), (words, done)
 
 
 def counted(program, name, *words):
@@ -75,6 +90,7 @@ def main(*programs):
             try:
                 test(program, room)
                 test_zeros(program, room)
+                test_unfit(program, room)
             except (AssertionError, subprocess.TimeoutExpired) as error:
                 failed += 1
                 print(f"FAILED large: {program}: {error}")

@@ -1,7 +1,7 @@
 #!/usr/bin/env python3
 """Tests that `odht get FILE -` answers lines as they come where standard input is a pipe or a terminal: each answer is
-read before the next line is written. And that of a file all lines are answered in one write. If they are few, they are
-looked up in a table that does not fit in memory.
+read before the next line is written. And that of a file all lines are answered in one write. While they are few, they
+are looked up in a table that does not fit in memory.
 
   tests/live.py PROGRAM..
 """
@@ -97,7 +97,8 @@ def of_a_file(program, room):
 
 
 def of_few_lines(program, room):
-    """A byte of lines for 16,384 bytes of the table's file is few: then the file may be larger than the memory."""
+    """A byte of lines for 16,384 bytes of the table's file is few: then the file may be larger than the memory. Of a pipe
+    the lines are answered until there were more."""
     size, most = 1 << 30, 1 << 16
     shutil.copy(f"{TABLES}/{TABLE[0]}", f"{room}/large.odht")
     os.truncate(f"{room}/large.odht", size)
@@ -113,8 +114,17 @@ def of_few_lines(program, room):
             it.seek(0)
             found = subprocess.run([program, "get", "large.odht", "-", "--at", "0"], cwd=room, stdin=it,
                                    capture_output=True, text=True, check=False, preexec_fn=with_little_memory)
-        assert (found.stdout, found.returncode) == (written, status), (lines[:20], found.stdout[-99:], found.returncode)
-        assert message in found.stderr and (message or not found.stderr), (lines[:20], found.stderr)
+        assert_found(found, written, status, message, lines[:20])
+        found = subprocess.run([program, "get", "large.odht", "-", "--at", "0"], cwd=room, input=lines.encode(),
+                               capture_output=True, check=False, preexec_fn=with_little_memory)
+        found.stdout, found.stderr = found.stdout.decode(), found.stderr.decode()
+        before = answers + "1\t2\n" if "memory" in message else written
+        assert_found(found, before, status, message, lines[:20])
+
+
+def assert_found(found, written, status, message, lines):
+    assert (found.stdout, found.returncode) == (written, status), (lines, found.stdout[-99:], found.returncode)
+    assert message in found.stderr and (message or not found.stderr), (lines, found.stderr)
 
 
 def with_little_memory():

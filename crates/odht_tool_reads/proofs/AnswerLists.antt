@@ -1,9 +1,9 @@
 -- Answers of lists in two parts.
-use Rattle.std.proofs.Common.{◌≡◌, ◌∙◌, ℕ, zero, suc, ◌+◌, Bool, List, [], ◌∷◌, ◌++◌, Option, Some, None, length, map, is_some, ◌&&◌, slice_get, sym, ap, refl, arith, length-append, subst}
+use Rattle.std.proofs.Common.{◌≡◌, ◌∙◌, ℕ, zero, suc, ◌+◌, Bool, true, false, List, [], ◌∷◌, ◌++◌, Option, Some, None, length, map, is_some, ◌&&◌, slice_get, sym, ap, refl, arith, length-append, subst}
 use Rattle.std.specs.Io.KnownBytes.{Appends, Keeps}
 use Rattle.std.specs.List.{AllZip, list_all}
 use Rattle.std.proofs.KnownBytes.{Appends-trans}
-use Rattle.std.proofs.Math.Bool.{and_comm}
+use Rattle.std.proofs.Math.Bool.{and_comm, and-false}
 use Rattle.std.proofs.lemmas.List.{append_assoc, map-append}
 use Rattle.std.proofs.lemmas.List.Folds.{list_all-append}
 use Rattle.odht.specs.Lookups.{HaveStored}
@@ -64,7 +64,8 @@ pub written_append : {K V : Type 0} (l : K × Option V → List ℕ) (ks ls : Li
     → Appends a b (answers_by l ks vs) → Appends b d (answers_by l ls ws) → Appends a d (answers_by l (ks ++ ls) (vs ++ ws))
 written_append l ks ls vs ws a b d e p q = subst (Appends a d) (sym (answers_append l ks ls vs ws e)) (Appends-trans a b d (answers_by l ks vs) (answers_by l ls ws) p q)
 
--- whether all of both are found
-pub found_append : {V : Type 0} (vs ws : List (Option V)) (was is all : Bool) → was ≡ list_all is_some vs → is ≡ list_all is_some ws → all ≡ (is && was) → all ≡ list_all is_some (vs ++ ws)
-found_append vs ws was is all p q e =
+-- whether all of both are found, and those in front of them
+pub found_append : {V : Type 0} (b : Bool) (vs ws : List (Option V)) (was is all : Bool) → was ≡ (b && list_all is_some vs) → is ≡ list_all is_some ws → all ≡ (is && was) → all ≡ (b && list_all is_some (vs ++ ws))
+found_append false vs ws was is all p q e = e ∙ ap (λ b. is && b) p ∙ and-false is
+found_append true vs ws was is all p q e =
     e ∙ ap (λ b. b && was) q ∙ ap (λ b. list_all is_some ws && b) p ∙ and_comm (list_all is_some ws) (list_all is_some vs) ∙ sym (list_all-append is_some vs ws)

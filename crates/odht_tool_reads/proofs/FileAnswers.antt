@@ -1,5 +1,5 @@
 -- What is answered of a table that is read by position.
-use Rattle.std.proofs.Common.{◌≡◌, ◌∙◌, ℕ, ◌≤◌, List, length, take, Option, Some, None, Ok, ap, subst, sym}
+use Rattle.std.proofs.Common.{◌≡◌, ◌∙◌, ◌⊎◌, inl, inr, ℕ, ◌≤◌, List, length, take, Option, Some, None, Ok, ap, subst, sym}
 use Rattle.std.proofs.lemmas.List.{length-take-le}
 use Rattle.std.specs.Prelude.{Result, Err, MatchResult}
 use Rattle.std.specs.Io.KnownBytes.{Keeps}
@@ -20,10 +20,11 @@ use Rattle.odht_tool_core.specs.declared.status.Status.{Status}
 use Rattle.odht_tool_reads.specs.Gets.{AreFileWordsGot, by_shape, words_of_types, words_of_forms}
 use Rattle.odht_tool_reads.specs.PositionLines.{AreFileLinesRead, AreLinesReadBy, lines_read_of, lines_read_of_forms}
 use Rattle.odht_tool_reads.specs.Positions.{ByPosition, IsAnsweredBy, IsFoundIn, IsTableIn, IsNamed, IsStartOf, table_read}
+use Rattle.odht_tool_reads.specs.declared.positions.Reached.{Reached}
 use Rattle.odht_tool_reads.specs.declared.positions.Start.{Start}
 use Rattle.odht_tool_reads.specs.declared.positions.shaped.Found.{Found}
 use Rattle.odht_tool_reads.proofs.FileReads.{found_same, ready_long, started, started_long, valid_found}
-use Rattle.odht_tool_reads.proofs.Shaped.{with_shape_said}
+use Rattle.odht_tool_reads.proofs.Shaped.{with_shape_said, without_shape_in}
 
 -- the shape that the header shows is that of the table
 pub named_shape : (B : List ℕ) (start : Start) → IsStartOf B start → 32 ≤ start.len → (h name : Option Hash) (ks : Kinds) → IsNamed (bytes_at B start.at start.len) h ks.hash name
@@ -36,13 +37,13 @@ pub front_given : (B room : List ℕ) (n at from : ℕ) → n ≤ length room �
 front_given B room n at from within h e = h ∙ (λ j. bytes_at B (sym e j) (sym (length-take-le n room within) j))
 
 -- what is said of each result is said of one by position
-pub each_by_position : (old new : Option (List ℕ)) (P Q : Result Status Failure → Type 0) → ((r : Result Status Failure) → P r → Q r) → (r : Result (Option Status) Failure) → ByPosition old new P r → ByPosition old new Q r
+pub each_by_position : {X : Type 0} (old new : Option (List ℕ)) (P Q : Result X Failure → Type 0) → ((r : Result X Failure) → P r → Q r) → (r : Result (Option X) Failure) → ByPosition old new P r → ByPosition old new Q r
 each_by_position old new P Q f (Ok None) w = w
 each_by_position old new P Q f (Ok (Some s)) w = f (Ok s) w
 each_by_position old new P Q f (Err failure) w = f (Err failure) w
 
 -- what is said of the types of a table that was found is said of its bytes
-pub found_said : (B : List ℕ) (at : Option ℕ) (h : Option Hash) (ks : Kinds) (f : Found) (is : IsFoundIn B at h ks f) (old new : Option (List ℕ)) (r : Result Status Failure) (Q : List ℕ → OtherShape → GivenForms → Type 0)
+pub found_said : {X : Type 0} (B : List ℕ) (at : Option ℕ) (h : Option Hash) (ks : Kinds) (f : Found) (is : IsFoundIn B at h ks f) (old new : Option (List ℕ)) (r : Result X Failure) (Q : List ℕ → OtherShape → GivenForms → Type 0)
     → Q (bytes_at B f.at f.len) f.shape f.forms → by_shape (table_read B at) is.named ks old new r (λ x. Q (table_read B at) (types_of x.0) x.1)
 found_said B at h ks f is old new r Q w =
     with_shape_said (read_any (table_read B at) is.named ks) (is.shape, f.forms) (λ x. Q (table_read B at) (types_of x.0) x.1) (λ x. (r ≡ Err x) × Keeps old new) (sym is.formed)
@@ -53,13 +54,24 @@ pub found_words : (B : List ℕ) (at : Option ℕ) (h : Option Hash) (ks : Kinds
     → ByPosition old new (λ r. words_of_types (f.forms.key, f.forms.value) j (bytes_at B f.at f.len) ws old new r f.shape) r → ByPosition old new (IsAnsweredBy (table_read B at) h ks j ws old new) r
 found_words B at h ks f is j ws old new =
     each_by_position old new (λ r. words_of_types (f.forms.key, f.forms.value) j (bytes_at B f.at f.len) ws old new r f.shape) (IsAnsweredBy (table_read B at) h ks j ws old new)
-    (λ r w. record { named = is.named; is = is.is; answered = found_said B at h ks f is old new r (λ T o fs. words_of_types (fs.key, fs.value) j T ws old new r o) w })
+    (λ r w. record { named = is.named; is = inr is.is; answered = found_said B at h ks f is old new r (λ T o fs. words_of_types (fs.key, fs.value) j T ws old new r o) w })
 
-pub found_lines : (B : List ℕ) (at : Option ℕ) (h : Option Hash) (ks : Kinds) (f : Found) → IsFoundIn B at h ks f → (j : Printed) (input old new : Option (List ℕ)) (r : Result (Option Status) Failure)
-    → ByPosition old new (λ r. lines_read_of (f.forms.key, f.forms.value) j (bytes_at B f.at f.len) input old new r f.shape) r → ByPosition old new (AreLinesReadBy (table_read B at) h ks j input old new) r
-found_lines B at h ks f is j input old new =
-    each_by_position old new (λ r. lines_read_of (f.forms.key, f.forms.value) j (bytes_at B f.at f.len) input old new r f.shape) (AreLinesReadBy (table_read B at) h ks j input old new)
-    (λ r w. record { named = is.named; is = is.is; answered = found_said B at h ks f is old new r (λ T o fs. lines_read_of (fs.key, fs.value) j T input old new r o) w })
+pub found_lines : (B : List ℕ) (at : Option ℕ) (h : Option Hash) (ks : Kinds) (f : Found) → IsFoundIn B at h ks f → (j : Printed) (input now old new : Option (List ℕ)) (r : Result (Option Reached) Failure)
+    → ByPosition old new (λ r. lines_read_of (f.forms.key, f.forms.value) j (bytes_at B f.at f.len) input now old new r f.shape) r → ByPosition old new (AreLinesReadBy (table_read B at) h ks j input now old new) r
+found_lines B at h ks f is j input now old new =
+    each_by_position old new (λ r. lines_read_of (f.forms.key, f.forms.value) j (bytes_at B f.at f.len) input now old new r f.shape) (AreLinesReadBy (table_read B at) h ks j input now old new)
+    (λ r w. record { named = is.named; is = inr is.is; answered = found_said B at h ks f is old new r (λ T o fs. lines_read_of (fs.key, fs.value) j T input now old new r o) w })
+
+-- where slots fit no hash function there is no shape
+pub unfit_words : (T : List ℕ) (h : Option Hash) (ks : Kinds) (j : Printed) (ws : List (List ℕ)) (old : Option (List ℕ)) (f : Failure) → (h ≡ None) × (read_any T None ks ≡ Err f)
+    → IsAnsweredBy T h ks j ws old old (Err f)
+unfit_words T h ks j ws old f e =
+    record { named = None; is = inl (sym e.0); answered = without_shape_in Status (read_any T None ks) f old (words_of_forms j T ws old old (Err f)) (sym e.1) }
+
+pub unfit_lines : (T : List ℕ) (h : Option Hash) (ks : Kinds) (j : Printed) (input now old : Option (List ℕ)) (f : Failure) → (h ≡ None) × (read_any T None ks ≡ Err f)
+    → AreLinesReadBy T h ks j input now old old (Err f)
+unfit_lines T h ks j input now old f e =
+    record { named = None; is = inl (sym e.0); answered = without_shape_in Reached (read_any T None ks) f old (lines_read_of_forms j T input now old old (Err f)) (sym e.1) }
 
 -- ---- valid bytes
 -- where it was named or not, the shape of such a table is the same
@@ -67,9 +79,10 @@ valid_same : (T : List ℕ) (s : AnyShape) → IsTableIn T s → (h : Option Has
 valid_same T (Ready x) is h ks name named = valid_found T (typed_len (key_part x)) (typed_len (value_part x)) (shape_hash x) is.format (ready_long x) is.valid h ks.hash name named
 valid_same T (Other o) is h ks name named = valid_found T (typed_len o.key) (typed_len o.value) o.hash is.format is.long is.valid h ks.hash name named
 
-valid_said : (T : List ℕ) (s : AnyShape) → IsTableIn T s → (h : Option Hash) (ks : Kinds) (name : Option Hash) → IsNamed T h ks.hash name → (old new : Option (List ℕ)) (r : Result Status Failure) (Q : AnyShape × GivenForms → Type 0)
+valid_said : {X : Type 0} (T : List ℕ) (s : AnyShape) → IsTableIn T s → (h : Option Hash) (ks : Kinds) (name : Option Hash) → (name ≡ h) ⊎ IsNamed T h ks.hash name → (old new : Option (List ℕ)) (r : Result X Failure) (Q : AnyShape × GivenForms → Type 0)
     → by_shape T name ks old new r Q → by_shape T h ks old new r Q
-valid_said T s is h ks name named old new r Q =
+valid_said T s is h ks name (inl e) old new r Q = subst (λ n. by_shape T n ks old new r Q) e
+valid_said T s is h ks name (inr named) old new r Q =
     subst (λ f. MatchResult (any_formed ks f) Q (λ x. (r ≡ Err x) × Keeps old new)) (valid_same T s is h ks name named)
 
 -- and so are the words, and the lines
@@ -78,7 +91,7 @@ pub valid_words : (T : List ℕ) (s : AnyShape) → IsTableIn T s → (h : Optio
 valid_words T s is h ks j ws old new =
     each_by_position old new (IsAnsweredBy T h ks j ws old new) (AreFileWordsGot T h ks j ws old new) (λ r a. valid_said T s is h ks a.named a.is old new r (words_of_forms j T ws old new r) a.answered)
 
-pub valid_lines : (T : List ℕ) (s : AnyShape) → IsTableIn T s → (h : Option Hash) (ks : Kinds) (j : Printed) (input old new : Option (List ℕ)) (r : Result (Option Status) Failure)
-    → ByPosition old new (AreLinesReadBy T h ks j input old new) r → ByPosition old new (AreFileLinesRead T h ks j input old new) r
-valid_lines T s is h ks j input old new =
-    each_by_position old new (AreLinesReadBy T h ks j input old new) (AreFileLinesRead T h ks j input old new) (λ r a. valid_said T s is h ks a.named a.is old new r (lines_read_of_forms j T input old new r) a.answered)
+pub valid_lines : (T : List ℕ) (s : AnyShape) → IsTableIn T s → (h : Option Hash) (ks : Kinds) (j : Printed) (input now old new : Option (List ℕ)) (r : Result (Option Reached) Failure)
+    → ByPosition old new (AreLinesReadBy T h ks j input now old new) r → ByPosition old new (AreFileLinesRead T h ks j input now old new) r
+valid_lines T s is h ks j input now old new =
+    each_by_position old new (AreLinesReadBy T h ks j input now old new) (AreFileLinesRead T h ks j input now old new) (λ r a. valid_said T s is h ks a.named a.is old new r (lines_read_of_forms j T input now old new r) a.answered)

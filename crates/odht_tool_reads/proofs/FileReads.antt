@@ -1,5 +1,5 @@
 -- Lookups in a table that is read by position, and the hash function that its first slots leave.
-use Rattle.std.proofs.Common.{arith, refl, ◌≡◌, ◌∙◌, ℕ, ◌+◌, ◌-◌, ◌*◌, ◌<◌, ◌≤◌, ◌&&◌, ◌==◌, Bool, true, false, not, List, [], ◌∷◌, length, drop, take, find, is_none, is_some, Option, Some, None, Ok, sym, ap, ap₂, subst, cond, slice_index, le-ltb, mul-le-mul_right, add-mul, zero-add, length-drop}
+use Rattle.std.proofs.Common.{arith, refl, ◌≡◌, ◌∙◌, ℕ, ◌+◌, ◌-◌, ◌*◌, ◌<◌, ◌≤◌, ◌&&◌, ◌==◌, Bool, true, false, not, List, [], ◌∷◌, length, drop, take, find, is_none, is_some, Option, Some, None, Ok, Err, sym, ap, ap₂, subst, cond, slice_index, le-ltb, mul-le-mul_right, add-mul, zero-add, length-drop}
 use Rattle.std.specs.Prelude.{◌||◌, if◌then◌else◌, option_map}
 use Rattle.std.specs.Bool.{then_some}
 use Rattle.std.specs.Option.{option_or, unwrap_or}
@@ -28,6 +28,8 @@ use Rattle.odht_tool_core.specs.AnyShapes.{any_of_sizes, fitting_any, found_any,
 use Rattle.odht_tool_core.specs.ReadyShapes.{early_refusal, hash_of, is_shape_of, same_hash, typed_len}
 use Rattle.odht_tool_core.specs.generated.ShapeList.{key_part, shape_hash, ready_shapes}
 use Rattle.odht_tool_core.specs.FoundShapes.{first_hash, fits, fitting_shape, is_other, is_valid_by, other_hash, said_hash, settled_hash, valid_hash}
+use Rattle.odht_tool_core.specs.declared.failure.Failure.{Failure}
+use Rattle.odht_tool_core.specs.declared.failure.Failure.TheVariants.{NoHash}
 use Rattle.odht_tool_core.specs.declared.shapes.Hash.TheVariants.{Fx, Unhash, Xxh64}
 use Rattle.odht_tool_core.proofs.Refusals.{early_passes}
 use Rattle.odht_raw.proofs.lemmas.Accepted.{IsAccepted-IsValidBytes, accepted_opening, accepted_len}
@@ -41,7 +43,7 @@ use Rattle.odht_tool_core.specs.declared.shapes.Hash.{Hash}
 use Rattle.odht_tool_core.proofs.DynSlots.{all_agree}
 use Rattle.odht.specs.Files.{table_place}
 use Rattle.odht_raw.specs.declared.raw_table.read_search.ReadPlace.{ReadPlace}
-use Rattle.odht_tool_reads.specs.Positions.{IsNamed, IsStartOf, slots_parts}
+use Rattle.odht_tool_reads.specs.Positions.{AreNoneLeft, HasNoHash, IsNamed, IsStartOf, slots_parts}
 use Rattle.odht_tool_reads.specs.declared.positions.Start.{Start}
 use Rattle.odht_tool_reads.specs.declared.positions.names.Fitting.{Fitting}
 
@@ -193,6 +195,12 @@ left_xxh64 P a b c x e f Fx s = x.by_fx e
 left_xxh64 P a b c x e f Unhash s = x.by_unhash f
 left_xxh64 P a b c x e f Xxh64 s = absurd (true≢false s)
 
+-- or none, where each of them is
+pub left_none : (P : DynParts) (a b c : Bool) → Excluded P a b c → a ≡ false → b ≡ false → c ≡ false → (g : Hash) → agrees P g ≡ false
+left_none P a b c x d e f Fx = x.by_fx d
+left_none P a b c x d e f Unhash = x.by_unhash e
+left_none P a b c x d e f Xxh64 = x.by_xxh64 f
+
 -- how long a table is by its header
 pub start_length : (k v len : ℕ) (header : List ℕ) → Ok tt ≡ checked (header_refusal (format_of k v (λ b. 0)) len header) → len ≡ 32 + header_slots header * (k + v) + header_slots header + 16
 start_length k v len header e = (IsHeader-header_refusal (format_of k v (λ b. 0)) len header (Ok-checked _ e)).length_is
@@ -270,6 +278,50 @@ start_opens B start is long e =
             ∙ (λ i. image_len (format_of (byte 5 (omega arith) i) (byte 6 (omega arith) i) (λ b. 0)) (num (cut 16 8 (omega arith) i)));
       };
     })
+
+-- where its slots leave no hash function, its failure has the lengths of its header
+pub none_left : (B : List ℕ) (start : Start) → IsStartOf B start → 32 ≤ start.len → info_refusal (bytes_at B start.at start.len) ≡ None
+    → (a b c : Bool) → Excluded (file_parts (bytes_at B start.at start.len)) a b c → a ≡ false → b ≡ false → c ≡ false
+    → (f : Failure) → f ≡ NoHash (slice_index start.header 5) (slice_index start.header 6) → AreNoneLeft (bytes_at B start.at start.len) f
+none_left B start is long opens a b c x d e g f said = record {
+  opens = opens;
+  unfit = left_none (file_parts (bytes_at B start.at start.len)) a b c x d e g;
+  said = said ∙ ap₂ NoHash (byte 5 (omega arith)) (byte 6 (omega arith));
+}
+  where
+    byte : (i : ℕ) → i < 32 → slice_index start.header i ≡ slice_index (bytes_at B start.at start.len) i
+    byte = field (bytes_at B start.at start.len) start.header (started_long B start is long) (started B start is long)
+
+-- and it has no shape
+module _ (T : List ℕ) (f : Failure) (none : AreNoneLeft T f) (some : header_count T ≡ 0 → ⊥) where
+  no_fits : (ss : List Shape) → find (fits (slice_index T 5) (slice_index T 6) (file_parts T)) ss ≡ None
+  no_fits [] = refl
+  no_fits (s ∷ ss) =
+      ap (λ b. cond b (Some s) (find (fits (slice_index T 5) (slice_index T 6) (file_parts T)) ss))
+      (ap (λ b. is_shape_of (slice_index T 5) (slice_index T 6) None s && b) (none.unfit (shape_hash s)) ∙ and-false _)
+      ∙ no_fits ss
+
+  not_found : found_hash (file_parts T) ≡ None
+  not_found =
+      ap (λ b. cond b (Some Fx) (find (agrees (file_parts T)) (Unhash ∷ Xxh64 ∷ []))) (none.unfit Fx)
+      ∙ ap (λ b. cond b (Some Unhash) (find (agrees (file_parts T)) (Xxh64 ∷ []))) (none.unfit Unhash) ∙ ap (λ b. cond b (Some Xxh64) None) (none.unfit Xxh64)
+
+  no_first : first_hash (slice_index T 5) (slice_index T 6) (file_parts T) ≡ None
+  no_first = ap (λ o. option_or (option_map shape_hash o) (found_hash (file_parts T))) (no_fits ready_shapes) ∙ not_found
+
+  unsaid : (d : Option Hash) → said_hash T None d ≡ None
+  unsaid None = refl
+  unsaid (Some d) = ap (λ b. then_some b (settled_hash T d)) (ap (λ b. is_none (info_refusal T) && b) (none.unfit d) ∙ and-false _)
+
+  has_some : (header_count T == 0) ≡ false
+  has_some = false_from_ne_true _ (λ t. some (eqb-true _ _ t))
+
+  pub no_shape : (d : Option Hash) → HasNoHash T d f
+  no_shape d =
+      ap (found_any T) (unsaid d)
+      ∙ ap (λ b. if is_none (info_refusal T) && not b then fitting_any T else named_any T None) has_some
+      ∙ ap (λ o. if is_none o && true then fitting_any T else named_any T None) none.opens
+      ∙ ap (of_hash T) no_first ∙ ap Err (sym none.said)
 
 -- what is left of bytes that were read are those from a later offset on
 pub left_of : (B xs : List ℕ) (at skipped offset : ℕ) → xs ≡ bytes_at B at (length xs) → skipped ≤ length xs → at + skipped ≡ offset

@@ -33,9 +33,12 @@ pub with_shape : {X : Type 0} (r : Result X Failure) (f : X → Outcome) (x : X)
 with_shape r f x old new returned e h = subst (λ p. IsDone (by_shape p f) old new returned) e h
 
 -- the same of what is said by cases
+pub without_shape_in : {X : Type 0} (Y : Type 0) (r : Result X Failure) (e : Failure) (old : Option (List ℕ)) (P : X → Type 0) → Err e ≡ r → MatchResult r P (λ x. (◌≡◌ {A = Result Y Failure} (Err e) (Err x)) × Keeps old old)
+without_shape_in Y (Ok x) e old P h = cc
+without_shape_in Y (Err x) e old P h = (ap Err (same_failure e x h), Keeps-refl old)
+
 pub without_shape_said : {X : Type 0} (r : Result X Failure) (e : Failure) (old : Option (List ℕ)) (P : X → Type 0) → Err e ≡ r → MatchResult r P (λ x. (◌≡◌ {A = Result Status Failure} (Err e) (Err x)) × Keeps old old)
-without_shape_said (Ok x) e old P h = cc
-without_shape_said (Err x) e old P h = (ap Err (same_failure e x h), Keeps-refl old)
+without_shape_said = without_shape_in Status
 
 pub with_shape_said : {X : Type 0} (r : Result X Failure) (x : X) (P : X → Type 0) (N : Failure → Type 0) → Ok x ≡ r → P x → MatchResult r P N
 with_shape_said r x P N e h = subst (λ p. MatchResult p P N) e h

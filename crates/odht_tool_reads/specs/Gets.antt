@@ -108,7 +108,7 @@ words_of_types fs j B ws old new r o =
     AreWordsGot (other_coding o) (answer_in j (dynamic_text k) (dynamic_text (bytes_form fs.1 o.value))) (no_key_line j) (IsDynamicOf k) B ws old new r
 
 -- with no shape there is its failure
-abbrev pub by_shape : List ℕ → Option Hash → Kinds → Option (List ℕ) → Option (List ℕ) → Result Status Failure → (AnyShape × GivenForms → Type 0) → Type 0
+abbrev pub by_shape : {X : Type 0} → List ℕ → Option Hash → Kinds → Option (List ℕ) → Option (List ℕ) → Result X Failure → (AnyShape × GivenForms → Type 0) → Type 0
 by_shape B h ks old new r P = MatchResult (read_any B h ks) P (λ failure. (r ≡ Err failure) × Keeps old new)
 
 abbrev pub words_of_forms : Printed → List ℕ → List (List ℕ) → Option (List ℕ) → Option (List ℕ) → Result Status Failure → AnyShape × GivenForms → Type 0

@@ -11,15 +11,17 @@
 --     table_read B at          these of the bytes B, from that offset on, or from the first
 --     IsLeft T h               where header and length fit, some control byte of the table T excludes each hash function
 --                              that is not h
+--     AreNoneLeft T f          header and length fit, some control byte of T excludes each hash function, and f says that
+--     HasNoHash T d f          f is why the table T has no shape, where none is named, and d is the default of such keys
 --     IsNamed T h d g          g is the hash function that is to be named for the table T, where h, or none, is named, and d
 --                              is the default of such keys, or there is none: h; else none where the header counts no
 --                              items and there is no default; else one that is left
 --     IsAnsweredBy T h ks j ws old new r   r is what `get` returns of the bytes T, and writes, where j is printed of keys,
---                              where a hash function that is to be named for them is named
+--                              where a hash function that is to be named for them is named, or where h, or none, is
 --     IsFoundIn B at h ks f    f tells where the table of the bytes B at that offset is, or that it is all of them, and what
 --                              is read of it where a hash function that is to be named is named: its types and its forms
 --     IsTableIn T s            the bytes T are those of a valid table of the shape s
-use Rattle.std.specs.Prelude.{◌≡◌, ◌≢◌, ◌≤◌, ◌+◌, ⊤, ℕ, List, length, false, Option, Some, None, unwrap_or, Result, Ok, Err}
+use Rattle.std.specs.Prelude.{◌≡◌, ◌≢◌, ◌⊎◌, ◌≤◌, ◌+◌, ⊤, ℕ, List, length, slice_index, false, Option, Some, None, unwrap_or, Result, Ok, Err}
 use Rattle.std.specs.Io.KnownBytes.{Keeps}
 use Rattle.odht_base.specs.Bytes.{bytes_at}
 use Rattle.odht_base.specs.Decoded.{header_count}
@@ -29,7 +31,8 @@ use Rattle.odht_base.specs.Format.{IsFormat}
 use Rattle.odht_base.specs.Search.{groups_read}
 use Rattle.odht_base.specs.Valid.{IsValidBytes}
 use Rattle.odht_header.specs.Coding.{Coding}
-use Rattle.odht_tool_core.specs.AnyShapes.{HasLongKeys, any_format, read_any, types_of}
+use Rattle.odht_tool_core.specs.AnyShapes.{HasLongKeys, any_format, found_any, read_any, types_of}
+use Rattle.odht_tool_core.specs.FoundShapes.{said_hash}
 use Rattle.odht_tool_core.specs.declared.any.AnyShape.{AnyShape}
 use Rattle.odht_tool_core.specs.Fronts.{stated_len}
 use Rattle.odht_tool_core.specs.ReadyShapes.{same_hash}
@@ -38,14 +41,15 @@ use Rattle.odht_tool_reads.specs.Gets.{AreFileWordsGot}
 use Rattle.odht_tool_core.specs.declared.forms.Kinds.{Kinds}
 use Rattle.odht_tool_core.specs.declared.json.answers.Printed.{Printed}
 use Rattle.odht_tool_core.specs.declared.failure.Failure.{Failure}
+use Rattle.odht_tool_core.specs.declared.failure.Failure.TheVariants.{NoHash}
 use Rattle.odht_tool_core.specs.declared.shapes.Hash.{Hash}
 use Rattle.odht_tool_core.specs.declared.status.Status.{Status}
 use Rattle.odht_tool_reads.specs.declared.positions.Start.{Start}
 use Rattle.odht_tool_reads.specs.declared.positions.shaped.Found.{Found}
 
-abbrev pub ByPosition : Option (List ℕ) → Option (List ℕ) → (Result Status Failure → Type 0) → Result (Option Status) Failure → Type 0
+abbrev pub ByPosition : {X : Type 0} → Option (List ℕ) → Option (List ℕ) → (Result X Failure → Type 0) → Result (Option X) Failure → Type 0
 ByPosition old new P (Ok None) = Keeps old new
-ByPosition old new P (Ok (Some status)) = P (Ok status)
+ByPosition old new P (Ok (Some x)) = P (Ok x)
 ByPosition old new P (Err failure) = P (Err failure)
 
 pub record IsTableAt {S : Type 0} (gives : S → List ℕ → Type 0) (h : List ℕ → ℕ) (k v : ℕ) (t : FileStore S) (T : List ℕ) : Type 0 where
@@ -77,6 +81,14 @@ table_read B at = bytes_at B (unwrap_or at 0) (len_by at (length B) (bytes_at B 
 abbrev pub IsLeft : List ℕ → Hash → Type 0
 IsLeft T h = info_refusal T ≡ None → (g : Hash) → same_hash g h ≡ false → agrees (file_parts T) g ≡ false
 
+pub record AreNoneLeft (T : List ℕ) (f : Failure) : Type 0 where
+  pub opens : info_refusal T ≡ None
+  pub unfit : (h : Hash) → agrees (file_parts T) h ≡ false
+  pub said : f ≡ NoHash (slice_index T 5) (slice_index T 6)
+
+abbrev pub HasNoHash : List ℕ → Option Hash → Failure → Type 0
+HasNoHash T d f = found_any T (said_hash T None d) ≡ Err f
+
 abbrev pub IsNamed : List ℕ → Option Hash → Option Hash → Option Hash → Type 0
 IsNamed T (Some h) d g = g ≡ Some h
 IsNamed T None d None = (header_count T ≡ 0) × (d ≡ None)
@@ -84,7 +96,7 @@ IsNamed T None d (Some g) = (header_count T ≢ 0) × IsLeft T g
 
 pub record IsAnsweredBy (T : List ℕ) (h : Option Hash) (ks : Kinds) (j : Printed) (ws : List (List ℕ)) (old new : Option (List ℕ)) (r : Result Status Failure) : Type 0 where
   pub named : Option Hash
-  pub is : IsNamed T h ks.hash named
+  pub is : (named ≡ h) ⊎ IsNamed T h ks.hash named
   pub answered : AreFileWordsGot T named ks j ws old new r
 
 pub record IsFoundIn (B : List ℕ) (at : Option ℕ) (h : Option Hash) (ks : Kinds) (f : Found) : Type 0 where

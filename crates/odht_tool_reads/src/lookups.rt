@@ -7,7 +7,7 @@ ghost use Rattle.odht_tool_core.specs.Endings.{IsOutputFailure};
 ghost use Rattle.odht_tool_core.specs.JsonAnswers.{answer_in};
 ghost use Rattle.odht_tool_core.specs.Keys.{IsReadAs, IsNextKey, IsNoKeyLine};
 ghost use Rattle.odht_tool_core.specs.Misreads.{misread_text};
-ghost use Rattle.odht_tool_reads.specs.GetLines.{AreLinesAnswered};
+ghost use Rattle.odht_tool_reads.specs.GetLines.{AreLinesAnswered, all_lines};
 ghost use Rattle.odht_tool_reads.specs.GetParts.{AreKeysAnswered, IsKeysFailure};
 ghost use Rattle.odht_tool_reads.specs.GetParts.{IsFlushed, IsReadKey, IsLineFailure};
 ghost use Rattle.odht_tool_reads.specs.Gets.{AreAnswers};
@@ -32,14 +32,38 @@ use arriving::Arriving;
 /// How many keys are looked up at once.
 const BATCH: usize = 1024;
 
+/// The lines that an input has left, and how they are answered.
+#[derive(Clone, Copy)]
+pub struct Coming {
+    /// Whether the answers to the lines that have come are written out before the next line is
+    /// waited for.
+    pub is_live: bool,
+    /// The number of the next line, counted from 1.
+    pub number: u64,
+    /// Whether the keys of all lines before it were found.
+    pub is_all_found: bool,
+}
+
+impl Coming {
+    /// All lines of an input.
+    pub fn all(is_live: bool) -> Coming
+        ensures { result ≡ all_lines is_live }
+    {
+        Coming {
+            is_live,
+            number: 1,
+            is_all_found: true,
+        }
+    }
+}
+
 /// How the keys of lines are answered.
 #[derive(Clone, Copy)]
 pub struct LineStyle<F: Forms> {
     /// How they and their values are written.
     pub answers: AnswerStyle<F>,
-    /// Whether the answers to the lines that have come are written out before the next line is
-    /// waited for.
-    pub is_live: bool,
+    /// Which lines they are on.
+    pub coming: Coming,
 }
 
 /// A table in which keys are looked up that have texts, as its values have.
@@ -67,8 +91,9 @@ pub trait Lookups {
             (λ values. AreAnswers (coding self.now) (bytes self.now) keys.now values.items) };
 }
 
-/// Looks up the keys of the lines, a batch at a time, and writes a line for each. Where that is asked
-/// for, the lines that have come are answered before the next one is waited for.
+/// Looks up the keys of the lines that are left, a batch at a time, and writes a line for each. Where
+/// that is asked for, the lines that have come are answered before the next one is waited for.
+/// Returns whether each key was found, and those before.
 pub fn answer_lines<T: Lookups, F: Forms, I: BufRead + Arriving, O: Write>(
     alloc: Global,
     table: &T,
@@ -80,14 +105,14 @@ pub fn answer_lines<T: Lookups, F: Forms, I: BufRead + Arriving, O: Write>(
         in AreLinesAnswered (T.coding table.now)
         (answer_in style.answers.printed (T.Key.text forms.0) (T.Value.text forms.1))
         (IsReadAs (T.Key.is_word forms.0) (T.Key.stands_for forms.0))
-        (T.Key.wants forms.0) (T.bytes table.now) style.is_live (I.remaining input.old)
+        (T.Key.wants forms.0) (T.bytes table.now) style.coming (I.remaining input.old)
         (O.contents output.old) (O.contents output.new) result }
 {
-    let answers = style.answers;
+    let LineStyle { answers, coming } = style;
     let mut keys = Vec::new(alloc);
     let mut line = Vec::new(alloc);
-    let mut is_all_found = true;
-    for number in 1..u64::MAX {
+    let mut is_all_found = coming.is_all_found;
+    for number in coming.number..u64::MAX {
         let taken = keys.as_slice();
         let read = read_key(
             alloc, table, number, input, &mut line, taken, answers, output,
@@ -95,8 +120,11 @@ pub fn answer_lines<T: Lookups, F: Forms, I: BufRead + Arriving, O: Write>(
         match read {
             Some(key) => {
                 push_key(&mut keys, key)?;
-                let is_live = is_due(style.is_live, input);
-                let due = LineStyle { answers, is_live };
+                let is_live = is_due(coming.is_live, input);
+                let due = LineStyle {
+                    answers,
+                    coming: Coming { is_live, ..coming },
+                };
                 is_all_found = answer_batch(alloc, table, &mut keys, is_all_found, due, output)?;
                 write_out(is_live, output)?;
             }
@@ -107,9 +135,9 @@ pub fn answer_lines<T: Lookups, F: Forms, I: BufRead + Arriving, O: Write>(
     Ok(Status::of(is_last_found && is_all_found))
 }
 
-// Whether the lines that have come are to be answered.
+/// Whether the lines that have come are to be answered.
 #[inline(always)]
-fn is_due<I: Arriving>(is_live: bool, input: &I) -> bool
+pub(crate) fn is_due<I: Arriving>(is_live: bool, input: &I) -> bool
     ensures { is_live ≡ false → result ≡ false }
 {
     is_live && input.is_waiting()
@@ -199,14 +227,14 @@ fn answer_batch<T: Lookups, F: Forms, O: Write>(
     ensures ok { let forms = F.pair style.answers.forms
         in IfOk result (IsFlushed (T.coding table.now)
         (answer_in style.answers.printed (T.Key.text forms.0) (T.Value.text forms.1))
-        (T.bytes table.now) style.is_live keys.old.items keys.new.items
+        (T.bytes table.now) style.coming.is_live keys.old.items keys.new.items
         (O.contents output.old) (O.contents output.new) is_all_found) }
     ensures err { IfErr result (IsKeysFailure 1 keys.old.items
         (O.contents output.old) (O.contents output.new)) }
-    ensures full { style.is_live ≡ false → IfErr result (IsKeysFailure BATCH keys.old.items
+    ensures full { style.coming.is_live ≡ false → IfErr result (IsKeysFailure BATCH keys.old.items
         (O.contents output.old) (O.contents output.new)) }
 {
-    if is_few(keys.len(), style.is_live) {
+    if is_few(keys.len(), style.coming.is_live) {
         return Ok(is_all_found);
     }
     let is_found = answer_keys(alloc, table, keys.as_slice(), style.answers, output)?;
@@ -224,9 +252,9 @@ fn is_few(count: usize, is_live: bool) -> bool
     count < BATCH && !is_live
 }
 
-// Writes out what the buffer of the output has, where that is due.
+/// Writes out what the buffer of the output has, where that is due.
 #[inline(always)]
-fn write_out<O: Write>(is_due: bool, output: &mut O) -> Result<(), Failure>
+pub(crate) fn write_out<O: Write>(is_due: bool, output: &mut O) -> Result<(), Failure>
     ensures kept { Keeps (O.contents output.old) (O.contents output.new) }
     ensures err { IfErr result IsOutputFailure }
     ensures quiet { is_due ≡ false → IsOk result }

@@ -2,16 +2,19 @@
 //! `get` some groups of slots until they tell the hash function, and what lookups read. Where that
 //! does not do, all bytes are read as for other commands.
 ghost use Rattle.std.specs.Prelude.{◌≡◌, ◌↔◌, ◌+◌, ◌*◌, ◌<◌, ◌≤◌, ◌^◌, ℕ, List, length, map, take, string_bytes};
-ghost use Rattle.std.specs.Prelude.{IfSome, IsTrue, None, Ok, unwrap_or};
+ghost use Rattle.std.specs.Prelude.{◌/◌, Err, IfErr, IfOk, IfSome, IsTrue, None, Ok, unwrap_or};
 ghost use Rattle.odht_base.specs.Bytes.{bytes_at};
+ghost use Rattle.odht_tool_core.specs.AnyShapes.{read_any};
 ghost use Rattle.odht_tool_core.specs.Fronts.{stated_len};
 ghost use Rattle.odht_tool_reads.specs.Gets.{AreFileWordsGot};
 ghost use Rattle.odht_tool_core.specs.InfoNumbers.{least_key_len};
 ghost use Rattle.odht_tool_core.specs.ReadyShapes.{typed_len};
-ghost use Rattle.odht_tool_reads.specs.PositionLines.{AreFileLinesRead, AreLinesReadBy};
+ghost use Rattle.odht_tool_reads.specs.PositionLines.{AreFileLinesRead, AreLinesReadBy, IsEnd};
 ghost use Rattle.odht_tool_reads.specs.Positions.{ByPosition, IsAnsweredBy, IsFoundIn, IsStartOf};
 ghost use Rattle.odht_tool_reads.specs.Positions.{IsTableIn, len_by, table_read};
 
+use crate::lookups::Coming;
+use crate::lookups::arriving::Arriving;
 use odht::memory_layout::{HEADER_SIZE, Header};
 use odht::read_at::{ReadAt, read_exact_at};
 use odht_tool_core::any::{AnyShape, read_any};
@@ -52,7 +55,14 @@ const FILE_BYTES: u64 = 1 << 14;
 pub fn are_few(input_len: u64, file_len: usize) -> bool
     ensures { IsTrue result ↔ input_len * 2 ^ 14 ≤ file_len }
 {
-    input_len <= file_len as u64 / FILE_BYTES
+    input_len <= most_few(file_len)
+}
+
+/// How many bytes of lines are few for a file of that many bytes.
+pub fn most_few(file_len: usize) -> u64
+    ensures { result ≡ file_len / 2 ^ 14 }
+{
+    file_len as u64 / FILE_BYTES
 }
 
 /// A regular file as a source of bytes, and its length. None for any other file, for standard
@@ -89,6 +99,18 @@ pub struct Asked {
     pub bound: Option<usize>,
     /// What is printed of each key.
     pub printed: Printed,
+    /// The most bytes of lines whose keys are looked up, as they come. None where the keys of all
+    /// lines are.
+    pub most: Option<u64>,
+}
+
+/// How far the lines of an input were answered.
+#[derive(Clone, Copy)]
+pub enum Reached {
+    /// To their end.
+    End(Status),
+    /// As far as these, which are left.
+    Line(Coming),
 }
 
 /// The header of a table, and where its bytes are in a source.
@@ -145,7 +167,8 @@ fn front_len(header: &[u8], found: usize) -> Option<usize>
 /// source is not read by position: a read failed, or its bytes are not opened, or too many of them
 /// would be read to know the hash function, or the search for a key reads more than
 /// [`DEFAULT_GROUPS`](odht::memory_layout::DEFAULT_GROUPS) groups. Nothing was written then, and
-/// reading all bytes gives the answer, with the bound of searches.
+/// reading all bytes gives the answer, with the bound of searches. `NoHash` where the first slots
+/// exclude each hash function.
 ///
 /// Over any source, for any list of bytes that it gives in each read: what is written is what
 /// [`get_file_words`](crate::commands::get::get_file_words) writes of the table in this list, with
@@ -176,37 +199,39 @@ pub fn get_words_at<S: ReadAt + Drop, O: Write>(
         at: asked.at.unwrap_or(0) as u64,
         bytes: &room[..few],
     };
-    let Some(found) = found_in(asked, &source, len) else {
+    let Some(found) = found_in(asked, &source, len)? else {
         return Ok(None);
     };
     words_of(asked, source, found, words, output)
 }
 
-/// The same for the lines of an input, each of which is answered before the next one is read. None
-/// where [`get_words_at`] returns it: then nothing was written, and no line was read. A lookup whose
-/// read fails, or whose search is longer than the bound, is a failure of the file.
+/// The same for the lines of an input, each of which is answered before the next one is read, until
+/// more bytes of them than `asked.most` were read. None where [`get_words_at`] returns it: then
+/// nothing was written, and no line was read. A lookup whose read fails, or whose search is longer
+/// than the bound, is a failure of the file.
 ///
 /// Over any source, for any list of bytes that it gives in each read: what is written is what
 /// [`get_file_lines`](crate::commands::get::get_file_lines) writes of the table in this list as one
 /// of keys and values of these types, with the hash function that the first slots leave where none
 /// is named.
-pub fn get_lines_at<S: ReadAt + Drop, I: BufRead, O: Write>(
+pub fn get_lines_at<S: ReadAt + Drop, I: BufRead + Arriving, O: Write>(
     asked: &Asked,
     source: S,
     len: usize,
     input: &mut I,
     output: &mut O,
-) -> Result<Option<Status>, Failure>
+) -> Result<Option<Reached>, Failure>
     ensures unread { result ≡ Ok None → I.remaining input.new ≡ I.remaining input.old }
+    ensures all { asked.now.most ≡ None → IfOk result (λ o. IfSome o IsEnd) }
     ensures named { let a = asked.now in (B : List ℕ) → S.gives source B → length B ≡ len
         → ByPosition (O.contents output.old) (O.contents output.new)
         (AreLinesReadBy (table_read B a.at) a.hash a.kinds a.printed (I.remaining input.old)
-        (O.contents output.old) (O.contents output.new)) result }
+        (I.remaining input.new) (O.contents output.old) (O.contents output.new)) result }
     ensures valid { let a = asked.now in (B : List ℕ) → S.gives source B → length B ≡ len
         → (s : AnyShape) → IsTableIn (table_read B a.at) s → ByPosition
         (O.contents output.old) (O.contents output.new)
         (AreFileLinesRead (table_read B a.at) a.hash a.kinds a.printed (I.remaining input.old)
-        (O.contents output.old) (O.contents output.new)) result }
+        (I.remaining input.new) (O.contents output.old) (O.contents output.new)) result }
 {
     let mut room = [0; FRONT];
     let Some(few) = read_front(&source, len, asked.at, &mut room) else {
@@ -217,7 +242,7 @@ pub fn get_lines_at<S: ReadAt + Drop, I: BufRead, O: Write>(
         at: asked.at.unwrap_or(0) as u64,
         bytes: &room[..few],
     };
-    let Some(found) = found_in(asked, &source, len) else {
+    let Some(found) = found_in(asked, &source, len)? else {
         return Ok(None);
     };
     lines_of(asked, source, found, input, output)
@@ -243,24 +268,31 @@ fn read_front<S: ReadAt>(
 }
 
 // Where the table is, and what its header and its first slots tell of it. None where it is not read
-// by position.
-fn found_in<S: ReadAt>(asked: &Asked, source: &S, len: usize) -> Option<Found>
-    ensures fits { IfSome result (λ f. f.at + f.len < 2 ^ 64) }
-    ensures long { IfSome result (λ f. least_key_len f.shape.hash ≤ typed_len f.shape.key) }
+// by position. An error where its slots fit no hash function.
+fn found_in<S: ReadAt>(asked: &Asked, source: &S, len: usize) -> Result<Option<Found>, Failure>
+    ensures fits { IfOk result (λ o. IfSome o (λ f. f.at + f.len < 2 ^ 64)) }
+    ensures long { IfOk result (λ o. IfSome o (λ f.
+        least_key_len f.shape.hash ≤ typed_len f.shape.key)) }
     ensures given { let a = asked.now in (B : List ℕ) → S.gives source.now B → length B ≡ len
-        → IfSome result (IsFoundIn B a.at a.hash a.kinds) }
+        → IfOk result (λ o. IfSome o (IsFoundIn B a.at a.hash a.kinds)) }
+    ensures unfit { let a = asked.now in (B : List ℕ) → S.gives source.now B → length B ≡ len
+        → IfErr result (λ f. (a.hash ≡ None) × (read_any (table_read B a.at) None a.kinds ≡ Err f)) }
 {
-    let start = read_start(source, len, asked.at)?;
+    let Some(start) = read_start(source, len, asked.at) else {
+        return Ok(None);
+    };
     let kinds = asked.kinds;
-    let name = named_or_left_hash(source, &start, asked.hash, kinds.hash)?;
+    let Some(name) = named_or_left_hash(source, &start, asked.hash, kinds.hash)? else {
+        return Ok(None);
+    };
     let Ok(found) = read_any(&start.header, name, kinds) else {
-        return None;
+        return Ok(None);
     };
     let (shape, forms) = found;
-    Some(Found {
+    Ok(Some(Found {
         at: start.at,
         len: start.len,
         shape: shape.types(),
         forms,
-    })
+    }))
 }

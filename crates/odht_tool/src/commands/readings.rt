@@ -8,17 +8,17 @@ use odht_tool_core::shapes::Hash;
 use odht_tool_core::status::Status;
 use odht_tool_core::typed::Side;
 use odht_tool_reads::commands::{check, count, dump, find, get, keys, order};
+use odht_tool_reads::lookups::Coming;
 use odht_tool_reads::lookups::arriving::Arriving;
 use odht_tool_tables::trials::advice_of;
 use std::alloc::Global;
 use std::io::{BufRead, Write};
 
-/// Runs a command that only reads its file. Where `is_live` holds, lines that it reads are answered
-/// as they come.
+/// Runs a command that only reads its file. Of an input it reads the lines that are left.
 pub fn run_reading<I: BufRead + Arriving, O: Write, E: Write>(
     job: &Job<'_>,
     reading: &Reading,
-    is_live: bool,
+    coming: Coming,
     streams: &mut Streams<'_, '_, '_, I, O, E>,
 ) -> Result<Status, Failure> {
     let Job {
@@ -94,7 +94,7 @@ pub fn run_reading<I: BufRead + Arriving, O: Write, E: Write>(
                 is_json: *is_json,
                 ..*job
             };
-            get::get_file_lines(&job, *hash, *kinds, is_live, streams.input, output)
+            get::get_file_lines(&job, *hash, *kinds, coming, streams.input, output)
         }
         Reading::Find { bound, is_json } => {
             let job = Job {

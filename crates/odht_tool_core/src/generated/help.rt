@@ -148,7 +148,7 @@ odht get FILE KEY.. [--values] [--json] [--null] [--key SHAPE]
     --whole        searches without this bound of 128 groups
     --hash         the hash function; if left out, the one that the first slots fit,
                    or with - as KEY the one that all control bytes fit, unless the
-                   lines are a file of at most one byte for 16,384 bytes of FILE
+                   lines have at most one byte for 16,384 bytes of FILE
     --at           the table begins at this byte of the file; bytes after its end
                    are not read
     $ odht get symbols.odht 4198400

@@ -16,7 +16,7 @@ use Rattle.odht_header.specs.Coding.{HasStored, value_for}
 use Rattle.odht_header.specs.declared.error.Error.TheVariants.{TooShort}
 use Rattle.odht_header.proofs.examples.Apart.{unequal_lists}
 use Rattle.odht_header.proofs.examples.Opened.{opened}
-use Rattle.odht_tool_reads.specs.GetLines.{lines_read, AreAllAnswered, AreFirstAnswered, IsLineFault, AreFileLinesGot, lines_of_shape}
+use Rattle.odht_tool_reads.specs.GetLines.{all_lines, lines_read, AreAllAnswered, AreFirstAnswered, IsLineFault, AreFileLinesGot, lines_of_shape}
 use Rattle.odht_tool_tables.specs.KeyTexts.{AreLinesOf}
 use Rattle.odht_tool_reads.specs.GetParts.{IsFlushed, IsLineFailure}
 use Rattle.odht_tool_reads.specs.Gets.{AreAnswers, IsAnswered, answered_status}
@@ -35,6 +35,7 @@ use Rattle.odht_tool_core.specs.declared.shapes.Part.TheVariants.{U32}
 use Rattle.odht_tool_core.specs.declared.generated.shapes.Shape.TheVariants.{DirectU32ToU32}
 use Rattle.odht_tool_core.specs.declared.status.Status.{Status}
 use Rattle.odht_tool_core.specs.declared.status.Status.TheVariants.{Done, NotDone}
+use Rattle.odht_tool_reads.specs.declared.lookups.Coming.{Coming}
 use Rattle.odht_tool_reads.proofs.AnswerLists.{are_answers_append}
 use Rattle.odht_tool_reads.proofs.KeyAnswers.{no_answers, nothing_flushed}
 use Rattle.odht_tool_reads.proofs.examples.Gots.{no_refusal}
@@ -55,6 +56,13 @@ line = answer_in plain f f
 
 abbrev a_number : Wanted
 a_number = typed_wanted Own U32
+
+-- all lines, answered a batch at a time, and as they come
+abbrev quiet : Coming
+quiet = all_lines false
+
+abbrev live : Coming
+live = all_lines true
 
 -- ---- the answers to keys
 -- 7 for 5, and none for 6
@@ -87,7 +95,7 @@ six_answered = record {
     stored (suc i) k v p q = cc
 
 -- ---- each line a key
-pub read : lines_read (lines (codes "5\r\n6")) ≡ codes "5" ∷ codes "6" ∷ []
+pub read : lines_read 1 (lines (codes "5\r\n6")) ≡ codes "5" ∷ codes "6" ∷ []
 read = refl
 
 both_answered : IsAnswered C line R one_bytes (codes "5" ∷ codes "6" ∷ []) (Some (codes "a")) (Some (codes "a5\t7\n6\n")) NotDone
@@ -101,17 +109,19 @@ both_answered = record {
   status = refl;
 }
 
-pub both : lines_of_shape (Own, Own) plain false one_bytes (Some (codes "5\n6\n")) (Some (codes "a")) (Some (codes "a5\t7\n6\n")) (Ok NotDone) DirectU32ToU32
-both = (no_refusal, record { words = codes "5" ∷ codes "6" ∷ []; place = inl refl; answered = both_answered })
+pub both : lines_of_shape (Own, Own) plain quiet one_bytes (Some (codes "5\n6\n")) (Some (codes "a")) (Some (codes "a5\t7\n6\n")) (Ok NotDone) DirectU32ToU32
+both = (no_refusal, record { words = codes "5" ∷ codes "6" ∷ []; place = inl refl; status = NotDone; answered = both_answered; after = refl })
 
 -- as objects one for each key; the value of the second, which is absent, is null
-pub objects : lines_of_shape (Own, Own) (printed_as true false) false one_bytes (Some (codes "5\n6\n")) (Some (codes "a")) (Some (codes "a{\"key\":\"5\",\"value\":\"7\"}\n{\"key\":\"6\",\"value\":null}\n")) (Ok NotDone) DirectU32ToU32
+pub objects : lines_of_shape (Own, Own) (printed_as true false) quiet one_bytes (Some (codes "5\n6\n")) (Some (codes "a")) (Some (codes "a{\"key\":\"5\",\"value\":\"7\"}\n{\"key\":\"6\",\"value\":null}\n")) (Ok NotDone) DirectU32ToU32
 unfolding digits chars is_utf8 encode_utf8 pair_object absent_object
 objects = (
   no_refusal,
   record {
     words = codes "5" ∷ codes "6" ∷ [];
     place = inl refl;
+    status = NotDone;
+    after = refl;
     answered = record {
       keys = 5 ∷ 6 ∷ [];
       texts = (five, (six, tt));
@@ -124,13 +134,15 @@ objects = (
 )
 
 -- as values their lines are empty where they are absent
-pub bare : lines_of_shape (Own, Own) (printed_as false true) false one_bytes (Some (codes "5\n6\n")) (Some (codes "a")) (Some (codes "a7\n\n")) (Ok NotDone) DirectU32ToU32
+pub bare : lines_of_shape (Own, Own) (printed_as false true) quiet one_bytes (Some (codes "5\n6\n")) (Some (codes "a")) (Some (codes "a7\n\n")) (Ok NotDone) DirectU32ToU32
 unfolding digits
 bare = (
   no_refusal,
   record {
     words = codes "5" ∷ codes "6" ∷ [];
     place = inl refl;
+    status = NotDone;
+    after = refl;
     answered = record {
       keys = 5 ∷ 6 ∷ [];
       texts = (five, (six, tt));
@@ -173,25 +185,25 @@ none_empty (a ∷ []) e = cc
 none_empty (a ∷ b ∷ []) e = cc
 none_empty (a ∷ b ∷ d ∷ rest) e = cc
 
-all_both : (old new : Option (List ℕ)) (status : Status) → AreAllAnswered C line R one_bytes (codes "5\n6\n") old new status → (status ≡ NotDone) × Appends old new (codes "5\t7\n6\n")
-all_both old new status h = only_both old new status (go h.words h.place h.answered)
+all_both : (old new : Option (List ℕ)) (status : Status) → AreAllAnswered C line R one_bytes quiet (codes "5\n6\n") old new status → (status ≡ NotDone) × Appends old new (codes "5\t7\n6\n")
+all_both old new status h = let both = only_both old new h.status (go h.words h.place h.answered) in (h.after ∙ both.0, both.1)
   where
-    go : (ws : List (List ℕ)) → AreLinesOf R (codes "5\n6\n") ws → IsAnswered C line R one_bytes (lines_read ws) old new status → IsAnswered C line R one_bytes (codes "5" ∷ codes "6" ∷ []) old new status
-    go ws (inl e) a = subst (λ ws. IsAnswered C line R one_bytes (lines_read ws) old new status) (sym e) a
+    go : (ws : List (List ℕ)) → AreLinesOf R (codes "5\n6\n") ws → IsAnswered C line R one_bytes (lines_read 1 ws) old new h.status → IsAnswered C line R one_bytes (codes "5" ∷ codes "6" ∷ []) old new h.status
+    go ws (inl e) a = subst (λ ws. IsAnswered C line R one_bytes (lines_read 1 ws) old new h.status) (sym e) a
     go ws (inr e) a = absurd (none_empty ws e.0)
 
 -- the other status; an answer left out; one written twice
-pub other_status : (new : Option (List ℕ)) → lines_of_shape (Own, Own) plain false one_bytes (Some (codes "5\n6\n")) (Some []) new (Ok Done) DirectU32ToU32 → ⊥
+pub other_status : (new : Option (List ℕ)) → lines_of_shape (Own, Own) plain quiet one_bytes (Some (codes "5\n6\n")) (Some []) new (Ok Done) DirectU32ToU32 → ⊥
 other_status new h = let other = (all_both (Some []) new Done h.1).0 in cc
 
-pub left_out : lines_of_shape (Own, Own) plain false one_bytes (Some (codes "5\n6\n")) (Some (codes "a")) (Some (codes "a5\t7\n")) (Ok NotDone) DirectU32ToU32 → ⊥
+pub left_out : lines_of_shape (Own, Own) plain quiet one_bytes (Some (codes "5\n6\n")) (Some (codes "a")) (Some (codes "a5\t7\n")) (Ok NotDone) DirectU32ToU32 → ⊥
 left_out h = unequal_lists (codes "a5\t7\n") (codes "a5\t7\n6\n") refl (all_both (Some (codes "a")) (Some (codes "a5\t7\n")) NotDone h.1).1
 
-pub twice : lines_of_shape (Own, Own) plain false one_bytes (Some (codes "5\n6\n")) (Some []) (Some (codes "5\t7\n5\t7\n6\n")) (Ok NotDone) DirectU32ToU32 → ⊥
+pub twice : lines_of_shape (Own, Own) plain quiet one_bytes (Some (codes "5\n6\n")) (Some []) (Some (codes "5\t7\n5\t7\n6\n")) (Ok NotDone) DirectU32ToU32 → ⊥
 twice h = unequal_lists (codes "5\t7\n5\t7\n6\n") (codes "5\t7\n6\n") refl (all_both (Some []) (Some (codes "5\t7\n5\t7\n6\n")) NotDone h.1).1
 
 -- a status where a line is no key
-pub done_at_fault : (old new : Option (List ℕ)) (status : Status) → lines_of_shape (Own, Own) plain false one_bytes (Some (codes "x\n")) old new (Ok status) DirectU32ToU32 → ⊥
+pub done_at_fault : (old new : Option (List ℕ)) (status : Status) → lines_of_shape (Own, Own) plain quiet one_bytes (Some (codes "x\n")) old new (Ok status) DirectU32ToU32 → ⊥
 done_at_fault old new status h = whole h.1.words h.1.place h.1.answered
   where
     none : (ws : List (List ℕ)) → codes "x" ∷ [] ≡ ws ++ ([] ∷ []) → ⊥
@@ -203,24 +215,26 @@ done_at_fault old new status h = whole h.1.words h.1.place h.1.answered
     go [] t = t
     go (k ∷ ks) t = no_key k t.0
 
-    whole : (ws : List (List ℕ)) → AreLinesOf R (codes "x\n") ws → IsAnswered C line R one_bytes (lines_read ws) old new status → ⊥
-    whole ws (inl e) a = go a.keys (subst (λ ws. AllZip R (lines_read ws) a.keys) (sym e) a.texts)
+    whole : (ws : List (List ℕ)) → AreLinesOf R (codes "x\n") ws → IsAnswered C line R one_bytes (lines_read 1 ws) old new h.1.status → ⊥
+    whole ws (inl e) a = go a.keys (subst (λ ws. AllZip R (lines_read 1 ws) a.keys) (sym e) a.texts)
     whole ws (inr e) a = none ws e.0
 
 -- an empty last line is left out
-pub empty_last : lines_of_shape (Own, Own) plain false one_bytes (Some (codes "5\n\n")) (Some (codes "a")) (Some (codes "a5\t7\n")) (Ok Done) DirectU32ToU32
+pub empty_last : lines_of_shape (Own, Own) plain quiet one_bytes (Some (codes "5\n\n")) (Some (codes "a")) (Some (codes "a5\t7\n")) (Ok Done) DirectU32ToU32
 unfolding digits
 empty_last = (
   no_refusal,
   record {
     words = codes "5" ∷ [];
     place = inr (refl, no_empty_key);
+    status = Done;
+    after = refl;
     answered = record { keys = 5 ∷ []; texts = (five, tt); values = Some 7 ∷ []; answers = five_answered; written = refl; status = refl };
   },
 )
 
 -- and it is no fault
-pub empty_last_told : (old new : Option (List ℕ)) (text : List ℕ) → IsLineFault C line R a_number one_bytes ([] ∷ []) text old new → ⊥
+pub empty_last_told : (old new : Option (List ℕ)) (text : List ℕ) → IsLineFault C line R a_number one_bytes 1 ([] ∷ []) text old new → ⊥
 empty_last_told old new text h = go h.before h.after h.place h.more
   where
     go : (before after : List (List ℕ)) → [] ∷ [] ≡ before ++ (h.word ∷ after) → (h.word ≡ [] → after ≡ [] → ⊥) → ⊥
@@ -229,13 +243,33 @@ empty_last_told old new text h = go h.before h.after h.place h.more
     go (a ∷ []) after place more = cc
     go (a ∷ b ∷ before) after place more = cc
 
+-- of lines that are left the status is as for those before them, and the first has its number
+abbrev later : Bool → Coming
+later all = record { is_live = true; number = 7; is_all_found = all }
+
+pub later_absent : lines_of_shape (Own, Own) plain (later false) one_bytes (Some (codes "5\n")) (Some (codes "a")) (Some (codes "a5\t7\n")) (Ok NotDone) DirectU32ToU32
+unfolding digits
+later_absent = (
+  no_refusal,
+  record {
+    words = codes "5" ∷ [];
+    place = inl refl;
+    status = Done;
+    after = refl;
+    answered = record { keys = 5 ∷ []; texts = (five, tt); values = Some 7 ∷ []; answers = five_answered; written = refl; status = refl };
+  },
+)
+
+pub absent_forgotten : (old new : Option (List ℕ)) → lines_of_shape (Own, Own) plain (later false) one_bytes (Some (codes "5\n")) old new (Ok Done) DirectU32ToU32 → ⊥
+absent_forgotten old new h = let after = h.1.after in cc
+
 -- nothing is said where the bytes of the input are not known
-pub unknown : lines_of_shape (Own, Own) plain false one_bytes None (Some []) (Some (codes "b")) (Ok Done) DirectU32ToU32
+pub unknown : lines_of_shape (Own, Own) plain quiet one_bytes None (Some []) (Some (codes "b")) (Ok Done) DirectU32ToU32
 unknown = (no_refusal, tt)
 
 -- ---- a line that is no key
 -- the second
-pub second : (message : _) → string_bytes message ≡ second_text → lines_of_shape (Own, Own) plain false one_bytes (Some (codes "5\nx\n6")) (Some (codes "a")) (Some (codes "a5\t7\n")) (Err (Misread message)) DirectU32ToU32
+pub second : (message : _) → string_bytes message ≡ second_text → lines_of_shape (Own, Own) plain quiet one_bytes (Some (codes "5\nx\n6")) (Some (codes "a")) (Some (codes "a5\t7\n")) (Err (Misread message)) DirectU32ToU32
 unfolding digits
 second message misread = (
   no_refusal,
@@ -252,7 +286,7 @@ second message misread = (
   },
 )
 
-only_second : (old new : Option (List ℕ)) (text : List ℕ) → IsLineFault C line R a_number one_bytes (codes "5" ∷ codes "x" ∷ codes "6" ∷ []) text old new → (text ≡ second_text) × Appends old new (codes "5\t7\n")
+only_second : (old new : Option (List ℕ)) (text : List ℕ) → IsLineFault C line R a_number one_bytes 1 (codes "5" ∷ codes "x" ∷ codes "6" ∷ []) text old new → (text ≡ second_text) × Appends old new (codes "5\t7\n")
 unfolding digits opened
 only_second old new text h = go h.before h.place h.misread h.answered
   where
@@ -279,28 +313,28 @@ only_second old new text h = go h.before h.place h.misread h.answered
         second_key (k ∷ l ∷ ks) t = no_key l t.1.0
 
 -- counted from 0; the answer before it not written; another fault; another text
-message_else : (message : _) (new : Option (List ℕ)) (text : List ℕ) → string_bytes message ≡ text → lines_of_shape (Own, Own) plain false one_bytes (Some (codes "5\nx\n6")) (Some []) new (Err (Misread message)) DirectU32ToU32
+message_else : (message : _) (new : Option (List ℕ)) (text : List ℕ) → string_bytes message ≡ text → lines_of_shape (Own, Own) plain quiet one_bytes (Some (codes "5\nx\n6")) (Some []) new (Err (Misread message)) DirectU32ToU32
     → text ≡ second_text
 message_else message new text e h = sym e ∙ (only_second (Some []) new (string_bytes message) h.1).0
 
 pub from_zero : (message : _) (new : Option (List ℕ)) → string_bytes message ≡ codes "standard input, line 1: the key \"x\" is not a number below 2^32"
-    → lines_of_shape (Own, Own) plain false one_bytes (Some (codes "5\nx\n6")) (Some []) new (Err (Misread message)) DirectU32ToU32 → ⊥
+    → lines_of_shape (Own, Own) plain quiet one_bytes (Some (codes "5\nx\n6")) (Some []) new (Err (Misread message)) DirectU32ToU32 → ⊥
 from_zero message new e h = unequal_lists (codes "standard input, line 1: the key \"x\" is not a number below 2^32") second_text refl (message_else message new _ e h)
 
-pub unwritten : (message : _) → lines_of_shape (Own, Own) plain false one_bytes (Some (codes "5\nx\n6")) (Some []) (Some []) (Err (Misread message)) DirectU32ToU32 → ⊥
+pub unwritten : (message : _) → lines_of_shape (Own, Own) plain quiet one_bytes (Some (codes "5\nx\n6")) (Some []) (Some []) (Err (Misread message)) DirectU32ToU32 → ⊥
 unwritten message h = unequal_lists [] (codes "5\t7\n") refl (only_second (Some []) (Some []) (string_bytes message) h.1).1
 
 pub no_tab : (message : _) (new : Option (List ℕ)) → string_bytes message ≡ codes "standard input, line 2: \"x\" has no tab between key and value"
-    → lines_of_shape (Own, Own) plain false one_bytes (Some (codes "5\nx\n6")) (Some []) new (Err (Misread message)) DirectU32ToU32 → ⊥
+    → lines_of_shape (Own, Own) plain quiet one_bytes (Some (codes "5\nx\n6")) (Some []) new (Err (Misread message)) DirectU32ToU32 → ⊥
 no_tab message new e h = unequal_lists (codes "standard input, line 2: \"x\" has no tab between key and value") second_text refl (message_else message new _ e h)
 
 pub other_text : (message : _) (new : Option (List ℕ)) → string_bytes message ≡ codes "standard input, line 2: the key \"6\" is not a number below 2^32"
-    → lines_of_shape (Own, Own) plain false one_bytes (Some (codes "5\nx\n6")) (Some []) new (Err (Misread message)) DirectU32ToU32 → ⊥
+    → lines_of_shape (Own, Own) plain quiet one_bytes (Some (codes "5\nx\n6")) (Some []) new (Err (Misread message)) DirectU32ToU32 → ⊥
 other_text message new e h = unequal_lists (codes "standard input, line 2: the key \"6\" is not a number below 2^32") second_text refl (message_else message new _ e h)
 
 -- ---- other failures
 -- without memory, or where the input cannot be read, what is written are the answers to whole batches: here to none
-pub no_memory : lines_of_shape (Own, Own) plain false one_bytes (Some (codes "5\n")) (Some (codes "a")) (Some (codes "a")) (Err Memory) DirectU32ToU32
+pub no_memory : lines_of_shape (Own, Own) plain quiet one_bytes (Some (codes "5\n")) (Some (codes "a")) (Some (codes "a")) (Err Memory) DirectU32ToU32
 no_memory = (
   no_refusal,
   record {
@@ -326,14 +360,14 @@ none_first old new h = go h.before (ap length h.place ∙ length-append h.before
         none (k ∷ ks) t w = absurd t
     go (a ∷ rest) place counted answered = absurd (omega (arith, place, counted))
 
-pub half_a_batch : lines_of_shape (Own, Own) plain false one_bytes (Some (codes "5\n")) (Some (codes "a")) (Some (codes "a5\t7\n")) (Err Memory) DirectU32ToU32 → ⊥
+pub half_a_batch : lines_of_shape (Own, Own) plain quiet one_bytes (Some (codes "5\n")) (Some (codes "a")) (Some (codes "a5\t7\n")) (Err Memory) DirectU32ToU32 → ⊥
 half_a_batch h = unequal_lists (codes "a5\t7\n") (codes "a") refl (none_first (Some (codes "a")) (Some (codes "a5\t7\n")) h.1)
 
-pub half_read : (error : _) → lines_of_shape (Own, Own) plain false one_bytes (Some (codes "5\n")) (Some (codes "a")) (Some (codes "a5\t7\n")) (Err (Input error)) DirectU32ToU32 → ⊥
+pub half_read : (error : _) → lines_of_shape (Own, Own) plain quiet one_bytes (Some (codes "5\n")) (Some (codes "a")) (Some (codes "a5\t7\n")) (Err (Input error)) DirectU32ToU32 → ⊥
 half_read error h = unequal_lists (codes "a5\t7\n") (codes "a") refl (none_first (Some (codes "a")) (Some (codes "a5\t7\n")) h.1)
 
 -- where lines are answered as they come, that may be a part of a batch
-pub live_part : lines_of_shape (Own, Own) plain true one_bytes (Some (codes "5\n6\n")) (Some (codes "a")) (Some (codes "a5\t7\n")) (Err Memory) DirectU32ToU32
+pub live_part : lines_of_shape (Own, Own) plain live one_bytes (Some (codes "5\n6\n")) (Some (codes "a")) (Some (codes "a5\t7\n")) (Err Memory) DirectU32ToU32
 unfolding digits
 live_part = (
   no_refusal,
@@ -349,7 +383,7 @@ live_part = (
 )
 
 -- the writer fails where an answer is to be written; not where there is no line, nor where the first one is no key
-pub asked : (old new : Option (List ℕ)) (error : _) → lines_of_shape (Own, Own) plain false one_bytes (Some (codes "5\n")) old new (Err (Output error)) DirectU32ToU32
+pub asked : (old new : Option (List ℕ)) (error : _) → lines_of_shape (Own, Own) plain quiet one_bytes (Some (codes "5\n")) old new (Err (Output error)) DirectU32ToU32
 asked old new error = (
   no_refusal,
   record {
@@ -367,11 +401,11 @@ asked old new error = (
   },
 )
 
-pub none_asked : (old new : Option (List ℕ)) (error : _) → lines_of_shape (Own, Own) plain false one_bytes (Some []) old new (Err (Output error)) DirectU32ToU32 → ⊥
+pub none_asked : (old new : Option (List ℕ)) (error : _) → lines_of_shape (Own, Own) plain quiet one_bytes (Some []) old new (Err (Output error)) DirectU32ToU32 → ⊥
 none_asked old new error h =
     omega (arith, ap length h.1.place ∙ length-append h.1.before (h.1.asked ++ h.1.after), length-append h.1.asked h.1.after, h.1.some)
 
-pub no_key_asked : (old new : Option (List ℕ)) (error : _) → lines_of_shape (Own, Own) plain false one_bytes (Some (codes "x\n")) old new (Err (Output error)) DirectU32ToU32 → ⊥
+pub no_key_asked : (old new : Option (List ℕ)) (error : _) → lines_of_shape (Own, Own) plain quiet one_bytes (Some (codes "x\n")) old new (Err (Output error)) DirectU32ToU32 → ⊥
 no_key_asked old new error h = go h.1.before h.1.asked h.1.place h.1.some h.1.keys h.1.texts
   where
     first : (w : List ℕ) (ws : List (List ℕ)) (ks : List ℕ) → codes "x" ≡ w → AllZip R (w ∷ ws) ks → ⊥
@@ -384,27 +418,27 @@ no_key_asked old new error h = go h.1.before h.1.asked h.1.place h.1.some h.1.ke
     go (w ∷ before) asked place some ks t = let e : codes "x" ≡ w = cc in first w (before ++ asked) ks e t
 
 -- the writer fails only once the bytes are opened
-pub unopened : (input old new : Option (List ℕ)) (error : _) → lines_of_shape (Own, Own) plain false (79 ∷ 68 ∷ []) input old new (Err (Output error)) DirectU32ToU32 → ⊥
+pub unopened : (input old new : Option (List ℕ)) (error : _) → lines_of_shape (Own, Own) plain quiet (79 ∷ 68 ∷ []) input old new (Err (Output error)) DirectU32ToU32 → ⊥
 unfolding opened
 unopened input old new error h = let opens = h.0 in cc
 
 -- of bytes that do not open the error is returned, and nothing is written
-pub refused : (input : Option (List ℕ)) → lines_of_shape (Own, Own) plain false (79 ∷ 68 ∷ []) input (Some (codes "a")) (Some (codes "a")) (Err (Refused (TooShort 2))) DirectU32ToU32
+pub refused : (input : Option (List ℕ)) → lines_of_shape (Own, Own) plain quiet (79 ∷ 68 ∷ []) input (Some (codes "a")) (Some (codes "a")) (Err (Refused (TooShort 2))) DirectU32ToU32
 unfolding opened
 refused input = (refl, refl)
 
-pub refused_late : (input : Option (List ℕ)) → lines_of_shape (Own, Own) plain false (79 ∷ 68 ∷ []) input (Some (codes "a")) (Some (codes "ab")) (Err (Refused (TooShort 2))) DirectU32ToU32 → ⊥
+pub refused_late : (input : Option (List ℕ)) → lines_of_shape (Own, Own) plain quiet (79 ∷ 68 ∷ []) input (Some (codes "a")) (Some (codes "ab")) (Err (Refused (TooShort 2))) DirectU32ToU32 → ⊥
 refused_late input h = unequal_lists (codes "ab") (codes "a") refl h.1
 
-pub not_refused : (input old new : Option (List ℕ)) → lines_of_shape (Own, Own) plain false one_bytes input old new (Err (Refused (TooShort 2))) DirectU32ToU32 → ⊥
+pub not_refused : (input old new : Option (List ℕ)) → lines_of_shape (Own, Own) plain quiet one_bytes input old new (Err (Refused (TooShort 2))) DirectU32ToU32 → ⊥
 not_refused input old new h = let no = no_refusal in cc
 
 -- of bytes with no shape nothing is read
-pub no_shape : (input : Option (List ℕ)) → AreFileLinesGot (overwritten_at one_bytes 5 (3 ∷ [])) (Some Unhash) unsaid plain false input (Some (codes "a")) (Some (codes "a")) (Err (ShortKeys 3))
+pub no_shape : (input : Option (List ℕ)) → AreFileLinesGot (overwritten_at one_bytes 5 (3 ∷ [])) (Some Unhash) unsaid plain quiet input (Some (codes "a")) (Some (codes "a")) (Err (ShortKeys 3))
 unfolding opened
 no_shape input = (refl, refl)
 
-pub shape_missed : (input old new : Option (List ℕ)) → AreFileLinesGot one_bytes (Some Unhash) unsaid plain false input old new (Err (ShortKeys 4)) → ⊥
+pub shape_missed : (input old new : Option (List ℕ)) → AreFileLinesGot one_bytes (Some Unhash) unsaid plain quiet input old new (Err (ShortKeys 4)) → ⊥
 unfolding opened
 shape_missed input old new h = h.1
 

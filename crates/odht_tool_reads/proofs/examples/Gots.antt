@@ -4,7 +4,7 @@ use Rattle.std.specs.Prelude.{codes}
 use Rattle.odht_header.specs.Refusals.{view_refusal}
 use Rattle.odht_header.proofs.examples.Apart.{unequal_lists}
 use Rattle.odht_header.proofs.examples.Opened.{opened}
-use Rattle.odht_tool_reads.specs.GetLines.{lines_of_any, lines_of_other}
+use Rattle.odht_tool_reads.specs.GetLines.{all_lines, lines_of_any, lines_of_other}
 use Rattle.odht_tool_reads.specs.Gets.{answered_status, words_of_types}
 use Rattle.odht_tool_reads.specs.PositionLines.{lines_read_of}
 use Rattle.odht_tool_core.specs.AnyShapes.{other_format, types_of}
@@ -50,8 +50,8 @@ other_opens = refl
 
 -- so without memory nothing is written, for words as for lines
 pub other_without_memory : words_of_types (Own, Own) plain other_bytes (codes "5" ∷ []) (Some (codes "a")) (Some (codes "a")) (Err Memory) (other 6 2 Unhash)
-    × lines_of_other (Own, Own) plain false other_bytes None (Some (codes "a")) (Some (codes "a")) (Err Memory) (other 6 2 Unhash)
-    × lines_of_any (Own, Own) plain false other_bytes None (Some (codes "a")) (Some (codes "a")) (Err Memory) (Other (other 6 2 Unhash))
+    × lines_of_other (Own, Own) plain (all_lines false) other_bytes None (Some (codes "a")) (Some (codes "a")) (Err Memory) (other 6 2 Unhash)
+    × lines_of_any (Own, Own) plain (all_lines false) other_bytes None (Some (codes "a")) (Some (codes "a")) (Err Memory) (Other (other 6 2 Unhash))
 other_without_memory = ((other_opens, refl), (other_opens, tt), (other_opens, tt))
 
 pub other_written_without_memory : words_of_types (Own, Own) plain other_bytes (codes "5" ∷ []) (Some (codes "a")) (Some (codes "ab")) (Err Memory) (other 6 2 Unhash) → ⊥
@@ -59,8 +59,8 @@ other_written_without_memory h = unequal_lists (codes "ab") (codes "a") refl h.1
 
 -- ---- by position
 -- a read may fail, with nothing written, but once the bytes are opened none says that they are no table
-pub read_failed : (error : _) → lines_read_of (Own, Own) plain other_bytes None (Some (codes "a")) (Some (codes "a")) (Err (Read error)) (other 6 2 Unhash)
+pub read_failed : (error : _) → lines_read_of (Own, Own) plain other_bytes None None (Some (codes "a")) (Some (codes "a")) (Err (Read error)) (other 6 2 Unhash)
 read_failed error = (other_opens, tt)
 
-pub never_refused : (error : _) (input old new : Option (List ℕ)) → lines_read_of (Own, Own) plain other_bytes input old new (Err (Refused error)) (other 6 2 Unhash) → ⊥
-never_refused error input old new h = h.1
+pub never_refused : (error : _) (input now old new : Option (List ℕ)) → lines_read_of (Own, Own) plain other_bytes input now old new (Err (Refused error)) (other 6 2 Unhash) → ⊥
+never_refused error input now old new h = h.1

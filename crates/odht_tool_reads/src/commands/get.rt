@@ -11,7 +11,7 @@ ghost use Rattle.odht_tool_tables.specs.Openings.{IsOpenFailure};
 use crate::bounds::check_bound;
 use crate::dynamic::gets::{get_lines_dynamic, get_words_dynamic};
 use crate::lookups::arriving::Arriving;
-use crate::lookups::{LineStyle, answer_lines};
+use crate::lookups::{Coming, LineStyle, answer_lines};
 use odht::HashTable;
 use odht::bytes::Borrowed;
 use odht::config::{Coded, Config};
@@ -67,24 +67,23 @@ fn get_words<O: Write>(
     get_words_dynamic(job, shape.types(), forms, words, output)
 }
 
-/// `odht get` of the bytes of a file, for the lines of an input, which are answered as they come
-/// where `is_live` holds. Where a search may read more groups than the bound, it fails before it
-/// reads a line.
+/// `odht get` of the bytes of a file, for the lines that an input has left. Where a search may read
+/// more groups than the bound, it fails before it reads a line.
 pub fn get_file_lines<I: BufRead + Arriving, O: Write>(
     job: &Job<'_>,
     hash: Option<Hash>,
     kinds: Kinds,
-    is_live: bool,
+    coming: Coming,
     input: &mut I,
     output: &mut O,
 ) -> Result<Status, Failure>
     ensures { let j = job.now in let old = O.contents output.old in let new = O.contents output.new
         in IsBounded (bound_refusal j.bytes.now j.bound) old new result
-        (AreFileLinesGot j.bytes.now hash kinds (printed_as j.is_json j.is_values) is_live
+        (AreFileLinesGot j.bytes.now hash kinds (printed_as j.is_json j.is_values) coming
         (I.remaining input.old) old new result) }
 {
     match check_bound(job.bytes, job.bound) {
-        Ok(()) => get_lines_of_file(job, hash, kinds, is_live, input, output),
+        Ok(()) => get_lines_of_file(job, hash, kinds, coming, input, output),
         Err(error) => Err(Failure::Refused(error)),
     }
 }
@@ -94,20 +93,20 @@ fn get_lines_of_file<I: BufRead + Arriving, O: Write>(
     job: &Job<'_>,
     hash: Option<Hash>,
     kinds: Kinds,
-    is_live: bool,
+    coming: Coming,
     input: &mut I,
     output: &mut O,
 ) -> Result<Status, Failure>
     ensures { let j = job.now
-        in AreFileLinesGot j.bytes.now hash kinds (printed_as j.is_json j.is_values) is_live
+        in AreFileLinesGot j.bytes.now hash kinds (printed_as j.is_json j.is_values) coming
         (I.remaining input.old)
         (O.contents output.old) (O.contents output.new) result }
 {
     let found = read_any(job.bytes, hash, kinds)?;
     let (shape, forms) = found;
     match shape {
-        AnyShape::Ready(shape) => get_lines_ready(job, shape, forms, is_live, input, output),
-        AnyShape::Other(shape) => get_lines_dynamic(job, shape, forms, is_live, input, output),
+        AnyShape::Ready(shape) => get_lines_ready(job, shape, forms, coming, input, output),
+        AnyShape::Other(shape) => get_lines_dynamic(job, shape, forms, coming, input, output),
     }
 }
 
@@ -116,12 +115,12 @@ fn get_lines_ready<I: BufRead + Arriving, O: Write>(
     job: &Job<'_>,
     shape: Shape,
     forms: GivenForms,
-    is_live: bool,
+    coming: Coming,
     input: &mut I,
     output: &mut O,
 ) -> Result<Status, Failure>
     ensures { let j = job.now
-        in lines_of_shape (forms.key, forms.value) (printed_as j.is_json j.is_values) is_live
+        in lines_of_shape (forms.key, forms.value) (printed_as j.is_json j.is_values) coming
         j.bytes.now
         (I.remaining input.old) (O.contents output.old) (O.contents output.new) result shape }
 {
@@ -135,7 +134,7 @@ fn get_lines_ready<I: BufRead + Arriving, O: Write>(
             job.alloc,
             job.bytes,
             shape,
-            LineStyle { answers, is_live },
+            LineStyle { answers, coming },
             input,
             output,
         )
@@ -145,7 +144,7 @@ fn get_lines_ready<I: BufRead + Arriving, O: Write>(
             job.alloc,
             job.bytes,
             shape,
-            LineStyle { answers, is_live },
+            LineStyle { answers, coming },
             input,
             output,
         )
@@ -160,7 +159,7 @@ fn get_lines_of<F: Forms, I: BufRead + Arriving, O: Write>(
     input: &mut I,
     output: &mut O,
 ) -> Result<Status, Failure>
-    ensures { lines_of_shape (F.pair style.answers.forms) style.answers.printed style.is_live
+    ensures { lines_of_shape (F.pair style.answers.forms) style.answers.printed style.coming
         bytes.now (I.remaining input.old) (O.contents output.old) (O.contents output.new) result
         shape }
 {
@@ -181,7 +180,7 @@ where
     ensures { let forms = F.pair style.answers.forms in AreLinesGot ⟦<C as Coded>⟧.coding
         (answer_in style.answers.printed (C.Key.text forms.0) (C.Value.text forms.1))
         (IsReadAs (C.Key.is_word forms.0) (C.Key.stands_for forms.0))
-        (C.Key.wants forms.0) bytes.now style.is_live (I.remaining input.old)
+        (C.Key.wants forms.0) bytes.now style.coming (I.remaining input.old)
         (O.contents output.old) (O.contents output.new) result }
 {
     let table = open::<C>(bytes)?;

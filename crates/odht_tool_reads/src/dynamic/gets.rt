@@ -11,7 +11,7 @@ ghost use Rattle.odht_tool_reads.specs.Gets.{AreWordsGot, words_of_types};
 
 use crate::lookups::arriving::Arriving;
 use crate::lookups::words::answer_words;
-use crate::lookups::{LineStyle, answer_lines};
+use crate::lookups::{Coming, LineStyle, answer_lines};
 use odht::dynamic::Layout;
 use odht::hash::HashFn;
 use odht::{FxHashFn, UnHashFn, Xxh64HashFn};
@@ -46,18 +46,18 @@ pub fn get_words_dynamic<O: Write>(
     }
 }
 
-/// `odht get` of bytes of a shape, for the lines of an input.
+/// `odht get` of bytes of a shape, for the lines that an input has left.
 pub fn get_lines_dynamic<I: BufRead + Arriving, O: Write>(
     job: &Job<'_>,
     shape: OtherShape,
     forms: GivenForms,
-    is_live: bool,
+    coming: Coming,
     input: &mut I,
     output: &mut O,
 ) -> Result<Status, Failure>
     requires { least_key_len shape.hash ≤ typed_len shape.key }
     ensures { let j = job.now
-        in lines_of_other (forms.key, forms.value) (printed_as j.is_json j.is_values) is_live
+        in lines_of_other (forms.key, forms.value) (printed_as j.is_json j.is_values) coming
         j.bytes.now
         (I.remaining input.old) (O.contents output.old) (O.contents output.new) result shape }
 {
@@ -65,7 +65,7 @@ pub fn get_lines_dynamic<I: BufRead + Arriving, O: Write>(
     let forms = forms.of(shape);
     let printed = job.printed();
     let answers = AnswerStyle { forms, printed };
-    let style = LineStyle { answers, is_live };
+    let style = LineStyle { answers, coming };
     match shape.hash {
         Hash::Fx => get_lines_hashed::<FxHashFn, I, O>(job, layout, style, input, output),
         Hash::Unhash => get_lines_hashed::<UnHashFn, I, O>(job, layout, style, input, output),
@@ -110,7 +110,7 @@ fn get_lines_hashed<H: HashFn, I: BufRead + Arriving, O: Write>(
         in let forms = style.answers.forms in AreLinesGot c
         (answer_in style.answers.printed (dynamic_text forms.key) (dynamic_text forms.value))
         (IsDynamicOf forms.key) (dynamic_wanted forms.key)
-        job.now.bytes.now style.is_live (I.remaining input.old)
+        job.now.bytes.now style.coming (I.remaining input.old)
         (O.contents output.old) (O.contents output.new) result }
 {
     let table = open_lengths::<H>(layout, job.bytes)?;

@@ -1,16 +1,18 @@
 //! Keys of lines that are looked up in a table that is read by position.
-ghost use Rattle.std.specs.Prelude.{◌≡◌, List, ℕ, [], ◌∷◌, IfErr, IfOk, IfSome, Ok, OnOk, Some};
+ghost use Rattle.std.specs.Prelude.{◌≡◌, List, ℕ, [], ◌∷◌, false, IfErr, IfOk, IfSome, None, Ok, OnOk, Some};
 ghost use Rattle.std.specs.Prelude.{string_bytes};
 ghost use Rattle.odht.specs.Files.{file_coding};
 ghost use Rattle.odht.specs.Gets.{IsGet};
 ghost use Rattle.odht_tool_core.specs.DynTexts.{IsDynamicOf, dynamic_text, dynamic_wanted};
 ghost use Rattle.odht_tool_core.specs.JsonAnswers.{answer_in};
 ghost use Rattle.odht_tool_reads.specs.GetParts.{AreKeysAnswered, IsReadKey};
-ghost use Rattle.odht_tool_reads.specs.PositionLines.{AreLinesRead, IsKeyFailure, IsReadFailure, IsUnreadKey};
+ghost use Rattle.odht_tool_reads.specs.PositionLines.{AreLinesRead, IsEnd, IsKeyFailure, IsReadFailure};
+ghost use Rattle.odht_tool_reads.specs.PositionLines.{IsUnreadKey};
 ghost use Rattle.odht_tool_reads.specs.Positions.{IsShortSearch, IsTableAt};
 
-use super::Asked;
-use crate::lookups::{key_of_line, wrong_line};
+use super::{Asked, Reached};
+use crate::lookups::arriving::Arriving;
+use crate::lookups::{Coming, is_due, key_of_line, write_out, wrong_line};
 use odht::dynamic::{FileError, FileTable, ShortBytes};
 use odht::hash::HashFn;
 use odht::read_at::{ReadAt, ReadError};
@@ -22,33 +24,61 @@ use odht_tool_core::status::Status;
 use std::alloc::Global;
 use std::io::{self, BufRead, ErrorKind, Write};
 
-/// Looks up the keys of the lines, one after the other, and writes a line for each.
-pub(super) fn answer_lines_at<H: HashFn, S: ReadAt + Drop, I: BufRead, O: Write>(
+/// Looks up the keys of the lines, one after the other, and writes a line for each, until more bytes
+/// of them than are asked for were read. Where such a bound is asked for, the lines that have come are
+/// answered before the next one is waited for.
+pub(super) fn answer_lines_at<H: HashFn, S: ReadAt + Drop, I: BufRead + Arriving, O: Write>(
     asked: &Asked,
     table: &FileTable<H, S>,
     style: AnswerStyle<GivenForms>,
     input: &mut I,
     output: &mut O,
-) -> Result<Status, Failure>
-    ensures { let t = table.now in let key = style.forms.key
+) -> Result<Reached, Failure>
+    ensures all { asked.now.most ≡ None → IfOk result IsEnd }
+    ensures given { let t = table.now in let key = style.forms.key
         in (B : List ℕ) → IsTableAt S.gives H.hash t.key_len t.value_len t B
         → AreLinesRead (file_coding t H.hash)
         (answer_in style.printed (dynamic_text key) (dynamic_text style.forms.value))
-        (IsDynamicOf key) (dynamic_wanted key) B (I.remaining input.old)
+        (IsDynamicOf key) (dynamic_wanted key) B (I.remaining input.old) (I.remaining input.new)
         (O.contents output.old) (O.contents output.new) result }
 {
     let mut line = Vec::new(asked.alloc);
     let mut is_all_found = true;
+    let mut taken = 0;
     for number in 1..u64::MAX {
         match line_key(asked.alloc, number, input, &mut line, style.forms)? {
             Some(key) => {
-                let is_found = answer_key(table, &key, asked.bound, style, output)?;
+                let is_due = is_due(asked.most.is_some(), input);
+                let is_found = answer_key(table, &key, asked.bound, is_due, style, output)?;
                 is_all_found = is_found && is_all_found;
             }
             None => break,
         }
+        taken = with_line(taken, line.len());
+        if is_more(taken, asked.most) {
+            return Ok(Reached::Line(Coming {
+                is_live: true,
+                number: number + 1,
+                is_all_found,
+            }));
+        }
     }
-    Ok(Status::of(is_all_found))
+    Ok(Reached::End(Status::of(is_all_found)))
+}
+
+// How many bytes some lines have with their ends, and another one of that many bytes.
+fn with_line(bytes: u64, line: usize) -> u64 {
+    bytes.saturating_add(line as u64).saturating_add(1)
+}
+
+// Whether these are more bytes than there may be.
+fn is_more(bytes: u64, most: Option<u64>) -> bool
+    ensures { most ≡ None → result ≡ false }
+{
+    match most {
+        Some(most) => bytes > most,
+        None => false,
+    }
 }
 
 // The key of the line of this number, if there is such a line. A line that is no key is a failure.
@@ -76,11 +106,13 @@ fn line_key<I: BufRead>(
     }
 }
 
-// Looks a key up, and writes its line. Returns whether it was found.
+// Looks a key up, and writes its line, out of the buffer too where that is due. Returns whether it
+// was found.
 fn answer_key<H: HashFn, S: ReadAt + Drop, O: Write>(
     table: &FileTable<H, S>,
     key: &ShortBytes,
     bound: Option<usize>,
+    is_due: bool,
     style: AnswerStyle<GivenForms>,
     output: &mut O,
 ) -> Result<bool, Failure>
@@ -93,6 +125,7 @@ fn answer_key<H: HashFn, S: ReadAt + Drop, O: Write>(
 {
     let value = value_at(table, key, bound)?;
     write_answer_in(key, &value, style, output).map_err(Failure::Output)?;
+    write_out(is_due, output)?;
     Ok(value.is_some())
 }
 

@@ -1,15 +1,16 @@
 //! The hash function of a table that is read by position: the one that the first groups of slots
-//! leave.
+//! leave, or that they leave none.
 ghost use Rattle.std.specs.Prelude.{◌≡◌, ◌≤◌, ◌<◌, ◌+◌, ◌*◌, ◌^◌, ℕ, List, length, is_some};
-ghost use Rattle.std.specs.Prelude.{◌&&◌, IfSome, slice_index};
+ghost use Rattle.std.specs.Prelude.{◌&&◌, IfErr, IfOk, IfSome, None, OnSome, slice_index};
 ghost use Rattle.odht_base.specs.Bytes.{bytes_at};
 ghost use Rattle.odht_base.specs.Decoded.{header_slots};
 ghost use Rattle.odht_raw.specs.Reads.{IsPlaceFitting};
 ghost use Rattle.odht.specs.Files.{table_place};
 ghost use Rattle.odht_header.specs.Refusals.{control_mismatch};
-ghost use Rattle.odht_tool_core.specs.InfoNumbers.{agrees, least_key_len, file_format};
+ghost use Rattle.odht_tool_core.specs.InfoNumbers.{agrees, info_refusal, least_key_len, file_format};
 ghost use Rattle.odht_tool_core.specs.ReadyShapes.{hash_of};
-ghost use Rattle.odht_tool_reads.specs.Positions.{IsLeft, IsNamed, IsStartOf, slots_parts};
+ghost use Rattle.odht_tool_reads.specs.Positions.{AreNoneLeft, HasNoHash, IsLeft, IsNamed, IsStartOf};
+ghost use Rattle.odht_tool_reads.specs.Positions.{slots_parts};
 
 use super::Start;
 use odht::dynamic::Layout;
@@ -19,6 +20,7 @@ use odht::raw_table::{ReadPlace, tag_of};
 use odht::read_at::{ReadAt, read_exact_at};
 use odht::swisstable_group_query::is_empty_or_deleted;
 use odht::{FxHashFn, UnHashFn, Xxh64HashFn};
+use odht_tool_core::failure::Failure;
 use odht_tool_core::shapes::Hash;
 
 /// How many slots are read at once.
@@ -55,55 +57,85 @@ impl Fitting {
 
 /// The hash function that is to be named for a table, none where it has no items: the one that is
 /// named, or the one that is left when the first groups of slots exclude the others. None where
-/// they leave several, or none, or a read failed, or the table has no items and there is a default
-/// for such a table.
+/// they leave several, or a read failed, or the table has no items and there is a default for such a
+/// table. `NoHash` where they leave none.
 pub(super) fn named_or_left_hash<S: ReadAt>(
     source: &S,
     start: &Start,
     hash: Option<Hash>,
     default: Option<Hash>,
-) -> Option<Option<Hash>>
+) -> Result<Option<Option<Hash>>, Failure>
     requires fits { start.now.at + start.now.len < 2 ^ 64 }
     requires long { 32 ≤ start.now.len }
     ensures given { (B : List ℕ) → S.gives source.now B → IsStartOf B start.now
-        → IfSome result (IsNamed (bytes_at B start.now.at start.now.len) hash default) }
+        → IfOk result (λ o. IfSome o
+        (IsNamed (bytes_at B start.now.at start.now.len) hash default)) }
+    ensures unfit { (B : List ℕ) → S.gives source.now B → IsStartOf B start.now
+        → IfErr result (λ f. (hash ≡ None)
+        × HasNoHash (bytes_at B start.now.at start.now.len) default f) }
 {
     match hash {
-        Some(_) => Some(hash),
+        Some(_) => Ok(Some(hash)),
         None => {
             if Header::of(&start.header).item_count() == 0 {
-                return if default.is_none() { Some(None) } else { None };
+                return if default.is_none() {
+                    Ok(Some(None))
+                } else {
+                    Ok(None)
+                };
             }
-            let hash = left_hash(source, start)?;
-            Some(Some(hash))
+            match left_hash(source, start)? {
+                Some(hash) => Ok(Some(Some(hash))),
+                None => Ok(None),
+            }
         }
     }
 }
 
-// The hash function that is left when the first groups of slots exclude the others.
-fn left_hash<S: ReadAt>(source: &S, start: &Start) -> Option<Hash>
+// The hash function that is left when the first groups of slots exclude the others. None where more
+// may be left, and `NoHash` where none is.
+fn left_hash<S: ReadAt>(source: &S, start: &Start) -> Result<Option<Hash>, Failure>
     requires fits { start.now.at + start.now.len < 2 ^ 64 }
     requires long { 32 ≤ start.now.len }
     ensures given { (B : List ℕ) → S.gives source.now B → IsStartOf B start.now
-        → IfSome result (IsLeft (bytes_at B start.now.at start.now.len)) }
+        → IfOk result (λ o. IfSome o (IsLeft (bytes_at B start.now.at start.now.len))) }
+    ensures unfit { (B : List ℕ) → S.gives source.now B → IsStartOf B start.now
+        → IfErr result (AreNoneLeft (bytes_at B start.now.at start.now.len)) }
 {
-    let place = place_of(start)?;
+    let Some(place) = place_of(start) else {
+        return Ok(None);
+    };
     let mut left = Fitting {
         fx: true,
         unhash: true,
         xxh64: true,
     };
     for group in 0..(place.slots / GROUP).min(MOST_GROUPS) {
-        left = left.and(group_fits(source, &place, group * GROUP)?);
+        let Some(fitting) = group_fits(source, &place, group * GROUP) else {
+            return Ok(None);
+        };
+        left = left.and(fitting);
         match (left.fx, left.unhash, left.xxh64) {
-            (true, false, false) => return Some(Hash::Fx),
-            (false, true, false) => return Some(Hash::Unhash),
-            (false, false, true) => return Some(Hash::Xxh64),
-            (false, false, false) => return None,
+            (true, false, false) => return Ok(Some(Hash::Fx)),
+            (false, true, false) => return Ok(Some(Hash::Unhash)),
+            (false, false, true) => return Ok(Some(Hash::Xxh64)),
+            (false, false, false) => return Err(no_hash(&start.header)),
             _ => {}
         }
     }
-    None
+    Ok(None)
+}
+
+// What is said of a table of this header where its slots fit no hash function.
+fn no_hash(header: &[u8]) -> Failure
+    requires { length header.now ≡ 32 }
+    ensures { result ≡ Failure.NoHash (slice_index header.now 5) (slice_index header.now 6) }
+{
+    let header = Header::of(header);
+    Failure::NoHash {
+        key_size: header.key_size(),
+        value_size: header.value_size(),
+    }
 }
 
 // Where the parts of the table are, where its header and its length fit.
@@ -114,6 +146,8 @@ fn place_of(start: &Start) -> Option<ReadPlace>
         (slice_index start.now.header 6)) }
     ensures long { IfSome result (λ p. 32 + p.slots * (p.layout.key_len + p.layout.value_len)
         + p.slots + 16 ≡ start.now.len) }
+    ensures opens { (B : List ℕ) → IsStartOf B start.now → 32 ≤ start.now.len
+        → OnSome result (info_refusal (bytes_at B start.now.at start.now.len) ≡ None) }
 {
     let header = Header::of(&start.header);
     let layout = header.layout();

@@ -1,6 +1,6 @@
 //! The table that is read by position, of its types and its hash function.
 ghost use Rattle.std.specs.Prelude.{◌≡◌, ◌≤◌, ◌+◌, ◌<◌, ◌^◌, ℕ, List, length, map, string_bytes};
-ghost use Rattle.std.specs.Prelude.{IfSome, None, Ok, OnSome};
+ghost use Rattle.std.specs.Prelude.{IfOk, IfSome, None, Ok, OnSome};
 ghost use Rattle.odht_base.specs.Bytes.{bytes_at};
 ghost use Rattle.odht_base.specs.Format.{format_of};
 ghost use Rattle.odht_header.specs.Refusals.{view_refusal};
@@ -11,12 +11,13 @@ ghost use Rattle.odht_tool_core.specs.ReadyShapes.{typed_len};
 ghost use Rattle.odht_tool_core.specs.DynTexts.{IsDynamicOf, dynamic_text, dynamic_wanted};
 ghost use Rattle.odht_tool_core.specs.Forms.{bytes_form};
 ghost use Rattle.odht_tool_reads.specs.Gets.{AreWordsGot, words_of_types};
-ghost use Rattle.odht_tool_reads.specs.PositionLines.{AreLinesRead, lines_read_of};
+ghost use Rattle.odht_tool_reads.specs.PositionLines.{AreLinesRead, IsEnd, lines_read_of};
 ghost use Rattle.odht_tool_reads.specs.Positions.{ByPosition, IsTableAt};
 
-use super::Asked;
 use super::lines::answer_lines_at;
 use super::lookups::answer_words_at;
+use super::{Asked, Reached};
+use crate::lookups::arriving::Arriving;
 use odht::dynamic::{FileTable, Layout};
 use odht::hash::HashFn;
 use odht::read_at::ReadAt;
@@ -98,21 +99,22 @@ fn words_hashed<H: HashFn, S: ReadAt + Drop, O: Write>(
 
 /// The same for the lines of an input. None where a read failed, or the bytes are not opened: nothing
 /// was written then, and no line was read.
-pub(super) fn lines_of<S: ReadAt + Drop, I: BufRead, O: Write>(
+pub(super) fn lines_of<S: ReadAt + Drop, I: BufRead + Arriving, O: Write>(
     asked: &Asked,
     source: S,
     found: Found,
     input: &mut I,
     output: &mut O,
-) -> Result<Option<Status>, Failure>
+) -> Result<Option<Reached>, Failure>
     requires { least_key_len found.shape.hash ≤ typed_len found.shape.key }
     ensures unread { result ≡ Ok None → I.remaining input.new ≡ I.remaining input.old }
+    ensures all { asked.now.most ≡ None → IfOk result (λ o. IfSome o IsEnd) }
     ensures given { (B : List ℕ) → S.gives source B → found.at + found.len ≤ length B
         → found.at + found.len < 2 ^ 64
         → (let old = O.contents output.old in let new = O.contents output.new
         in ByPosition old new (λ r. lines_read_of (found.forms.key, found.forms.value)
-        asked.now.printed (bytes_at B found.at found.len) (I.remaining input.old) old new r
-        found.shape) result) }
+        asked.now.printed (bytes_at B found.at found.len) (I.remaining input.old)
+        (I.remaining input.new) old new r found.shape) result) }
 {
     match found.shape.hash {
         Hash::Fx => lines_hashed::<FxHashFn, S, I, O>(asked, source, found, input, output),
@@ -121,15 +123,16 @@ pub(super) fn lines_of<S: ReadAt + Drop, I: BufRead, O: Write>(
     }
 }
 
-fn lines_hashed<H: HashFn, S: ReadAt + Drop, I: BufRead, O: Write>(
+fn lines_hashed<H: HashFn, S: ReadAt + Drop, I: BufRead + Arriving, O: Write>(
     asked: &Asked,
     source: S,
     found: Found,
     input: &mut I,
     output: &mut O,
-) -> Result<Option<Status>, Failure>
+) -> Result<Option<Reached>, Failure>
     requires { H.MIN_LEN ≤ typed_len found.shape.key }
     ensures unread { result ≡ Ok None → I.remaining input.new ≡ I.remaining input.old }
+    ensures all { asked.now.most ≡ None → IfOk result (λ o. IfSome o IsEnd) }
     ensures given { let k = bytes_form found.forms.key found.shape.key
         in let v = bytes_form found.forms.value found.shape.value
         in let c = bytes_coding (format_of (typed_len found.shape.key)
@@ -140,7 +143,7 @@ fn lines_hashed<H: HashFn, S: ReadAt + Drop, I: BufRead, O: Write>(
         in let T = bytes_at B found.at found.len
         in ByPosition old new (λ r. (view_refusal c.format T ≡ None) × AreLinesRead c
         (answer_in asked.now.printed (dynamic_text k) (dynamic_text v)) (IsDynamicOf k)
-        (dynamic_wanted k) T (I.remaining input.old) old new r) result) }
+        (dynamic_wanted k) T (I.remaining input.old) (I.remaining input.new) old new r) result) }
 {
     let shape = found.shape;
     let layout = lengths_of(shape.key, shape.value);
@@ -151,8 +154,8 @@ fn lines_hashed<H: HashFn, S: ReadAt + Drop, I: BufRead, O: Write>(
     let Some(table) = open_file::<H, S>(layout, source, found.at, found.len) else {
         return Ok(None);
     };
-    let status = answer_lines_at(asked, &table, style, input, output)?;
-    Ok(Some(status))
+    let reached = answer_lines_at(asked, &table, style, input, output)?;
+    Ok(Some(reached))
 }
 
 // Opens the bytes as a table of these lengths. None where they are not opened, or a read failed.

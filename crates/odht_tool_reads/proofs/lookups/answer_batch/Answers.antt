@@ -10,7 +10,7 @@ returns-then-is_few-clause-ok g c =
     let coding = g.T.Lookups.coding c.args.table.now in
     let forms = g.F.Forms.pair c.args.style.answers.forms in
     let few : length c.args.keys.now.items < BATCH = omega (arith, c.is_few.ensures.few c.if-is_few.true, c.len.ensures) in
-    nothing_flushed coding (answer_in c.args.style.answers.printed (g.T.Key.Text.text forms.0) (g.T.Value.Text.text forms.1)) (g.T.Lookups.bytes c.args.table.now) c.args.style.is_live c.args.keys.now.items (g.O.Write.contents c.args.output.now) c.args.is_all_found few
+    nothing_flushed coding (answer_in c.args.style.answers.printed (g.T.Key.Text.text forms.0) (g.T.Value.Text.text forms.1)) (g.T.Lookups.bytes c.args.table.now) c.args.style.coming.is_live c.args.keys.now.items (g.O.Write.contents c.args.output.now) c.args.is_all_found few
 
 -- where lines are not answered as they come, the keys that fail are a batch
 pub returns-in_err-is_found-clause-full : goal.returns-in_err-is_found-clause-full

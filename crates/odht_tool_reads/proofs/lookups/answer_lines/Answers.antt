@@ -20,10 +20,10 @@ loop-number-init g c =
     let R = IsReadAs (g.T.Key.Text.is_word (g.F.Forms.pair c.args.style.answers.forms).0) (g.T.Key.Text.stands_for (g.F.Forms.pair c.args.style.answers.forms).0) in
     let p = g.T.Key.Text.wants (g.F.Forms.pair c.args.style.answers.forms).0 in
     let B = g.T.Lookups.bytes c.args.table.now in
-    let live = c.args.style.is_live in
+    let coming = c.args.style.coming in
     let input = g.I.Read.remaining c.args.input.now in
     let old = g.O.Write.contents c.args.output.now in
-    (none_taken C line R B live input old c.new-keys.result.items c.new-keys.ensures.items, omega (arith, ap length c.new-keys.ensures.items))
+    (none_taken C line R B coming input old c.new-keys.result.items c.new-keys.ensures.items, omega (arith, ap length c.new-keys.ensures.items))
 
 pub returns-in_err-read : goal.returns-in_err-read
 returns-in_err-read g c =
@@ -32,7 +32,7 @@ returns-in_err-read g c =
     let R = IsReadAs (g.T.Key.Text.is_word (g.F.Forms.pair c.args.style.answers.forms).0) (g.T.Key.Text.stands_for (g.F.Forms.pair c.args.style.answers.forms).0) in
     let p = g.T.Key.Text.wants (g.F.Forms.pair c.args.style.answers.forms).0 in
     let B = g.T.Lookups.bytes c.args.table.now in
-    let live = c.args.style.is_live in
+    let coming = c.args.style.coming in
     let input = g.I.Read.remaining c.args.input.now in
     let old = g.O.Write.contents c.args.output.now in
     let now = g.I.Read.remaining c.loop-number.input in
@@ -43,8 +43,8 @@ returns-in_err-read g c =
     let x = c.in_err-read.field-0.0 in
     let failed : c.from_residual.result ≡ Err x = search rules in
     let why = subst (λ ks. IsLineFailure C line R p B ks c.loop-number.number now new last x) c.as_slice-taken.ensures.value c.in_err-read.ensures.err in
-    subst (AreLinesAnswered C line R p B live input old last) (sym failed)
-    (line_failed C line R B live input now old new c.loop-number.number keys all last c.loop-number.invariant.0 p x c.loop-number.invariant.1 why)
+    subst (AreLinesAnswered C line R p B coming input old last) (sym failed)
+    (line_failed C line R B coming input now old new c.loop-number.number keys all last c.loop-number.invariant.0 p x c.loop-number.invariant.1 why)
 
 pub returns-in_err-is_all_found-in-Some : goal.returns-in_err-is_all_found-in-Some
 returns-in_err-is_all_found-in-Some g c =
@@ -53,7 +53,7 @@ returns-in_err-is_all_found-in-Some g c =
     let R = IsReadAs (g.T.Key.Text.is_word (g.F.Forms.pair c.args.style.answers.forms).0) (g.T.Key.Text.stands_for (g.F.Forms.pair c.args.style.answers.forms).0) in
     let p = g.T.Key.Text.wants (g.F.Forms.pair c.args.style.answers.forms).0 in
     let B = g.T.Lookups.bytes c.args.table.now in
-    let live = c.args.style.is_live in
+    let coming = c.args.style.coming in
     let input = g.I.Read.remaining c.args.input.now in
     let old = g.O.Write.contents c.args.output.now in
     let now = g.I.Read.remaining c.loop-number.input in
@@ -66,13 +66,13 @@ returns-in_err-is_all_found-in-Some g c =
     let more = c.push_key.new.keys.items in
     let pushed : more ≡ keys ++ (key ∷ []) = c.in_ok-push_key-in-Some.ensures.ok in
     let next = subst (IsReadKey R now then) c.in-Some.is c.in_ok-read.ensures.key in
-    let taken = one_taken C line R B live input now old new c.loop-number.number keys all then key more c.loop-number.invariant.0 next pushed in
+    let taken = one_taken C line R B coming input now old new c.loop-number.number keys all then key more c.loop-number.invariant.0 next pushed in
     let x = c.in_err-is_all_found-in-Some.field-0.0 in
     let failed : c.from_residual-in_err-is_all_found-in-Some.result ≡ Err x = search rules in
     let why = subst (λ o. IsKeysFailure 1 more o last x) c.in_ok-read.ensures.kept c.in_err-is_all_found-in-Some.ensures.err in
-    let full = λ (e : live ≡ false). subst (λ o. IsKeysFailure BATCH more o last x) c.in_ok-read.ensures.kept (c.in_err-is_all_found-in-Some.ensures.full (c.is_due-is_live.ensures e)) in
-    subst (AreLinesAnswered C line R p B live input old last) (sym failed)
-    (batch_failed C line R B live input then old new (c.loop-number.number + 1) more all last taken p x (batch_at_most keys more key pushed c.loop-number.invariant.1) why full)
+    let full = λ (e : coming.is_live ≡ false). subst (λ o. IsKeysFailure BATCH more o last x) c.in_ok-read.ensures.kept (c.in_err-is_all_found-in-Some.ensures.full (c.is_due-is_live.ensures e)) in
+    subst (AreLinesAnswered C line R p B coming input old last) (sym failed)
+    (batch_failed C line R B coming input then old new (c.loop-number.number + 1) more all last taken p x (batch_at_most keys more key pushed c.loop-number.invariant.1) why full)
 
 -- there is no memory for one key more
 pub returns-in_err-push_key-in-Some : goal.returns-in_err-push_key-in-Some
@@ -82,7 +82,7 @@ returns-in_err-push_key-in-Some g c =
     let R = IsReadAs (g.T.Key.Text.is_word (g.F.Forms.pair c.args.style.answers.forms).0) (g.T.Key.Text.stands_for (g.F.Forms.pair c.args.style.answers.forms).0) in
     let p = g.T.Key.Text.wants (g.F.Forms.pair c.args.style.answers.forms).0 in
     let B = g.T.Lookups.bytes c.args.table.now in
-    let live = c.args.style.is_live in
+    let coming = c.args.style.coming in
     let input = g.I.Read.remaining c.args.input.now in
     let old = g.O.Write.contents c.args.output.now in
     let now = g.I.Read.remaining c.loop-number.input in
@@ -93,8 +93,8 @@ returns-in_err-push_key-in-Some g c =
     let failed : c.from_residual-in_err-push_key-in-Some.result ≡ Err x = search rules in
     let kept = subst (Keeps new) (sym c.in_ok-read.ensures.kept) (Keeps-refl new) in
     let few : length keys ≤ BATCH = omega (arith, c.loop-number.invariant.1) in
-    subst (AreLinesAnswered C line R p B live input old last) (sym (failed ∙ ap Err c.in_err-push_key-in-Some.ensures.err))
-    (batch_failed C line R B live input now old new c.loop-number.number keys c.loop-number.is_all_found last c.loop-number.invariant.0 p Memory few kept (λ e. kept))
+    subst (AreLinesAnswered C line R p B coming input old last) (sym (failed ∙ ap Err c.in_err-push_key-in-Some.ensures.err))
+    (batch_failed C line R B coming input now old new c.loop-number.number keys c.loop-number.is_all_found last c.loop-number.invariant.0 p Memory few kept (λ e. kept))
 
 pub loop-number-preserved : goal.loop-number-preserved
 loop-number-preserved g c =
@@ -103,7 +103,7 @@ loop-number-preserved g c =
     let R = IsReadAs (g.T.Key.Text.is_word (g.F.Forms.pair c.args.style.answers.forms).0) (g.T.Key.Text.stands_for (g.F.Forms.pair c.args.style.answers.forms).0) in
     let p = g.T.Key.Text.wants (g.F.Forms.pair c.args.style.answers.forms).0 in
     let B = g.T.Lookups.bytes c.args.table.now in
-    let live = c.args.style.is_live in
+    let coming = c.args.style.coming in
     let input = g.I.Read.remaining c.args.input.now in
     let old = g.O.Write.contents c.args.output.now in
     let now = g.I.Read.remaining c.loop-number.input in
@@ -116,15 +116,15 @@ loop-number-preserved g c =
     let more = c.push_key.new.keys.items in
     let pushed : more ≡ keys ++ (key ∷ []) = c.in_ok-push_key-in-Some.ensures.ok in
     let next = subst (IsReadKey R now then) c.in-Some.is c.in_ok-read.ensures.key in
-    let taken = one_taken C line R B live input now old new c.loop-number.number keys all then key more c.loop-number.invariant.0 next pushed in
+    let taken = one_taken C line R B coming input now old new c.loop-number.number keys all then key more c.loop-number.invariant.0 next pushed in
     let due = c.is_due-is_live.result in
     let every = c.in_ok-is_all_found-in-Some.is_all_found in
     let after = c.answer_batch.new.keys.items in
     let flushed = subst (λ o. IsFlushed C line B due more after o last all every) c.in_ok-read.ensures.kept c.in_ok-is_all_found-in-Some.ensures.ok in
     let end = g.O.Write.contents c.write_out.new.output in
-    let answered = batch_answered C line R B live input then old new (c.loop-number.number + 1) more all last taken after due every
+    let answered = batch_answered C line R B coming input then old new (c.loop-number.number + 1) more all last taken after due every
     (batch_at_most keys more key pushed c.loop-number.invariant.1) c.is_due-is_live.ensures flushed in
-    (taken_kept C line R B live input then old last end (c.loop-number.number + 1) after every answered.0 c.write_out.ensures.kept, answered.1)
+    (taken_kept C line R B coming input then old last end (c.loop-number.number + 1) after every answered.0 c.write_out.ensures.kept, answered.1)
 
 -- what was written cannot be written out
 pub returns-in_err-write_out-in-Some : goal.returns-in_err-write_out-in-Some
@@ -134,7 +134,7 @@ returns-in_err-write_out-in-Some g c =
     let R = IsReadAs (g.T.Key.Text.is_word (g.F.Forms.pair c.args.style.answers.forms).0) (g.T.Key.Text.stands_for (g.F.Forms.pair c.args.style.answers.forms).0) in
     let p = g.T.Key.Text.wants (g.F.Forms.pair c.args.style.answers.forms).0 in
     let B = g.T.Lookups.bytes c.args.table.now in
-    let live = c.args.style.is_live in
+    let coming = c.args.style.coming in
     let input = g.I.Read.remaining c.args.input.now in
     let old = g.O.Write.contents c.args.output.now in
     let now = g.I.Read.remaining c.loop-number.input in
@@ -147,12 +147,12 @@ returns-in_err-write_out-in-Some g c =
     let more = c.push_key.new.keys.items in
     let pushed : more ≡ keys ++ (key ∷ []) = c.in_ok-push_key-in-Some.ensures.ok in
     let next = subst (IsReadKey R now then) c.in-Some.is c.in_ok-read.ensures.key in
-    let taken = one_taken C line R B live input now old new c.loop-number.number keys all then key more c.loop-number.invariant.0 next pushed in
+    let taken = one_taken C line R B coming input now old new c.loop-number.number keys all then key more c.loop-number.invariant.0 next pushed in
     let x = c.in_err-write_out-in-Some.field-0.0 in
     let failed : c.from_residual-in_err-write_out-in-Some.result ≡ Err x = search rules in
     let some : 1 ≤ length more = omega (arith, ap length pushed ∙ length-append keys (key ∷ [])) in
-    subst (AreLinesAnswered C line R p B live input old end) (sym failed)
-    (write_failed C line R B live input then old new (c.loop-number.number + 1) more all end taken p x some (batch_at_most keys more key pushed c.loop-number.invariant.1)
+    subst (AreLinesAnswered C line R p B coming input old end) (sym failed)
+    (write_failed C line R B coming input then old new (c.loop-number.number + 1) more all end taken p x some (batch_at_most keys more key pushed c.loop-number.invariant.1)
     c.in_err-write_out-in-Some.ensures.err (λ e. true≢false (sym (c.in_err-write_out-in-Some.ensures.quiet (c.is_due-is_live.ensures e)))))
 
 pub returns-in_err-is_last_found : goal.returns-in_err-is_last_found
@@ -162,7 +162,7 @@ returns-in_err-is_last_found g c =
     let R = IsReadAs (g.T.Key.Text.is_word (g.F.Forms.pair c.args.style.answers.forms).0) (g.T.Key.Text.stands_for (g.F.Forms.pair c.args.style.answers.forms).0) in
     let p = g.T.Key.Text.wants (g.F.Forms.pair c.args.style.answers.forms).0 in
     let B = g.T.Lookups.bytes c.args.table.now in
-    let live = c.args.style.is_live in
+    let coming = c.args.style.coming in
     let input = g.I.Read.remaining c.args.input.now in
     let old = g.O.Write.contents c.args.output.now in
     let now = g.I.Read.remaining c.loop-number.input in
@@ -178,8 +178,8 @@ returns-in_err-is_last_found g c =
     let failed : c.from_residual-in_err-is_last_found.result ≡ Err x = search rules in
     let kept = subst (λ ks. IsKeysFailure 1 ks (g.O.Write.contents c.loop-number-test.output) last x) c.as_slice.ensures.value c.in_err-is_last_found.ensures.err in
     let why = subst (λ o. IsKeysFailure 1 keys o last x) same kept in
-    subst (AreLinesAnswered C line R p B live input old last) (sym failed)
-    (last_failed C line R B live input now old new c.loop-number.number keys all last c.loop-number.invariant.0 p x c.loop-number.invariant.1 (elim c.loop-number-test.branch [
+    subst (AreLinesAnswered C line R p B coming input old last) (sym failed)
+    (last_failed C line R B coming input now old new c.loop-number.number keys all last c.loop-number.invariant.0 p x c.loop-number.invariant.1 (elim c.loop-number-test.branch [
       | else-loop-number-test w ↦ inr (omega (arith, c.loop-number.auto.number-end, w.loop-number-test.false))
       | then-loop-number-test+in_ok-read+in-None w ↦ inl (subst (IsReadKey R now (g.I.Read.remaining w.read_key.new.input)) w.in-None.is w.in_ok-read.ensures.key, omega (arith, c.loop-number.auto.number-end))
     ]) why)
@@ -191,7 +191,7 @@ returns g c =
     let R = IsReadAs (g.T.Key.Text.is_word (g.F.Forms.pair c.args.style.answers.forms).0) (g.T.Key.Text.stands_for (g.F.Forms.pair c.args.style.answers.forms).0) in
     let p = g.T.Key.Text.wants (g.F.Forms.pair c.args.style.answers.forms).0 in
     let B = g.T.Lookups.bytes c.args.table.now in
-    let live = c.args.style.is_live in
+    let coming = c.args.style.coming in
     let input = g.I.Read.remaining c.args.input.now in
     let old = g.O.Write.contents c.args.output.now in
     let now = g.I.Read.remaining c.loop-number.input in
@@ -210,8 +210,8 @@ returns g c =
       | then-is_last_found w ↦ w.of-is ∙ sym (ap (λ b. b && all) w.if-is_last_found.true)
       | else-is_last_found w ↦ w.of-is ∙ w.if-is_last_found.false ∙ sym (ap (λ b. b && all) w.if-is_last_found.false)
     ] in
-    let lines = lines_answered C line R B live input now old new c.loop-number.number keys all last c.loop-number.invariant.0 every (elim c.loop-number-test.branch [
+    let lines = lines_answered C line R B coming input now old new c.loop-number.number keys all last c.loop-number.invariant.0 every (elim c.loop-number-test.branch [
       | else-loop-number-test w ↦ inr (omega (arith, c.loop-number.auto.number-end, w.loop-number-test.false))
       | then-loop-number-test+in_ok-read+in-None w ↦ inl (subst (IsReadKey R now (g.I.Read.remaining w.read_key.new.input)) w.in-None.is w.in_ok-read.ensures.key, omega (arith, c.loop-number.auto.number-end))
     ]) answered in
-    subst (λ status. AreLinesAnswered C line R p B live input old last (Ok status)) (sym (c.of.ensures ∙ ap found_status both)) lines
+    subst (λ status. AreLinesAnswered C line R p B coming input old last (Ok status)) (sym (c.of.ensures ∙ ap found_status both)) lines

@@ -23,14 +23,32 @@ use arriving::Arriving;
 /// How many keys are looked up at once.
 const BATCH: usize = 1024;
 
+/// The lines that an input has left, and how they are answered.
+#[derive(Clone, Copy)]
+pub struct Coming {
+    /// Whether the answers to the lines that have come are written out before the next line is
+    /// waited for.
+    pub is_live: bool,
+    /// The number of the next line, counted from 1.
+    pub number: u64,
+    /// Whether the keys of all lines before it were found.
+    pub is_all_found: bool,
+}
+
+impl Coming {
+    /// All lines of an input.
+    pub fn all(is_live: bool) -> Coming {
+        Coming { is_live, number: 1, is_all_found: true }
+    }
+}
+
 /// How the keys of lines are answered.
 #[derive(Clone, Copy)]
 pub struct LineStyle<F: Forms> {
     /// How they and their values are written.
     pub answers: AnswerStyle<F>,
-    /// Whether the answers to the lines that have come are written out before the next line is
-    /// waited for.
-    pub is_live: bool,
+    /// Which lines they are on.
+    pub coming: Coming,
 }
 
 /// A table in which keys are looked up that have texts, as its values have.
@@ -49,8 +67,9 @@ pub trait Lookups {
     ) -> Result<Vec<Option<Self::Value>>, AllocError>;
 }
 
-/// Looks up the keys of the lines, a batch at a time, and writes a line for each. Where that is asked
-/// for, the lines that have come are answered before the next one is waited for.
+/// Looks up the keys of the lines that are left, a batch at a time, and writes a line for each. Where
+/// that is asked for, the lines that have come are answered before the next one is waited for.
+/// Returns whether each key was found, and those before.
 pub fn answer_lines<T: Lookups, F: Forms, I: BufRead + Arriving, O: Write>(
     alloc: Global,
     table: &T,
@@ -58,18 +77,18 @@ pub fn answer_lines<T: Lookups, F: Forms, I: BufRead + Arriving, O: Write>(
     input: &mut I,
     output: &mut O,
 ) -> Result<Status, Failure> {
-    let answers = style.answers;
+    let LineStyle { answers, coming } = style;
     let mut keys = crate::host::lists::empty(alloc);
     let mut line = crate::host::lists::empty(alloc);
-    let mut is_all_found = true;
-    for number in 1..u64::MAX {
+    let mut is_all_found = coming.is_all_found;
+    for number in coming.number..u64::MAX {
         let taken = keys.as_slice();
         let read = read_key(alloc, table, number, input, &mut line, taken, answers, output)?;
         match read {
             Some(key) => {
                 push_key(&mut keys, key)?;
-                let is_live = is_due(style.is_live, input);
-                let due = LineStyle { answers, is_live };
+                let is_live = is_due(coming.is_live, input);
+                let due = LineStyle { answers, coming: Coming { is_live, ..coming } };
                 is_all_found = answer_batch(alloc, table, &mut keys, is_all_found, due, output)?;
                 write_out(is_live, output)?;
             }
@@ -80,9 +99,9 @@ pub fn answer_lines<T: Lookups, F: Forms, I: BufRead + Arriving, O: Write>(
     Ok(Status::of(is_last_found && is_all_found))
 }
 
-// Whether the lines that have come are to be answered.
+/// Whether the lines that have come are to be answered.
 #[inline(always)]
-fn is_due<I: Arriving>(is_live: bool, input: &I) -> bool {
+pub(crate) fn is_due<I: Arriving>(is_live: bool, input: &I) -> bool {
     is_live && input.is_waiting()
 }
 
@@ -146,7 +165,7 @@ fn answer_batch<T: Lookups, F: Forms, O: Write>(
     style: LineStyle<F>,
     output: &mut O,
 ) -> Result<bool, Failure> {
-    if is_few(keys.len(), style.is_live) {
+    if is_few(keys.len(), style.coming.is_live) {
         return Ok(is_all_found);
     }
     let is_found = answer_keys(alloc, table, keys.as_slice(), style.answers, output)?;
@@ -160,9 +179,9 @@ fn is_few(count: usize, is_live: bool) -> bool {
     count < BATCH && !is_live
 }
 
-// Writes out what the buffer of the output has, where that is due.
+/// Writes out what the buffer of the output has, where that is due.
 #[inline(always)]
-fn write_out<O: Write>(is_due: bool, output: &mut O) -> Result<(), Failure> {
+pub(crate) fn write_out<O: Write>(is_due: bool, output: &mut O) -> Result<(), Failure> {
     if is_due {
         output.flush().map_err(Failure::Output)?;
     }

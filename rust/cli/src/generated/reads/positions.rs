@@ -10,6 +10,8 @@ use crate::generated::core::forms::Kinds;
 use crate::generated::core::json::answers::Printed;
 use crate::generated::core::shapes::Hash;
 use crate::generated::core::status::Status;
+use crate::generated::reads::lookups::arriving::Arriving;
+use crate::generated::reads::lookups::Coming;
 use crate::generated::tables::memory_layout::{Header, HEADER_SIZE};
 use crate::generated::tables::read_at::{read_exact_at, ReadAt};
 use crate::host::fs::{self, OpenFile};
@@ -42,7 +44,12 @@ const FILE_BYTES: u64 = 1 << 14;
 
 /// Whether lines of that many bytes are few for a file of that many.
 pub fn are_few(input_len: u64, file_len: usize) -> bool {
-    input_len <= file_len as u64 / FILE_BYTES
+    input_len <= most_few(file_len)
+}
+
+/// How many bytes of lines are few for a file of that many bytes.
+pub fn most_few(file_len: usize) -> u64 {
+    file_len as u64 / FILE_BYTES
 }
 
 /// A regular file as a source of bytes, and its length. None for any other file, for standard
@@ -79,6 +86,18 @@ pub struct Asked {
     pub bound: Option<usize>,
     /// What is printed of each key.
     pub printed: Printed,
+    /// The most bytes of lines whose keys are looked up, as they come. None where the keys of all
+    /// lines are.
+    pub most: Option<u64>,
+}
+
+/// How far the lines of an input were answered.
+#[derive(Clone, Copy)]
+pub enum Reached {
+    /// To their end.
+    End(Status),
+    /// As far as these, which are left.
+    Line(Coming),
 }
 
 /// The header of a table, and where its bytes are in a source.
@@ -125,7 +144,8 @@ fn front_len(header: &[u8], found: usize) -> Option<usize> {
 /// source is not read by position: a read failed, or its bytes are not opened, or too many of them
 /// would be read to know the hash function, or the search for a key reads more than
 /// [`DEFAULT_GROUPS`](odht::memory_layout::DEFAULT_GROUPS) groups. Nothing was written then, and
-/// reading all bytes gives the answer, with the bound of searches.
+/// reading all bytes gives the answer, with the bound of searches. `NoHash` where the first slots
+/// exclude each hash function.
 ///
 /// Over any source, for any list of bytes that it gives in each read: what is written is what
 /// [`get_file_words`](crate::generated::reads::commands::get::get_file_words) writes of the table in this list, with
@@ -142,33 +162,34 @@ pub fn get_words_at<S: ReadAt, O: Write>(
         return Ok(None);
     };
     let source = Remembered { source, at: asked.at.unwrap_or(0) as u64, bytes: &room[..few] };
-    let Some(found) = found_in(asked, &source, len) else {
+    let Some(found) = found_in(asked, &source, len)? else {
         return Ok(None);
     };
     words_of(asked, source, found, words, output)
 }
 
-/// The same for the lines of an input, each of which is answered before the next one is read. None
-/// where [`get_words_at`] returns it: then nothing was written, and no line was read. A lookup whose
-/// read fails, or whose search is longer than the bound, is a failure of the file.
+/// The same for the lines of an input, each of which is answered before the next one is read, until
+/// more bytes of them than `asked.most` were read. None where [`get_words_at`] returns it: then
+/// nothing was written, and no line was read. A lookup whose read fails, or whose search is longer
+/// than the bound, is a failure of the file.
 ///
 /// Over any source, for any list of bytes that it gives in each read: what is written is what
 /// [`get_file_lines`](crate::generated::reads::commands::get::get_file_lines) writes of the table in this list as one
 /// of keys and values of these types, with the hash function that the first slots leave where none
 /// is named.
-pub fn get_lines_at<S: ReadAt, I: BufRead, O: Write>(
+pub fn get_lines_at<S: ReadAt, I: BufRead + Arriving, O: Write>(
     asked: &Asked,
     source: S,
     len: usize,
     input: &mut I,
     output: &mut O,
-) -> Result<Option<Status>, Failure> {
+) -> Result<Option<Reached>, Failure> {
     let mut room = [0; FRONT];
     let Some(few) = read_front(&source, len, asked.at, &mut room) else {
         return Ok(None);
     };
     let source = Remembered { source, at: asked.at.unwrap_or(0) as u64, bytes: &room[..few] };
-    let Some(found) = found_in(asked, &source, len) else {
+    let Some(found) = found_in(asked, &source, len)? else {
         return Ok(None);
     };
     lines_of(asked, source, found, input, output)
@@ -190,14 +211,18 @@ fn read_front<S: ReadAt>(
 }
 
 // Where the table is, and what its header and its first slots tell of it. None where it is not read
-// by position.
-fn found_in<S: ReadAt>(asked: &Asked, source: &S, len: usize) -> Option<Found> {
-    let start = read_start(source, len, asked.at)?;
+// by position. An error where its slots fit no hash function.
+fn found_in<S: ReadAt>(asked: &Asked, source: &S, len: usize) -> Result<Option<Found>, Failure> {
+    let Some(start) = read_start(source, len, asked.at) else {
+        return Ok(None);
+    };
     let kinds = asked.kinds;
-    let name = named_or_left_hash(source, &start, asked.hash, kinds.hash)?;
+    let Some(name) = named_or_left_hash(source, &start, asked.hash, kinds.hash)? else {
+        return Ok(None);
+    };
     let Ok(found) = read_any(&start.header, name, kinds) else {
-        return None;
+        return Ok(None);
     };
     let (shape, forms) = found;
-    Some(Found { at: start.at, len: start.len, shape: shape.types(), forms })
+    Ok(Some(Found { at: start.at, len: start.len, shape: shape.types(), forms }))
 }

@@ -12,7 +12,8 @@ use crate::generated::core::status::{of_output, Status};
 use crate::generated::reads::bounds::check_bound;
 use crate::generated::reads::commands::diff;
 use crate::generated::reads::lookups::arriving::Arriving;
-use crate::generated::reads::positions::{self, Asked};
+use crate::generated::reads::lookups::Coming;
+use crate::generated::reads::positions::{self, Asked, Reached};
 use crate::generated::tool::pairs::of_words;
 use crate::generated::tool_tables::files::{finish, finish_as, read_bytes, read_table_bytes};
 use crate::generated::writes::commands::{build, delete, merge, rebuild};
@@ -174,9 +175,11 @@ fn read_one<R: Files + AllocGlobal, I: BufRead + Arriving, O: Write, E: Write>(
 where
     R::File: FileExt,
 {
-    if let Some(status) = read_by_position(rt, file, is_one, at, reading, streams)? {
-        return Ok(status);
-    }
+    let coming = match read_by_position(rt, file, is_one, at, reading, streams)? {
+        Some(Reached::End(status)) => return Ok(status),
+        Some(Reached::Line(coming)) => coming,
+        None => Coming::all(is_live(rt, reading)),
+    };
     let bytes = if reading.is_search() {
         read_bytes(rt, file, streams.input)?
     } else {
@@ -196,7 +199,7 @@ where
         is_json: false,
         is_values: false,
     };
-    let done = run_reading(&job, reading, is_live(rt, reading), streams);
+    let done = run_reading(&job, reading, coming, streams);
     if reading.is_search() {
         done
     } else {
@@ -212,16 +215,16 @@ fn is_live<R: Files>(rt: &R, reading: &Reading) -> bool {
     }
 }
 
-// Looks up the keys of words, or of lines that are few for the file, or counts the items, without
-// reading all of the file. None where that does not do: no line was read then.
-fn read_by_position<R: Files + AllocGlobal, I: BufRead, O: Write, E>(
+// Looks up the keys of words, or of lines while they are few for the file, or counts the items,
+// without reading all of the file. None where that does not do: no line was read then.
+fn read_by_position<R: Files + AllocGlobal, I: BufRead + Arriving, O: Write, E>(
     rt: &R,
     file: &str,
     is_one: bool,
     at: Option<usize>,
     reading: &Reading,
     streams: &mut Streams<'_, '_, '_, I, O, E>,
-) -> Result<Option<Status>, Failure>
+) -> Result<Option<Reached>, Failure>
 where
     R::File: FileExt,
 {
@@ -234,6 +237,7 @@ where
                 kinds: *kinds,
                 bound: *bound,
                 printed: Printed { is_json: *is_json, is_values: *is_values },
+                most: None,
             };
             get_by_position(rt, file, &asked, keys, streams)
         }
@@ -242,20 +246,21 @@ where
                 return Ok(None);
             };
             let label = count_label(rt.alloc(), file, is_one)?;
-            positions::count_at(source, len, at, label.as_str(), streams.output)
+            let status = positions::count_at(source, len, at, label.as_str(), streams.output)?;
+            Ok(status.map(Reached::End))
         }
         _ => Ok(None),
     }
 }
 
-// Looks up the keys of words, or of lines that are few for the file.
-fn get_by_position<R: Files + AllocGlobal, I: BufRead, O: Write, E>(
+// Looks up the keys of words, or of lines while they are few for the file.
+fn get_by_position<R: Files + AllocGlobal, I: BufRead + Arriving, O: Write, E>(
     rt: &R,
     file: &str,
     asked: &Asked,
     keys: &Keys,
     streams: &mut Streams<'_, '_, '_, I, O, E>,
-) -> Result<Option<Status>, Failure>
+) -> Result<Option<Reached>, Failure>
 where
     R::File: FileExt,
 {
@@ -264,21 +269,21 @@ where
     };
     match keys {
         Keys::Words(words) => {
-            positions::get_words_at(asked, source, len, words.as_slice(), streams.output)
+            let words = words.as_slice();
+            let status = positions::get_words_at(asked, source, len, words, streams.output)?;
+            Ok(status.map(Reached::End))
         }
-        Keys::Lines if are_lines_few(rt, len) => {
-            positions::get_lines_at(asked, source, len, streams.input, streams.output)
-                .map_err(|failure| longer_failure(rt, file, asked, failure))
+        Keys::Lines => {
+            let asked = match input_len(rt) {
+                Some(input_len) if positions::are_few(input_len, len) => *asked,
+                None if positions::most_few(len) > 0 => {
+                    Asked { most: Some(positions::most_few(len)), ..*asked }
+                }
+                _ => return Ok(None),
+            };
+            positions::get_lines_at(&asked, source, len, streams.input, streams.output)
+                .map_err(|failure| longer_failure(rt, file, &asked, failure))
         }
-        Keys::Lines => Ok(None),
-    }
-}
-
-// Whether standard input is a file, and its lines are few for a file of that many bytes.
-fn are_lines_few<R: Files>(rt: &R, file_len: usize) -> bool {
-    match input_len(rt) {
-        Some(input_len) => positions::are_few(input_len, file_len),
-        None => false,
     }
 }
 

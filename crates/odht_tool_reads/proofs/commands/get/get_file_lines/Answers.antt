@@ -14,7 +14,7 @@ returns-in-Ok g c =
     let r = c.get_lines_of_file.result in
     let e = bound_refusal j.bytes.now j.bound in
     within_bound e (Ok-checked e (sym c.in-Ok.is ∙ c.check_bound.ensures)) old new r
-    (AreFileLinesGot j.bytes.now c.args.hash c.args.kinds (printed_as j.is_json j.is_values) c.args.is_live (g.I.Read.remaining c.args.input.now) old new r) c.get_lines_of_file.ensures
+    (AreFileLinesGot j.bytes.now c.args.hash c.args.kinds (printed_as j.is_json j.is_values) c.args.coming (g.I.Read.remaining c.args.input.now) old new r) c.get_lines_of_file.ensures
 
 pub returns-in-Err : goal.returns-in-Err
 returns-in-Err g c =

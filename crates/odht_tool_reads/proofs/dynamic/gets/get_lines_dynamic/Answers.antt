@@ -15,7 +15,7 @@ use Rattle.odht_tool_reads.proofs.dynamic.gets.get_lines_dynamic.Goals as goal
 pub returns-in-Fx : goal.returns-in-Fx
 returns-in-Fx g c =
     let got = λ (k v : ℕ) (h : List ℕ → ℕ) (f : GivenForms) (p : Printed). AreLinesGot (bytes_coding (format_of k v h)) (answer_in p (dynamic_text f.key) (dynamic_text f.value)) (IsDynamicOf f.key) (dynamic_wanted f.key)
-    c.args.job.now.bytes.now c.args.is_live (g.I.Read.remaining c.args.input.now) (g.O.Write.contents c.args.output.now) (g.O.Write.contents c.get_lines_hashed.new.output) c.get_lines_hashed.result in
+    c.args.job.now.bytes.now c.args.coming (g.I.Read.remaining c.args.input.now) (g.O.Write.contents c.args.output.now) (g.O.Write.contents c.get_lines_hashed.new.output) c.get_lines_hashed.result in
     let o = c.args.shape in
     let fs = dynamic_forms o c.args.forms in
     let made = c.lengths_of-layout.result in
@@ -29,7 +29,7 @@ returns-in-Fx g c =
 pub returns-in-Unhash : goal.returns-in-Unhash
 returns-in-Unhash g c =
     let got = λ (k v : ℕ) (h : List ℕ → ℕ) (f : GivenForms) (p : Printed). AreLinesGot (bytes_coding (format_of k v h)) (answer_in p (dynamic_text f.key) (dynamic_text f.value)) (IsDynamicOf f.key) (dynamic_wanted f.key)
-    c.args.job.now.bytes.now c.args.is_live (g.I.Read.remaining c.args.input.now) (g.O.Write.contents c.args.output.now) (g.O.Write.contents c.get_lines_hashed-in-Unhash.new.output) c.get_lines_hashed-in-Unhash.result in
+    c.args.job.now.bytes.now c.args.coming (g.I.Read.remaining c.args.input.now) (g.O.Write.contents c.args.output.now) (g.O.Write.contents c.get_lines_hashed-in-Unhash.new.output) c.get_lines_hashed-in-Unhash.result in
     let o = c.args.shape in
     let fs = dynamic_forms o c.args.forms in
     let made = c.lengths_of-layout.result in
@@ -43,7 +43,7 @@ returns-in-Unhash g c =
 pub returns-in-Xxh64 : goal.returns-in-Xxh64
 returns-in-Xxh64 g c =
     let got = λ (k v : ℕ) (h : List ℕ → ℕ) (f : GivenForms) (p : Printed). AreLinesGot (bytes_coding (format_of k v h)) (answer_in p (dynamic_text f.key) (dynamic_text f.value)) (IsDynamicOf f.key) (dynamic_wanted f.key)
-    c.args.job.now.bytes.now c.args.is_live (g.I.Read.remaining c.args.input.now) (g.O.Write.contents c.args.output.now) (g.O.Write.contents c.get_lines_hashed-in-Xxh64.new.output) c.get_lines_hashed-in-Xxh64.result in
+    c.args.job.now.bytes.now c.args.coming (g.I.Read.remaining c.args.input.now) (g.O.Write.contents c.args.output.now) (g.O.Write.contents c.get_lines_hashed-in-Xxh64.new.output) c.get_lines_hashed-in-Xxh64.result in
     let o = c.args.shape in
     let fs = dynamic_forms o c.args.forms in
     let made = c.lengths_of-layout.result in

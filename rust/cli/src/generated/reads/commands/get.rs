@@ -13,7 +13,7 @@ use crate::generated::core::text::Text;
 use crate::generated::reads::bounds::check_bound;
 use crate::generated::reads::dynamic::gets::{get_lines_dynamic, get_words_dynamic};
 use crate::generated::reads::lookups::arriving::Arriving;
-use crate::generated::reads::lookups::{answer_lines, LineStyle};
+use crate::generated::reads::lookups::{answer_lines, Coming, LineStyle};
 use crate::generated::tables::bytes::Borrowed;
 use crate::generated::tables::config::Config;
 use crate::generated::tables::HashTable;
@@ -51,19 +51,18 @@ fn get_words<O: Write>(
     get_words_dynamic(job, shape.types(), forms, words, output)
 }
 
-/// `odht get` of the bytes of a file, for the lines of an input, which are answered as they come
-/// where `is_live` holds. Where a search may read more groups than the bound, it fails before it
-/// reads a line.
+/// `odht get` of the bytes of a file, for the lines that an input has left. Where a search may read
+/// more groups than the bound, it fails before it reads a line.
 pub fn get_file_lines<I: BufRead + Arriving, O: Write>(
     job: &Job<'_>,
     hash: Option<Hash>,
     kinds: Kinds,
-    is_live: bool,
+    coming: Coming,
     input: &mut I,
     output: &mut O,
 ) -> Result<Status, Failure> {
     match check_bound(job.bytes, job.bound) {
-        Ok(()) => get_lines_of_file(job, hash, kinds, is_live, input, output),
+        Ok(()) => get_lines_of_file(job, hash, kinds, coming, input, output),
         Err(error) => Err(Failure::Refused(error)),
     }
 }
@@ -73,15 +72,15 @@ fn get_lines_of_file<I: BufRead + Arriving, O: Write>(
     job: &Job<'_>,
     hash: Option<Hash>,
     kinds: Kinds,
-    is_live: bool,
+    coming: Coming,
     input: &mut I,
     output: &mut O,
 ) -> Result<Status, Failure> {
     let found = read_any(job.bytes, hash, kinds)?;
     let (shape, forms) = found;
     match shape {
-        AnyShape::Ready(shape) => get_lines_ready(job, shape, forms, is_live, input, output),
-        AnyShape::Other(shape) => get_lines_dynamic(job, shape, forms, is_live, input, output),
+        AnyShape::Ready(shape) => get_lines_ready(job, shape, forms, coming, input, output),
+        AnyShape::Other(shape) => get_lines_dynamic(job, shape, forms, coming, input, output),
     }
 }
 
@@ -90,17 +89,17 @@ fn get_lines_ready<I: BufRead + Arriving, O: Write>(
     job: &Job<'_>,
     shape: Shape,
     forms: GivenForms,
-    is_live: bool,
+    coming: Coming,
     input: &mut I,
     output: &mut O,
 ) -> Result<Status, Failure> {
     let printed = job.printed();
     if forms.are_own() {
         let answers = AnswerStyle { forms: OwnForms, printed };
-        get_lines_of(job.alloc, job.bytes, shape, LineStyle { answers, is_live }, input, output)
+        get_lines_of(job.alloc, job.bytes, shape, LineStyle { answers, coming }, input, output)
     } else {
         let answers = AnswerStyle { forms, printed };
-        get_lines_of(job.alloc, job.bytes, shape, LineStyle { answers, is_live }, input, output)
+        get_lines_of(job.alloc, job.bytes, shape, LineStyle { answers, coming }, input, output)
     }
 }
 

@@ -10,7 +10,7 @@ use crate::generated::core::shapes::Hash;
 use crate::generated::core::status::Status;
 use crate::generated::reads::lookups::arriving::Arriving;
 use crate::generated::reads::lookups::words::answer_words;
-use crate::generated::reads::lookups::{answer_lines, LineStyle};
+use crate::generated::reads::lookups::{answer_lines, Coming, LineStyle};
 use crate::generated::tables::dynamic::Layout;
 use crate::generated::tables::hash::HashFn;
 use crate::generated::tables::{FxHashFn, UnHashFn, Xxh64HashFn};
@@ -34,12 +34,12 @@ pub fn get_words_dynamic<O: Write>(
     }
 }
 
-/// `odht get` of bytes of a shape, for the lines of an input.
+/// `odht get` of bytes of a shape, for the lines that an input has left.
 pub fn get_lines_dynamic<I: BufRead + Arriving, O: Write>(
     job: &Job<'_>,
     shape: OtherShape,
     forms: GivenForms,
-    is_live: bool,
+    coming: Coming,
     input: &mut I,
     output: &mut O,
 ) -> Result<Status, Failure> {
@@ -47,7 +47,7 @@ pub fn get_lines_dynamic<I: BufRead + Arriving, O: Write>(
     let forms = forms.of(shape);
     let printed = job.printed();
     let answers = AnswerStyle { forms, printed };
-    let style = LineStyle { answers, is_live };
+    let style = LineStyle { answers, coming };
     match shape.hash {
         Hash::Fx => get_lines_hashed::<FxHashFn, I, O>(job, layout, style, input, output),
         Hash::Unhash => get_lines_hashed::<UnHashFn, I, O>(job, layout, style, input, output),

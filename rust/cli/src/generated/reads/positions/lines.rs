@@ -1,13 +1,14 @@
 // Generated from crates/odht_tool_reads/src/positions/lines.rt by make generate.
 //! Keys of lines that are looked up in a table that is read by position.
 
-use super::Asked;
+use super::{Asked, Reached};
 use crate::generated::core::failure::Failure;
 use crate::generated::core::forms::GivenForms;
 use crate::generated::core::json::answers::{write_answer_in, AnswerStyle};
 use crate::generated::core::keys::NextKey;
 use crate::generated::core::status::Status;
-use crate::generated::reads::lookups::{key_of_line, wrong_line};
+use crate::generated::reads::lookups::arriving::Arriving;
+use crate::generated::reads::lookups::{is_due, key_of_line, write_out, wrong_line, Coming};
 use crate::generated::tables::dynamic::{FileError, FileTable, ShortBytes};
 use crate::generated::tables::hash::HashFn;
 use crate::generated::tables::read_at::{ReadAt, ReadError};
@@ -15,26 +16,47 @@ use crate::host::prelude::*;
 use crate::shim::Global;
 use std::io::{self, BufRead, ErrorKind, Write};
 
-/// Looks up the keys of the lines, one after the other, and writes a line for each.
-pub(super) fn answer_lines_at<H: HashFn, S: ReadAt, I: BufRead, O: Write>(
+/// Looks up the keys of the lines, one after the other, and writes a line for each, until more bytes
+/// of them than are asked for were read. Where such a bound is asked for, the lines that have come are
+/// answered before the next one is waited for.
+pub(super) fn answer_lines_at<H: HashFn, S: ReadAt, I: BufRead + Arriving, O: Write>(
     asked: &Asked,
     table: &FileTable<H, S>,
     style: AnswerStyle<GivenForms>,
     input: &mut I,
     output: &mut O,
-) -> Result<Status, Failure> {
+) -> Result<Reached, Failure> {
     let mut line = crate::host::lists::empty(asked.alloc);
     let mut is_all_found = true;
+    let mut taken = 0;
     for number in 1..u64::MAX {
         match line_key(asked.alloc, number, input, &mut line, style.forms)? {
             Some(key) => {
-                let is_found = answer_key(table, &key, asked.bound, style, output)?;
+                let is_due = is_due(asked.most.is_some(), input);
+                let is_found = answer_key(table, &key, asked.bound, is_due, style, output)?;
                 is_all_found = is_found && is_all_found;
             }
             None => break,
         }
+        taken = with_line(taken, line.len());
+        if is_more(taken, asked.most) {
+            return Ok(Reached::Line(Coming { is_live: true, number: number + 1, is_all_found }));
+        }
     }
-    Ok(Status::of(is_all_found))
+    Ok(Reached::End(Status::of(is_all_found)))
+}
+
+// How many bytes some lines have with their ends, and another one of that many bytes.
+fn with_line(bytes: u64, line: usize) -> u64 {
+    bytes.saturating_add(line as u64).saturating_add(1)
+}
+
+// Whether these are more bytes than there may be.
+fn is_more(bytes: u64, most: Option<u64>) -> bool {
+    match most {
+        Some(most) => bytes > most,
+        None => false,
+    }
 }
 
 // The key of the line of this number, if there is such a line. A line that is no key is a failure.
@@ -57,16 +79,19 @@ fn line_key<I: BufRead>(
     }
 }
 
-// Looks a key up, and writes its line. Returns whether it was found.
+// Looks a key up, and writes its line, out of the buffer too where that is due. Returns whether it
+// was found.
 fn answer_key<H: HashFn, S: ReadAt, O: Write>(
     table: &FileTable<H, S>,
     key: &ShortBytes,
     bound: Option<usize>,
+    is_due: bool,
     style: AnswerStyle<GivenForms>,
     output: &mut O,
 ) -> Result<bool, Failure> {
     let value = value_at(table, key, bound)?;
     write_answer_in(key, &value, style, output).map_err(Failure::Output)?;
+    write_out(is_due, output)?;
     Ok(value.is_some())
 }
 

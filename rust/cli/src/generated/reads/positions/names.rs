@@ -1,8 +1,9 @@
 // Generated from crates/odht_tool_reads/src/positions/names.rt by make generate.
 //! The hash function of a table that is read by position: the one that the first groups of slots
-//! leave.
+//! leave, or that they leave none.
 
 use super::Start;
+use crate::generated::core::failure::Failure;
 use crate::generated::core::shapes::Hash;
 use crate::generated::tables::dynamic::Layout;
 use crate::generated::tables::hash::HashFn;
@@ -43,41 +44,55 @@ impl Fitting {
 
 /// The hash function that is to be named for a table, none where it has no items: the one that is
 /// named, or the one that is left when the first groups of slots exclude the others. None where
-/// they leave several, or none, or a read failed, or the table has no items and there is a default
-/// for such a table.
+/// they leave several, or a read failed, or the table has no items and there is a default for such a
+/// table. `NoHash` where they leave none.
 pub(super) fn named_or_left_hash<S: ReadAt>(
     source: &S,
     start: &Start,
     hash: Option<Hash>,
     default: Option<Hash>,
-) -> Option<Option<Hash>> {
+) -> Result<Option<Option<Hash>>, Failure> {
     match hash {
-        Some(_) => Some(hash),
+        Some(_) => Ok(Some(hash)),
         None => {
             if Header::of(&start.header).item_count() == 0 {
-                return if default.is_none() { Some(None) } else { None };
+                return if default.is_none() { Ok(Some(None)) } else { Ok(None) };
             }
-            let hash = left_hash(source, start)?;
-            Some(Some(hash))
+            match left_hash(source, start)? {
+                Some(hash) => Ok(Some(Some(hash))),
+                None => Ok(None),
+            }
         }
     }
 }
 
-// The hash function that is left when the first groups of slots exclude the others.
-fn left_hash<S: ReadAt>(source: &S, start: &Start) -> Option<Hash> {
-    let place = place_of(start)?;
+// The hash function that is left when the first groups of slots exclude the others. None where more
+// may be left, and `NoHash` where none is.
+fn left_hash<S: ReadAt>(source: &S, start: &Start) -> Result<Option<Hash>, Failure> {
+    let Some(place) = place_of(start) else {
+        return Ok(None);
+    };
     let mut left = Fitting { fx: true, unhash: true, xxh64: true };
     for group in 0..(place.slots / GROUP).min(MOST_GROUPS) {
-        left = left.and(group_fits(source, &place, group * GROUP)?);
+        let Some(fitting) = group_fits(source, &place, group * GROUP) else {
+            return Ok(None);
+        };
+        left = left.and(fitting);
         match (left.fx, left.unhash, left.xxh64) {
-            (true, false, false) => return Some(Hash::Fx),
-            (false, true, false) => return Some(Hash::Unhash),
-            (false, false, true) => return Some(Hash::Xxh64),
-            (false, false, false) => return None,
+            (true, false, false) => return Ok(Some(Hash::Fx)),
+            (false, true, false) => return Ok(Some(Hash::Unhash)),
+            (false, false, true) => return Ok(Some(Hash::Xxh64)),
+            (false, false, false) => return Err(no_hash(&start.header)),
             _ => {}
         }
     }
-    None
+    Ok(None)
+}
+
+// What is said of a table of this header where its slots fit no hash function.
+fn no_hash(header: &[u8]) -> Failure {
+    let header = Header::of(header);
+    Failure::NoHash { key_size: header.key_size(), value_size: header.value_size() }
 }
 
 // Where the parts of the table are, where its header and its length fit.

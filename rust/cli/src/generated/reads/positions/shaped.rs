@@ -3,13 +3,14 @@
 
 use super::lines::answer_lines_at;
 use super::lookups::answer_words_at;
-use super::Asked;
+use super::{Asked, Reached};
 use crate::generated::core::any::OtherShape;
 use crate::generated::core::failure::Failure;
 use crate::generated::core::forms::GivenForms;
 use crate::generated::core::json::answers::AnswerStyle;
 use crate::generated::core::shapes::Hash;
 use crate::generated::core::status::Status;
+use crate::generated::reads::lookups::arriving::Arriving;
 use crate::generated::tables::dynamic::{FileTable, Layout};
 use crate::generated::tables::hash::HashFn;
 use crate::generated::tables::read_at::ReadAt;
@@ -63,13 +64,13 @@ fn words_hashed<H: HashFn, S: ReadAt, O: Write>(
 
 /// The same for the lines of an input. None where a read failed, or the bytes are not opened: nothing
 /// was written then, and no line was read.
-pub(super) fn lines_of<S: ReadAt, I: BufRead, O: Write>(
+pub(super) fn lines_of<S: ReadAt, I: BufRead + Arriving, O: Write>(
     asked: &Asked,
     source: S,
     found: Found,
     input: &mut I,
     output: &mut O,
-) -> Result<Option<Status>, Failure> {
+) -> Result<Option<Reached>, Failure> {
     match found.shape.hash {
         Hash::Fx => lines_hashed::<FxHashFn, S, I, O>(asked, source, found, input, output),
         Hash::Unhash => lines_hashed::<UnHashFn, S, I, O>(asked, source, found, input, output),
@@ -77,21 +78,21 @@ pub(super) fn lines_of<S: ReadAt, I: BufRead, O: Write>(
     }
 }
 
-fn lines_hashed<H: HashFn, S: ReadAt, I: BufRead, O: Write>(
+fn lines_hashed<H: HashFn, S: ReadAt, I: BufRead + Arriving, O: Write>(
     asked: &Asked,
     source: S,
     found: Found,
     input: &mut I,
     output: &mut O,
-) -> Result<Option<Status>, Failure> {
+) -> Result<Option<Reached>, Failure> {
     let shape = found.shape;
     let layout = lengths_of(shape.key, shape.value);
     let style = AnswerStyle { forms: found.forms.of(shape), printed: asked.printed };
     let Some(table) = open_file::<H, S>(layout, source, found.at, found.len) else {
         return Ok(None);
     };
-    let status = answer_lines_at(asked, &table, style, input, output)?;
-    Ok(Some(status))
+    let reached = answer_lines_at(asked, &table, style, input, output)?;
+    Ok(Some(reached))
 }
 
 // Opens the bytes as a table of these lengths. None where they are not opened, or a read failed.

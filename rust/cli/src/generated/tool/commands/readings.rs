@@ -10,17 +10,17 @@ use crate::generated::core::status::Status;
 use crate::generated::core::typed::Side;
 use crate::generated::reads::commands::{check, count, dump, find, get, keys, order};
 use crate::generated::reads::lookups::arriving::Arriving;
+use crate::generated::reads::lookups::Coming;
 use crate::generated::tool_tables::trials::advice_of;
 use crate::host::prelude::*;
 use crate::shim::Global;
 use std::io::{BufRead, Write};
 
-/// Runs a command that only reads its file. Where `is_live` holds, lines that it reads are answered
-/// as they come.
+/// Runs a command that only reads its file. Of an input it reads the lines that are left.
 pub fn run_reading<I: BufRead + Arriving, O: Write, E: Write>(
     job: &Job<'_>,
     reading: &Reading,
-    is_live: bool,
+    coming: Coming,
     streams: &mut Streams<'_, '_, '_, I, O, E>,
 ) -> Result<Status, Failure> {
     let Job { alloc, file, is_one, bytes, .. } = *job;
@@ -46,7 +46,7 @@ pub fn run_reading<I: BufRead + Arriving, O: Write, E: Write>(
         }
         Reading::Get { hash, kinds, bound, keys: Keys::Lines, is_values, is_json } => {
             let job = Job { bound: *bound, is_values: *is_values, is_json: *is_json, ..*job };
-            get::get_file_lines(&job, *hash, *kinds, is_live, streams.input, output)
+            get::get_file_lines(&job, *hash, *kinds, coming, streams.input, output)
         }
         Reading::Find { bound, is_json } => {
             let job = Job { bound: *bound, is_json: *is_json, ..*job };
