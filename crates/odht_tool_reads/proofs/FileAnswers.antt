@@ -1,7 +1,7 @@
 -- What is answered of a table that is read by position.
 use Rattle.std.proofs.Common.{◌≡◌, ◌∙◌, ◌⊎◌, inl, inr, ℕ, ◌≤◌, List, length, take, Option, Some, None, Ok, ap, subst, sym}
 use Rattle.std.proofs.lemmas.List.{length-take-le}
-use Rattle.std.specs.Prelude.{Result, Err, MatchResult}
+use Rattle.std.specs.Prelude.{⊤, Result, Err, IfOk, IfSome, MatchResult}
 use Rattle.std.specs.Io.KnownBytes.{Keeps}
 use Rattle.odht_base.specs.Bytes.{bytes_at}
 use Rattle.odht_tool_core.specs.AnyShapes.{any_formed, found_any, read_any, types_of}
@@ -19,7 +19,7 @@ use Rattle.odht_tool_core.specs.declared.shapes.Hash.{Hash}
 use Rattle.odht_tool_core.specs.declared.status.Status.{Status}
 use Rattle.odht_tool_reads.specs.Gets.{AreFileWordsGot, by_shape, words_of_types, words_of_forms}
 use Rattle.odht_tool_reads.specs.PositionLines.{AreFileLinesRead, AreLinesReadBy, lines_read_of, lines_read_of_forms}
-use Rattle.odht_tool_reads.specs.Positions.{ByPosition, IsAnsweredBy, IsFoundIn, IsTableIn, IsNamed, IsStartOf, table_read}
+use Rattle.odht_tool_reads.specs.Positions.{ByPosition, IsAnsweredBy, IsFoundIn, IsTableIn, IsNamed, IsStartOf, are_words_short, short_words_of, table_read}
 use Rattle.odht_tool_reads.specs.declared.positions.Reached.{Reached}
 use Rattle.odht_tool_reads.specs.declared.positions.Start.{Start}
 use Rattle.odht_tool_reads.specs.declared.positions.shaped.Found.{Found}
@@ -95,3 +95,19 @@ pub valid_lines : (T : List ℕ) (s : AnyShape) → IsTableIn T s → (h : Optio
     → ByPosition old new (AreLinesReadBy T h ks j input now old new) r → ByPosition old new (AreFileLinesRead T h ks j input now old new) r
 valid_lines T s is h ks j input now old new =
     each_by_position old new (AreLinesReadBy T h ks j input now old new) (AreFileLinesRead T h ks j input now old new) (λ r a. valid_said T s is h ks a.named a.is old new r (lines_read_of_forms j T input now old new r) a.answered)
+
+-- and the searches for their keys were short
+some_ok : (P Q : Type 0) → (P → Q) → (r : Result (Option Status) Failure) → IfOk r (λ o. IfSome o (λ s. P)) → IfOk r (λ o. IfSome o (λ s. Q))
+some_ok P Q f (Ok None) w = w
+some_ok P Q f (Ok (Some s)) w = f w
+some_ok P Q f (Err failure) w = w
+
+pub short_words : (B : List ℕ) (at : Option ℕ) (h : Option Hash) (ks : Kinds) (f : Found) → IsFoundIn B at h ks f → (s : AnyShape) → IsTableIn (table_read B at) s → (ws : List (List ℕ)) (r : Result (Option Status) Failure)
+    → IfOk r (λ o. IfSome o (λ _. short_words_of f.forms.key (bytes_at B f.at f.len) ws f.shape)) → IfOk r (λ o. IfSome o (λ _. are_words_short (table_read B at) h ks ws))
+short_words B at h ks f is s table ws =
+    let T : List ℕ = table_read B at in
+    some_ok (short_words_of f.forms.key (bytes_at B f.at f.len) ws f.shape) (are_words_short T h ks ws)
+    (λ w.
+    subst (λ x. MatchResult (any_formed ks x) (λ y. short_words_of y.1.key T ws (types_of y.0)) (λ _. ⊤)) (valid_same T s table h ks is.named is.is)
+    (with_shape_said (read_any T is.named ks) (is.shape, f.forms) (λ y. short_words_of y.1.key T ws (types_of y.0)) (λ _. ⊤) (sym is.formed)
+    (subst (λ (o : OtherShape). short_words_of f.forms.key T ws o) is.types (subst (λ (X : List ℕ). short_words_of f.forms.key X ws f.shape) is.table w))))

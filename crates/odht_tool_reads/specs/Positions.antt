@@ -3,6 +3,11 @@
 --     IsTableAt gives h k v t T    the table t has keys of k and values of v bytes and the hash h, and is over the bytes T,
 --                              which are some of those that the reads of its source give, as `gives` says
 --     IsShortSearch c B o      on valid bytes B the search for the key o, if it is one, reads at most 128 groups
+--     AreShortWords c R B ws   the words ws have answers, and on valid bytes B the search for each key that one is a text of
+--                              reads at most 128 groups
+--     short_words_of f B ws o  the same of bytes of the types o in the form f of keys
+--     are_words_short T h ks ws    the same of the bytes T of a file, where the hash function h, or none, is named, and ks is
+--                              said of keys and values
 --     slots_parts k v es cs    the parts that sixteen slots have: their entries es, their control bytes cs, and the sizes
 --                              k and v of keys and values
 --     IsStartOf B s            s has the first 32 of those bytes of B that it says a table has
@@ -21,8 +26,9 @@
 --     IsFoundIn B at h ks f    f tells where the table of the bytes B at that offset is, or that it is all of them, and what
 --                              is read of it where a hash function that is to be named is named: its types and its forms
 --     IsTableIn T s            the bytes T are those of a valid table of the shape s
-use Rattle.std.specs.Prelude.{◌≡◌, ◌≢◌, ◌⊎◌, ◌≤◌, ◌+◌, ⊤, ℕ, List, length, slice_index, false, Option, Some, None, unwrap_or, Result, Ok, Err}
+use Rattle.std.specs.Prelude.{◌≡◌, ◌≢◌, ◌⊎◌, ◌≤◌, ◌+◌, ⊤, ℕ, List, length, slice_index, false, Option, Some, None, unwrap_or, All, MatchResult, Result, Ok, Err}
 use Rattle.std.specs.Io.KnownBytes.{Keeps}
+use Rattle.std.specs.List.{AllZip}
 use Rattle.odht_base.specs.Bytes.{bytes_at}
 use Rattle.odht_base.specs.Decoded.{header_count}
 use Rattle.odht.specs.Files.{FileStore, IsOver, file_bytes}
@@ -31,13 +37,17 @@ use Rattle.odht_base.specs.Format.{IsFormat}
 use Rattle.odht_base.specs.Search.{groups_read}
 use Rattle.odht_base.specs.Valid.{IsValidBytes}
 use Rattle.odht_header.specs.Coding.{Coding}
-use Rattle.odht_tool_core.specs.AnyShapes.{HasLongKeys, any_format, found_any, read_any, types_of}
+use Rattle.odht_tool_core.specs.AnyShapes.{HasLongKeys, any_format, found_any, other_coding, read_any, types_of}
+use Rattle.odht_tool_core.specs.DynTexts.{IsDynamicOf}
+use Rattle.odht_tool_core.specs.Forms.{bytes_form}
 use Rattle.odht_tool_core.specs.FoundShapes.{said_hash}
 use Rattle.odht_tool_core.specs.declared.any.AnyShape.{AnyShape}
+use Rattle.odht_tool_core.specs.declared.any.OtherShape.{OtherShape}
 use Rattle.odht_tool_core.specs.Fronts.{stated_len}
 use Rattle.odht_tool_core.specs.ReadyShapes.{same_hash}
 use Rattle.odht_tool_core.specs.InfoNumbers.{DynParts, agrees, info_refusal, file_parts}
-use Rattle.odht_tool_reads.specs.Gets.{AreFileWordsGot}
+use Rattle.odht_tool_reads.specs.Gets.{AreFileWordsGot, IsWordAnswer}
+use Rattle.odht_tool_core.specs.declared.forms.Form.{Form}
 use Rattle.odht_tool_core.specs.declared.forms.Kinds.{Kinds}
 use Rattle.odht_tool_core.specs.declared.json.answers.Printed.{Printed}
 use Rattle.odht_tool_core.specs.declared.failure.Failure.{Failure}
@@ -63,6 +73,17 @@ pub record IsTableAt {S : Type 0} (gives : S → List ℕ → Type 0) (h : List 
 abbrev pub IsShortSearch : {K V : Type 0} → Coding K V → List ℕ → Option K → Type 0
 IsShortSearch c B None = ⊤
 IsShortSearch c B (Some k) = OfTable c.format B (λ P. groups_read c.format P.cells (c.key_bytes k) ≤ 128)
+
+pub record AreShortWords {K V : Type 0} (c : Coding K V) (R : List ℕ → K → Type 0) (B : List ℕ) (ws : List (List ℕ)) : Type 0 where
+  pub answers : List (Option K × Option V)
+  pub each : AllZip (IsWordAnswer c R B) ws answers
+  pub short : All (λ a. IsShortSearch c B a.0) answers
+
+abbrev pub short_words_of : Form → List ℕ → List (List ℕ) → OtherShape → Type 0
+short_words_of f B ws o = AreShortWords (other_coding o) (IsDynamicOf (bytes_form f o.key)) B ws
+
+abbrev pub are_words_short : List ℕ → Option Hash → Kinds → List (List ℕ) → Type 0
+are_words_short T h ks ws = MatchResult (read_any T h ks) (λ x. short_words_of x.1.key T ws (types_of x.0)) (λ f. ⊤)
 
 abbrev pub slots_parts : ℕ → ℕ → List ℕ → List ℕ → DynParts
 slots_parts k v es cs = record { key_len = k; value_len = v; slots = 16; entries = es; control = cs }

@@ -11,7 +11,7 @@ ghost use Rattle.odht_tool_core.specs.InfoNumbers.{least_key_len};
 ghost use Rattle.odht_tool_core.specs.ReadyShapes.{typed_len};
 ghost use Rattle.odht_tool_reads.specs.PositionLines.{AreFileLinesRead, AreLinesReadBy, IsEnd};
 ghost use Rattle.odht_tool_reads.specs.Positions.{ByPosition, IsAnsweredBy, IsFoundIn, IsStartOf};
-ghost use Rattle.odht_tool_reads.specs.Positions.{IsTableIn, len_by, table_read};
+ghost use Rattle.odht_tool_reads.specs.Positions.{IsTableIn, are_words_short, len_by, table_read};
 
 use crate::lookups::Coming;
 use crate::lookups::arriving::Arriving;
@@ -189,6 +189,9 @@ pub fn get_words_at<S: ReadAt + Drop, O: Write>(
         (O.contents output.old) (O.contents output.new)
         (AreFileWordsGot (table_read B a.at) a.hash a.kinds a.printed (map string_bytes words.now)
         (O.contents output.old) (O.contents output.new)) result }
+    ensures short { let a = asked.now in (B : List ℕ) → S.gives source B → length B ≡ len
+        → (s : AnyShape) → IsTableIn (table_read B a.at) s → IfOk result (λ o. IfSome o (λ _.
+        are_words_short (table_read B a.at) a.hash a.kinds (map string_bytes words.now))) }
 {
     let mut room = [0; FRONT];
     let Some(few) = read_front(&source, len, asked.at, &mut room) else {

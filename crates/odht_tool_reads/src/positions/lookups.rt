@@ -7,7 +7,7 @@ ghost use Rattle.odht_header.specs.Refusals.{view_refusal};
 ghost use Rattle.odht_tool_core.specs.JsonAnswers.{answer_in, no_key_line};
 ghost use Rattle.odht_tool_core.specs.DynTexts.{IsDynamicOf, dynamic_text};
 ghost use Rattle.odht_tool_reads.specs.Gets.{AreWordsGot, IsWordAnswer};
-ghost use Rattle.odht_tool_reads.specs.Positions.{ByPosition, IsShortSearch, IsTableAt};
+ghost use Rattle.odht_tool_reads.specs.Positions.{AreShortWords, ByPosition, IsShortSearch, IsTableAt};
 
 use crate::lookups::words::{Answer, write_words};
 use odht::dynamic::{FileTable, ShortBytes};
@@ -31,7 +31,7 @@ pub(super) fn answer_words_at<H: HashFn, S: ReadAt + Drop, O: Write>(
     words: &[String],
     output: &mut O,
 ) -> Result<Option<Status>, Failure>
-    ensures { let c = file_coding table.now H.hash in let key = style.forms.key
+    ensures given { let c = file_coding table.now H.hash in let key = style.forms.key
         in (B : List ℕ)
         → IsTableAt S.gives H.hash table.now.key_len table.now.value_len table.now B
         → view_refusal c.format B ≡ None
@@ -39,6 +39,10 @@ pub(super) fn answer_words_at<H: HashFn, S: ReadAt + Drop, O: Write>(
         in ByPosition old new (AreWordsGot c
         (answer_in style.printed (dynamic_text key) (dynamic_text style.forms.value))
         (no_key_line style.printed) (IsDynamicOf key) B (map string_bytes words.now) old new) result) }
+    ensures short { (B : List ℕ)
+        → IsTableAt S.gives H.hash table.now.key_len table.now.value_len table.now B
+        → IfOk result (λ o. IfSome o (λ _. AreShortWords (file_coding table.now H.hash)
+        (IsDynamicOf style.forms.key) B (map string_bytes words.now))) }
 {
     match answers_at(alloc, table, style.forms.key, words)? {
         Some(answers) => {

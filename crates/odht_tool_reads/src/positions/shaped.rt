@@ -12,7 +12,8 @@ ghost use Rattle.odht_tool_core.specs.DynTexts.{IsDynamicOf, dynamic_text, dynam
 ghost use Rattle.odht_tool_core.specs.Forms.{bytes_form};
 ghost use Rattle.odht_tool_reads.specs.Gets.{AreWordsGot, words_of_types};
 ghost use Rattle.odht_tool_reads.specs.PositionLines.{AreLinesRead, IsEnd, lines_read_of};
-ghost use Rattle.odht_tool_reads.specs.Positions.{ByPosition, IsTableAt};
+ghost use Rattle.odht_tool_reads.specs.Positions.{AreShortWords, ByPosition, IsTableAt};
+ghost use Rattle.odht_tool_reads.specs.Positions.{short_words_of};
 
 use super::lines::answer_lines_at;
 use super::lookups::answer_words_at;
@@ -52,12 +53,15 @@ pub(super) fn words_of<S: ReadAt + Drop, O: Write>(
     output: &mut O,
 ) -> Result<Option<Status>, Failure>
     requires { least_key_len found.shape.hash ≤ typed_len found.shape.key }
-    ensures { (B : List ℕ) → S.gives source B → found.at + found.len ≤ length B
+    ensures given { (B : List ℕ) → S.gives source B → found.at + found.len ≤ length B
         → found.at + found.len < 2 ^ 64
         → (let old = O.contents output.old in let new = O.contents output.new
         in ByPosition old new (λ r. words_of_types (found.forms.key, found.forms.value)
         asked.now.printed (bytes_at B found.at found.len)
         (map string_bytes words.now) old new r found.shape) result) }
+    ensures short { (B : List ℕ) → S.gives source B → found.at + found.len ≤ length B
+        → found.at + found.len < 2 ^ 64 → IfOk result (λ o. IfSome o (λ _. short_words_of
+        found.forms.key (bytes_at B found.at found.len) (map string_bytes words.now) found.shape)) }
 {
     match found.shape.hash {
         Hash::Fx => words_hashed::<FxHashFn, S, O>(asked, source, found, words, output),
@@ -74,7 +78,7 @@ fn words_hashed<H: HashFn, S: ReadAt + Drop, O: Write>(
     output: &mut O,
 ) -> Result<Option<Status>, Failure>
     requires { H.MIN_LEN ≤ typed_len found.shape.key }
-    ensures { let k = bytes_form found.forms.key found.shape.key
+    ensures given { let k = bytes_form found.forms.key found.shape.key
         in let v = bytes_form found.forms.value found.shape.value
         in let c = bytes_coding (format_of (typed_len found.shape.key)
         (typed_len found.shape.value) H.hash)
@@ -84,6 +88,12 @@ fn words_hashed<H: HashFn, S: ReadAt + Drop, O: Write>(
         in ByPosition old new (AreWordsGot c (answer_in asked.now.printed (dynamic_text k)
         (dynamic_text v)) (no_key_line asked.now.printed) (IsDynamicOf k)
         (bytes_at B found.at found.len) (map string_bytes words.now) old new) result) }
+    ensures short { let c = bytes_coding (format_of (typed_len found.shape.key)
+        (typed_len found.shape.value) H.hash)
+        in (B : List ℕ) → S.gives source B → found.at + found.len ≤ length B
+        → found.at + found.len < 2 ^ 64 → IfOk result (λ o. IfSome o (λ _. AreShortWords c
+        (IsDynamicOf (bytes_form found.forms.key found.shape.key)) (bytes_at B found.at found.len)
+        (map string_bytes words.now))) }
 {
     let shape = found.shape;
     let layout = lengths_of(shape.key, shape.value);
