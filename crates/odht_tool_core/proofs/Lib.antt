@@ -52,3 +52,5 @@ pub mod JsonFields
 pub mod Reports
 -- worked examples of the definitions
 pub mod examples
+-- pairs of bytes in one buffer
+pub mod BytePairs

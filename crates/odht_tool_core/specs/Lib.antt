@@ -83,3 +83,5 @@ pub mod Evidence
 pub mod Statuses
 -- the load factor of a table that is made of another
 pub mod Percents
+-- the pairs of lines, which are added one after the other
+pub mod Pairs

@@ -1,16 +1,18 @@
 //! The lines of standard input.
-ghost use Rattle.std.specs.Prelude.{◌≡◌, ◌≢◌, [], All, Ok, IfErr, IfOk, IfSome, IsTrue, IsFalse, OnOk};
+ghost use Rattle.std.specs.Prelude.{◌≡◌, ◌≢◌, [], All, Ok, IfErr, IfOk, IsTrue, IsFalse, OnOk};
 ghost use Rattle.std.specs.Io.BufRead.{ends_with_byte, strip_last};
 ghost use Rattle.std.specs.Io.KnownBytes.{IsAtEnd, Keeps};
 ghost use Rattle.std.specs.IoError.{error_kind};
 ghost use Rattle.odht_tool_core.specs.InputLines.{IsBehind, IsEnding, IsNextLine};
 ghost use Rattle.odht_tool_core.specs.InputLines.{IsTakenThrough, without_end};
 ghost use Rattle.odht_tool_core.specs.Keys.{IsReadAs};
-ghost use Rattle.odht_tool_core.specs.PairLines.{AreParts, IsFaultOf, IsNextPair, IsPairOf};
+ghost use Rattle.odht_tool_core.specs.PairLines.{AreParts};
+ghost use Rattle.odht_tool_core.specs.Pairs.{IsLineAdded, IsPairRead};
 
 use crate::failure::{Failure, LineFault};
-use crate::forms::{Form, Forms, OwnForms};
+use crate::forms::{Form, Forms};
 use crate::misread::Wanted;
+use crate::pairs::{Added, Pairs};
 use crate::places::{cut_at, place_of};
 use crate::text::Text;
 use std::io::{self, BufRead, ErrorKind};
@@ -120,40 +122,32 @@ fn drop_last(line: &mut Vec<u8>, byte: u8) -> bool
     true
 }
 
-/// Reads the pair of the line of this number, if there is such a line, in the texts that the types
-/// of key and value have. The bytes of `line` are replaced.
-#[inline]
-pub fn read_pair<K: Text, V: Text, I: BufRead>(
-    input: &mut I,
-    line: &mut Vec<u8>,
-    number: u64,
-) -> Result<Option<(K, V)>, Failure> {
-    read_pair_as(input, line, number, OwnForms)
-}
-
-/// `read_pair` in texts of these forms.
+/// Reads the line of this number, if there is such a line, and adds its pair. The bytes of `line`
+/// are replaced. Returns whether a pair was added; else the pairs stay.
 #[inline(always)]
-pub fn read_pair_as<K: Text, V: Text, F: Forms, I: BufRead>(
+pub fn read_pair<P: Pairs, F: Forms, I: BufRead>(
     input: &mut I,
     line: &mut Vec<u8>,
     number: u64,
     forms: F,
-) -> Result<Option<(K, V)>, Failure>
-    ensures { IfOk result (λ read. IfSome read (IsNextPair (F.delimiter forms)
-        (V.wants (F.pair forms).1)
-        (IsReadAs (K.is_word (F.pair forms).0) (K.stands_for (F.pair forms).0))
-        (IsReadAs (V.is_word (F.pair forms).1) (V.stands_for (F.pair forms).1))
-        (I.remaining input.old) (I.remaining input.new) line.new.items)) }
+    pairs: &mut P,
+) -> Result<bool, Failure>
+    ensures { IfOk result (IsPairRead (F.delimiter forms) (P.Value.wants (F.pair forms).1)
+        (IsReadAs (P.Key.is_word (F.pair forms).0) (P.Key.stands_for (F.pair forms).0))
+        (IsReadAs (P.Value.is_word (F.pair forms).1) (P.Value.stands_for (F.pair forms).1))
+        (I.remaining input.old) (I.remaining input.new) line.new.items
+        (P.items pairs.old) (P.items pairs.new)) }
 {
     if !read_line(input, line).map_err(Failure::Input)? {
-        return Ok(None);
+        return Ok(false);
     }
-    match parse_pair(line.as_slice(), forms) {
-        Ok(pair) => Ok(Some(pair)),
-        Err(fault) => {
+    match add_line(line.as_slice(), forms, pairs) {
+        Added::Pair => Ok(true),
+        Added::Fault(fault) => {
             left_out(input, line, number, fault)?;
-            Ok(None)
+            Ok(false)
         }
+        Added::NoMemory => Err(Failure::Memory),
     }
 }
 
@@ -197,24 +191,19 @@ pub(crate) fn is_left_out<I: BufRead>(input: &mut I, line: &mut Vec<u8>) -> io::
     Ok(!is_next)
 }
 
-// The key and the value of a line: on either side of the first byte that stands between them, or,
-// where a value is nothing, of a line without that byte.
+// Adds the pair of a line: the key and the value are on either side of the first byte that stands
+// between them, or, where a value is nothing, the line without that byte is the key.
 #[inline(always)]
-fn parse_pair<K: Text, V: Text, F: Forms>(line: &[u8], forms: F) -> Result<(K, V), LineFault>
-    ensures pair { IfOk result (IsPairOf (F.delimiter forms) (V.wants (F.pair forms).1)
-        (IsReadAs (K.is_word (F.pair forms).0) (K.stands_for (F.pair forms).0))
-        (IsReadAs (V.is_word (F.pair forms).1) (V.stands_for (F.pair forms).1)) line.now) }
-    ensures fault { IfErr result (IsFaultOf (F.delimiter forms) (V.wants (F.pair forms).1)
-        (K.is_word (F.pair forms).0) (V.is_word (F.pair forms).1) line.now) }
+fn add_line<P: Pairs, F: Forms>(line: &[u8], forms: F, pairs: &mut P) -> Added
+    ensures { IsLineAdded (F.delimiter forms) (P.Value.wants (F.pair forms).1)
+        (P.Key.is_word (F.pair forms).0) (P.Key.stands_for (F.pair forms).0)
+        (P.Value.is_word (F.pair forms).1) (P.Value.stands_for (F.pair forms).1) line.now
+        (P.items pairs.old) (P.items pairs.new) result }
 {
-    let (key, value) = parts_of::<V>(line, forms.delimiter(), forms.value())?;
-    let Some(key) = K::parse(key, forms.key()) else {
-        return Err(LineFault::Key);
-    };
-    let Some(value) = V::parse(value, forms.value()) else {
-        return Err(LineFault::Value);
-    };
-    Ok((key, value))
+    match parts_of::<P::Value>(line, forms.delimiter(), forms.value()) {
+        Ok((key, value)) => pairs.add(key, value, forms),
+        Err(fault) => Added::Fault(fault),
+    }
 }
 
 // What is on either side of the first delimiter of a line.

@@ -1,5 +1,7 @@
 //! Pairs of lines that are inserted into a table, a batch at a time.
-ghost use Rattle.std.specs.Prelude.{◌≡◌, Err, IfOk, OnErr, OnOk, length};
+ghost use Rattle.std.specs.Prelude.{◌≡◌, ◌<◌, Err, IfOk, IfSome, OnErr, OnOk, [], length, slice_get};
+ghost use Rattle.odht_tool_core.specs.Keys.{IsReadAs};
+ghost use Rattle.odht_tool_core.specs.Pairs.{IsPairRead};
 ghost use Rattle.odht_tool_core.specs.declared.failure.Failure.TheVariants.{Memory};
 ghost use Rattle.odht_tool_writes.specs.Faults.{IsTold};
 ghost use Rattle.odht_tool_writes.specs.Inserted.{AreInserted, IsNewInsert};
@@ -11,7 +13,8 @@ use odht_tool_core::arguments::Duplicates;
 use odht_tool_core::failure::Failure;
 use odht_tool_core::forms::Forms;
 use odht_tool_core::line_messages::line_message;
-use odht_tool_core::lines::read_pair_as;
+use odht_tool_core::lines::read_pair;
+use odht_tool_core::pairs::Pairs;
 use odht_tool_core::progress::Watch;
 use odht_tool_core::text::Text;
 use std::alloc::Global;
@@ -46,13 +49,10 @@ pub trait Inserts: Sized + Drop {
     ghost use Rattle.odht_header.specs.Refusals.{check_refusal_by};
     ghost use Rattle.odht_tool_writes.specs.Inserted.{copy_failure};
 
-    /// A key.
-    type Key: Text;
+    /// Pairs that are inserted.
+    type Pairs: Pairs;
 
-    /// A value.
-    type Value: Text;
-
-    ghost coding: { Self → Coding Self.Key Self.Value };
+    ghost coding: { Self → Coding Self.Pairs.Key Self.Pairs.Value };
 
     ghost stands_for: { Self → Table → Type 0 };
 
@@ -89,16 +89,18 @@ pub trait Inserts: Sized + Drop {
             in failure ≡ copy_failure F bound bytes.items) };
 
     /// Inserts the pairs in turn. `Memory` where there is none for a larger table.
-    fn insert_pairs(&mut self, pairs: &[(Self::Key, Self::Value)]) -> Result<(), Failure>
+    fn insert_pairs(&mut self, pairs: &Self::Pairs) -> Result<(), Failure>
         ensures inserted { OnOk result (AreInserted (coding self.old) (stands_for self.old)
-            pairs.now (stands_for self.new)) }
+            (Self.Pairs.items pairs.now) (stands_for self.new)) }
         ensures memory { OnErr result (result ≡ Err Memory) };
 
-    /// Inserts the pair where its key has no value, and returns whether that is so. `Memory` where
-    /// there is none for a larger table.
-    fn insert_new(&mut self, key: &Self::Key, value: &Self::Value) -> Result<bool, Failure>
-        ensures new { IfOk result (λ new. IsNewInsert (coding self.old) (stands_for self.old)
-            key.now value.now new (stands_for self.new)) }
+    /// Inserts the pair at this index where its key has no value, and returns whether that is so.
+    /// `Memory` where there is none for a larger table.
+    fn insert_new(&mut self, pairs: &Self::Pairs, index: usize) -> Result<bool, Failure>
+        requires { index < length (Self.Pairs.items pairs.now) }
+        ensures new { IfOk result (λ new. IfSome (slice_get (Self.Pairs.items pairs.now) index)
+            (λ p. IsNewInsert (coding self.old) (stands_for self.old) p.0 p.1 new
+            (stands_for self.new))) }
         ensures memory { OnErr result (result ≡ Err Memory) };
 
     /// How many pairs the table has.
@@ -122,25 +124,17 @@ fn fill<T: Inserts, F: Forms, R: AllocGlobal + Clock, I: BufRead, E: Write>(
 ) -> Result<(), Failure> {
     let mut reports = LineReports::new(job.rt, job.watch);
     let (alloc, forms): (Global, F) = (job.rt.alloc(), job.forms);
-    let mut pairs = Vec::new(alloc);
+    let mut pairs = T::Pairs::none(alloc, job.layout);
     let mut line = Vec::new(alloc);
     let mut bytes: u64 = 0;
     for number in 1..u64::MAX {
-        let pair = match read_pair_as::<T::Key, T::Value, F, I>(input, &mut line, number, forms) {
-            Ok(Some(pair)) => pair,
-            Ok(None) => {
-                insert_and_clear(table, &mut pairs)?;
-                reports.end(number, table.pair_count(), bytes, errors);
-                break;
-            }
-            Err(failure) => {
-                let line = line.as_slice();
-                return Err(told::<T::Key, T::Value, F>(alloc, failure, line, forms));
-            }
-        };
-        pairs.push(pair).map_err(|_| Failure::Memory)?;
+        if !next_pair(alloc, input, &mut line, number, forms, &mut pairs)? {
+            insert_and_clear(table, &mut pairs)?;
+            reports.end(number, table.pair_count(), bytes, errors);
+            break;
+        }
         bytes = with_line(bytes, line.as_slice());
-        if pairs.len() >= BATCH {
+        if pairs.count() >= BATCH {
             insert_and_clear(table, &mut pairs)?;
             reports.report(number, table.pair_count(), bytes, errors);
         }
@@ -148,21 +142,39 @@ fn fill<T: Inserts, F: Forms, R: AllocGlobal + Clock, I: BufRead, E: Write>(
     insert_and_clear(table, &mut pairs)
 }
 
+// Adds the pair of the next line, which has this number, or returns what is said of the line.
+#[inline(always)]
+fn next_pair<P: Pairs, F: Forms, I: BufRead>(
+    alloc: Global,
+    input: &mut I,
+    line: &mut Vec<u8>,
+    number: u64,
+    forms: F,
+    pairs: &mut P,
+) -> Result<bool, Failure>
+    ensures { IfOk result (IsPairRead (F.delimiter forms) (P.Value.wants (F.pair forms).1)
+        (IsReadAs (P.Key.is_word (F.pair forms).0) (P.Key.stands_for (F.pair forms).0))
+        (IsReadAs (P.Value.is_word (F.pair forms).1) (P.Value.stands_for (F.pair forms).1))
+        (I.remaining input.old) (I.remaining input.new) line.new.items
+        (P.items pairs.old) (P.items pairs.new)) }
+{
+    match read_pair(input, line, number, forms, pairs) {
+        Ok(read) => Ok(read),
+        Err(failure) => Err(told::<P, F>(alloc, failure, line.as_slice(), forms)),
+    }
+}
+
 // The failure with what is said of this line, where the line cannot be parsed.
 #[cold]
 #[inline(never)]
-fn told<K: Text, V: Text, F: Forms>(
-    alloc: Global,
-    failure: Failure,
-    line: &[u8],
-    forms: F,
-) -> Failure
-    ensures { IsTold (F.delimiter forms) (K.wants (F.pair forms).0) (V.wants (F.pair forms).1)
+fn told<P: Pairs, F: Forms>(alloc: Global, failure: Failure, line: &[u8], forms: F) -> Failure
+    ensures { IsTold (F.delimiter forms) (P.Key.wants (F.pair forms).0)
+        (P.Value.wants (F.pair forms).1)
         line.now failure result }
 {
     match failure {
         Failure::Line { number, fault } => {
-            let wanted = (K::wanted(forms.key()), V::wanted(forms.value()));
+            let wanted = (P::Key::wanted(forms.key()), P::Value::wanted(forms.value()));
             match line_message(alloc, number, fault, wanted, line, forms.delimiter()) {
                 Ok(message) => Failure::Misread(message),
                 Err(_) => Failure::Memory,
@@ -173,16 +185,13 @@ fn told<K: Text, V: Text, F: Forms>(
 }
 
 // Inserts the pairs, and drops them.
-fn insert_and_clear<T: Inserts>(
-    table: &mut T,
-    pairs: &mut Vec<(T::Key, T::Value)>,
-) -> Result<(), Failure>
+fn insert_and_clear<T: Inserts>(table: &mut T, pairs: &mut T::Pairs) -> Result<(), Failure>
     ensures inserted { OnOk result (AreInserted (T.coding table.old) (T.stands_for table.old)
-        pairs.old.items (T.stands_for table.new)) }
+        (T.Pairs.items pairs.old) (T.stands_for table.new)) }
     ensures memory { OnErr result (result ≡ Err Memory) }
-    ensures empty { length pairs.new.items ≡ 0 }
+    ensures empty { T.Pairs.items pairs.new ≡ [] }
 {
-    let inserted = table.insert_pairs(pairs.as_slice());
-    pairs.clear();
+    let inserted = table.insert_pairs(pairs);
+    pairs.remove_all();
     inserted
 }

@@ -1,12 +1,10 @@
 //! The lines of `odht build`, as its options say: which line of a key counts, what stands between
 //! key and value, and whether a table is stored at all.
-ghost use Rattle.std.specs.Prelude.{IfErr, IfOk, IfSome, OnOk};
-ghost use Rattle.odht_tool_core.specs.Keys.{IsReadAs};
-ghost use Rattle.odht_tool_core.specs.PairLines.{IsNextPair};
+ghost use Rattle.std.specs.Prelude.{◌<◌, IfErr, IfSome, OnOk, length, slice_get};
 ghost use Rattle.odht_tool_writes.specs.Faults.{TellsRepeated};
 ghost use Rattle.odht_tool_writes.specs.Inserted.{IsLineRefused, IsLineTaken};
 
-use crate::inserts::{Inserts, LineJob, fill, told};
+use crate::inserts::{Inserts, LineJob, fill, next_pair};
 use crate::reports::{BATCH, LineReports, with_line};
 use crate::warnings::warn_of_long;
 use odht_tool_core::arguments::{Duplicates, is_stream};
@@ -14,11 +12,10 @@ use odht_tool_core::failure::Failure;
 use odht_tool_core::forms::Forms;
 use odht_tool_core::job::Streams;
 use odht_tool_core::line_messages::repeated_message;
-use odht_tool_core::lines::read_pair_as;
 use odht_tool_core::new_file::{NewFile, ended, make_new, replace_file};
+use odht_tool_core::pairs::Pairs;
 use odht_tool_core::status::{Status, of_output};
 use odht_tool_core::targets::{Allowed, Target};
-use odht_tool_core::text::Text;
 use std::alloc::Global;
 use std::io::{BufRead, Write};
 use std::os::fd::AsFd;
@@ -112,21 +109,22 @@ where
 }
 
 /// Reads the pair of each line, and makes no table of them.
-pub fn check_lines<K: Text, V: Text, F: Forms, R: AllocGlobal + Clock, I: BufRead, E: Write>(
+pub fn check_lines<P: Pairs, F: Forms, R: AllocGlobal + Clock, I: BufRead, E: Write>(
     job: &LineJob<'_, R, F>,
     input: &mut I,
     errors: &mut E,
 ) -> Result<Status, Failure> {
     let mut reports = LineReports::new(job.rt, job.watch);
     let alloc: Global = job.rt.alloc();
+    let mut pair = P::none(alloc, job.layout);
     let mut line = Vec::new(alloc);
     let mut bytes: u64 = 0;
     for number in 1..u64::MAX {
-        let read = next_pair::<K, V, F, I>(alloc, input, &mut line, number, job.forms)?;
-        if read.is_none() {
+        if !next_pair(alloc, input, &mut line, number, job.forms, &mut pair)? {
             reports.end(number, 0, bytes, errors);
             break;
         }
+        pair.remove_all();
         bytes = with_line(bytes, line.as_slice());
         if number % BATCH as u64 == 0 {
             reports.report(number, 0, bytes, errors);
@@ -146,47 +144,28 @@ fn fill_new<T: Inserts, F: Forms, R: AllocGlobal + Clock, I: BufRead, E: Write>(
 ) -> Result<(), Failure> {
     let mut reports = LineReports::new(job.rt, job.watch);
     let (alloc, forms): (Global, F) = (job.rt.alloc(), job.forms);
+    let mut pair = T::Pairs::none(alloc, job.layout);
     let mut text = Vec::new(alloc);
     let mut bytes: u64 = 0;
     for number in 1..u64::MAX {
-        let read = next_pair::<T::Key, T::Value, F, I>(alloc, input, &mut text, number, forms)?;
-        let Some((key, value)) = read else {
+        pair.remove_all();
+        if !next_pair(alloc, input, &mut text, number, forms, &mut pair)? {
             reports.end(number, table.pair_count(), bytes, errors);
             break;
-        };
+        }
         let text = text.as_slice();
         let line = Line {
             number,
             text,
             delimiter: forms.delimiter(),
         };
-        insert_line(alloc, table, &key, &value, is_once, line)?;
+        insert_line(alloc, table, &pair, is_once, line)?;
         bytes = with_line(bytes, text);
         if number % BATCH as u64 == 0 {
             reports.report(number, table.pair_count(), bytes, errors);
         }
     }
     Ok(())
-}
-
-// The pair of the next line, which has this number, or what is said of the line.
-fn next_pair<K: Text, V: Text, F: Forms, I: BufRead>(
-    alloc: Global,
-    input: &mut I,
-    line: &mut Vec<u8>,
-    number: u64,
-    forms: F,
-) -> Result<Option<(K, V)>, Failure>
-    ensures { IfOk result (λ read. IfSome read (IsNextPair (F.delimiter forms)
-        (V.wants (F.pair forms).1)
-        (IsReadAs (K.is_word (F.pair forms).0) (K.stands_for (F.pair forms).0))
-        (IsReadAs (V.is_word (F.pair forms).1) (V.stands_for (F.pair forms).1))
-        (I.remaining input.old) (I.remaining input.new) line.new.items)) }
-{
-    match read_pair_as::<K, V, F, I>(input, line, number, forms) {
-        Ok(read) => Ok(read),
-        Err(failure) => Err(told::<K, V, F>(alloc, failure, line.as_slice(), forms)),
-    }
 }
 
 // A line, with the byte that stands between key and value.
@@ -202,18 +181,20 @@ struct Line<'a> {
 fn insert_line<T: Inserts>(
     alloc: Global,
     table: &mut T,
-    key: &T::Key,
-    value: &T::Value,
+    pair: &T::Pairs,
     is_once: bool,
     line: Line<'_>,
 ) -> Result<(), Failure>
-    ensures taken { OnOk result (IsLineTaken (T.coding table.old) (T.stands_for table.old)
-        key.now value.now is_once (T.stands_for table.new)) }
-    ensures refused { IfErr result (IsLineRefused (T.coding table.old) (T.stands_for table.old)
-        key.now value.now is_once line.entry.delimiter line.entry.text.now line.entry.number
-        (T.stands_for table.new)) }
+    requires { 0 < length (T.Pairs.items pair.now) }
+    ensures taken { OnOk result (IfSome (slice_get (T.Pairs.items pair.now) 0) (λ p.
+        IsLineTaken (T.coding table.old) (T.stands_for table.old) p.0 p.1 is_once
+        (T.stands_for table.new))) }
+    ensures refused { IfErr result (λ failure. IfSome (slice_get (T.Pairs.items pair.now) 0) (λ p.
+        IsLineRefused (T.coding table.old) (T.stands_for table.old) p.0 p.1 is_once
+        line.entry.delimiter line.entry.text.now line.entry.number (T.stands_for table.new)
+        failure)) }
 {
-    if table.insert_new(key, value)? || !is_once {
+    if table.insert_new(pair, 0)? || !is_once {
         Ok(())
     } else {
         Err(repeated(alloc, line.number, line.text, line.delimiter))

@@ -8,10 +8,11 @@ use super::Inserts;
 use crate::starts::{copy_lengths, copy_table, make_lengths, make_table};
 use odht::HashTableOwned;
 use odht::config::{Coded, Config};
-use odht::dynamic::{DynTableOwned, Layout, ShortBytes};
+use odht::dynamic::{DynTableOwned, Layout};
 use odht::hash::HashFn;
 use odht::load::Percent;
 use odht_tool_core::failure::Failure;
+use odht_tool_core::pairs::{BytePairs, Pairs};
 use odht_tool_core::text::Text;
 use std::alloc::Global;
 
@@ -20,9 +21,7 @@ where
     C::Key: Text,
     C::Value: Text,
 {
-    type Key = C::Key;
-
-    type Value = C::Value;
+    type Pairs = Vec<(C::Key, C::Value)>;
 
     ghost use Rattle.std.specs.Prelude.{◌≡◌, ⊤};
 
@@ -54,11 +53,16 @@ where
         copy_table(alloc, bytes, bound)
     }
 
-    fn insert_pairs(&mut self, pairs: &[(C::Key, C::Value)]) -> Result<(), Failure> {
-        insert_all(self, pairs)
+    fn insert_pairs(&mut self, pairs: &Vec<(C::Key, C::Value)>) -> Result<(), Failure> {
+        insert_all(self, pairs.as_slice())
     }
 
-    fn insert_new(&mut self, key: &C::Key, value: &C::Value) -> Result<bool, Failure> {
+    fn insert_new(
+        &mut self,
+        pairs: &Vec<(C::Key, C::Value)>,
+        index: usize,
+    ) -> Result<bool, Failure> {
+        let (key, value) = &pairs[index];
         insert_absent(self, key, value)
     }
 
@@ -106,9 +110,7 @@ fn insert_absent<C: Config>(
 }
 
 impl<H: HashFn> Inserts for DynTableOwned<H> {
-    type Key = ShortBytes;
-
-    type Value = ShortBytes;
+    type Pairs = BytePairs;
 
     ghost use Rattle.std.specs.Prelude.{◌≡◌, ◌≤◌};
     ghost use Rattle.odht_base.specs.Format.{format_of};
@@ -143,12 +145,13 @@ impl<H: HashFn> Inserts for DynTableOwned<H> {
         copy_lengths(alloc, layout, bytes, bound)
     }
 
-    fn insert_pairs(&mut self, pairs: &[(ShortBytes, ShortBytes)]) -> Result<(), Failure> {
+    fn insert_pairs(&mut self, pairs: &BytePairs) -> Result<(), Failure> {
         insert_each(self, pairs)
     }
 
-    fn insert_new(&mut self, key: &ShortBytes, value: &ShortBytes) -> Result<bool, Failure> {
-        insert_absent_bytes(self, key.as_slice(), value.as_slice())
+    fn insert_new(&mut self, pairs: &BytePairs, index: usize) -> Result<bool, Failure> {
+        let (key, value) = pairs.at(index);
+        insert_absent_bytes(self, key, value)
     }
 
     fn pair_count(&self) -> usize {
@@ -160,18 +163,15 @@ impl<H: HashFn> Inserts for DynTableOwned<H> {
     }
 }
 
-fn insert_each<H: HashFn>(
-    table: &mut DynTableOwned<H>,
-    pairs: &[(ShortBytes, ShortBytes)],
-) -> Result<(), Failure>
+fn insert_each<H: HashFn>(table: &mut DynTableOwned<H>, pairs: &BytePairs) -> Result<(), Failure>
     ensures inserted { OnOk result (AreInserted (dyn_coding table.old H.hash)
         (λ P. table.old.store ≡ P) pairs.now (λ P. table.new.store ≡ P)) }
     ensures memory { OnErr result (result ≡ Err Memory) }
 {
-    for index in 0..pairs.len() {
-        let (key, value) = &pairs[index];
+    for index in 0..pairs.count() {
+        let (key, value) = pairs.at(index);
         // Keys and values of the lines have the lengths of the table.
-        if let Err(_) = table.insert(key.as_slice(), value.as_slice()) {
+        if let Err(_) = table.insert(key, value) {
             return Err(Failure::Memory);
         }
     }

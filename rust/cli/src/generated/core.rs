@@ -36,6 +36,7 @@ mod near;
 pub mod new_file;
 mod numbers;
 mod obstacles;
+pub mod pairs;
 pub mod percents;
 pub mod places;
 mod plain;

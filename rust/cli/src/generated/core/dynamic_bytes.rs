@@ -26,7 +26,13 @@ impl Text for ShortBytes {
     }
 
     fn parse(word: &[u8], form: Form) -> Option<ShortBytes> {
-        parse_stored(word, form.part(), form.part_form())
+        let mut bytes = [0; 255];
+        let bytes = &mut bytes[..form.part().size() as usize];
+        if read_bytes(word, form, bytes) {
+            Some(ShortBytes::of(bytes))
+        } else {
+            None
+        }
     }
 
     fn plain_bytes(&self, form: Form) -> Option<&[u8]> {
@@ -61,44 +67,52 @@ fn wanted_of(part: Part, form: Form) -> Wanted {
     }
 }
 
-// The stored bytes of what is of this type, and of which the word is the text in this form. It is
-// inlined, as `parse_dynamic` is: what they return has room for 255 bytes, and each call on the way
-// would copy all of it.
-#[inline(always)]
-fn parse_stored(word: &[u8], part: Part, form: Form) -> Option<ShortBytes> {
+/// Whether the word is a text in this form. The bytes, as many as the type of the form has, then
+/// become those that it stands for.
+pub(crate) fn read_bytes(word: &[u8], form: Form, bytes: &mut [u8]) -> bool {
+    read_stored(word, form.part(), form.part_form(), bytes)
+}
+
+// The same of a type, and the form of what is of it.
+fn read_stored(word: &[u8], part: Part, form: Form, bytes: &mut [u8]) -> bool {
     match part {
-        Part::Nothing => {
-            <()>::parse(word, form)?;
-            Some(ShortBytes::of(b""))
-        }
-        Part::U32 => Some(bytes_of_u32(<u32 as Text>::parse(word, form)?)),
-        Part::U64 => Some(bytes_of_u64(<u64 as Text>::parse(word, form)?)),
-        Part::Bytes(len) => parse_dynamic(word, len, form),
+        Part::Nothing => word.is_empty(),
+        Part::U32 => match <u32 as Text>::parse(word, form) {
+            Some(number) => {
+                put_u32(number, bytes);
+                true
+            }
+            None => false,
+        },
+        Part::U64 => match <u64 as Text>::parse(word, form) {
+            Some(number) => {
+                put_u64(number, bytes);
+                true
+            }
+            None => false,
+        },
+        Part::Bytes(_) => read_sized(word, form, bytes),
     }
 }
 
-// The stored bytes of a number, the lowest first.
-fn bytes_of_u32(number: u32) -> ShortBytes {
-    ShortBytes::of(&number.to_le_bytes())
+// Whether the word is the text of so many bytes in this form. They then become these.
+#[inline(always)]
+fn read_sized(word: &[u8], form: Form, bytes: &mut [u8]) -> bool {
+    match form {
+        Form::Plain => {
+            bytes.fill(0);
+            read_plain(word, bytes)
+        }
+        _ => read_digits(word, bytes),
+    }
+}
+
+// Puts the stored bytes of a number, the lowest first.
+fn put_u32(number: u32, bytes: &mut [u8]) {
+    bytes.copy_from_slice(&number.to_le_bytes());
 }
 
 // The same of a number of 64 bits.
-fn bytes_of_u64(number: u64) -> ShortBytes {
-    ShortBytes::of(&number.to_le_bytes())
-}
-
-// The bytes, that many, of which the word is the text in this form.
-#[inline(always)]
-fn parse_dynamic(word: &[u8], len: u8, form: Form) -> Option<ShortBytes> {
-    let mut bytes = [0; 255];
-    let bytes = &mut bytes[..len as usize];
-    let is_read = match form {
-        Form::Plain => read_plain(word, bytes),
-        _ => read_digits(word, bytes),
-    };
-    if is_read {
-        Some(ShortBytes::of(bytes))
-    } else {
-        None
-    }
+fn put_u64(number: u64, bytes: &mut [u8]) {
+    bytes.copy_from_slice(&number.to_le_bytes());
 }

@@ -2,8 +2,9 @@
 //! The lines of standard input.
 
 use crate::generated::core::failure::{Failure, LineFault};
-use crate::generated::core::forms::{Form, Forms, OwnForms};
+use crate::generated::core::forms::{Form, Forms};
 use crate::generated::core::misread::Wanted;
+use crate::generated::core::pairs::{Added, Pairs};
 use crate::generated::core::places::{cut_at, place_of};
 use crate::generated::core::text::Text;
 use crate::host::prelude::*;
@@ -87,34 +88,26 @@ fn drop_last(line: &mut Vec<u8>, byte: u8) -> bool {
     true
 }
 
-/// Reads the pair of the line of this number, if there is such a line, in the texts that the types
-/// of key and value have. The bytes of `line` are replaced.
-#[inline]
-pub fn read_pair<K: Text, V: Text, I: BufRead>(
-    input: &mut I,
-    line: &mut Vec<u8>,
-    number: u64,
-) -> Result<Option<(K, V)>, Failure> {
-    read_pair_as(input, line, number, OwnForms)
-}
-
-/// `read_pair` in texts of these forms.
+/// Reads the line of this number, if there is such a line, and adds its pair. The bytes of `line`
+/// are replaced. Returns whether a pair was added; else the pairs stay.
 #[inline(always)]
-pub fn read_pair_as<K: Text, V: Text, F: Forms, I: BufRead>(
+pub fn read_pair<P: Pairs, F: Forms, I: BufRead>(
     input: &mut I,
     line: &mut Vec<u8>,
     number: u64,
     forms: F,
-) -> Result<Option<(K, V)>, Failure> {
+    pairs: &mut P,
+) -> Result<bool, Failure> {
     if !read_line(input, line).map_err(Failure::Input)? {
-        return Ok(None);
+        return Ok(false);
     }
-    match parse_pair(line.as_slice(), forms) {
-        Ok(pair) => Ok(Some(pair)),
-        Err(fault) => {
+    match add_line(line.as_slice(), forms, pairs) {
+        Added::Pair => Ok(true),
+        Added::Fault(fault) => {
             left_out(input, line, number, fault)?;
-            Ok(None)
+            Ok(false)
         }
+        Added::NoMemory => Err(Failure::Memory),
     }
 }
 
@@ -149,18 +142,14 @@ pub(crate) fn is_left_out<I: BufRead>(input: &mut I, line: &mut Vec<u8>) -> io::
     Ok(!is_next)
 }
 
-// The key and the value of a line: on either side of the first byte that stands between them, or,
-// where a value is nothing, of a line without that byte.
+// Adds the pair of a line: the key and the value are on either side of the first byte that stands
+// between them, or, where a value is nothing, the line without that byte is the key.
 #[inline(always)]
-fn parse_pair<K: Text, V: Text, F: Forms>(line: &[u8], forms: F) -> Result<(K, V), LineFault> {
-    let (key, value) = parts_of::<V>(line, forms.delimiter(), forms.value())?;
-    let Some(key) = K::parse(key, forms.key()) else {
-        return Err(LineFault::Key);
-    };
-    let Some(value) = V::parse(value, forms.value()) else {
-        return Err(LineFault::Value);
-    };
-    Ok((key, value))
+fn add_line<P: Pairs, F: Forms>(line: &[u8], forms: F, pairs: &mut P) -> Added {
+    match parts_of::<P::Value>(line, forms.delimiter(), forms.value()) {
+        Ok((key, value)) => pairs.add(key, value, forms),
+        Err(fault) => Added::Fault(fault),
+    }
 }
 
 // What is on either side of the first delimiter of a line.

@@ -5,7 +5,8 @@ use crate::generated::core::arguments::Duplicates;
 use crate::generated::core::failure::Failure;
 use crate::generated::core::forms::Forms;
 use crate::generated::core::line_messages::line_message;
-use crate::generated::core::lines::read_pair_as;
+use crate::generated::core::lines::read_pair;
+use crate::generated::core::pairs::Pairs;
 use crate::generated::core::progress::Watch;
 use crate::generated::core::text::Text;
 use crate::generated::tables::dynamic::Layout;
@@ -35,11 +36,8 @@ pub struct LineJob<'a, R, F> {
 
 /// A table that grows, into which pairs are inserted that have texts.
 pub trait Inserts: Sized {
-    /// A key.
-    type Key: Text;
-
-    /// A value.
-    type Value: Text;
+    /// Pairs that are inserted.
+    type Pairs: Pairs;
 
     /// An empty table of these lengths, for that many items.
     fn empty(
@@ -59,11 +57,11 @@ pub trait Inserts: Sized {
     ) -> Result<Self, Failure>;
 
     /// Inserts the pairs in turn. `Memory` where there is none for a larger table.
-    fn insert_pairs(&mut self, pairs: &[(Self::Key, Self::Value)]) -> Result<(), Failure>;
+    fn insert_pairs(&mut self, pairs: &Self::Pairs) -> Result<(), Failure>;
 
-    /// Inserts the pair where its key has no value, and returns whether that is so. `Memory` where
-    /// there is none for a larger table.
-    fn insert_new(&mut self, key: &Self::Key, value: &Self::Value) -> Result<bool, Failure>;
+    /// Inserts the pair at this index where its key has no value, and returns whether that is so.
+    /// `Memory` where there is none for a larger table.
+    fn insert_new(&mut self, pairs: &Self::Pairs, index: usize) -> Result<bool, Failure>;
 
     /// How many pairs the table has.
     fn pair_count(&self) -> usize;
@@ -82,25 +80,17 @@ fn fill<T: Inserts, F: Forms, R: AllocGlobal + Clock, I: BufRead, E: Write>(
 ) -> Result<(), Failure> {
     let mut reports = LineReports::new(job.rt, job.watch);
     let (alloc, forms): (Global, F) = (job.rt.alloc(), job.forms);
-    let mut pairs = crate::host::lists::empty(alloc);
+    let mut pairs = T::Pairs::none(alloc, job.layout);
     let mut line = crate::host::lists::empty(alloc);
     let mut bytes: u64 = 0;
     for number in 1..u64::MAX {
-        let pair = match read_pair_as::<T::Key, T::Value, F, I>(input, &mut line, number, forms) {
-            Ok(Some(pair)) => pair,
-            Ok(None) => {
-                insert_and_clear(table, &mut pairs)?;
-                reports.end(number, table.pair_count(), bytes, errors);
-                break;
-            }
-            Err(failure) => {
-                let line = line.as_slice();
-                return Err(told::<T::Key, T::Value, F>(alloc, failure, line, forms));
-            }
-        };
-        pairs.try_push(pair).map_err(|_| Failure::Memory)?;
+        if !next_pair(alloc, input, &mut line, number, forms, &mut pairs)? {
+            insert_and_clear(table, &mut pairs)?;
+            reports.end(number, table.pair_count(), bytes, errors);
+            break;
+        }
         bytes = with_line(bytes, line.as_slice());
-        if pairs.len() >= BATCH {
+        if pairs.count() >= BATCH {
             insert_and_clear(table, &mut pairs)?;
             reports.report(number, table.pair_count(), bytes, errors);
         }
@@ -108,18 +98,29 @@ fn fill<T: Inserts, F: Forms, R: AllocGlobal + Clock, I: BufRead, E: Write>(
     insert_and_clear(table, &mut pairs)
 }
 
+// Adds the pair of the next line, which has this number, or returns what is said of the line.
+#[inline(always)]
+fn next_pair<P: Pairs, F: Forms, I: BufRead>(
+    alloc: Global,
+    input: &mut I,
+    line: &mut Vec<u8>,
+    number: u64,
+    forms: F,
+    pairs: &mut P,
+) -> Result<bool, Failure> {
+    match read_pair(input, line, number, forms, pairs) {
+        Ok(read) => Ok(read),
+        Err(failure) => Err(told::<P, F>(alloc, failure, line.as_slice(), forms)),
+    }
+}
+
 // The failure with what is said of this line, where the line cannot be parsed.
 #[cold]
 #[inline(never)]
-fn told<K: Text, V: Text, F: Forms>(
-    alloc: Global,
-    failure: Failure,
-    line: &[u8],
-    forms: F,
-) -> Failure {
+fn told<P: Pairs, F: Forms>(alloc: Global, failure: Failure, line: &[u8], forms: F) -> Failure {
     match failure {
         Failure::Line { number, fault } => {
-            let wanted = (K::wanted(forms.key()), V::wanted(forms.value()));
+            let wanted = (P::Key::wanted(forms.key()), P::Value::wanted(forms.value()));
             match line_message(alloc, number, fault, wanted, line, forms.delimiter()) {
                 Ok(message) => Failure::Misread(message),
                 Err(_) => Failure::Memory,
@@ -130,11 +131,8 @@ fn told<K: Text, V: Text, F: Forms>(
 }
 
 // Inserts the pairs, and drops them.
-fn insert_and_clear<T: Inserts>(
-    table: &mut T,
-    pairs: &mut Vec<(T::Key, T::Value)>,
-) -> Result<(), Failure> {
-    let inserted = table.insert_pairs(pairs.as_slice());
-    pairs.clear();
+fn insert_and_clear<T: Inserts>(table: &mut T, pairs: &mut T::Pairs) -> Result<(), Failure> {
+    let inserted = table.insert_pairs(pairs);
+    pairs.remove_all();
     inserted
 }

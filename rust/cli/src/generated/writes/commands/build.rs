@@ -127,7 +127,7 @@ where
     R::File: AsFd,
 {
     if makes_no_table(job.duplicates, options.is_check) {
-        return check_lines::<T::Key, T::Value, F, R, I, E>(job, streams.input, streams.errors);
+        return check_lines::<T::Pairs, F, R, I, E>(job, streams.input, streams.errors);
     }
     let table = T::empty(job.rt.alloc(), job.layout, options.capacity, options.percent)?;
     insert_lines(job, place, table, streams)

@@ -7,12 +7,11 @@ use crate::generated::core::failure::Failure;
 use crate::generated::core::forms::Forms;
 use crate::generated::core::job::Streams;
 use crate::generated::core::line_messages::repeated_message;
-use crate::generated::core::lines::read_pair_as;
 use crate::generated::core::new_file::{ended, make_new, replace_file, NewFile};
+use crate::generated::core::pairs::Pairs;
 use crate::generated::core::status::{of_output, Status};
 use crate::generated::core::targets::{Allowed, Target};
-use crate::generated::core::text::Text;
-use crate::generated::writes::inserts::{fill, told, Inserts, LineJob};
+use crate::generated::writes::inserts::{fill, next_pair, Inserts, LineJob};
 use crate::generated::writes::reports::{with_line, LineReports, BATCH};
 use crate::generated::writes::warnings::warn_of_long;
 use crate::host::prelude::*;
@@ -108,21 +107,22 @@ where
 }
 
 /// Reads the pair of each line, and makes no table of them.
-pub fn check_lines<K: Text, V: Text, F: Forms, R: AllocGlobal + Clock, I: BufRead, E: Write>(
+pub fn check_lines<P: Pairs, F: Forms, R: AllocGlobal + Clock, I: BufRead, E: Write>(
     job: &LineJob<'_, R, F>,
     input: &mut I,
     errors: &mut E,
 ) -> Result<Status, Failure> {
     let mut reports = LineReports::new(job.rt, job.watch);
     let alloc: Global = job.rt.alloc();
+    let mut pair = P::none(alloc, job.layout);
     let mut line = crate::host::lists::empty(alloc);
     let mut bytes: u64 = 0;
     for number in 1..u64::MAX {
-        let read = next_pair::<K, V, F, I>(alloc, input, &mut line, number, job.forms)?;
-        if read.is_none() {
+        if !next_pair(alloc, input, &mut line, number, job.forms, &mut pair)? {
             reports.end(number, 0, bytes, errors);
             break;
         }
+        pair.remove_all();
         bytes = with_line(bytes, line.as_slice());
         if number % BATCH as u64 == 0 {
             reports.report(number, 0, bytes, errors);
@@ -142,37 +142,24 @@ fn fill_new<T: Inserts, F: Forms, R: AllocGlobal + Clock, I: BufRead, E: Write>(
 ) -> Result<(), Failure> {
     let mut reports = LineReports::new(job.rt, job.watch);
     let (alloc, forms): (Global, F) = (job.rt.alloc(), job.forms);
+    let mut pair = T::Pairs::none(alloc, job.layout);
     let mut text = crate::host::lists::empty(alloc);
     let mut bytes: u64 = 0;
     for number in 1..u64::MAX {
-        let read = next_pair::<T::Key, T::Value, F, I>(alloc, input, &mut text, number, forms)?;
-        let Some((key, value)) = read else {
+        pair.remove_all();
+        if !next_pair(alloc, input, &mut text, number, forms, &mut pair)? {
             reports.end(number, table.pair_count(), bytes, errors);
             break;
-        };
+        }
         let text = text.as_slice();
         let line = Line { number, text, delimiter: forms.delimiter() };
-        insert_line(alloc, table, &key, &value, is_once, line)?;
+        insert_line(alloc, table, &pair, is_once, line)?;
         bytes = with_line(bytes, text);
         if number % BATCH as u64 == 0 {
             reports.report(number, table.pair_count(), bytes, errors);
         }
     }
     Ok(())
-}
-
-// The pair of the next line, which has this number, or what is said of the line.
-fn next_pair<K: Text, V: Text, F: Forms, I: BufRead>(
-    alloc: Global,
-    input: &mut I,
-    line: &mut Vec<u8>,
-    number: u64,
-    forms: F,
-) -> Result<Option<(K, V)>, Failure> {
-    match read_pair_as::<K, V, F, I>(input, line, number, forms) {
-        Ok(read) => Ok(read),
-        Err(failure) => Err(told::<K, V, F>(alloc, failure, line.as_slice(), forms)),
-    }
 }
 
 // A line, with the byte that stands between key and value.
@@ -188,12 +175,11 @@ struct Line<'a> {
 fn insert_line<T: Inserts>(
     alloc: Global,
     table: &mut T,
-    key: &T::Key,
-    value: &T::Value,
+    pair: &T::Pairs,
     is_once: bool,
     line: Line<'_>,
 ) -> Result<(), Failure> {
-    if table.insert_new(key, value)? || !is_once {
+    if table.insert_new(pair, 0)? || !is_once {
         Ok(())
     } else {
         Err(repeated(alloc, line.number, line.text, line.delimiter))

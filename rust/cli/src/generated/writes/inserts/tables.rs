@@ -3,9 +3,10 @@
 
 use super::Inserts;
 use crate::generated::core::failure::Failure;
+use crate::generated::core::pairs::{BytePairs, Pairs};
 use crate::generated::core::text::Text;
 use crate::generated::tables::config::Config;
-use crate::generated::tables::dynamic::{DynTableOwned, Layout, ShortBytes};
+use crate::generated::tables::dynamic::{DynTableOwned, Layout};
 use crate::generated::tables::hash::HashFn;
 use crate::generated::tables::load::Percent;
 use crate::generated::tables::HashTableOwned;
@@ -18,9 +19,7 @@ where
     C::Key: Text,
     C::Value: Text,
 {
-    type Key = C::Key;
-
-    type Value = C::Value;
+    type Pairs = Vec<(C::Key, C::Value)>;
 
     fn empty(
         alloc: Global,
@@ -40,11 +39,16 @@ where
         copy_table(alloc, bytes, bound)
     }
 
-    fn insert_pairs(&mut self, pairs: &[(C::Key, C::Value)]) -> Result<(), Failure> {
-        insert_all(self, pairs)
+    fn insert_pairs(&mut self, pairs: &Vec<(C::Key, C::Value)>) -> Result<(), Failure> {
+        insert_all(self, pairs.as_slice())
     }
 
-    fn insert_new(&mut self, key: &C::Key, value: &C::Value) -> Result<bool, Failure> {
+    fn insert_new(
+        &mut self,
+        pairs: &Vec<(C::Key, C::Value)>,
+        index: usize,
+    ) -> Result<bool, Failure> {
+        let (key, value) = &pairs[index];
         insert_absent(self, key, value)
     }
 
@@ -84,9 +88,7 @@ fn insert_absent<C: Config>(
 }
 
 impl<H: HashFn> Inserts for DynTableOwned<H> {
-    type Key = ShortBytes;
-
-    type Value = ShortBytes;
+    type Pairs = BytePairs;
 
     fn empty(
         alloc: Global,
@@ -106,12 +108,13 @@ impl<H: HashFn> Inserts for DynTableOwned<H> {
         copy_lengths(alloc, layout, bytes, bound)
     }
 
-    fn insert_pairs(&mut self, pairs: &[(ShortBytes, ShortBytes)]) -> Result<(), Failure> {
+    fn insert_pairs(&mut self, pairs: &BytePairs) -> Result<(), Failure> {
         insert_each(self, pairs)
     }
 
-    fn insert_new(&mut self, key: &ShortBytes, value: &ShortBytes) -> Result<bool, Failure> {
-        insert_absent_bytes(self, key.as_slice(), value.as_slice())
+    fn insert_new(&mut self, pairs: &BytePairs, index: usize) -> Result<bool, Failure> {
+        let (key, value) = pairs.at(index);
+        insert_absent_bytes(self, key, value)
     }
 
     fn pair_count(&self) -> usize {
@@ -123,14 +126,11 @@ impl<H: HashFn> Inserts for DynTableOwned<H> {
     }
 }
 
-fn insert_each<H: HashFn>(
-    table: &mut DynTableOwned<H>,
-    pairs: &[(ShortBytes, ShortBytes)],
-) -> Result<(), Failure> {
-    for index in 0..pairs.len() {
-        let (key, value) = &pairs[index];
+fn insert_each<H: HashFn>(table: &mut DynTableOwned<H>, pairs: &BytePairs) -> Result<(), Failure> {
+    for index in 0..pairs.count() {
+        let (key, value) = pairs.at(index);
         // Keys and values of the lines have the lengths of the table.
-        if let Err(_) = table.insert(key.as_slice(), value.as_slice()) {
+        if let Err(_) = table.insert(key, value) {
             return Err(Failure::Memory);
         }
     }
