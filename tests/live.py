@@ -1,7 +1,7 @@
 #!/usr/bin/env python3
 """Tests that `odht get FILE -` answers lines as they come where standard input is a pipe or a terminal: each answer is
 read before the next line is written. And that of a file all lines are answered in one write. While they are few, they
-are looked up in a table that does not fit in memory.
+are looked up in a table that does not fit in memory. A file may be replaced meanwhile.
 
   tests/live.py PROGRAM..
 """
@@ -122,6 +122,24 @@ def of_few_lines(program, room):
         assert_found(found, before, status, message, lines[:20])
 
 
+def of_a_replaced_file(program, room):
+    """All lines of a pipe are answered from the file as it was at first, also those after the few."""
+    shutil.copy(f"{TABLES}/{TABLE[0]}", f"{room}/replaced.odht")
+    os.truncate(f"{room}/replaced.odht", 1 << 19)
+    words = [program, "get", f"{room}/replaced.odht", "-", "--at", "0"]
+    with subprocess.Popen(words, stdin=subprocess.PIPE, stdout=subprocess.PIPE) as child:
+        for number in range(60):
+            os.write(child.stdin.fileno(), b"3\n")
+            found = line_of(child.stdout.fileno())
+            assert found == "3\t4", (number, found)
+            if number == 2:
+                with open(f"{room}/new", "wb"):
+                    os.replace(f"{room}/new", f"{room}/replaced.odht")
+        child.stdin.close()
+        assert child.stdout.read() == b""
+    assert child.returncode == 0, child.returncode
+
+
 def assert_found(found, written, status, message, lines):
     assert (found.stdout, found.returncode) == (written, status), (lines, found.stdout[-99:], found.returncode)
     assert message in found.stderr and (message or not found.stderr), (lines, found.stderr)
@@ -137,7 +155,7 @@ def main(*programs):
         for program in map(os.path.abspath, programs):
             tests = [lambda: by_pipe(program, *TABLE), lambda: by_pipe(program, *OTHER), lambda: a_fault(program),
                      lambda: by_terminal(program), lambda: of_a_file(program, room),
-                     lambda: of_few_lines(program, room)]
+                     lambda: of_few_lines(program, room), lambda: of_a_replaced_file(program, room)]
             for test in tests:
                 try:
                     test()

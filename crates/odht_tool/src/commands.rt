@@ -14,7 +14,7 @@ use odht_tool_reads::commands::diff;
 use odht_tool_reads::lookups::Coming;
 use odht_tool_reads::lookups::arriving::Arriving;
 use odht_tool_reads::positions::{self, Asked, Reached};
-use odht_tool_tables::files::{finish, finish_as, read_bytes, read_table_bytes};
+use odht_tool_tables::files::{finish, finish_as, read_table_bytes};
 use odht_tool_writes::commands::{build, delete, merge, rebuild};
 use std::alloc::Global;
 use std::io::{BufRead, IsTerminal, Write};
@@ -23,8 +23,10 @@ use std::os::unix::fs::FileExt;
 use std::rt::{Clock, Files};
 
 mod readings;
+mod whole;
 
 use readings::{count_label, run_reading};
+use whole::{open_for_long, read_opened, read_whole};
 
 /// Does what the words ask for. Each failure is reported by a line on `errors`; where that cannot
 /// be written either, only the status reports it. Where nobody reads `output` any more, nothing
@@ -175,15 +177,15 @@ fn read_one<R: Files + AllocGlobal, I: BufRead + Arriving, O: Write, E: Write>(
 where
     R::File: FileExt,
 {
-    let coming = match read_by_position(rt, file, is_one, at, reading, streams)? {
+    let opened = open_for_long(rt, file, is_live(rt, reading));
+    let (coming, opened) = match read_by_position(rt, file, is_one, at, reading, streams)? {
         Some(Reached::End(status)) => return Ok(status),
-        Some(Reached::Line(coming)) => coming,
-        None => Coming::all(is_live(rt, reading)),
+        Some(Reached::Line(coming)) => (coming, opened),
+        None => (Coming::all(is_live(rt, reading)), None),
     };
-    let bytes = if reading.is_search() {
-        read_bytes(rt, file, streams.input)?
-    } else {
-        read_table_bytes(rt, file, at.unwrap_or(0), streams.input)?
+    let bytes = match opened {
+        Some(opened) => read_opened(rt.alloc(), opened)?,
+        None => read_whole(rt, file, at, reading, streams.input)?,
     };
     let table = match at {
         Some(offset) => table_at(bytes.as_slice(), offset)?,

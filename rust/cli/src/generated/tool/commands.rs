@@ -15,7 +15,7 @@ use crate::generated::reads::lookups::arriving::Arriving;
 use crate::generated::reads::lookups::Coming;
 use crate::generated::reads::positions::{self, Asked, Reached};
 use crate::generated::tool::pairs::of_words;
-use crate::generated::tool_tables::files::{finish, finish_as, read_bytes, read_table_bytes};
+use crate::generated::tool_tables::files::{finish, finish_as, read_table_bytes};
 use crate::generated::writes::commands::{build, delete, merge, rebuild};
 use crate::host::io::{BufRead, IsTerminal, Write};
 use crate::host::prelude::*;
@@ -25,8 +25,10 @@ use std::os::fd::AsFd;
 use std::os::unix::fs::FileExt;
 
 mod readings;
+mod whole;
 
 use readings::{count_label, run_reading};
+use whole::{open_for_long, read_opened, read_whole};
 
 /// Does what the words ask for. Each failure is reported by a line on `errors`; where that cannot
 /// be written either, only the status reports it. Where nobody reads `output` any more, nothing
@@ -175,15 +177,15 @@ fn read_one<R: Files + AllocGlobal, I: BufRead + Arriving, O: Write, E: Write>(
 where
     R::File: FileExt,
 {
-    let coming = match read_by_position(rt, file, is_one, at, reading, streams)? {
+    let opened = open_for_long(rt, file, is_live(rt, reading));
+    let (coming, opened) = match read_by_position(rt, file, is_one, at, reading, streams)? {
         Some(Reached::End(status)) => return Ok(status),
-        Some(Reached::Line(coming)) => coming,
-        None => Coming::all(is_live(rt, reading)),
+        Some(Reached::Line(coming)) => (coming, opened),
+        None => (Coming::all(is_live(rt, reading)), None),
     };
-    let bytes = if reading.is_search() {
-        read_bytes(rt, file, streams.input)?
-    } else {
-        read_table_bytes(rt, file, at.unwrap_or(0), streams.input)?
+    let bytes = match opened {
+        Some(opened) => read_opened(rt.alloc(), opened)?,
+        None => read_whole(rt, file, at, reading, streams.input)?,
     };
     let table = match at {
         Some(offset) => table_at(bytes.as_slice(), offset)?,

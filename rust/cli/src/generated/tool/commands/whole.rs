@@ -1,0 +1,50 @@
+// Generated from crates/odht_tool/src/commands/whole.rt by make generate.
+//! The bytes of a file that a command reads whole.
+use crate::generated::core::arguments::{is_stream, Reading};
+use crate::generated::core::failure::Failure;
+use crate::generated::tool_tables::files::{read_bytes, read_table_bytes};
+use crate::host::fs::{self, OpenFile};
+use crate::host::prelude::*;
+use crate::host::rt::Files;
+use crate::shim::Global;
+use std::io::{self, BufRead, Read};
+
+/// Opens a file whose keys come as lines of a pipe or a terminal. They may come for long, and all of
+/// them are answered from the file as it is at first, even if another one replaces it meanwhile.
+pub(super) fn open_for_long<R: Files>(rt: &R, file: &str, is_live: bool) -> Option<R::File> {
+    // To open a pipe would wait for its writer.
+    if !is_live || is_stream(file) || !fs::metadata(rt, file).ok()?.is_file() {
+        return None;
+    }
+    fs::open(rt, file).ok()
+}
+
+/// All bytes of a file, or those that show that no table begins there, if the command reads one.
+pub(super) fn read_whole<R: Files + AllocGlobal, I: BufRead>(
+    rt: &R,
+    file: &str,
+    at: Option<usize>,
+    reading: &Reading,
+    input: &mut I,
+) -> Result<Vec<u8>, Failure> {
+    if reading.is_search() {
+        read_bytes(rt, file, input)
+    } else {
+        read_table_bytes(rt, file, at.unwrap_or(0), input)
+    }
+}
+
+/// All bytes of an open file.
+pub(super) fn read_opened<F: OpenFile + Read>(alloc: Global, file: F) -> Result<Vec<u8>, Failure> {
+    match read_all(alloc, file) {
+        Err(error) if error.kind() == io::ErrorKind::OutOfMemory => Err(Failure::Memory),
+        read => read.map_err(Failure::Read),
+    }
+}
+
+fn read_all<F: OpenFile + Read>(alloc: Global, mut file: F) -> io::Result<Vec<u8>> {
+    let len = usize::try_from(file.metadata()?.len()).unwrap_or(0);
+    let mut bytes = crate::shim::with_capacity(alloc, len)?;
+    file.read_to_end(&mut bytes)?;
+    Ok(bytes)
+}
