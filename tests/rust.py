@@ -131,7 +131,7 @@ FAULTS = [
     ("cli/src/generated/core/histogram.rs", "filled( alloc, 0, MOST)", "filled( alloc, 1, MOST)"),
     ("cli/src/generated/core/files.rs", "use crate::host::rt::Files", "use crate::host::fs::Files"),
     ("cli/src/generated/tool.rs", "rt.stderr()", "rt.stdout()"),
-    ("cli/src/generated/writes/inserts.rs", "pairs.clear();", ""),
+    ("cli/src/generated/writes/inserts.rs", "pairs.remove_all();", ""),
     ("table/src/generated/table/script.rs", "writeln!(output, \"no table\")", "writeln!(output, \"no\")"),
 ]
 
