@@ -13,7 +13,7 @@ use odht_tool_core::arguments::Duplicates;
 use odht_tool_core::failure::Failure;
 use odht_tool_core::forms::Forms;
 use odht_tool_core::line_messages::line_message;
-use odht_tool_core::lines::read_pair;
+use odht_tool_core::lines::add_pair;
 use odht_tool_core::pairs::Pairs;
 use odht_tool_core::progress::Watch;
 use odht_tool_core::text::Text;
@@ -158,7 +158,7 @@ fn next_pair<P: Pairs, F: Forms, I: BufRead>(
         (I.remaining input.old) (I.remaining input.new) line.new.items
         (P.items pairs.old) (P.items pairs.new)) }
 {
-    match read_pair(input, line, number, forms, pairs) {
+    match add_pair(input, line, number, forms, pairs) {
         Ok(read) => Ok(read),
         Err(failure) => Err(told::<P, F>(alloc, failure, line.as_slice(), forms)),
     }

@@ -8,7 +8,6 @@ use odht::HashTableOwned;
 use odht::config::Config;
 use odht::configs::{Bytes16ToU64, Bytes32Set, U64ToU32, U64ToU64};
 use odht_tool_core::answers::{absent_values, are_found, write_answers, write_pair};
-use odht_tool_core::forms::OwnForms;
 use odht_tool_core::keys::{NextKey, next_key, push_key};
 use odht_tool_core::lines::read_pair;
 use odht_tool_core::slots::dump_slots;
@@ -82,16 +81,15 @@ where
 {
     let mut input = text;
     let mut line = Vec::new(alloc);
-    let mut pair: Vec<(C::Key, C::Value)> = Vec::new(alloc);
     let mut table: HashTableOwned<C> = HashTableOwned::default(alloc)?;
     for number in 1..u64::MAX {
-        if !read_pair(&mut input, &mut line, number, OwnForms, &mut pair)? {
+        let Some((key, value)) = read_pair::<C::Key, C::Value, &[u8]>(
+            &mut input, &mut line, number,
+        )?
+        else {
             break;
-        }
-        for (key, value) in pair.as_slice() {
-            let _ = table.insert(key, value)?;
-        }
-        pair.clear();
+        };
+        let _ = table.insert(&key, &value)?;
     }
     Ok(table)
 }

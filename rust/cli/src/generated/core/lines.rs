@@ -2,7 +2,7 @@
 //! The lines of standard input.
 
 use crate::generated::core::failure::{Failure, LineFault};
-use crate::generated::core::forms::{Form, Forms};
+use crate::generated::core::forms::{Form, Forms, OwnForms};
 use crate::generated::core::misread::Wanted;
 use crate::generated::core::pairs::{Added, Pairs};
 use crate::generated::core::places::{cut_at, place_of};
@@ -88,10 +88,43 @@ fn drop_last(line: &mut Vec<u8>, byte: u8) -> bool {
     true
 }
 
+/// Reads the pair of the line of this number, if there is such a line, in the texts that the types
+/// of key and value have. The bytes of `line` are replaced.
+#[inline]
+pub fn read_pair<K: Text, V: Text, I: BufRead>(
+    input: &mut I,
+    line: &mut Vec<u8>,
+    number: u64,
+) -> Result<Option<(K, V)>, Failure> {
+    if !read_line(input, line).map_err(Failure::Input)? {
+        return Ok(None);
+    }
+    match parse_pair(line.as_slice(), OwnForms) {
+        Ok(pair) => Ok(Some(pair)),
+        Err(fault) => {
+            left_out(input, line, number, fault)?;
+            Ok(None)
+        }
+    }
+}
+
+// The key and the value of a line.
+#[inline(always)]
+fn parse_pair<K: Text, V: Text, F: Forms>(line: &[u8], forms: F) -> Result<(K, V), LineFault> {
+    let (key, value) = parts_of::<V>(line, forms.delimiter(), forms.value())?;
+    let Some(key) = K::parse(key, forms.key()) else {
+        return Err(LineFault::Key);
+    };
+    let Some(value) = V::parse(value, forms.value()) else {
+        return Err(LineFault::Value);
+    };
+    Ok((key, value))
+}
+
 /// Reads the line of this number, if there is such a line, and adds its pair. The bytes of `line`
 /// are replaced. Returns whether a pair was added; else the pairs stay.
 #[inline(always)]
-pub fn read_pair<P: Pairs, F: Forms, I: BufRead>(
+pub fn add_pair<P: Pairs, F: Forms, I: BufRead>(
     input: &mut I,
     line: &mut Vec<u8>,
     number: u64,

@@ -5,7 +5,7 @@ use crate::generated::core::arguments::Duplicates;
 use crate::generated::core::failure::Failure;
 use crate::generated::core::forms::Forms;
 use crate::generated::core::line_messages::line_message;
-use crate::generated::core::lines::read_pair;
+use crate::generated::core::lines::add_pair;
 use crate::generated::core::pairs::Pairs;
 use crate::generated::core::progress::Watch;
 use crate::generated::core::text::Text;
@@ -108,7 +108,7 @@ fn next_pair<P: Pairs, F: Forms, I: BufRead>(
     forms: F,
     pairs: &mut P,
 ) -> Result<bool, Failure> {
-    match read_pair(input, line, number, forms, pairs) {
+    match add_pair(input, line, number, forms, pairs) {
         Ok(read) => Ok(read),
         Err(failure) => Err(told::<P, F>(alloc, failure, line.as_slice(), forms)),
     }

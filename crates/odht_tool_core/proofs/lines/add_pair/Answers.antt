@@ -1,7 +1,7 @@
 use Rattle.std.proofs.Common.{ℕ, List, rules, subst}
 use Rattle.odht_tool_core.specs.Keys.{IsReadAs}
 use Rattle.odht_tool_core.specs.PairLines.{IsPairOf}
-use Rattle.odht_tool_core.proofs.lines.read_pair.Goals as goal
+use Rattle.odht_tool_core.proofs.lines.add_pair.Goals as goal
 
 -- the pair of the next line
 pub returns-in-Pair : goal.returns-in-Pair
