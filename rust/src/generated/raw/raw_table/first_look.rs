@@ -50,7 +50,8 @@ impl<'a, L: Lengths, H: HashFn> Parts<'a, L, H> {
         if group.any_empty() {
             return None;
         }
-        self.value_at(search_next_groups::<L, H>(self.controls(), &self.stored, key, hash))
+        let stored = self.stored();
+        self.value_at(search_next_groups::<L, H>(self.controls(), &stored, key, hash))
     }
 
     /// The hash of a key, and the slot where a pair with the key is placed, where the first group
@@ -100,7 +101,8 @@ impl<'a, L: Lengths, H: HashFn> Parts<'a, L, H> {
     #[inline(never)]
     fn whole_search(&self, key: &[u8], hash: u32) -> Search {
         let mut scan = Scan::new(self.controls(), self.len());
-        search_stored::<L, H, GroupQuery>(&mut scan, &self.stored, key, hash)
+        let stored = self.stored();
+        search_stored::<L, H, GroupQuery>(&mut scan, &stored, key, hash)
     }
 }
 

@@ -150,8 +150,14 @@ impl<'a, L: Lengths, H: HashFn> Parts<'a, L, H> {
     #[inline(always)]
     pub(super) fn find_of<Q: Group>(&self, key: &[u8]) -> (Option<&'a [u8]>, usize) {
         let mut scan = Scan::new(self.controls(), self.len());
-        let end = search_stored::<L, H, Q>(&mut scan, &self.stored, key, H::hash(key));
-        (self.value_at(end), scan.groups())
+        let stored = self.stored();
+        let end = search_stored::<L, H, Q>(&mut scan, &stored, key, H::hash(key));
+        let groups = scan.groups();
+        match end {
+            Search::Found(slot) => (Some(self.value(slot)), groups),
+            Search::Free(_) => (None, groups),
+            Search::Neither => (None, groups),
+        }
     }
 
     /// Where the search for a key that is inserted ends, and the key's tag, by a group search of the
@@ -160,8 +166,9 @@ impl<'a, L: Lengths, H: HashFn> Parts<'a, L, H> {
     #[inline(always)]
     pub(crate) fn search_end<Q: Group>(&self, key: &[u8]) -> (Search, u8) {
         let mut scan = Scan::new(self.controls(), self.len());
+        let stored = self.stored();
         let hash = H::hash(key);
-        let end = search_stored::<L, H, Q>(&mut scan, &self.stored, key, hash);
+        let end = search_stored::<L, H, Q>(&mut scan, &stored, key, hash);
         (end, tag_of(hash))
     }
 
