@@ -121,7 +121,7 @@ fn read_stored(word: &[u8], part: Part, form: Form, bytes: &mut [u8]) -> bool
     }
 }
 
-// Whether the word is the text of so many bytes in this form. They then become these.
+// Whether the word is the text of that many bytes in this form. They then become these.
 #[inline(always)]
 fn read_sized(word: &[u8], form: Form, bytes: &mut [u8]) -> bool
     ensures value { IsTrue result → StandsForBytes form word.now bytes.new }
