@@ -1,6 +1,7 @@
 /* Lists a program's calls that open, make or change a file, and lets one of them fail. It is loaded before the C
    library. ODHT_CALLS=FILE names the list, in which each call has a line; ODHT_FAIL_CALL=N has the Nth call fail, with
-   the error of the number ODHT_FAIL_WITH, as a full disk (28) or a broken one (5) has it. */
+   the error of the number ODHT_FAIL_WITH, as a full disk (28) or a broken one (5) has it. With ODHT_READS it lists
+   reads of files too. */
 #define _GNU_SOURCE
 #include <dlfcn.h>
 #include <errno.h>
@@ -74,6 +75,21 @@ int open(const char *path, int flags, ...) {
 ssize_t write(int file, const void *bytes, size_t len) {
     NEXT(write);
     return file > 2 && fails("write", kind_of(file)) ? -1 : next(file, bytes, len);
+}
+
+ssize_t pread64(int file, void *bytes, size_t len, off64_t at) {
+    NEXT(pread64);
+    return getenv("ODHT_READS") != NULL && fails("pread", kind_of(file)) ? -1 : next(file, bytes, len, at);
+}
+
+ssize_t pread(int file, void *bytes, size_t len, off_t at) {
+    NEXT(pread);
+    return getenv("ODHT_READS") != NULL && fails("pread", kind_of(file)) ? -1 : next(file, bytes, len, at);
+}
+
+ssize_t read(int file, void *bytes, size_t len) {
+    NEXT(read);
+    return getenv("ODHT_READS") != NULL && file > 2 && fails("load", kind_of(file)) ? -1 : next(file, bytes, len);
 }
 
 int fchmod(int file, mode_t mode) {

@@ -32,7 +32,7 @@ pub mod Layouts
 pub mod Pieces
 -- pairs of them that have no bytes
 pub mod EqualPairs
--- lists of them: lookups, inserts and walks
+-- lists of them: lookups and walks
 pub mod AnyLists
 -- tables of bytes that grow while they are built
 pub mod GrownBuilds

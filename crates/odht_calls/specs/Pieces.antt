@@ -1,6 +1,9 @@
 -- Keys and values that lie one after the other in bytes, and the calls for dynamic tables that take or write them.
 --     pieces len n B       the first n pieces of B in turn, of len bytes each
 --     ArePieces kl vl n ks vs  ks are n keys of kl bytes, and vs are n values of vl bytes
+--     HavePieces kl vl n ks vs  ks and vs have at least as many bytes
+--     PieceItems           items that are bytes, and the lengths of their keys and values
+--     piece_items kl vl n ks vs  those of the first n pieces
 --     Each of the calls answers what that of a shape does, of the keys and values that the bytes have, in the format F;
 --     where there are more or fewer bytes it answers bad_lengths, and nothing is written:
 --     DynWalkAnswers F B at n ks vs m s at' ks' vs' m'   a walk into bytes for n keys and n values
@@ -10,7 +13,8 @@
 --     DynBuildAnswers F n ks vs p out len s out' len'    a table of n pairs at p percent
 --     DynBuildGrowingAnswers F n ks vs out len s out' len'   a table of n pairs that grows
 --     Before that, where the layout l is none, it answers bad_layout, and nothing is written (`Any..`).
-use Rattle.std.specs.Prelude.{◌≡◌, ℕ, ◌*◌, zero, suc, List, [], ◌∷◌, length, take, drop}
+use Rattle.std.specs.Prelude.{◌≡◌, ◌≤◌, ℕ, ◌*◌, zero, suc, List, [], ◌∷◌, length, take, drop}
+use Rattle.std.specs.List.{zip}
 use Rattle.odht_base.specs.Format.{Format}
 use Rattle.odht_raw.specs.DynParts.{bytes_coding}
 use Rattle.odht_calls.specs.Builds.{BuildAnswers, BuildGrowingAnswers}
@@ -28,6 +32,18 @@ pieces len (suc n) B = take len B ∷ pieces len n (drop len B)
 pub record ArePieces (kl vl n : ℕ) (ks vs : List ℕ) : Type 0 where
   pub keys : length ks ≡ n * kl
   pub values : length vs ≡ n * vl
+
+pub record HavePieces (kl vl n : ℕ) (ks vs : List ℕ) : Type 0 where
+  pub keys : n * kl ≤ length ks
+  pub values : n * vl ≤ length vs
+
+pub record PieceItems : Type 0 where
+  pub key_len : ℕ
+  pub value_len : ℕ
+  pub items : List (List ℕ × List ℕ)
+
+abbrev pub piece_items : ℕ → ℕ → ℕ → List ℕ → List ℕ → PieceItems
+piece_items kl vl n ks vs = record { key_len = kl; value_len = vl; items = zip (pieces kl n ks) (pieces vl n vs) }
 
 -- ---- walks
 abbrev pub DynWalkAnswers : Format → List ℕ → ℕ → ℕ → List ℕ → List ℕ → ℕ → ℕ → ℕ → List ℕ → List ℕ → ℕ → Type 0

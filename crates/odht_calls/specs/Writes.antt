@@ -12,6 +12,8 @@
 --     InsertAnswers c B k v old s B' new      an insert of the key k with the value v, and the value that k had
 --     InsertAllAnswers c B keys values n s B' n'   inserts of pairs in order, up to the first that is answered with
 --                          Full, and how many were inserted
+--     IsListAnswered fits c B items s B' n'   inserts of the items, of which `fits` says which fit, into accepted bytes:
+--                          all n' of them, or up to one for which the status is that of Full
 -- An error before the first insert leaves all buffers unchanged. A clause `on_valid` applies to the bytes of a valid
 -- table, and `on_any` to all whose header and length are accepted.
 use Rattle.std.specs.Prelude.{◌≡◌, ◌≤◌, ◌<◌, ◌^◌, ℕ, List, length, take}
@@ -25,6 +27,7 @@ use Rattle.odht_base.specs.Table.{Table, fresh}
 use Rattle.odht_base.specs.Valid.{IsImage}
 use Rattle.odht_header.specs.Coding.{Coding, value_for, encoded}
 use Rattle.odht_raw.specs.Frame.{IsAccepted, IsFramed}
+use Rattle.odht_raw.specs.Runs.{IsEncodedRun}
 use Rattle.odht_header.specs.Refusals.{IsTooLarge, new_refusal, opening_refusal}
 use Rattle.odht_header.specs.declared.error.Error.{Error}
 use Rattle.odht_header.specs.declared.error.Error.TheVariants.{Full, Capacity}
@@ -87,3 +90,9 @@ pub record InsertAllAnswers {K V : Type 0} (c : Coding K V) (B : List ℕ) (keys
       → n' < length keys → IsRefusedAt c P (zip keys values) n'
   pub stopped : length values ≡ length keys → IsAccepted c.format B → n' < length keys
       → IsStoppedAt c (zip keys values) n' B'
+
+pub record IsListAnswered {K V : Type 0} (fits : ℕ → Type 0) (c : Coding K V) (B : List ℕ) (items : List (K × V))
+    (s : ℕ) (B' : List ℕ) (n' : ℕ) : Type 0 where
+  pub run : IsEncodedRun fits c B items 0 n' B'
+  pub all : n' ≡ length items → s ≡ done
+  pub some : n' < length items → s ≡ status_of Full

@@ -6,17 +6,17 @@ ghost use Rattle.odht_base.specs.Valid.{IsPairOf};
 ghost use Rattle.odht_raw.specs.Runs.{encoded_all};
 ghost use Rattle.odht_calls.specs.Statuses.{done, too_small};
 ghost use Rattle.odht_calls.specs.Builds.{IsHandedOut, BuildAnswers, BuildGrowingAnswers};
-ghost use Rattle.odht_calls.specs.Writes.{InsertAllAnswers};
 
 use crate::status::{BAD_PERCENT, CAPACITY, OK, TOO_SMALL, status_of};
-use crate::write::{init, insert_all};
-use odht::bytes::{BorrowedMut, ByteArray};
+use crate::write::{Pairs, Sizes, init, insert_items};
+use odht::bytes::ByteArray;
 use odht::config::{Coded, Config};
-use odht::items::Zipped;
+use odht::items::{Encoded, Zipped};
 use odht::layout::Fixed;
 use odht::load::Percent;
 use odht::{HashTableOwned, bytes_needed};
 use std::alloc::Global;
+use std::marker::PhantomData;
 
 /// Builds a table of the pairs at the front of `out`, with slots for as many items as there are
 /// pairs, and writes its length in bytes to `len`. BAD_PERCENT and CAPACITY leave both unchanged,
@@ -47,25 +47,16 @@ pub fn collected<C: Config>(
     }
     // There is room for each pair.
     let table = &mut out[..needed];
-    let count = keys.len();
-    let lengths: Fixed<C::EncodedKey, C::EncodedValue> = Fixed::new();
-    let _ = init::<Fixed<C::EncodedKey, C::EncodedValue>, C::H>(lengths, table, count, percent);
-    let _ = insert_into::<C>(table, keys, values);
-    OK
-}
-
-// `insert_all` in bytes. It is a function of its own since the prover knows what a slice holds
-// after a store of it was lent to a call, and not after the store was made of a part of `out`.
-#[inline(always)]
-fn insert_into<C: Config>(bytes: &mut [u8], keys: &[C::Key], values: &[C::Value]) -> (u32, usize)
-    requires { length values.now ≡ length keys.now }
-    ensures { InsertAllAnswers ⟦<C as Coded>⟧.coding bytes.old keys.now values.now 0 result.0
-        bytes.new result.1 }
-{
-    let mut store = BorrowedMut::new(bytes);
+    let lengths: Sizes<C> = Fixed::new();
+    let _ = init::<Sizes<C>, C::H>(lengths, table, keys.len(), percent);
+    let pairs = Zipped::new(keys, values);
+    let items: Pairs<'_, C> = Encoded {
+        items: &pairs,
+        config: PhantomData,
+    };
     let mut accepted = 0;
-    let status = insert_all::<C, BorrowedMut<'_>>(&mut store, keys, values, &mut accepted);
-    (status, accepted)
+    let _ = insert_items::<Sizes<C>, C::H, Pairs<'_, C>>(lengths, table, items, &mut accepted);
+    OK
 }
 
 // Encodes each key and value and drops the bytes. It changes nothing: only the clause matters,

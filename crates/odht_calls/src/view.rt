@@ -1,9 +1,12 @@
 //! Opened tables as a caller in C keeps them, and for every configuration lookups that skip the
 //! header.
-ghost use Rattle.std.specs.Prelude.{◌≡◌, ◌≤◌, length, min, set};
+ghost use Rattle.std.specs.Prelude.{◌≡◌, ◌≤◌, length, min, set, IfSome};
+ghost use Rattle.std.specs.Option.{option_copied};
 ghost use Rattle.odht_base.specs.Format.{format_of};
+ghost use Rattle.odht_raw.specs.DynParts.{bytes_coding};
 ghost use Rattle.odht_raw.specs.Frame.{IsAccepted};
 ghost use Rattle.odht_raw.specs.PartLengths.{ArePairLengths};
+ghost use Rattle.odht.specs.Gets.{IsGet};
 ghost use Rattle.odht_calls.specs.Layouts.{AnyViewLenAnswers};
 ghost use Rattle.odht_calls.specs.Lookups.{flag_of, with_found};
 ghost use Rattle.odht_calls.specs.Views.{OpenViewAnswers, ViewGetAnswers, ViewGetAllAnswers};
@@ -15,7 +18,7 @@ use odht::config::{Coded, Config};
 use odht::hash::HashFn;
 use odht::layout::Lengths;
 use odht::lookups::{self, Answers};
-use odht::memory_layout::{Header, check_opening_in};
+use odht::memory_layout::{Header, check_opening_in, parts_in};
 
 /// The bytes of an opened table, as C keeps them: a pointer and a length. The calls that read a
 /// view require that the header and the length of its bytes are accepted, and do not check it.
@@ -59,6 +62,24 @@ pub fn table<'a, C: Config>(view: &View<'a>) -> HashTable<C, Borrowed<'a>>
     ensures { result.0.now ≡ view.now.bytes.now }
 {
     HashTable::from_raw_bytes_unchecked(Borrowed::new(view.bytes))
+}
+
+/// The value of a key in bytes whose header and length fit.
+#[inline(always)]
+pub(crate) fn find<'a, L: Lengths, H: HashFn>(
+    lengths: L,
+    bytes: &'a [u8],
+    key: &[u8],
+) -> Option<&'a [u8]>
+    requires pair { ArePairLengths H.MIN_LEN (L.key_len lengths) (L.value_len lengths) }
+    requires accepted { IsAccepted (format_of (L.key_len lengths) (L.value_len lengths) H.hash)
+        bytes.now }
+    requires key { length key.now ≡ L.key_len lengths }
+    ensures found { let F = format_of (L.key_len lengths) (L.value_len lengths) H.hash
+        in IsGet (bytes_coding F) bytes.now key.now (option_copied result) }
+    ensures len { IfSome result (λ value. length value.now ≡ L.value_len lengths) }
+{
+    parts_in::<L, H>(bytes, lengths).find(key)
 }
 
 /// Writes the value of a key of an opened table to `value`. ABSENT leaves `value` unchanged.

@@ -111,7 +111,7 @@ pub(crate) fn encode_pair<C: Config>(
 ///
 /// In a contract the ghost member `items` is the bytes of the items, `key_len` and `value_len` are
 /// the lengths of the table, and `fits` says that the key and the value at an index have these.
-pub(crate) trait EncodedItems: Drop {
+pub trait EncodedItems: Drop {
     /// A key, from which its bytes are read.
     type Key: Drop;
 
@@ -168,9 +168,11 @@ pub(crate) trait EncodedItems: Drop {
 
 /// Items of a configuration, which are encoded where they are read. Each of them fits.
 #[derive(Drop)]
-pub(crate) struct Encoded<'a, C: Config, I> {
-    pub(crate) items: &'a I,
-    pub(crate) config: PhantomData<C>,
+pub struct Encoded<'a, C: Config, I> {
+    /// The keys and values.
+    pub items: &'a I,
+    /// Their configuration.
+    pub config: PhantomData<C>,
 }
 
 impl<'a, C: Config, I: Items<C::Key, C::Value>> EncodedItems for Encoded<'a, C, I> {

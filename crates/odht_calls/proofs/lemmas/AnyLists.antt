@@ -1,6 +1,6 @@
--- Calls for many keys of a dynamic table: lookups so far, inserts so far, and walks over pairs that are bytes.
-use Rattle.std.proofs.Common.{◌≡◌, ◌≤◌, ◌<◌, ◌+◌, ◌*◌, ◌∙◌, ◌++◌, inl, inr, ℕ, zero, suc, suc-mul, take, get_or, length-take-le, sym, ap, subst, refl, arith, List, [], ◌∷◌, All, Bor, Option, Some, None, Result, drop, set, map, length, length-drop, slice_get}
-use Rattle.std.specs.Prelude.{filter_map, IfOk, IfSome}
+-- Calls for many keys of a dynamic table: lookups so far, and walks over pairs that are bytes.
+use Rattle.std.proofs.Common.{◌≡◌, ◌≤◌, ◌<◌, ◌+◌, ◌*◌, ◌∙◌, ◌++◌, inl, inr, ℕ, zero, suc, suc-mul, take, get_or, length-take-le, sym, ap, subst, refl, arith, List, [], ◌∷◌, All, Bor, Option, Some, None, drop, set, map, length, length-drop, slice_get}
+use Rattle.std.specs.Prelude.{filter_map, IfSome}
 use Rattle.std.specs.Option.{option_copied}
 use Rattle.std.proofs.Math.Nat.{eq-or-lt_of_le}
 use Rattle.std.specs.List.{zip}
@@ -8,24 +8,21 @@ use Rattle.std.proofs.lemmas.List.{get_or-take, get_or-drop, get_or_default}
 use Rattle.std.proofs.lemmas.List.Elements.{All-head, All-tail, All-nil, All-cons}
 use Rattle.std.proofs.lemmas.Option.{slice_get_within}
 use Rattle.odht_base.specs.Decoded.{decoded_table, decoded_cells, entries_of, controls_of, header_slots}
-use Rattle.odht_base.specs.Format.{Format, IsFormat, format_of}
+use Rattle.odht_base.specs.Format.{Format, format_of}
 use Rattle.odht_base.specs.Numbers.{IsBytes}
 use Rattle.odht_base.specs.SlotWalks.{numbered, slots_from}
-use Rattle.odht_base.specs.Table.{Pair, Cells, Table}
+use Rattle.odht_base.specs.Table.{Pair, Cells}
 use Rattle.odht_base.proofs.lemmas.ByteRanges.{length-bytes_at}
-use Rattle.odht_base.specs.Valid.{IsImage, IsPairOf}
+use Rattle.odht_base.specs.Valid.{IsPairOf}
 use Rattle.odht_base.proofs.lemmas.Options.{some_same}
 use Rattle.odht_header.specs.Coding.{Coding, HasStored, encoded}
-use Rattle.odht_header.specs.declared.error.Error.{Error}
-use Rattle.odht_raw.specs.Frame.{IsAccepted, IsFramed}
-use Rattle.odht_raw.specs.Runs.{IsOnePlaced, encoded_all}
+use Rattle.odht_raw.specs.Frame.{IsAccepted}
+use Rattle.odht_raw.specs.Runs.{encoded_all}
 use Rattle.odht_raw.specs.DynParts.{HasLengthsOf, bytes_coding, dynamic_parts}
 use Rattle.odht_raw.proofs.lemmas.Accepted.{accepted_len}
 use Rattle.odht_raw.proofs.lemmas.DynWalks.{walk_dynamic}
-use Rattle.odht.specs.DynInserts.{IsStoreInsert}
 use Rattle.odht.specs.Gets.{IsGet}
 use Rattle.odht.proofs.lemmas.Lookups.{slice_get-set_same, slice_get-set_other}
-use Rattle.odht.proofs.lemmas.ViewInserts.{if_inserted, if_former, framed-full, full-framed, framed-only_full}
 use Rattle.odht_calls.specs.Lookups.{flag_of, with_found}
 use Rattle.odht_calls.specs.Pieces.{pieces}
 use Rattle.odht_calls.specs.Reads.{IsGotAt}
@@ -96,20 +93,6 @@ module _ {K V : Type 0} (c : Coding K V) (B : List ℕ) (keys : List K) (vs : Li
 pub answer_len : (F : Format) (B : List ℕ) → IsAccepted F B → (k : List ℕ) (o : Option (Bor (List ℕ))) → IfSome (option_copied o) (HasStored (bytes_coding F) B k) → IfSome o (λ v. length v.now ≡ F.value_len)
 answer_len F B accepted k None stored = tt
 answer_len F B accepted k (Some v) stored = stored_len F B accepted k v.now stored
-
--- ---- an insert of a key and a value of the lengths of the format is what a table's insert is
-pub dynamic_insert : (F : Format) → IsFormat F → (B k v : List ℕ) (r : Result (Option (List ℕ)) Error) (B' : List ℕ)
-    → ((P : Table) → IsImage F P B → IfOk r (λ old. IsOnePlaced (bytes_coding F) P k v old B')) → IsFramed (bytes_coding F) B k v r B' → IsAccepted F B' → IsStoreInsert (bytes_coding F) B k v r B'
-dynamic_insert F fits B k v r B' placed framed accepted =
-    let K = bytes_coding F in
-    record {
-      on_valid = λ P is. record {
-        former = if_former K P k v r B' (placed P is);
-        inserted = if_inserted K P B k v r B' is (placed P is);
-        full = (λ e. framed-full K B k v fits P is r B' e framed, λ full. full-framed K B k v fits P is r B' (placed P is) framed full);
-      };
-      on_any = record { frame = framed; only_full = framed-only_full K B k v r B' framed; accepted = accepted };
-    }
 
 -- ---- pairs of accepted bytes have the lengths of the format
 module _ (T : Pair → Type 0) where

@@ -1,19 +1,33 @@
 -- What inserts into bytes answer whose header and length are accepted.
-use Rattle.std.proofs.Common.{◌≡◌, ◌<◌, arith, length, take, zip, ◌∙◌, ℕ, List, sym, subst, refl, Option, None, Result, Ok, Err, ◌↔◌}
+use Rattle.std.proofs.Common.{◌≡◌, ◌<◌, ◌≤◌, arith, length, map, take, zip, ◌∙◌, ℕ, List, inl, inr, sym, ap, subst, refl, Option, Some, None, Result, Ok, Err, ◌↔◌}
+use Rattle.std.specs.Prelude.{⊤}
+use Rattle.std.specs.List.{slice_range}
+use Rattle.std.proofs.Math.Nat.{eq-or-lt_of_le}
+use Rattle.std.proofs.lemmas.List.{get_or-take, length-map, length-take, take_all, take-take}
+use Rattle.std.proofs.lemmas.Option.{get_or_from_slice_get, slice_get-get_or}
+use Rattle.std.proofs.lemmas.Slice.Zip.{length-zip}
+use Rattle.odht_base.specs.Format.{IsFormat}
 use Rattle.odht_base.specs.Insert.{insert_view, IsFullFor}
-use Rattle.odht_base.specs.Table.{Table}
+use Rattle.odht_base.specs.Table.{Pair, Table}
 use Rattle.odht_base.specs.Valid.{IsImage}
-use Rattle.odht_base.proofs.lemmas.TableInserts.{insert_view-None}
+use Rattle.odht_base.proofs.lemmas.FreshRuns.{insert_view-PlacesBelow}
+use Rattle.odht_base.proofs.lemmas.TableInserts.{insert_view-IsInsert, insert_view-None}
 use Rattle.odht_header.specs.Coding.{Coding, encoded, value_for}
+use Rattle.odht_raw.specs.DynParts.{bytes_coding}
 use Rattle.odht_raw.specs.Frame.{IsFramed}
+use Rattle.odht_raw.proofs.lemmas.EncodedRuns.{list_run}
+use Rattle.odht_raw.specs.Runs.{IsEncodedRun, IsListRun}
+use Rattle.odht_raw.proofs.lemmas.PartRuns.{take-range}
 use Rattle.odht_header.specs.Refusals.{opening_refusal}
 use Rattle.odht_header.specs.declared.error.Error.{Error}
 use Rattle.odht_header.specs.declared.error.Error.TheVariants.{Full}
 use Rattle.odht.specs.Inserts.{IsInserted}
 use Rattle.odht.specs.Lists.{encoded_all, IsAfterInserts, IsFramedRun, IsRefusedAt, IsStoppedAt}
 use Rattle.odht.specs.Tables.{OfTable}
+use Rattle.odht.proofs.lemmas.FittingRuns.{insert_view-PlacesTaken}
+use Rattle.odht.proofs.lemmas.ListInserts.{inserted_none, inserted_placed, encoded_all-range, refused_here}
 use Rattle.odht_calls.specs.Statuses.{done, status_of}
-use Rattle.odht_calls.specs.Writes.{IsFormer, InsertAnswers, InsertAllAnswers}
+use Rattle.odht_calls.specs.Writes.{IsFormer, InsertAnswers, InsertAllAnswers, IsListAnswered}
 use Rattle.odht_calls.proofs.lemmas.Refused.{not_none}
 
 -- B were the bytes, S what the table saw of them and T what it left, and these are now C
@@ -82,3 +96,76 @@ module _ {K V : Type 0} (c : Coding K V) (B C : List ℕ) (keys : List K) (value
     at_maximum = λ P long is image l. full P (subst (IsImage c.format P) same image);
     stopped = λ long is l. rw same stop;
   }
+
+-- a run over the first d of some items, up to item n
+module _ {K V : Type 0} (c : Coding K V) (B C : List ℕ) (xs : List (K × V)) (d n : ℕ) (run : IsListRun c B (take d xs) 0 n C) where
+  few : n ≤ d
+  few = omega (arith, run.within, length-take d xs)
+
+  first : take n (take d xs) ≡ take n xs
+  first = take-take n d xs few
+
+  -- inserts these items
+  pub run_framed : IsFramedRun c B (take n xs) C
+  run_framed = subst (λ (ys : List (K × V)). IsFramedRun c B ys C) (take-range (take d xs) 0 n (omega arith) ∙ first) run.framed
+
+  pub run_inserted : (P : Table) → IsImage c.format P B → IsAfterInserts c.format (insert_view c.format) P (encoded_all c (take n xs)) C
+  run_inserted P is =
+      let insert = insert_view c.format in
+      let ys = take d xs in
+      let h = inserted_none c.format insert P B is in
+      subst (λ (ps : List Pair). IsAfterInserts c.format insert P ps C) (encoded_all-range c ys 0 n (omega arith) ∙ ap (encoded_all c) first)
+      (inserted_placed c.format insert (insert_view-IsInsert c.format) (insert_view-PlacesBelow c.format) P (insert_view-PlacesTaken c.format) (encoded_all c (take 0 ys)) (encoded_all c (slice_range ys 0 n)) B C
+      h (run.placed h.table h.image))
+
+  -- and stops at item n
+  pub run_stopped : d ≤ length xs → n < d → IsStoppedAt c xs n C
+  run_stopped long low = elim run.stopped [
+    | inl e ↦ absurd (omega (arith, e, low, long, length-take d xs))
+    | inr stop ↦ record {
+      item = stop.item;
+      at = slice_get-get_or xs n stop.item (omega (arith, low, long)) ∙ ap (λ x. Some x) (sym (get_or-take d xs n stop.item low) ∙ get_or_from_slice_get (take d xs) n stop.item stop.item stop.at);
+      framed = stop.framed;
+    }
+  ]
+
+  -- where these d decide what all m pairs leave
+  module _ (keys : List K) (values : List V) (zipped : xs ≡ zip keys values) (equal : length values ≡ length keys) (m : ℕ) (many : m ≡ length keys) (most : d ≤ m) (fits : IsFormat c.format) (accepted : None ≡ opening_refusal c.format B) where
+    pub listed : (before s n' : ℕ) → (n < d → (n' ≡ n) × (s ≡ status_of Full)) → (n ≡ d → (n' ≡ m) × (s ≡ done)) → (IsFramedRun c B (take d xs) C → IsFramedRun c B (take m xs) C)
+        → ((P : Table) → IsAfterInserts c.format (insert_view c.format) P (encoded_all c (take d xs)) C → IsAfterInserts c.format (insert_view c.format) P (encoded_all c (take m xs)) C) → InsertAllAnswers c B keys values before s C n'
+    listed before s n' some all more_framed more_inserted = elim (eq-or-lt_of_le few) [
+      | inl e ↦ (
+          let framed : IsFramedRun c B (take m (zip keys values)) C = subst (λ (ys : List (K × V)). IsFramedRun c B (take m ys) C) zipped (more_framed (subst (λ k. IsFramedRun c B (take k xs) C) e run_framed)) in
+          let inserted : (P : Table) → IsImage c.format P B → IsAfterInserts c.format (insert_view c.format) P (encoded_all c (take m (zip keys values))) C =
+          λ P is. subst (λ (ys : List (K × V)). IsAfterInserts c.format (insert_view c.format) P (encoded_all c (take m ys)) C) zipped (more_inserted P (subst (λ k. IsAfterInserts c.format (insert_view c.format) P (encoded_all c (take k xs)) C) e (run_inserted P is))) in
+          rw ((all e).0 ∙ many, (all e).1) (accepted_insert_all c B C keys values before m accepted equal framed inserted many))
+      | inr low ↦ (
+          let stop : IsStoppedAt c (zip keys values) n C = subst (λ (ys : List (K × V)). IsStoppedAt c ys n C) zipped (run_stopped (omega (arith, most, many, ap length zipped, length-zip keys values, equal)) low) in
+          rw ((some low).0) (full_insert_all c B C keys values before n accepted equal (subst (λ (ys : List (K × V)). IsFramedRun c B (take n ys) C) zipped run_framed)
+          (λ P is. subst (λ (ys : List (K × V)). IsAfterInserts c.format (insert_view c.format) P (encoded_all c (take n ys)) C) zipped (run_inserted P is))
+          C s refl (omega (arith, low, most, many)) (some low).1 (λ P is. refused_here c fits P (zip keys values) n C is stop) stop))
+    ]
+
+-- items that all fit
+pub list_of : {K V : Type 0} (c : Coding K V) (B : List ℕ) (xs : List (K × V)) (n : ℕ) (C : List ℕ) → IsEncodedRun (λ _. ⊤) c B xs 0 n C → IsListRun c B xs 0 n C
+list_of c B xs n C h = record {
+  after = h.after;
+  within = h.within;
+  placed = h.placed;
+  framed = h.framed;
+  stopped = elim h.stopped [ inl e ↦ inl e | inr (inl other) ↦ absurd (other tt) | inr (inr stop) ↦ inr stop ];
+}
+
+-- the pairs of a configuration
+pub pairs_listed : {K V : Type 0} (c : Coding K V) → IsFormat c.format → (B C : List ℕ) (keys : List K) (values : List V) → length values ≡ length keys → None ≡ opening_refusal c.format B → (items : List (K × V)) → items ≡ zip keys values → (before s n : ℕ)
+    → IsListAnswered (λ _. ⊤) (bytes_coding c.format) B (map (λ (item : K × V). (c.key_bytes item.0, c.value_bytes item.1)) items) s C n → InsertAllAnswers c B keys values before s C n
+pairs_listed {K = K} {V = V} c fits B C keys values equal accepted items zipped before s n answers =
+    let xs = zip keys values in
+    let d = length keys in
+    let long : length xs ≡ d = omega (arith, length-zip keys values, equal) in
+    let count : length (map {B = List ℕ × List ℕ} (λ (item : K × V). (c.key_bytes item.0, c.value_bytes item.1)) items) ≡ d =
+    length-map {B = List ℕ × List ℕ} items (λ (item : K × V). (c.key_bytes item.0, c.value_bytes item.1)) ∙ ap length zipped ∙ long in
+    let whole : take d xs ≡ xs = take_all d xs (omega (arith, long)) in
+    let run : IsListRun c B (take d xs) 0 n C = subst (λ (ys : List (K × V)). IsListRun c B ys 0 n C) (zipped ∙ sym whole) (list_run c B items 0 n C answers.run) in
+    listed c B C xs d n run keys values refl equal d refl (omega arith) fits accepted before s n
+    (λ low. (refl, answers.some (omega (arith, low, count)))) (λ e. (e, answers.all (omega (arith, e, count)))) (λ framed. framed) (λ P inserted. inserted)

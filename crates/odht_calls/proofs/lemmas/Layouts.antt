@@ -1,4 +1,4 @@
--- Calls for dynamic tables: the hash function that is picked, and the table that is opened.
+-- Calls for dynamic tables: the hash function that is picked, and the lengths of values.
 use Rattle.std.proofs.Common.{◌≡◌, ◌≤◌, ◌<◌, ◌*◌, ◌∙◌, ℕ, zero, suc, List, sym, ap, subst, refl, arith, length}
 use Rattle.std.proofs.lemmas.List.{length-drop}
 use Rattle.odht_base.specs.Decoded.{entries_of, header_slots, slot_entry, value_at}
@@ -10,7 +10,6 @@ use Rattle.odht_header.specs.Coding.{Coding, HasStored}
 use Rattle.odht_raw.specs.Frame.{IsAccepted}
 use Rattle.odht_raw.proofs.lemmas.Accepted.{accepted_len}
 use Rattle.odht_raw.specs.DynParts.{bytes_coding}
-use Rattle.odht.specs.Dynamic.{DynStore, dyn_format}
 use Rattle.odht_calls.specs.declared.any.AnyLayout.{AnyLayout}
 use Rattle.odht_calls.specs.Layouts.{AnyAnswers, DynAnswers, bad_layout, hash_of, least_of}
 
@@ -39,11 +38,6 @@ module _ (l : AnyLayout) (s : ℕ) (Same : Type 0) (A : Coding (List ℕ) (List 
 -- keys and values are as long as the layout says
 pub of_long : {Long Same A : Type 0} {s : ℕ} → Long → A → DynAnswers Long s Same A
 of_long long answers = record { lengths = λ other. absurd (other long); answers = λ same. answers }
-
--- what holds of the table that was opened holds of the bytes and the lengths
-pub opened : {D : Type 0} (t : DynStore D) (key_len value_len : ℕ) (h : List ℕ → ℕ) (T B : List ℕ) → t.key_len ≡ key_len → t.value_len ≡ value_len → T ≡ B
-    → (P : Format → List ℕ → Type 0) → P (dyn_format t h) T → P (format_of key_len value_len h) B
-opened t key_len value_len h T B key value same P holds = subst (λ (x : Format × List ℕ). P x.0 x.1) (λ i. (format_of (key i) (value i) h, same i)) holds
 
 -- ---- values of accepted bytes are as long as the format says
 module _ (F : Format) (B : List ℕ) (accepted : IsAccepted F B) where

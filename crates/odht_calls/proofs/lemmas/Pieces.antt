@@ -2,8 +2,9 @@
 use Rattle.std.proofs.Common.{◌≡◌, ◌≤◌, ◌<◌, ◌+◌, ◌*◌, ◌∙◌, ◌++◌, ℕ, zero, suc, sym, ap, subst, refl, arith, List, [], ◌∷◌, Some, take, drop, set, length, length-take-le, length-drop, slice_get, zero-mul, suc-mul}
 use Rattle.std.proofs.Math.Nat.{mul-le-mul_right}
 use Rattle.std.proofs.lemmas.List.{drop-drop, drop-take, take-take, take_at, drop_at, take-append-le, drop-append-le}
+use Rattle.std.proofs.lemmas.Slice.Zip.{length-zip}
 use Rattle.std.specs.List.{zip}
-use Rattle.odht_calls.specs.Pieces.{pieces}
+use Rattle.odht_calls.specs.Pieces.{pieces, ArePieces, HavePieces}
 
 -- there are as many as asked for
 pub length-pieces : (len n : ℕ) (B : List ℕ) → length (pieces len n B) ≡ n
@@ -58,3 +59,27 @@ zip_at [] ys i x y e f = absurd (let both = e in cc)
 zip_at (a ∷ xs) [] i x y e f = absurd (let both = f in cc)
 zip_at (a ∷ xs) (b ∷ ys) zero x y e f = (let one : Some a ≡ Some x = e in let two : Some b ≡ Some y = f in cc)
 zip_at (a ∷ xs) (b ∷ ys) (suc i) x y e f = zip_at xs ys i x y e f
+
+-- the first d of n pairs
+pub first_pairs : (kl vl d n : ℕ) (ks vs : List ℕ) → d ≤ n → zip (pieces kl d ks) (pieces vl d vs) ≡ take d (zip (pieces kl n ks) (pieces vl n vs))
+first_pairs kl vl zero n ks vs most = refl
+first_pairs kl vl (suc d) zero ks vs most = absurd (omega (arith, most))
+first_pairs kl vl (suc d) (suc n) ks vs most = ap (λ xs. (take kl ks, take vl vs) ∷ xs) (first_pairs kl vl d n (drop kl ks) (drop vl vs) (omega (arith, most)))
+
+-- and their bytes
+pub have_pieces : (kl vl d n : ℕ) (ks vs : List ℕ) → d ≤ n → ArePieces kl vl n ks vs → HavePieces kl vl d ks vs
+have_pieces kl vl d n ks vs most all = record {
+  keys = (let low = mul-le-mul_right kl most in omega (arith, low, all.keys));
+  values = (let low = mul-le-mul_right vl most in omega (arith, low, all.values));
+}
+
+-- how many pairs there are
+pub length-pairs : (kl vl n : ℕ) (ks vs : List ℕ) → length (zip (pieces kl n ks) (pieces vl n vs)) ≡ n
+length-pairs kl vl n ks vs = omega (arith, length-zip (pieces kl n ks) (pieces vl n vs), length-pieces kl n ks, length-pieces vl n vs)
+
+-- each of them is within the bytes
+pub pair_within : (kl vl n i : ℕ) (ks vs : List ℕ) → HavePieces kl vl n ks vs → i < n → (i * kl + kl ≤ length ks) × (i * vl + vl ≤ length vs)
+pair_within kl vl n i ks vs have low =
+    let key = ends_within i n kl (n * kl) low refl in
+    let value = ends_within i n vl (n * vl) low refl in
+    (omega (arith, key, have.keys), omega (arith, value, have.values))

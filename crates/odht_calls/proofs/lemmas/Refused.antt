@@ -4,9 +4,9 @@ use Rattle.odht_base.specs.Format.{Format}
 use Rattle.odht_header.specs.Coding.{Coding}
 use Rattle.odht_header.specs.Refusals.{opening_refusal}
 use Rattle.odht_header.specs.declared.error.Error.{Error}
-use Rattle.odht_calls.specs.Layouts.{ContainsAnswers}
+use Rattle.odht_calls.specs.Layouts.{ContainsAnswers, ViewContainsAnswers}
 use Rattle.odht_calls.specs.Reads.{GetAnswers, GetAllAnswers, LenAnswersOf, SizesAnswers}
-use Rattle.odht_calls.specs.Views.{ViewGetAllAnswers}
+use Rattle.odht_calls.specs.Views.{ViewGetAnswers, ViewGetAllAnswers}
 use Rattle.odht_calls.specs.Walks.{WalkAnswers}
 use Rattle.odht_calls.specs.Statuses.{AreAsLong, status_of, status_or_ok}
 use Rattle.odht_calls.specs.Writes.{InsertAnswers, InsertAllAnswers}
@@ -98,6 +98,12 @@ module _ {K V : Type 0} (c : Coding K V) (B : List ℕ) (a : Error) (s : ℕ) (i
 
 -- what lookups in the opened table answer, where opening has no error
 module _ {K V : Type 0} (c : Coding K V) (B : List ℕ) (none : None ≡ opening_refusal c.format B) where
+  pub accepted_get : (k : K) (old : V) (s : ℕ) (new : V) → ViewGetAnswers c B k old s new → GetAnswers c B k old s new
+  accepted_get k old s new viewed = record { refused = λ e is. not_none _ e is (sym none); on_valid = viewed.on_valid; on_any = λ opens. viewed.on_any }
+
+  pub accepted_contains : (k : K) (s : ℕ) → ViewContainsAnswers c B k s → ContainsAnswers c B k s
+  accepted_contains k s viewed = record { refused = λ e is. not_none _ e is (sym none); on_valid = viewed.on_valid; on_any = λ opens. viewed.on_any }
+
   pub accepted_get_all : (keys : List K) (vs vs' : List V) (fs fs' : List ℕ) (s : ℕ) → ViewGetAllAnswers c B keys vs fs s vs' fs' → GetAllAnswers c B keys vs fs s vs' fs'
   accepted_get_all keys vs vs' fs fs' s viewed = record {
     lengths = viewed.lengths;

@@ -2,13 +2,10 @@
 //! own and then copied to the caller's.
 ghost use Rattle.std.specs.Prelude.{◌≤◌};
 ghost use Rattle.odht_base.specs.Format.{format_of};
-ghost use Rattle.odht_raw.specs.DynParts.{bytes_coding};
-ghost use Rattle.odht_calls.specs.Builds.{BuildGrowingAnswers};
-ghost use Rattle.odht_calls.specs.Pieces.{pieces, ArePieces, DynBuildAnswers};
-ghost use Rattle.odht_calls.specs.Pieces.{DynBuildGrowingAnswers};
+ghost use Rattle.odht_calls.specs.Pieces.{DynBuildAnswers, DynBuildGrowingAnswers};
 
 use super::pieces::{are_pieces, deciding_pairs, piece};
-use super::write::insert_pieces;
+use super::write::insert_all;
 use crate::build::hand_out;
 use crate::status::{BAD_LENGTHS, BAD_PERCENT, CAPACITY, MEMORY, OK, TOO_SMALL};
 use crate::write::init;
@@ -53,46 +50,13 @@ pub fn build<H: HashFn>(
     let table = &mut out[..needed];
     let mut accepted = 0;
     let _ = init::<Layout, H>(layout, table, count, percent);
-    let _ = insert_pieces::<H>(layout, table, count, keys, values, &mut accepted);
+    let _ = insert_all::<H>(layout, table, count, keys, values, &mut accepted);
     OK
-}
-
-// The build of `count` pairs in memory of its own.
-fn grow_pieces<H: HashFn>(
-    alloc: Global,
-    layout: Layout,
-    count: usize,
-    keys: &[u8],
-    values: &[u8],
-    out: &mut [u8],
-    len: &mut usize,
-) -> u32
-    requires hashes { H.MIN_LEN ≤ layout.key_len }
-    requires arrays { ArePieces layout.key_len layout.value_len count keys.now values.now }
-    ensures { let c = bytes_coding (format_of layout.key_len layout.value_len H.hash)
-        in BuildGrowingAnswers c (pieces layout.key_len count keys.now)
-        (pieces layout.value_len count values.now) out.old len.old result out.new len.new }
-{
-    // Sixteen slots are never too many, so the only error is that there is no memory.
-    let mut table = match DynTableOwned::<H>::with_capacity(alloc, layout, 12, 87) {
-        Ok(table) => table,
-        Err(_refused) => return MEMORY,
-    };
-    let deciding = deciding_pairs(layout, count);
-    for index in 0..deciding {
-        let key = piece(keys, layout.key_len, index);
-        let value = piece(values, layout.value_len, index);
-        if let Err(_refused) = table.insert(key, value) {
-            return MEMORY;
-        }
-    }
-    hand_out(table.raw_bytes(), out, len)
 }
 
 /// Builds a table of `count` pairs in memory of its own, which starts with sixteen slots at 87
 /// percent and grows, and copies it to the front of `out`. BAD_LENGTHS and MEMORY leave `out` and
 /// `len` unchanged, TOO_SMALL leaves `out` unchanged.
-#[inline(always)]
 pub fn build_growing<H: HashFn>(
     layout: Layout,
     alloc: Global,
@@ -109,5 +73,18 @@ pub fn build_growing<H: HashFn>(
     if !are_pieces(layout, count, keys, values) {
         return BAD_LENGTHS;
     }
-    grow_pieces::<H>(alloc, layout, count, keys, values, out, len)
+    // Sixteen slots are never too many, so the only error is that there is no memory.
+    let mut table = match DynTableOwned::<H>::with_capacity(alloc, layout, 12, 87) {
+        Ok(table) => table,
+        Err(_refused) => return MEMORY,
+    };
+    let deciding = deciding_pairs(layout, count);
+    for index in 0..deciding {
+        let key = piece(keys, layout.key_len, index);
+        let value = piece(values, layout.value_len, index);
+        if let Err(_refused) = table.insert(key, value) {
+            return MEMORY;
+        }
+    }
+    hand_out(table.raw_bytes(), out, len)
 }

@@ -1,11 +1,84 @@
 //! Keys, or values, that lie one after the other in bytes.
 ghost use Rattle.std.specs.Prelude.{◌≡◌, ◌≤◌, ◌<◌, ◌+◌, ◌*◌, ◌↔◌, ◌⊎◌, ℕ, IsTrue, Some, length};
-ghost use Rattle.std.specs.Prelude.{set, slice_get, IfSome};
+ghost use Rattle.std.specs.Prelude.{set, slice_get, IfSome, ⊤};
 ghost use Rattle.std.specs.Option.{option_copied};
 ghost use Rattle.odht_calls.specs.Lookups.{flag_of, with_found};
 ghost use Rattle.odht_calls.specs.Pieces.{pieces, ArePieces};
 
+use odht::items::EncodedItems;
 use odht::layout::Layout;
+use std::marker::Model;
+
+/// The first keys and values of bytes in which they lie one after the other.
+#[derive(Drop)]
+pub(crate) struct Pieces<'a> {
+    pub(crate) layout: Layout,
+    pub(crate) count: usize,
+    pub(crate) keys: &'a [u8],
+    pub(crate) values: &'a [u8],
+}
+
+impl<'a> Model for Pieces<'a> {
+    ghost use Rattle.odht_calls.specs.Pieces.{PieceItems, piece_items, HavePieces};
+
+    ghost Value = { PieceItems };
+
+    ghost view = { λ p. piece_items p.layout.key_len p.layout.value_len p.count p.keys.now
+        p.values.now };
+
+    ghost invariant = { λ p. HavePieces p.layout.key_len p.layout.value_len p.count p.keys.now
+        p.values.now };
+}
+
+impl<'a> EncodedItems for Pieces<'a> {
+    type Key = &'a [u8];
+
+    type Value = &'a [u8];
+
+    ghost items = { λ p. p.items };
+
+    ghost key_len = { λ p. p.key_len };
+
+    ghost value_len = { λ p. p.value_len };
+
+    ghost fits = { λ _ _. ⊤ };
+
+    ghost key_bytes = { λ k. k.now };
+
+    ghost value_bytes = { λ v. v.now };
+
+    #[inline(always)]
+    fn count(&self) -> usize {
+        self.count
+    }
+
+    #[inline(always)]
+    fn fits(&self, _index: usize) -> bool {
+        true
+    }
+
+    #[inline(always)]
+    fn key(&self, index: usize) -> &'a [u8] {
+        let (key, _) = self.pair(index);
+        key
+    }
+
+    #[inline(always)]
+    fn pair(&self, index: usize) -> (&'a [u8], &'a [u8]) {
+        let key = piece(self.keys, self.layout.key_len, index);
+        (key, piece(self.values, self.layout.value_len, index))
+    }
+
+    #[inline(always)]
+    fn key_bytes<'k>(key: &'k &'a [u8]) -> &'k [u8] {
+        key
+    }
+
+    #[inline(always)]
+    fn value_bytes<'v>(value: &'v &'a [u8]) -> &'v [u8] {
+        value
+    }
+}
 
 // Whether the bytes are that many keys, and that many values.
 pub(crate) fn are_pieces(layout: Layout, count: usize, keys: &[u8], values: &[u8]) -> bool

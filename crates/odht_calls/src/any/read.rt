@@ -9,10 +9,10 @@ ghost use Rattle.odht_calls.specs.Reads.{GetAnswers};
 use super::pieces::{are_pieces, put_piece};
 use super::{AnyLayout, view};
 use crate::read::header_of;
-use crate::status::{ABSENT, BAD_LENGTHS, OK, TOO_SMALL, status_of};
+use crate::status::{BAD_LENGTHS, OK, TOO_SMALL, status_of};
 use odht::hash::HashFn;
 use odht::layout::Layout;
-use odht::memory_layout::{check_by_header, stated_layout};
+use odht::memory_layout::{check_by_header, parts_in, stated_layout};
 
 /// Writes the value of a key to `value`. BAD_LENGTHS where the key or `value` has another length
 /// than the layout says. ABSENT and errors leave `value` unchanged.
@@ -27,16 +27,10 @@ pub fn get<H: HashFn>(layout: Layout, bytes: &[u8], key: &[u8], value: &mut [u8]
     if key.len() != layout.key_len as usize || value.len() != layout.value_len as usize {
         return BAD_LENGTHS;
     }
-    if let Err(refused) = check_by_header(bytes, layout) {
+    if let Err(refused) = header_of::<Layout, H>(layout, bytes) {
         return status_of(&refused);
     }
-    match view::table_of::<H>(layout, bytes).get(key) {
-        Some(found) => {
-            value.copy_from_slice(found);
-            OK
-        }
-        None => ABSENT,
-    }
+    view::get::<H>(layout, bytes, key, value)
 }
 
 /// OK where the key has a value, else ABSENT. BAD_LENGTHS where the key has another length than
@@ -51,13 +45,10 @@ pub fn contains<H: HashFn>(layout: Layout, bytes: &[u8], key: &[u8]) -> u32
     if key.len() != layout.key_len as usize {
         return BAD_LENGTHS;
     }
-    if let Err(refused) = check_by_header(bytes, layout) {
+    if let Err(refused) = header_of::<Layout, H>(layout, bytes) {
         return status_of(&refused);
     }
-    match view::table_of::<H>(layout, bytes).get(key) {
-        Some(_) => OK,
-        None => ABSENT,
-    }
+    view::contains::<H>(layout, bytes, key)
 }
 
 /// Looks up `count` keys: at the index of a key that is found, its value is written to `values`
@@ -82,7 +73,7 @@ pub fn get_all<H: HashFn>(
     if let Err(refused) = header_of::<Layout, H>(layout, bytes) {
         return status_of(&refused);
     }
-    view::look_up::<H>(layout, bytes, count, keys, values, found)
+    view::get_all::<H>(layout, bytes, count, keys, values, found)
 }
 
 /// Writes the keys and values in the slots from `cursor` on to the arrays, in slot order, as many
@@ -110,9 +101,8 @@ pub fn walk<H: HashFn>(
         Ok(header) => header,
         Err(refused) => return status_of(&refused),
     };
-    let table = view::table_of::<H>(layout, bytes);
     let mut written = 0;
-    for (slot, (key, value)) in table.iter_from(*cursor) {
+    for (slot, (key, value)) in parts_in::<Layout, H>(bytes, layout).iter_from(*cursor) {
         if written >= room {
             *cursor = slot;
             *item_count = written;

@@ -4,26 +4,14 @@ ghost use Rattle.odht_base.specs.Format.{format_of};
 ghost use Rattle.odht_raw.specs.Frame.{IsAccepted};
 ghost use Rattle.odht_raw.specs.DynParts.{bytes_coding};
 ghost use Rattle.odht_calls.specs.Layouts.{DynAnswers, ViewContainsAnswers};
-ghost use Rattle.odht_calls.specs.Pieces.{pieces, ArePieces, DynViewGetAllAnswers};
-ghost use Rattle.odht_calls.specs.Views.{ViewGetAnswers, ViewGetAllAnswers};
+ghost use Rattle.odht_calls.specs.Pieces.{DynViewGetAllAnswers};
+ghost use Rattle.odht_calls.specs.Views.{ViewGetAnswers};
 
 use super::pieces::{are_pieces, piece, put_answer};
 use crate::status::{ABSENT, BAD_LENGTHS, OK};
-use odht::bytes::Borrowed;
-use odht::dynamic::DynTable;
+use crate::view::find;
 use odht::hash::HashFn;
 use odht::layout::Layout;
-
-/// The table of bytes whose header and length fit. Reads none of them.
-pub(super) fn table_of<H: HashFn>(layout: Layout, bytes: &[u8]) -> DynTable<H, Borrowed<'_>>
-    requires hashes { H.MIN_LEN ≤ layout.key_len }
-    requires accepted { IsAccepted (format_of layout.key_len layout.value_len H.hash) bytes.now }
-    ensures key { result.key_len ≡ layout.key_len }
-    ensures value { result.value_len ≡ layout.value_len }
-    ensures bytes { result.store.0.now ≡ bytes.now }
-{
-    DynTable::open_unchecked(layout, Borrowed::new(bytes))
-}
 
 /// Writes the value of a key of an opened table to `value`. BAD_LENGTHS where the key or `value`
 /// has another length than the layout says. It and ABSENT leave `value` unchanged.
@@ -39,8 +27,7 @@ pub fn get<H: HashFn>(layout: Layout, bytes: &[u8], key: &[u8], value: &mut [u8]
     if key.len() != layout.key_len as usize || value.len() != layout.value_len as usize {
         return BAD_LENGTHS;
     }
-    let table = table_of::<H>(layout, bytes);
-    match table.get(key) {
+    match find::<Layout, H>(layout, bytes, key) {
         Some(found) => {
             value.copy_from_slice(found);
             OK
@@ -62,43 +49,17 @@ pub fn contains<H: HashFn>(layout: Layout, bytes: &[u8], key: &[u8]) -> u32
     if key.len() != layout.key_len as usize {
         return BAD_LENGTHS;
     }
-    let table = table_of::<H>(layout, bytes);
-    match table.get(key) {
+    match find::<Layout, H>(layout, bytes, key) {
         Some(_) => OK,
         None => ABSENT,
     }
 }
 
-// The lookups of `count` keys in bytes whose header and length fit.
-pub(crate) fn look_up<H: HashFn>(
-    layout: Layout,
-    bytes: &[u8],
-    count: usize,
-    keys: &[u8],
-    values: &mut [u8],
-    found: &mut [u8],
-) -> u32
-    requires hashes { H.MIN_LEN ≤ layout.key_len }
-    requires accepted { IsAccepted (format_of layout.key_len layout.value_len H.hash) bytes.now }
-    requires arrays { ArePieces layout.key_len layout.value_len count keys.now values.old }
-    requires found { length found.old ≡ count }
-    ensures { let c = bytes_coding (format_of layout.key_len layout.value_len H.hash)
-        in let k = pieces layout.key_len count keys.now
-        in let v = pieces layout.value_len count
-        in ViewGetAllAnswers c bytes.now k (v values.old) found.old result (v values.new) found.new }
-{
-    let table = table_of::<H>(layout, bytes);
-    for index in 0..count {
-        let answer = table.get(piece(keys, layout.key_len, index));
-        put_answer(values, found, layout.value_len, index, answer);
-    }
-    OK
-}
-
 /// Looks up `count` keys in an opened table: at the index of a key that is found, its value is
 /// written to `values` and 1 to `found`; at any other index 0 is written to `found`. BAD_LENGTHS
 /// where the arrays are not for that many keys, values and flags; it leaves both unchanged.
-#[inline(always)]
+// Not inlined, so that both exports share one loop.
+#[inline(never)]
 pub fn get_all<H: HashFn>(
     layout: Layout,
     bytes: &[u8],
@@ -115,5 +76,9 @@ pub fn get_all<H: HashFn>(
     if !are_pieces(layout, count, keys, values) || found.len() != count {
         return BAD_LENGTHS;
     }
-    look_up::<H>(layout, bytes, count, keys, values, found)
+    for index in 0..count {
+        let answer = find::<Layout, H>(layout, bytes, piece(keys, layout.key_len, index));
+        put_answer(values, found, layout.value_len, index, answer);
+    }
+    OK
 }

@@ -4,15 +4,16 @@ ghost use Rattle.odht_base.specs.Format.{format_of};
 ghost use Rattle.odht_raw.specs.DynParts.{bytes_coding};
 ghost use Rattle.odht_raw.specs.Frame.{IsAccepted};
 ghost use Rattle.odht_calls.specs.Layouts.{DynAnswers};
-ghost use Rattle.odht_calls.specs.Pieces.{pieces, ArePieces, DynInsertAllAnswers};
-ghost use Rattle.odht_calls.specs.Writes.{InsertAnswers, InsertAllAnswers};
+ghost use Rattle.odht_calls.specs.Pieces.{DynInsertAllAnswers};
+ghost use Rattle.odht_calls.specs.Writes.{InsertAnswers};
 
-use super::pieces::{are_pieces, deciding_pairs, piece};
+use super::pieces::{Pieces, are_pieces, deciding_pairs};
 use crate::read::header_of;
 use crate::status::{BAD_LENGTHS, OK, REPLACED, status_of};
+use crate::write::insert_items;
 use odht::hash::HashFn;
 use odht::layout::Layout;
-use odht::memory_layout::{insert_dynamic, insert_dynamic_into};
+use odht::memory_layout::insert_dynamic_into;
 
 /// Gives the key this value. A value that it had before is written to `former`. BAD_LENGTHS where
 /// the key, the value or `former` has another length than the layout says. An error leaves the
@@ -50,43 +51,11 @@ pub fn insert<H: HashFn>(
     }
 }
 
-// The inserts of `count` pairs.
-pub(crate) fn insert_pieces<H: HashFn>(
-    layout: Layout,
-    bytes: &mut [u8],
-    count: usize,
-    keys: &[u8],
-    values: &[u8],
-    accepted: &mut usize,
-) -> u32
-    requires hashes { H.MIN_LEN ≤ layout.key_len }
-    requires arrays { ArePieces layout.key_len layout.value_len count keys.now values.now }
-    ensures answers { let c = bytes_coding (format_of layout.key_len layout.value_len H.hash)
-        in InsertAllAnswers c bytes.old (pieces layout.key_len count keys.now)
-        (pieces layout.value_len count values.now) accepted.old result bytes.new accepted.new }
-    ensures accepted { let F = format_of layout.key_len layout.value_len H.hash
-        in IsAccepted F bytes.old → IsAccepted F bytes.new }
-{
-    if let Err(refused) = header_of::<Layout, H>(layout, bytes) {
-        return status_of(&refused);
-    }
-    let deciding = deciding_pairs(layout, count);
-    for index in 0..deciding {
-        let key = piece(keys, layout.key_len, index);
-        let value = piece(values, layout.value_len, index);
-        if let Err(refused) = insert_dynamic::<H>(bytes, layout, key, value) {
-            *accepted = index;
-            return status_of(&refused);
-        }
-    }
-    *accepted = count;
-    OK
-}
-
 /// Inserts `count` pairs in order, up to the first whose insert fails with FULL, and writes to
 /// `accepted` how many were inserted. BAD_LENGTHS where the arrays are not for that many keys and
 /// values. It and an error of the header or length leave everything unchanged.
-#[inline(always)]
+// Not inlined, so that the compiler inlines `insert` where it is exported.
+#[inline(never)]
 pub fn insert_all<H: HashFn>(
     layout: Layout,
     bytes: &mut [u8],
@@ -104,5 +73,18 @@ pub fn insert_all<H: HashFn>(
     if !are_pieces(layout, count, keys, values) {
         return BAD_LENGTHS;
     }
-    insert_pieces::<H>(layout, bytes, count, keys, values, accepted)
+    if let Err(refused) = header_of::<Layout, H>(layout, bytes) {
+        return status_of(&refused);
+    }
+    let deciding = deciding_pairs(layout, count);
+    let items = Pieces {
+        layout,
+        count: deciding,
+        keys,
+        values,
+    };
+    let mut inserted = 0;
+    let status = insert_items::<Layout, H, Pieces<'_>>(layout, bytes, items, &mut inserted);
+    *accepted = if inserted < deciding { inserted } else { count };
+    status
 }

@@ -19,7 +19,7 @@ pub use allocation::Allocation;
 pub use check::{
     check_all, check_all_within, check_dynamic, check_dynamic_within, check_parts, DEFAULT_GROUPS,
 };
-pub use inserts::{insert_dynamic, insert_dynamic_into, insert_items_dynamic};
+pub use inserts::{insert_dynamic, insert_dynamic_into, insert_items_dynamic, insert_items_in};
 pub use new_tables::{allocate, clear_entries, init_in_place, init_parts, write_empty};
 pub use opening::{
     check_by_header, check_opening, check_opening_in, dynamic_parts, dynamic_table_len, parts_in,

@@ -3,14 +3,15 @@
 //! copied to the caller's.
 
 use crate::generated::calls::status::{status_of, BAD_PERCENT, CAPACITY, OK, TOO_SMALL};
-use crate::generated::calls::write::{init, insert_all};
-use crate::generated::tables::bytes::{BorrowedMut, ByteArray};
+use crate::generated::calls::write::{init, insert_items, Pairs, Sizes};
+use crate::generated::tables::bytes::ByteArray;
 use crate::generated::tables::config::Config;
-use crate::generated::tables::items::Zipped;
+use crate::generated::tables::items::{Encoded, Zipped};
 use crate::generated::tables::layout::Fixed;
 use crate::generated::tables::load::Percent;
 use crate::generated::tables::{bytes_needed, HashTableOwned};
 use crate::shim::Global;
+use std::marker::PhantomData;
 
 /// Builds a table of the pairs at the front of `out`, with slots for as many items as there are
 /// pairs, and writes its length in bytes to `len`. BAD_PERCENT and CAPACITY leave both unchanged,
@@ -37,21 +38,13 @@ pub fn collected<C: Config>(
     }
     // There is room for each pair.
     let table = &mut out[..needed];
-    let count = keys.len();
-    let lengths: Fixed<C::EncodedKey, C::EncodedValue> = Fixed::new();
-    let _ = init::<Fixed<C::EncodedKey, C::EncodedValue>, C::H>(lengths, table, count, percent);
-    let _ = insert_into::<C>(table, keys, values);
-    OK
-}
-
-// `insert_all` in bytes. It is a function of its own since the prover knows what a slice holds
-// after a store of it was lent to a call, and not after the store was made of a part of `out`.
-#[inline(always)]
-fn insert_into<C: Config>(bytes: &mut [u8], keys: &[C::Key], values: &[C::Value]) -> (u32, usize) {
-    let mut store = BorrowedMut::new(bytes);
+    let lengths: Sizes<C> = Fixed::new();
+    let _ = init::<Sizes<C>, C::H>(lengths, table, keys.len(), percent);
+    let pairs = Zipped::new(keys, values);
+    let items: Pairs<'_, C> = Encoded { items: &pairs, config: PhantomData };
     let mut accepted = 0;
-    let status = insert_all::<C, BorrowedMut<'_>>(&mut store, keys, values, &mut accepted);
-    (status, accepted)
+    let _ = insert_items::<Sizes<C>, C::H, Pairs<'_, C>>(lengths, table, items, &mut accepted);
+    OK
 }
 
 // Encodes each key and value and drops the bytes. It changes nothing: only the clause matters,

@@ -8,7 +8,7 @@ use crate::generated::tables::config::Config;
 use crate::generated::tables::hash::HashFn;
 use crate::generated::tables::layout::Lengths;
 use crate::generated::tables::lookups::{self, Answers};
-use crate::generated::tables::memory_layout::{check_opening_in, Header};
+use crate::generated::tables::memory_layout::{check_opening_in, parts_in, Header};
 use crate::generated::tables::HashTable;
 
 /// The bytes of an opened table, as C keeps them: a pointer and a length. The calls that read a
@@ -43,6 +43,16 @@ pub fn len(view: &View<'_>) -> usize {
 #[inline(always)]
 pub fn table<'a, C: Config>(view: &View<'a>) -> HashTable<C, Borrowed<'a>> {
     HashTable::from_raw_bytes_unchecked(Borrowed::new(view.bytes))
+}
+
+/// The value of a key in bytes whose header and length fit.
+#[inline(always)]
+pub(crate) fn find<'a, L: Lengths, H: HashFn>(
+    lengths: L,
+    bytes: &'a [u8],
+    key: &[u8],
+) -> Option<&'a [u8]> {
+    parts_in::<L, H>(bytes, lengths).find(key)
 }
 
 /// Writes the value of a key of an opened table to `value`. ABSENT leaves `value` unchanged.

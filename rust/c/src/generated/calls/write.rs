@@ -8,13 +8,24 @@ use crate::generated::calls::status::{
 };
 use crate::generated::tables::bytes::ByteStoreMut;
 use crate::generated::tables::config::Config;
+use crate::generated::tables::error::Error;
 use crate::generated::tables::growth::{grow_parts, grown_len_of};
 use crate::generated::tables::hash::HashFn;
-use crate::generated::tables::items::Zipped;
-use crate::generated::tables::layout::{Layout, Lengths};
+use crate::generated::tables::items::{Encoded, EncodedItems, Zipped};
+use crate::generated::tables::layout::{Fixed, Layout, Lengths};
 use crate::generated::tables::load::{Factor, Percent};
-use crate::generated::tables::memory_layout::{init_parts, is_accepted, LEAST_FACTOR};
+use crate::generated::tables::memory_layout::{
+    init_parts, insert_items_in, is_accepted, Header, LEAST_FACTOR,
+};
 use crate::generated::tables::HashTable;
+use std::marker::PhantomData;
+
+/// The lengths of a configuration.
+pub(crate) type Sizes<C> = Fixed<<C as Config>::EncodedKey, <C as Config>::EncodedValue>;
+
+/// The keys and values of two slices, at each index.
+pub(crate) type Pairs<'a, C> =
+    Encoded<'a, C, Zipped<'a, 'a, <C as Config>::Key, <C as Config>::Value>>;
 
 /// Writes to `len` how many bytes a new table for that many items has. BAD_PERCENT and CAPACITY
 /// leave `len` unchanged.
@@ -89,23 +100,37 @@ pub fn insert<C: Config, M: ByteStoreMut>(
 /// `accepted` how many were inserted. An error of the header or length leaves everything
 /// unchanged.
 #[inline(always)]
-pub fn insert_all<C: Config, M: ByteStoreMut>(
-    store: &mut M,
+pub fn insert_all<C: Config>(
+    bytes: &mut [u8],
     keys: &[C::Key],
     values: &[C::Value],
     accepted: &mut usize,
 ) -> u32 {
-    if !is_accepted::<C>(store.bytes()) {
-        return refused::<C>(store.bytes());
+    if !is_accepted::<C>(bytes) {
+        return refused::<C>(bytes);
     }
-    let mut table = HashTable::<C, &mut M>::from_raw_bytes_unchecked(store);
-    let (count, answer) = table.insert_items(&Zipped::new(keys, values));
-    let _store = table.into_data();
-    *accepted = count;
-    match answer {
-        Ok(()) => OK,
-        Err(refused) => status_of(&refused),
+    let pairs = Zipped::new(keys, values);
+    let items: Pairs<'_, C> = Encoded { items: &pairs, config: PhantomData };
+    insert_items::<Sizes<C>, C::H, Pairs<'_, C>>(Fixed::new(), bytes, items, accepted)
+}
+
+/// Inserts items in their order into bytes whose header and length fit, up to the first for which
+/// there is no room (FULL), and writes to `accepted` how many were inserted. Every item fits.
+#[inline(always)]
+pub(crate) fn insert_items<L: Lengths, H: HashFn, I: EncodedItems>(
+    lengths: L,
+    bytes: &mut [u8],
+    items: I,
+    accepted: &mut usize,
+) -> u32 {
+    let slots = Header::of(bytes).slot_count();
+    let count = items.count();
+    let inserted = insert_items_in::<L, H, I>(bytes, slots, lengths, items, 0);
+    *accepted = inserted;
+    if inserted < count {
+        return status_of(&Error::Full);
     }
+    OK
 }
 
 /// Writes the table that the one in `bytes` grows into to the front of `out`, and its length in

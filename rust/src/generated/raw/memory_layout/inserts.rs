@@ -115,7 +115,7 @@ pub fn insert_items_dynamic<'a, H: HashFn>(
 /// for which an insert returns `Full`, in bytes of that many slots. Returns the index after the
 /// last item that was inserted. It reads the item count once, and writes it once.
 #[inline(always)]
-pub(crate) fn insert_items_in<L: Lengths, H: HashFn, I: EncodedItems>(
+pub fn insert_items_in<L: Lengths, H: HashFn, I: EncodedItems>(
     bytes: &mut [u8],
     slots: usize,
     lengths: L,

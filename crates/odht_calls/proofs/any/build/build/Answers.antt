@@ -70,10 +70,10 @@ returns g c =
     let same : c.value-percent.result ≡ p = c.value-percent.ensures.value ∙ c.in-Some.ensures.value in
     let fits = fits_build (K g at) (keys g at) (values g at) p (equal g at) c.args.out.now c.args.len.now within _ _ same (sym (many g at)) _ c.in-Some-bytes_needed.ensures c.if-out-needed.false (omega (arith, c.if-out-needed.false)) in
     let made = (c.init.ensures.made (subst IsPercent (sym same) within) fits).1 in
-    let T = c.insert_pieces.new.bytes in
+    let T = c.insert_all.new.bytes in
     let long : length (zip (keys g at) (values g at)) ≡ c.args.count = omega (arith, length-zip (keys g at) (values g at), many g at, equal g at) in
     let new : fresh (length (zip (keys g at) (values g at))) p ≡ Some made.0 = (λ i. fresh (long i) (sym same i)) ∙ made.1 in
     let size : length T ≡ c.in-Some-bytes_needed.needed = search rules in
-    let is = all_inserted (K g at) (keys g at) (values g at) p made.0 (equal g at) new _ made.2 _ _ _ _ c.insert_pieces.ensures.answers in
+    let is = all_inserted (K g at) (keys g at) (values g at) p made.0 (equal g at) new _ made.2 _ _ _ _ (c.insert_all.ensures.answers.answers arrays) in
     of_long arrays
     (done_build (K g at) _ _ p (equal g at) c.args.out.now c.args.len.now within T c.in-Some-bytes_needed.needed size c.if-out-needed.false is)

@@ -14,4 +14,4 @@ returns-in-Err g c =
 pub returns : goal.returns
 returns g c =
     of_long (c.are_pieces.ensures.0 c.if-not-are_pieces.false, c.if-found-count.false)
-    (accepted_get_all _ _ c.in_default.ensures.err _ _ _ _ _ _ c.look_up.ensures)
+    (accepted_get_all _ _ c.in_default.ensures.err _ _ _ _ _ _ (c.get_all.ensures.answers (c.are_pieces.ensures.0 c.if-not-are_pieces.false, c.if-found-count.false)))

@@ -1,19 +1,22 @@
-use Rattle.std.proofs.Common.{◌≡◌, ◌∙◌, ◌+◌, ◌++◌, ◌<◌, ℕ, List, [], ◌∷◌, All, Bor, sym, ap, subst, refl, arith, length, map, drop, append_assoc}
+use Rattle.std.proofs.Common.{rules, ◌≡◌, ◌∙◌, ◌+◌, ◌++◌, ◌<◌, ℕ, List, [], ◌∷◌, All, Bor, sym, ap, subst, refl, arith, length, map, drop, append_assoc}
 use Rattle.std.proofs.lemmas.List.{map-append, length_push}
 use Rattle.std.proofs.lemmas.List.Elements.{All-head, All-tail}
 use Rattle.odht_base.specs.Format.{format_of}
 use Rattle.odht_base.specs.Decoded.{header_slots}
-use Rattle.odht_base.specs.SlotWalks.{slots_from}
+use Rattle.odht_base.specs.SlotWalks.{numbered, slots_from}
 use Rattle.odht_base.specs.Table.{Pair, Table, slot_count}
 use Rattle.odht_header.specs.Coding.{Coding}
-use Rattle.odht_raw.specs.DynParts.{HasLengthsOf, bytes_coding}
+use Rattle.odht_header.proofs.lemmas.Formats.{IsFormat-format_of}
+use Rattle.odht_raw.specs.Checks.{cells_of}
+use Rattle.odht_raw.specs.DynParts.{DynParts, HasLengthsOf, bytes_coding, parts_format}
+use Rattle.odht_raw.proofs.lemmas.Walks.{slots-image}
 use Rattle.odht_raw.specs.Walks.{decoded_slots}
 use Rattle.odht.specs.Walks.{AreSlots}
 use Rattle.odht_calls.specs.Pieces.{pieces}
 use Rattle.odht_calls.specs.Statuses.{done, too_small}
 use Rattle.odht_calls.specs.Walks.{IsWalked, WalkAnswers}
 use Rattle.odht_calls.proofs.lemmas.AnyLists.{read, slots_dynamic, one_more_piece}
-use Rattle.odht_calls.proofs.lemmas.Layouts.{of_long, opened}
+use Rattle.odht_calls.proofs.lemmas.Layouts.{of_long}
 use Rattle.odht_calls.proofs.lemmas.Pieces.{ends_within, length-pieces}
 use Rattle.odht_calls.proofs.lemmas.Refused.{refused_walk}
 use Rattle.odht_calls.proofs.lemmas.Walked.{walked_all, walked_full, accepted_walk}
@@ -27,20 +30,25 @@ returns-in-Err g c =
     (refused_walk _ _ c.in-Err.refused _ c.in-Err.ensures.err c.status_of.ensures _ _ _ _
     (length-pieces c.args.layout.value_len c.args.room c.args.values.now ∙ sym (length-pieces c.args.layout.key_len c.args.room c.args.keys.now)))
 
+-- what the walk gives, of the bytes
+slots_here : (g : Over) (c : After-iter_from-slot-items g) → AreSlots (format_of c.args.layout.key_len c.args.layout.value_len g.H.HashFn.hash) c.args.bytes.now c.args.cursor.now c.iter_from-slot-items.result
+slots_here g c =
+    let at = c.args.cursor.now in
+    let fits = IsFormat-format_of _ _ _ _ (search rules) (search rules) c.requires g.met.H.HashFn.fits in
+    let slots = c.iter_from-slot-items.ensures.items ∙ ap (λ (S : DynParts). numbered at (drop at (cells_of (parts_format S g.H.HashFn.hash) S.parts))) c.parts_in.ensures.parts in
+    record { on_valid = λ P is. slots ∙ slots-image _ P _ at fits is; on_any = slots }
+
 pub loop-slot-init : goal.loop-slot-init
 loop-slot-init g c =
     let kl = c.args.layout.key_len in
     let vl = c.args.layout.value_len in
-    let h = g.H.HashFn.hash in
-    let B = c.args.bytes.now in
     let lengths : ℕ × Pair → Type 0 = λ x. HasLengthsOf kl vl x.1 in
-    let slots : AreSlots (format_of kl vl h) B c.args.cursor.now c.iter_from-slot-items.result =
-    opened c.table_of-table.result kl vl h _ B c.table_of-table.ensures.key c.table_of-table.ensures.value c.table_of-table.ensures.bytes (λ F B. AreSlots F B c.args.cursor.now c.iter_from-slot-items.result) c.iter_from-slot-items.ensures.slots in
+    let slots = slots_here g (goal.at.loop-slot-init g c).After-iter_from-slot-items in
     record {
       walk = refl;
       written = refl;
       within = omega arith;
-      lengths = subst (All lengths) (sym (c.into_iter-slot-iterator.ensures.into_iter_gives ∙ slots.on_any)) (slots_dynamic kl vl h B c.args.cursor.now (sym c.in-Ok.ensures.err));
+      lengths = subst (All lengths) (sym (c.into_iter-slot-iterator.ensures.into_iter_gives ∙ slots.on_any)) (slots_dynamic kl vl g.H.HashFn.hash c.args.bytes.now c.args.cursor.now (sym c.in-Ok.ensures.err));
       keys = refl;
       values = refl;
     }
@@ -91,12 +99,6 @@ loop-slot-preserved g c =
       keys = keys ∙ ap (λ xs. map (λ x. x.1.0) xs ++ drop (w + 1) (pieces kl n c.args.keys.now)) (sym more);
       values = values ∙ ap (λ xs. map (λ x. x.1.1) xs ++ drop (w + 1) (pieces vl n c.args.values.now)) (sym more);
     }
-
--- what the walk gives, of the bytes
-slots_here : (g : Over) (c : After-iter_from-slot-items g) → AreSlots (format_of c.args.layout.key_len c.args.layout.value_len g.H.HashFn.hash) c.args.bytes.now c.args.cursor.now c.iter_from-slot-items.result
-slots_here g c =
-    opened c.table_of-table.result c.args.layout.key_len c.args.layout.value_len g.H.HashFn.hash _ c.args.bytes.now c.table_of-table.ensures.key c.table_of-table.ensures.value c.table_of-table.ensures.bytes
-    (λ F B. AreSlots F B c.args.cursor.now c.iter_from-slot-items.result) c.iter_from-slot-items.ensures.slots
 
 module _ (g : Over) (c : After-iter_from-slot-items g) (ks' vs' : List ℕ) where
   abbrev kl : ℕ

@@ -3,7 +3,7 @@
 //! own and then copied to the caller's.
 
 use super::pieces::{are_pieces, deciding_pairs, piece};
-use super::write::insert_pieces;
+use super::write::insert_all;
 use crate::generated::calls::build::hand_out;
 use crate::generated::calls::status::{BAD_LENGTHS, BAD_PERCENT, CAPACITY, MEMORY, OK, TOO_SMALL};
 use crate::generated::calls::write::init;
@@ -44,20 +44,25 @@ pub fn build<H: HashFn>(
     let table = &mut out[..needed];
     let mut accepted = 0;
     let _ = init::<Layout, H>(layout, table, count, percent);
-    let _ = insert_pieces::<H>(layout, table, count, keys, values, &mut accepted);
+    let _ = insert_all::<H>(layout, table, count, keys, values, &mut accepted);
     OK
 }
 
-// The build of `count` pairs in memory of its own.
-fn grow_pieces<H: HashFn>(
-    alloc: Global,
+/// Builds a table of `count` pairs in memory of its own, which starts with sixteen slots at 87
+/// percent and grows, and copies it to the front of `out`. BAD_LENGTHS and MEMORY leave `out` and
+/// `len` unchanged, TOO_SMALL leaves `out` unchanged.
+pub fn build_growing<H: HashFn>(
     layout: Layout,
+    alloc: Global,
     count: usize,
     keys: &[u8],
     values: &[u8],
     out: &mut [u8],
     len: &mut usize,
 ) -> u32 {
+    if !are_pieces(layout, count, keys, values) {
+        return BAD_LENGTHS;
+    }
     // Sixteen slots are never too many, so the only error is that there is no memory.
     let mut table = match DynTableOwned::<H>::with_capacity(alloc, layout, 12, 87) {
         Ok(table) => table,
@@ -72,23 +77,4 @@ fn grow_pieces<H: HashFn>(
         }
     }
     hand_out(table.raw_bytes(), out, len)
-}
-
-/// Builds a table of `count` pairs in memory of its own, which starts with sixteen slots at 87
-/// percent and grows, and copies it to the front of `out`. BAD_LENGTHS and MEMORY leave `out` and
-/// `len` unchanged, TOO_SMALL leaves `out` unchanged.
-#[inline(always)]
-pub fn build_growing<H: HashFn>(
-    layout: Layout,
-    alloc: Global,
-    count: usize,
-    keys: &[u8],
-    values: &[u8],
-    out: &mut [u8],
-    len: &mut usize,
-) -> u32 {
-    if !are_pieces(layout, count, keys, values) {
-        return BAD_LENGTHS;
-    }
-    grow_pieces::<H>(alloc, layout, count, keys, values, out, len)
 }

@@ -1,7 +1,54 @@
 // Generated from crates/odht_calls/src/any/pieces.rt by make generate.
 //! Keys, or values, that lie one after the other in bytes.
 
+use crate::generated::tables::items::EncodedItems;
 use crate::generated::tables::layout::Layout;
+
+/// The first keys and values of bytes in which they lie one after the other.
+pub(crate) struct Pieces<'a> {
+    pub(crate) layout: Layout,
+    pub(crate) count: usize,
+    pub(crate) keys: &'a [u8],
+    pub(crate) values: &'a [u8],
+}
+
+impl<'a> EncodedItems for Pieces<'a> {
+    type Key = &'a [u8];
+
+    type Value = &'a [u8];
+
+    #[inline(always)]
+    fn count(&self) -> usize {
+        self.count
+    }
+
+    #[inline(always)]
+    fn fits(&self, _index: usize) -> bool {
+        true
+    }
+
+    #[inline(always)]
+    fn key(&self, index: usize) -> &'a [u8] {
+        let (key, _) = self.pair(index);
+        key
+    }
+
+    #[inline(always)]
+    fn pair(&self, index: usize) -> (&'a [u8], &'a [u8]) {
+        let key = piece(self.keys, self.layout.key_len, index);
+        (key, piece(self.values, self.layout.value_len, index))
+    }
+
+    #[inline(always)]
+    fn key_bytes<'k>(key: &'k &'a [u8]) -> &'k [u8] {
+        key
+    }
+
+    #[inline(always)]
+    fn value_bytes<'v>(value: &'v &'a [u8]) -> &'v [u8] {
+        value
+    }
+}
 
 // Whether the bytes are that many keys, and that many values.
 pub(crate) fn are_pieces(layout: Layout, count: usize, keys: &[u8], values: &[u8]) -> bool {

@@ -1,12 +1,13 @@
 // Generated from crates/odht_calls/src/any/write.rt by make generate.
 //! The calls that write a dynamic table.
 
-use super::pieces::{are_pieces, deciding_pairs, piece};
+use super::pieces::{are_pieces, deciding_pairs, Pieces};
 use crate::generated::calls::read::header_of;
 use crate::generated::calls::status::{status_of, BAD_LENGTHS, OK, REPLACED};
+use crate::generated::calls::write::insert_items;
 use crate::generated::tables::hash::HashFn;
 use crate::generated::tables::layout::Layout;
-use crate::generated::tables::memory_layout::{insert_dynamic, insert_dynamic_into};
+use crate::generated::tables::memory_layout::insert_dynamic_into;
 
 /// Gives the key this value. A value that it had before is written to `former`. BAD_LENGTHS where
 /// the key, the value or `former` has another length than the layout says. An error leaves the
@@ -33,35 +34,11 @@ pub fn insert<H: HashFn>(
     }
 }
 
-// The inserts of `count` pairs.
-pub(crate) fn insert_pieces<H: HashFn>(
-    layout: Layout,
-    bytes: &mut [u8],
-    count: usize,
-    keys: &[u8],
-    values: &[u8],
-    accepted: &mut usize,
-) -> u32 {
-    if let Err(refused) = header_of::<Layout, H>(layout, bytes) {
-        return status_of(&refused);
-    }
-    let deciding = deciding_pairs(layout, count);
-    for index in 0..deciding {
-        let key = piece(keys, layout.key_len, index);
-        let value = piece(values, layout.value_len, index);
-        if let Err(refused) = insert_dynamic::<H>(bytes, layout, key, value) {
-            *accepted = index;
-            return status_of(&refused);
-        }
-    }
-    *accepted = count;
-    OK
-}
-
 /// Inserts `count` pairs in order, up to the first whose insert fails with FULL, and writes to
 /// `accepted` how many were inserted. BAD_LENGTHS where the arrays are not for that many keys and
 /// values. It and an error of the header or length leave everything unchanged.
-#[inline(always)]
+// Not inlined, so that the compiler inlines `insert` where it is exported.
+#[inline(never)]
 pub fn insert_all<H: HashFn>(
     layout: Layout,
     bytes: &mut [u8],
@@ -73,5 +50,13 @@ pub fn insert_all<H: HashFn>(
     if !are_pieces(layout, count, keys, values) {
         return BAD_LENGTHS;
     }
-    insert_pieces::<H>(layout, bytes, count, keys, values, accepted)
+    if let Err(refused) = header_of::<Layout, H>(layout, bytes) {
+        return status_of(&refused);
+    }
+    let deciding = deciding_pairs(layout, count);
+    let items = Pieces { layout, count: deciding, keys, values };
+    let mut inserted = 0;
+    let status = insert_items::<Layout, H, Pieces<'_>>(layout, bytes, items, &mut inserted);
+    *accepted = if inserted < deciding { inserted } else { count };
+    status
 }

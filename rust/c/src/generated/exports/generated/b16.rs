@@ -159,8 +159,7 @@ pub unsafe extern "C" fn odht_b16_insert_all(
     if values.len() != keys.len() {
         return BAD_LENGTHS;
     }
-    let mut store = BorrowedMut::new(bytes);
-    write::insert_all::<Shape, BorrowedMut<'_>>(&mut store, keys, values, accepted)
+    write::insert_all::<Shape>(bytes, keys, values, accepted)
 }
 
 /// Writes the value of a key to `value`, and returns 0. Returns `ABSENT` if the key is absent, or

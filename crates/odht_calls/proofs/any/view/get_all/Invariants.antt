@@ -2,7 +2,7 @@ use Rattle.odht_base.specs.Format.{format_of}
 use Rattle.odht_raw.specs.DynParts.{bytes_coding}
 use Rattle.odht_calls.specs.Pieces.{pieces}
 use Rattle.odht_calls.proofs.lemmas.AnyLists.{AreGotUpTo}
-use Rattle.odht_calls.proofs.any.view.look_up.Given as goal
+use Rattle.odht_calls.proofs.any.view.get_all.Given as goal
 
 -- the answers of the keys so far are in the arrays
 abbrev pub invariant-loop-index : goal.invariant-loop-index

@@ -15,8 +15,9 @@ use Rattle.odht_calls.specs.Pieces.{pieces}
 use Rattle.odht_calls.proofs.lemmas.EqualPairs.{decided_grown}
 use Rattle.odht_calls.proofs.lemmas.GrownBuilds.{IsGrownTable, none_grown, one_more_grown, grown_bytes}
 use Rattle.odht_calls.proofs.lemmas.HandedOut.{refused_growing, handed_growing}
+use Rattle.odht_calls.proofs.lemmas.Layouts.{of_long}
 use Rattle.odht_calls.proofs.lemmas.Pieces.{ends_within, length-pieces, zip_at}
-use Rattle.odht_calls.proofs.any.build.grow_pieces.Goals as goal
+use Rattle.odht_calls.proofs.any.build.build_growing.Goals as goal
 
 -- no memory
 abbrev failed : Result (Unit {0}) Error
@@ -30,7 +31,8 @@ module _ (kl vl n : ℕ) (ks vs : List ℕ) where
 pub returns-in-Err : goal.returns-in-Err
 returns-in-Err g c =
     let l = c.args.layout in
-    refused_growing (bytes_coding (format_of l.key_len l.value_len g.H.HashFn.hash)) _ _ (equal l.key_len l.value_len c.args.count c.args.keys.now c.args.values.now) _ _ _ failed Memory refl refl refl
+    of_long (c.are_pieces.ensures.0 c.if-not-are_pieces.false)
+    (refused_growing (bytes_coding (format_of l.key_len l.value_len g.H.HashFn.hash)) _ _ (equal l.key_len l.value_len c.args.count c.args.keys.now c.args.values.now) _ _ _ failed Memory refl refl refl)
 
 pub loop-index-init : goal.loop-index-init
 loop-index-init g c =
@@ -43,16 +45,17 @@ loop-index-init g c =
 
 pub piece-key-requires : goal.piece-key-requires
 piece-key-requires g c =
-    ends_within c.loop-index.index c.args.count c.args.layout.key_len (length c.args.keys.now) (omega (arith, c.loop-index-test.true, c.deciding_pairs-deciding.ensures.most)) c.requires.arrays.keys
+    ends_within c.loop-index.index c.args.count c.args.layout.key_len (length c.args.keys.now) (omega (arith, c.loop-index-test.true, c.deciding_pairs-deciding.ensures.most)) (c.are_pieces.ensures.0 c.if-not-are_pieces.false).keys
 
 pub piece-value-requires : goal.piece-value-requires
 piece-value-requires g c =
-    ends_within c.loop-index.index c.args.count c.args.layout.value_len (length c.args.values.now) (omega (arith, c.loop-index-test.true, c.deciding_pairs-deciding.ensures.most)) c.requires.arrays.values
+    ends_within c.loop-index.index c.args.count c.args.layout.value_len (length c.args.values.now) (omega (arith, c.loop-index-test.true, c.deciding_pairs-deciding.ensures.most)) (c.are_pieces.ensures.0 c.if-not-are_pieces.false).values
 
 pub returns-in-Err-insert : goal.returns-in-Err-insert
 returns-in-Err-insert g c =
     let l = c.args.layout in
-    refused_growing (bytes_coding (format_of l.key_len l.value_len g.H.HashFn.hash)) _ _ (equal l.key_len l.value_len c.args.count c.args.keys.now c.args.values.now) _ _ _ failed Memory refl refl refl
+    of_long (c.are_pieces.ensures.0 c.if-not-are_pieces.false)
+    (refused_growing (bytes_coding (format_of l.key_len l.value_len g.H.HashFn.hash)) _ _ (equal l.key_len l.value_len c.args.count c.args.keys.now c.args.values.now) _ _ _ failed Memory refl refl refl)
 
 pub loop-index-preserved : goal.loop-index-preserved
 loop-index-preserved g c =
@@ -98,4 +101,5 @@ returns g c =
     let first : IsGrownAfterInserts K (take d (zip keys values)) T = grown_bytes K (take d (zip keys values)) t.store T so_far is in
     let all = decided_grown kl vl n d c.args.keys.now c.args.values.now g.H.HashFn.hash c.deciding_pairs-deciding.ensures.most c.deciding_pairs-deciding.ensures.cut T first in
     let grown = subst (λ xs. IsGrownAfterInserts K xs T) (take_all n (zip keys values) (omega (arith, long))) all in
-    handed_growing K keys values same T c.args.out.now c.args.len.now c.hand_out.result c.hand_out.new.out c.hand_out.new.len grown c.hand_out.ensures.copied c.hand_out.ensures.status
+    of_long (c.are_pieces.ensures.0 c.if-not-are_pieces.false)
+    (handed_growing K keys values same T c.args.out.now c.args.len.now c.hand_out.result c.hand_out.new.out c.hand_out.new.len grown c.hand_out.ensures.copied c.hand_out.ensures.status)

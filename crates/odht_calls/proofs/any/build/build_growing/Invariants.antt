@@ -5,7 +5,7 @@ use Rattle.odht_raw.specs.DynParts.{bytes_coding}
 use Rattle.odht.specs.DynOwned.{IsDynWith}
 use Rattle.odht_calls.proofs.lemmas.GrownBuilds.{IsGrownTable}
 use Rattle.odht_calls.specs.Pieces.{pieces}
-use Rattle.odht_calls.proofs.any.build.grow_pieces.Given as goal
+use Rattle.odht_calls.proofs.any.build.build_growing.Given as goal
 
 -- the pairs so far were inserted
 abbrev pub invariant-loop-index : goal.invariant-loop-index
