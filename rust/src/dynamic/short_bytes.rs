@@ -22,6 +22,12 @@ use std::ops::Deref;
 pub struct ShortBytes(pub(super) raw_table::ShortBytes);
 
 impl ShortBytes {
+    // A copy of these bytes, of which there are at most 255.
+    #[inline(always)]
+    pub(super) fn of(value: &[u8]) -> ShortBytes {
+        ShortBytes(raw_table::ShortBytes::of(value))
+    }
+
     /// Returns the bytes.
     #[inline]
     #[must_use]

@@ -147,10 +147,14 @@ impl<H: HashFn, D: Borrow<[u8]> + BorrowMut<[u8]>> DynTable<H, D> {
     /// On an error nothing changes.
     ///
     /// [`Error::Full`]: crate::Error::Full
-    #[inline]
+    #[inline(always)]
     pub fn insert(&mut self, key: &[u8], value: &[u8]) -> Result<Option<ShortBytes>, DynError> {
-        let former = self.view_mut().insert(key, value)?;
-        Ok(former.map(ShortBytes))
+        // A result that has room for 255 bytes is not handed from call to call: `insert_into` is
+        // inlined, and the value is copied once more, where it is.
+        let mut former = [0; 255];
+        let former = &mut former[..usize::from(self.layout.value_len)];
+        let had = self.insert_into(key, value, former)?;
+        Ok(had.then(|| ShortBytes::of(former)))
     }
 
     /// Like [`insert`](DynTable::insert), but writes the former value to `former`, and returns
