@@ -4,7 +4,7 @@
   tests/evidence.py PROGRAM
 
 Every pair of types that `build` names can be built, and is read as it was given. The one key of a table is found by each
-hash function, though another one may have its tag too. `put` asks for a type where a file does not show it. The last
+hash function, though another one may have its tag too. `put` and `delete` ask for a type where a file does not show it. The last
 line counts the tests.
 """
 import os
@@ -70,6 +70,9 @@ def one_key(program, file):
         check(run(program, "get", file, "--key", kind, "-", given=f"{key}\n")[0] == line, f"get - {word} by {hash_name}")
         check("valid" in run(program, "check", file)[0], f"check {word} by {hash_name}")
         check(run(program, "count", "--check", file)[0] == "1\n", f"count {word} by {hash_name}")
+        # the key is in its home, so that a search by the right hash function reads one group
+        told = run(program, "info", file)[0]
+        check("\nlongest hit   1 groups\n" in told, f"info {word} by {hash_name}: {told}")
         yield f"{word} by {hash_name}"
 
 
@@ -82,6 +85,34 @@ ASKED = [
     ("u64", "text:4", "abc", "", "--value"), ("u64", "u32be", "7", "", "--value"),
     ("u64", "u32be", "7", "--value=u32be", ""), ("u64", "bytes:3", "000a00", "", ""),
 ]
+
+
+# the words of `build` and its lines, after which `put` asks for this
+SHOWS_LITTLE = [
+    ("text:8", "u32", "", "", "--key"), ("u64", "u32", "", "", "--key"), ("hex8", "u32", "", "0" * 16 + "\t7\n", "--key"),
+    ("text:8", "u32", "", "a\t1\n97\t2\n", "--key"), ("u32be", "u32", "", "256\t1\n65536\t2\n", "--key"),
+    ("text:8", "u32", "fx", "word\t7\nother\t8\n", "--key"), ("u64be", "u32", "fx", "7\t7\n8\t8\n", "--key"),
+    ("u64", "u32be", "", "1\t3232235777\n", "--value"), ("u64", "u64be", "", "1\t1700000000000000001\n", "--value"),
+    ("u64", "text:4", "", "1\t5\n", "--value"), ("u64", "u32", "", "1\t4294967295\n", "--value"),
+    ("u64", "u32", "", "1\t0\n", "--value"), ("u64", "u32", "", "1\t4294967295\n2\t5\n3\t7\n", ""),
+]
+
+
+def asked_more(program, file):
+    """Tables that do not show a type of a side, though their sizes and their hash function are those of numbers."""
+    for key, value, hash_name, lines, option in SHOWS_LITTLE:
+        words = [f"--key={key}", f"--value={value}"] + ([f"--hash={hash_name}"] if hash_name else [])
+        run(program, "build", file, "--force", *words, given=lines)
+        with open(file, "rb") as it:
+            before = it.read()
+        told = run(program, "put", file, given=lines, status=1 if option else 0)[1]
+        check((f"{option} says whether" in told) if option else not told, f"put after {words}: {told}")
+        if option == "--key":
+            told = run(program, "delete", file, "97", status=2)[1]
+            check("--key says whether" in told, f"delete after {words}: {told}")
+        with open(file, "rb") as it:
+            check(it.read() == before, f"put after {words}: other bytes")
+        yield f"put after {words}"
 
 
 def asked(program, file):
@@ -115,7 +146,7 @@ def main(program):
     program = os.path.abspath(program)
     with tempfile.TemporaryDirectory(prefix="odht-evidence-") as room:
         try:
-            for tests in pairs, one_key, asked, sides:
+            for tests in pairs, one_key, asked, asked_more, sides:
                 for _ in tests(program, f"{room}/table"):
                     passed += 1
         except AssertionError as what:

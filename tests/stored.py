@@ -1,6 +1,6 @@
 #!/usr/bin/env python3
 """Tests how the program `odht` stores a file: that it asks the system to store the new file, renames it, and then has
-its folder stored; and each of these calls failing in turn.
+its folder stored; and each of these calls failing in turn. And how often `get` opens and reads a file.
 
   tests/stored.py PROGRAM..
 
@@ -113,6 +113,26 @@ def without_request(program, preloaded):
     return 2 * len(COMMANDS)
 
 
+def few_reads(program, preloaded):
+    """`get` opens a table once. It reads a small one at once. Of another one it reads the front and the first control
+    bytes; and for each key the control bytes of one group, and the entry, which has key and value."""
+    with tempfile.TemporaryDirectory() as room:
+        lines = "".join(f"{key}\t{key}\n" for key in range(100_000)).encode()
+        subprocess.run([program, "build", f"{room}/large", *SHAPES], input=lines, check=True)
+        shutil.copy(f"{TABLES}/u64_u32.odht", f"{room}/small")
+        env = {**os.environ, "LD_PRELOAD": preloaded, "ODHT_CALLS": f"{room}/calls", "ODHT_READS": "1"}
+        env.update({"ODHT_FAIL_CALL": "0", "ODHT_FAIL_WITH": "0"})
+        for name, key, value, most in ("small", b"3", b"4", 1), ("large", b"77777", b"77777", 4):
+            words = [program, "get", name, key]
+            done = subprocess.run(words, env=env, capture_output=True, cwd=room)
+            assert (done.returncode, done.stdout, done.stderr) == (0, b"%s\t%s\n" % (key, value), b""), done
+            with open(f"{room}/calls", encoding="utf-8") as it:
+                calls = it.read().splitlines()
+            assert calls[0] == f"read {name}" and set(calls[1:]) == {"pread file"}, calls
+            assert len(calls) <= 1 + most, calls
+    return 2
+
+
 def main(*programs):
     passed = failed = 0
     if not shutil.which("cc"):
@@ -123,7 +143,7 @@ def main(*programs):
         words = ["cc", "-shared", "-fPIC", "-O1", "-Wall", "-o", preloaded, f"{HERE}/memory/failing_calls.c", "-ldl"]
         subprocess.run(words, check=True)
         for program in programs:
-            for test in (in_order, failing, without_request):
+            for test in (in_order, failing, without_request, few_reads):
                 try:
                     passed += test(os.path.abspath(program), preloaded)
                 except (AssertionError, ValueError, OSError) as error:

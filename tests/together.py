@@ -67,6 +67,29 @@ def refused(program, room, *words, given=b"8\t8\n"):
     assert (done.returncode, done.stdout, done.stderr) == (status, b"", AT_WORK), (words, done)
 
 
+def refused_unread(program, room):
+    """While another run is at work, and where the file is no table, a run ends before its input does."""
+    delete, merge = ["delete", "table", "-"], ["merge", "table", "-"]
+    cases = [(words, b"", "table.new", AT_WORK) for words in (*REPLACING, delete, merge)]
+    cases += [(words, b"1\t1\n", "other.new", LOST) for words in (REPLACING[1], merge)]
+    for words, before, other, message in cases:
+        for name, given in (("table", before), (other, b"")):
+            with open(f"{room}/{name}", "wb") as it:
+                it.write(given)
+        child = subprocess.Popen([program, *words], stdin=PIPE, stdout=PIPE, stderr=PIPE, cwd=room)
+        # its input has no end before it ended
+        try:
+            status = child.wait(timeout=60)
+        finally:
+            child.kill()
+        child.stdin.close()
+        found = (status, child.stdout.read(), child.stderr.read())
+        assert found == (2 if words[0] == "delete" else 1, b"", message), (words, found)
+        with open(f"{room}/table", "rb") as it:
+            assert it.read() == before and sorted(os.listdir(room)) == sorted(("table", other)), words
+        os.remove(f"{room}/{other}")
+
+
 def two_runs(program, room):
     """The one that begins last ends at once, whatever it is; the first has all of its lines."""
     for words in REPLACING:
@@ -86,7 +109,7 @@ def put_late(program, room, offset):
     """Begins a `put` whose input is slow, and another one so many seconds later. No pair may be lost: where both have
     the status 0 both pairs are there, and where one has not it says so."""
     run(program, room, "build", "table", "--key", "u64", "--value", "u32")
-    words = [program, "put", "table"]
+    words = [program, "put", "table", "--key", "u64", "--value", "u32"]
     first = subprocess.Popen(words, stdin=PIPE, stdout=PIPE, stderr=PIPE, cwd=room)
     start = time.monotonic()
     first.stdin.write(b"1\t1\n")
@@ -193,12 +216,12 @@ def main(*programs):
     signal.signal(signal.SIGINT, signal.default_int_handler)
     passed = failed = 0
     for program in programs:
-        for test in (two_runs, many_puts, robbed, come_later, interrupted, replaced):
+        for test in (two_runs, refused_unread, many_puts, robbed, come_later, interrupted, replaced):
             with tempfile.TemporaryDirectory() as room:
                 try:
                     test(os.path.abspath(program), room)
                     passed += 1
-                except (AssertionError, OSError) as error:
+                except (AssertionError, OSError, subprocess.TimeoutExpired) as error:
                     failed += 1
                     print(f"FAILED together: {program}: {test.__name__}: {error}")
     print(f"{passed} passed, {failed} failed")

@@ -84,12 +84,12 @@ def write_deleted_cases():
     for name, words, step, absent in [
             ("u64_u32", "", 2, ""), ("u64_u32", "--progress", 1, ""), ("u32_u32", "", 3, ""),
             ("u32_u32", "--hash fx", 2, "9 4294967295"), ("direct", "", 2, ""), ("direct", "--hash=unhash", 7, "1 65"),
-            ("one_pair", "--whole", 1, "7"), ("no_pairs", "", 1, "0"), ("bytes16_u32", "", 2, ""),
+            ("one_pair", "--whole", 1, "7"), ("no_pairs", "--key u64", 1, "0"), ("bytes16_u32", "", 2, ""),
             ("bytes16_set", "", 4, "00" * 16), ("bytes20_u64", "", 2, ""), ("bytes32_u64", "", 2, ""),
             ("bytes32_set", "", 1, ""), ("i64_i32", "", 2, "-3"), ("i32_u32be", "", 3, ""), ("u64be_i64", "", 2, "3"),
-            ("text16_text16", "", 3, "no_value"), ("odd_sizes", "", 3, "ffffff"), ("empty_key", "", 1, ""),
-            ("words_12_5", "", 5, ""), ("long_key", "", 2, "ff" * 255), ("short_direct", "", 2, ""), ("empty", "", 1, "1"),
-            ("u64be_u32", "", 3, "7"), ("bytes16_xxh64", "", 2, ""), ("u32_xxh64", "--hash xxh64", 7, "1"),
+            ("text16_text16", "", 3, "no_value"), ("odd_sizes", "--key hex3", 3, "ffffff"), ("empty_key", "", 1, ""),
+            ("words_12_5", "", 5, ""), ("long_key", "", 2, "ff" * 255), ("short_direct", "", 2, ""), ("empty", "--key u64", 1, "1"),
+            ("u64be_u32", "", 3, "7"), ("bytes16_xxh64", "", 2, ""), ("u32_xxh64", "--key u32 --hash xxh64", 7, "1"),
             ("odd_xxh64", "", 3, "")]:
         case, file = made[name], "_".join(["deleted", name, str(step)])
         keys = [key for key, _ in filter(None, case.table.cells) if " " not in case.key_text(key)][::step]

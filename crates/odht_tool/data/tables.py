@@ -175,7 +175,9 @@ class Case:
             text += self.run_text("dump --slots", f"dump --slots {file}{self.kinds}", "", self.slots)
             text += self.run_text("get all keys, in lines that end with \\r\\n", f"get {file} -{self.kinds}", self.keys, self.dump)
             if self.kinds or self.is_other:
-                text += self.run_text("put what is there", f"put {file}{self.all_kinds}", self.dump, "")
+                value = self.words.partition(" --value ")[2].split()[:1]
+                named = "" if "--value" in self.all_kinds or not value else f" --value {value[0]}"
+                text += self.run_text("put what is there", f"put {file}{self.all_kinds}{named}", self.dump, "")
             text += self.run_text("build", f"build {file} {self.words}", self.pairs, "", "after")
             text += self.ordered_text()
         write_test(f"tool/tables/{self.name}.cases", text)
@@ -393,12 +395,12 @@ def write_bound_cases():
     # these search nothing
     for args, lines in ("dump", made.dump), ("dump --values", made.value_lines), ("keys", made.key_lines):
         text += case(args, f"{args} one_home.odht", lines[:lines.index("\n") + 1]).rstrip("\n") + "\\n...\n\n"
-    text += case("put", "put one_home.odht", "", "0\t0\n").rstrip("\n") + "\n" + failure
+    text += case("put", "put one_home.odht --value u32", "", "0\t0\n").rstrip("\n") + "\n" + failure
     warned = "odht: one_home.odht: searches may read more than 128 groups, and `odht check` rejects it"
     warned += ": try odht rebuild one_home.odht --hash xxh64 --whole\n"
     words = "--key u32 --value u32 --hash unhash --capacity 2064"
     text += made.run_text("build", f"build one_home.odht {words}", made.pairs, "", "after").rstrip("\n") + "\n" + block("stderr", warned) + "\n"
-    text += case("put --whole", "put one_home.odht --whole", "", "0\t0\n").rstrip("\n") + "\n" + block("stderr", warned) + "\n"
+    text += case("put --whole", "put one_home.odht --value u32 --whole", "", "0\t0\n").rstrip("\n") + "\n" + block("stderr", warned) + "\n"
     text += case("order", "order one_home.odht", "").rstrip("\n") + "\n" + failure
     text += case("order --whole", "order one_home.odht --whole", made.order)
     write_test("tool/tables/one_home.cases", text)

@@ -1,11 +1,12 @@
--- Pairs of bytes of two lengths in one buffer.
-use Rattle.std.proofs.Common.{◌≡◌, ◌∙◌, ◌+◌, ◌*◌, ◌<◌, ◌≤◌, ℕ, suc, zero, List, [], ◌∷◌, ◌++◌, length, take, drop, Some, refl, sym, ap, ap₂, arith, length-drop, drop-drop, take-take, mul-le-mul_right}
-use Rattle.std.proofs.lemmas.List.{take-append-le, drop-append-le, drop-take, take_all, take_at, drop_at}
+-- Pairs of bytes of two lengths in one buffer, and keys.
+use Rattle.std.proofs.Common.{◌≡◌, ◌∙◌, ◌+◌, ◌*◌, ◌<◌, ◌≤◌, ℕ, suc, zero, List, [], ◌∷◌, ◌++◌, length, take, drop, map, option_map, Some, refl, sym, ap, ap₂, arith, length-drop, drop-drop, take-take, mul-le-mul_right}
+use Rattle.std.proofs.lemmas.List.{append-nil, length-map, map-append, take-append-le, drop-append-le, drop-take, take_all, take_at, drop_at}
+use Rattle.std.proofs.lemmas.Option.{slice_get-map}
 use Rattle.std.specs.List.{slice_get}
 use Rattle.odht_base.specs.Bytes.{bytes_at}
-use Rattle.odht_base.proofs.lemmas.ByteRanges.{bytes_at-take}
+use Rattle.odht_base.proofs.lemmas.ByteRanges.{bytes_at-take, length-bytes_at}
 use Rattle.odht_tool_core.specs.PairLines.{AreParts}
-use Rattle.odht_tool_core.specs.Pairs.{IsAdded, IsLineAdded, pairs_in}
+use Rattle.odht_tool_core.specs.Pairs.{IsAdded, IsLineAdded, keys_in, pairs_in}
 use Rattle.odht_tool_core.specs.declared.failure.LineFault.TheVariants.{NoTab, Key, Value}
 use Rattle.odht_tool_core.specs.declared.misread.Wanted.{Wanted}
 use Rattle.odht_tool_core.specs.declared.pairs.Added.{Added}
@@ -65,6 +66,31 @@ module _ (k v : ℕ) where
       let key : take k (take (k + v) rest) ≡ take k rest = take-take k (k + v) rest (omega arith) in
       let value : drop k (take (k + v) rest) ≡ take v (drop (i * (k + v) + k) b) = drop-take k v rest ∙ ap (take v) (drop-drop k (i * (k + v)) b) in
       pair_at n i b low ∙ sym (ap₂ (λ (x y : List ℕ). Some (x, y)) (ap (take k) is ∙ key) (ap (drop k) is ∙ value))
+
+-- the same of keys
+module _ (k : ℕ) where
+  pub length-keys : (n : ℕ) (b : List ℕ) → length (keys_in k n b) ≡ n
+  length-keys n b = length-map (pairs_in k 0 n b) (λ p. p.0) ∙ length-pairs k 0 n b
+
+  filled : (n : ℕ) (b : List ℕ) → length b ≡ n * k → length b ≡ n * (k + 0)
+  filled n b l = let none : k ≡ k + 0 = omega arith in l ∙ ap (λ (m : ℕ). n * m) none
+
+  pub keys_more : (n : ℕ) (b key : List ℕ) → length b ≡ n * k → length key ≡ k → keys_in k (suc n) (b ++ key) ≡ keys_in k n b ++ (key ∷ [])
+  keys_more n b key l lk =
+      ap (λ (c : List ℕ). keys_in k (suc n) (b ++ c)) (sym (append-nil key))
+      ∙ ap (map (λ (p : List ℕ × List ℕ). p.0)) (pairs_more k 0 n b key [] (filled n b l) lk refl)
+      ∙ map-append (λ (p : List ℕ × List ℕ). p.0) (pairs_in k 0 n b) ((key, []) ∷ [])
+
+  pub key_within : (n i : ℕ) (b : List ℕ) → i < n → length b ≡ n * k → (i + 1) * (k + 0) ≤ length b
+  key_within n i b low l = within k 0 n i b low (filled n b l)
+
+  pub key_in : (n i : ℕ) (b : List ℕ) → i < n → length b ≡ n * k → slice_get (keys_in k n b) i ≡ Some (bytes_at b (i * (k + 0)) (k + 0))
+  key_in n i b low l =
+      let inside = key_within n i b low l in
+      let len = length-bytes_at b (i * (k + 0)) (k + 0) (omega (arith, inside)) in
+      slice_get-map (λ (p : List ℕ × List ℕ). p.0) (pairs_in k 0 n b) i
+      ∙ ap (option_map (λ (p : List ℕ × List ℕ). p.0)) (pair_in k 0 n i b low)
+      ∙ ap Some (take_all k (bytes_at b (i * (k + 0)) (k + 0)) (omega (arith, len)))
 
 -- so is what became of a line, where it has these parts
 pub line_added : {X Y : Type 0} (d : ℕ) (w : Wanted) (KW : List ℕ → Type 0) (K : List ℕ → X → Type 0) (VW : List ℕ → Type 0) (V : List ℕ → Y → Type 0)

@@ -23,15 +23,16 @@
 --     read_any B h ks      the shape that is found, with its forms, where ks is said of keys and values: it has the types of
 --                          its lengths that are said; where nothing is said those that it has by itself
 --     checked_any B h      the shape that is found; but where no hash function fits, the one that is named
+--     read_hash B          the hash function that decides where there are items; else the first that agrees
 use Rattle.std.specs.Prelude.{ℕ, ⊤, ◌≤◌, List, ◌&&◌, ◌==◌, nat_lt, is_none, is_some, slice_index, Option, None, Some, Result, Ok, Err, if◌then◌else◌}
 use Rattle.std.specs.Bool.{then_some}
-use Rattle.std.specs.Option.{unwrap_or}
+use Rattle.std.specs.Option.{option_map, unwrap_or}
 use Rattle.std.specs.Result.{result_ok}
 use Rattle.odht_base.specs.Format.{Format, format_of}
 use Rattle.odht_header.specs.Coding.{Coding}
 use Rattle.odht_raw.specs.DynParts.{bytes_coding}
 use Rattle.odht_tool_core.specs.FoundShapes.{has_items, first_hash, said_hash, settled_hash}
-use Rattle.odht_tool_core.specs.InfoNumbers.{file_parts, least_key_len}
+use Rattle.odht_tool_core.specs.InfoNumbers.{file_parts, found_hash, least_key_len}
 use Rattle.odht_tool_core.specs.ReadAs.{form_for}
 use Rattle.odht_tool_core.specs.ReadyShapes.{default_hash, hash_of, own_key, own_value, shape_format, shape_of_parts, shape_of_sizes, typed_len, early_refusal}
 use Rattle.odht_tool_core.specs.generated.ShapeList.{key_part, value_part, shape_hash}
@@ -117,6 +118,9 @@ found_or found named = found
 
 abbrev pub checked_any : List ℕ → Option Hash → Result AnyShape Failure
 checked_any B h = found_or (found_any B h) (named_any B h)
+
+abbrev pub read_hash : List ℕ → Option Hash
+read_hash B = if has_items B then option_map any_hash (result_ok (fitting_any B)) else found_hash (file_parts B)
 
 -- ---- that is named
 abbrev pub of_kinds_or : Option AnyShape → Option Shape → Option AnyShape

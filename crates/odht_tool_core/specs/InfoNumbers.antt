@@ -10,7 +10,8 @@
 --     occupied_in T a n    those of the n slots from the slot a on that do not count as free, in slot order
 --     occupied T n         those of the first n slots
 --     group_numbers T h o n    of each of these, how many groups a search for its key reads, by the bound o
---     found_groups T o     the same of all slots, by the hash function that agrees; nothing where none does
+--     groups_by T h o      the same of all slots, by the hash function h; nothing where there is none, or keys are too short
+--                          for it
 --     longest_miss T o     how many groups the longest search for an absent key reads at most, by the bound o
 --     has_long_search T    some search for an absent key reads more than 24 groups, which is long: those seen of random keys
 --                          do not, in tables of up to 2 ^ 24 slots that are at most 87 percent full
@@ -20,11 +21,9 @@
 --     largest xs           the largest of xs, or 0
 --     nearest_percent f    the percentage that the load factor f is nearest to
 --     IsHistogram xs h     h has the tallies of xs, and the largest
---     AreNumbers B o a n   n are the numbers of B, those of groups by the bound o, with the advice a
 --     IsInfoFailure B f    f is the error of opening, or out of memory where there is none
-use Rattle.std.specs.Prelude.{◌≡◌, ℕ, ◌+◌, ◌*◌, ◌/◌, min, max, Bool, not, ◌&&◌, nat_le, nat_lt, ◌==◌, List, [], length, map, filter, find, fold, count_by, slice_index, is_none, Option, Some, None}
+use Rattle.std.specs.Prelude.{◌≡◌, ℕ, ◌+◌, ◌*◌, ◌/◌, min, max, Bool, not, ◌&&◌, nat_le, nat_lt, ◌==◌, List, [], length, map, filter, find, fold, count_by, slice_index, is_none, Option, Some, None, if◌then◌else◌}
 use Rattle.std.specs.List.{range_with_len}
-use Rattle.std.specs.Option.{option_map_or}
 use Rattle.odht_base.specs.Decoded.{header_count, header_slots, header_factor, entries_of, controls_of, slot_key, counts_as_free}
 use Rattle.odht_base.specs.Format.{Format, format_of}
 use Rattle.odht_base.specs.Load.{max_items}
@@ -90,8 +89,9 @@ abbrev pub group_numbers : DynParts → Hash → Option ℕ → ℕ → List ℕ
 group_numbers T h o n =
     map (λ i. capped o (groups_to (hash_of h (slot_key (file_format T h) T.entries i)) T.slots i)) (occupied T n)
 
-abbrev pub found_groups : DynParts → Option ℕ → List ℕ
-found_groups T o = option_map_or (λ h. group_numbers T h o T.slots) (found_hash T) []
+abbrev pub groups_by : DynParts → Option Hash → Option ℕ → List ℕ
+groups_by T None o = []
+groups_by T (Some h) o = if nat_le (least_key_len h) T.key_len then group_numbers T h o T.slots else []
 
 unfoldable pub tallies : List ℕ → List ℕ
 tallies xs = map (λ g. count_by (λ x. min x 64 == g) xs) (range_with_len 1 64)
@@ -122,26 +122,9 @@ stretch_count T p = length (occupied_in T (p * stretch_len T.slots) (stretch_len
 abbrev pub stretch_counts : DynParts → List ℕ
 stretch_counts T = map (stretch_count T) (range_with_len 0 (min T.slots 64))
 
--- ---- all numbers
+-- ---- the load factor
 abbrev pub nearest_percent : ℕ → ℕ
 nearest_percent f = (f * 100 + 32767) / 65535
-
-pub record AreNumbers (B : List ℕ) (o : Option ℕ) (a : Option Advice) (n : Numbers) : Type 0 where
-  pub opens : info_refusal B ≡ None
-  pub key_size : n.key_size ≡ slice_index B 5
-  pub value_size : n.value_size ≡ slice_index B 6
-  pub len : n.len ≡ length B
-  pub items : n.item_count ≡ header_count B
-  pub slots : n.slot_count ≡ header_slots B
-  pub maximum : n.max_item_count ≡ max_items (header_slots B) (header_factor B)
-  pub load : n.load ≡ header_count B * 100 / header_slots B
-  pub max_load : n.max_load ≡ nearest_percent (header_factor B)
-  pub stretches : n.stretches.items ≡ stretch_counts (file_parts B)
-  pub hash : n.hash ≡ found_hash (file_parts B)
-  pub bound : n.bound ≡ o
-  pub histogram : IsHistogram (found_groups (file_parts B) o) n.histogram
-  pub miss : n.longest_miss ≡ longest_miss (file_parts B) o
-  pub advice : n.advice ≡ a
 
 abbrev pub IsInfoFailure : List ℕ → Failure → Type 0
 IsInfoFailure B (Refused error) = info_refusal B ≡ Some error

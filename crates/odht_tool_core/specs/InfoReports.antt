@@ -10,7 +10,8 @@
 use Rattle.std.specs.Prelude.{◌≡◌, ℕ, Bool, List, [], ◌∷◌, codes, Option, Some, None, Result, Ok, Err, if◌then◌else◌}
 use Rattle.std.specs.Io.KnownBytes.{Appends, Keeps}
 use Rattle.odht_tool_core.specs.Advice.{needs_whole, rebuilt_name}
-use Rattle.odht_tool_core.specs.InfoNumbers.{info_refusal, AreNumbers, IsInfoFailure}
+use Rattle.odht_tool_core.specs.AllNumbers.{AreNumbers}
+use Rattle.odht_tool_core.specs.InfoNumbers.{info_refusal, IsInfoFailure}
 use Rattle.odht_tool_core.specs.InfoTexts.{hash_name}
 use Rattle.odht_tool_core.specs.Reports.{Said, Told, Wording, between, field, report_as, said_number}
 use Rattle.odht_tool_core.specs.Reports.Said.{nothing, number, groups, text, stretches, histogram, help}

@@ -21,6 +21,7 @@ pub mod Endings
 pub mod Slots
 -- what `info` reports
 pub mod InfoNumbers
+pub mod AllNumbers
 -- what may help where searches are long
 pub mod Advice
 -- parts of its text

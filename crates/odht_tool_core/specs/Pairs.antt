@@ -1,5 +1,6 @@
 -- The pairs of lines, which are added one after the other.
 --     pairs_in k v n b     the first n pairs of the bytes b, in which each key of k bytes is before its value of v bytes
+--     keys_in k n b        the first n keys of the bytes b, each of k bytes
 --     IsSideFault KW VW key value f   the fault f of these texts, where KW and VW say which words are keys and values
 --     IsAdded KW K VW V key value old new a   a is what became of a pair of these texts, where KW and VW say which words are
 --                          keys and values, K and V what they stand for: it is behind the pairs `old` in `new`; or it is
@@ -8,7 +9,7 @@
 --                          key and value, and w is wanted of values
 --     IsPairRead d w K V o o' line old new more   the next line of the bytes o is this, and o' are those after it, and its pair is
 --                          behind the pairs `old` in `new`, where `more` holds; where it does not, `new` is `old`
-use Rattle.std.specs.Prelude.{◌≡◌, ℕ, suc, zero, Bool, true, false, Option, ◌+◌, List, [], ◌∷◌, ◌++◌, take, drop}
+use Rattle.std.specs.Prelude.{◌≡◌, ℕ, suc, zero, Bool, true, false, Option, ◌+◌, List, [], ◌∷◌, ◌++◌, map, take, drop}
 use Rattle.odht_tool_core.specs.Keys.{IsReadAs}
 use Rattle.odht_tool_core.specs.PairLines.{IsFaultOf, IsNextPair, IsPairOf}
 use Rattle.odht_tool_core.specs.declared.failure.LineFault.{LineFault}
@@ -20,6 +21,9 @@ use Rattle.odht_tool_core.specs.declared.pairs.Added.TheVariants.{Pair, Fault, N
 unfoldable pub pairs_in : ℕ → ℕ → ℕ → List ℕ → List (List ℕ × List ℕ)
 pairs_in k v zero b = []
 pairs_in k v (suc n) b = (take k b, take v (drop k b)) ∷ pairs_in k v n (drop (k + v) b)
+
+abbrev pub keys_in : ℕ → ℕ → List ℕ → List (List ℕ)
+keys_in k n b = map (λ p. p.0) (pairs_in k 0 n b)
 
 abbrev pub IsSideFault : (List ℕ → Type 0) → (List ℕ → Type 0) → List ℕ → List ℕ → LineFault → Type 0
 IsSideFault KW VW key value NoTab = ⊥

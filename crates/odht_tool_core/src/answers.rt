@@ -5,13 +5,17 @@ ghost use Rattle.std.specs.List.{list_all};
 ghost use Rattle.odht_tool_core.specs.Texts.{answer_line, answers_text, pair_line};
 
 use crate::forms::{Form, Forms, OwnForms};
-use crate::text::Text;
+use crate::written::Written;
 use std::alloc::{AllocError, Global};
 use std::io::{self, Write};
 
 /// Writes a line of a key, a tab and a value, in the texts that their types have.
 #[inline(always)]
-pub fn write_pair<K: Text, V: Text, O: Write>(key: &K, value: &V, output: &mut O) -> io::Result<()>
+pub fn write_pair<K: Written, V: Written, O: Write>(
+    key: &K,
+    value: &V,
+    output: &mut O,
+) -> io::Result<()>
     ensures { OnOk result (Appends (O.contents output.old) (O.contents output.new)
         (pair_line (K.text Form.Own) (V.text Form.Own) (key.now, value.now))) }
 {
@@ -21,7 +25,7 @@ pub fn write_pair<K: Text, V: Text, O: Write>(key: &K, value: &V, output: &mut O
 /// Writes a line of a key, a tab and a value, in texts of these forms. Each part is written by
 /// itself: a buffer behind `output` that becomes full is passed on with as many parts as fit.
 #[inline(always)]
-pub fn write_pair_as<K: Text, V: Text, F: Forms, O: Write>(
+pub fn write_pair_as<K: Written, V: Written, F: Forms, O: Write>(
     key: &K,
     value: &V,
     forms: F,
@@ -39,7 +43,7 @@ pub fn write_pair_as<K: Text, V: Text, F: Forms, O: Write>(
 /// Writes a line for each key: with its value, or the key alone where it has none; in the texts
 /// that their types have. With no keys it writes nothing, and does not fail.
 #[inline]
-pub fn write_answers<K: Text, V: Text, O: Write>(
+pub fn write_answers<K: Written, V: Written, O: Write>(
     keys: &[K],
     values: &[Option<V>],
     output: &mut O,
@@ -53,7 +57,7 @@ pub fn write_answers<K: Text, V: Text, O: Write>(
 }
 
 /// `write_answers` in texts of these forms.
-pub fn write_answers_as<K: Text, V: Text, F: Forms, O: Write>(
+pub fn write_answers_as<K: Written, V: Written, F: Forms, O: Write>(
     keys: &[K],
     values: &[Option<V>],
     forms: F,
@@ -71,7 +75,7 @@ pub fn write_answers_as<K: Text, V: Text, F: Forms, O: Write>(
 }
 
 /// So many values, all absent.
-pub fn absent_values<V: Text>(alloc: Global, count: usize) -> Result<Vec<Option<V>>, AllocError>
+pub fn absent_values<V: Copy>(alloc: Global, count: usize) -> Result<Vec<Option<V>>, AllocError>
     ensures { IfOk result (λ values. length values.items ≡ count) }
 {
     vec![in alloc; None; count]
@@ -85,7 +89,7 @@ pub fn are_found<V>(values: &[Option<V>]) -> bool
 }
 
 /// Writes the line of a key with its value, or only the key.
-pub(crate) fn write_answer<K: Text, V: Text, F: Forms, O: Write>(
+pub(crate) fn write_answer<K: Written, V: Written, F: Forms, O: Write>(
     key: &K,
     value: &Option<V>,
     forms: F,

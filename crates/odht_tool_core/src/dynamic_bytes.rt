@@ -1,8 +1,11 @@
 //! Keys and values of a length that is known only at run time, as text: by the type that the form
 //! says they are of.
-ghost use Rattle.std.specs.Prelude.{◌≡◌, ◌↔◌, ℕ, List, IsTrue, length};
+ghost use Rattle.std.specs.Prelude.{◌≡◌, ◌↔◌, ℕ, List, IfSome, IsNone, IsTrue, OnOk, length};
+ghost use Rattle.std.specs.Io.KnownBytes.{Appends};
+ghost use Rattle.std.specs.List.{AllPass};
 ghost use Rattle.std.specs.Int.{from_le_bytes, w32, w64};
 ghost use Rattle.odht_tool_core.specs.Forms.{IsBytesText, StandsForBytes, part_in};
+ghost use Rattle.odht_tool_core.specs.Json.{is_simple};
 ghost use Rattle.odht_tool_core.specs.Misreads.{IsWanted, typed_wanted};
 ghost use Rattle.odht_tool_core.specs.ReadyShapes.{IsTypedWord, StandsFor, typed_len, typed_of};
 ghost use Rattle.odht_tool_core.specs.DynTexts.{IsDynamicWord, StandsForDynamic, dynamic_text};
@@ -15,14 +18,14 @@ use crate::plain::read_plain;
 use crate::shapes::Part;
 use crate::text::{Text, write_bytes};
 use crate::typed::{plain_bytes, write_stored};
+use crate::written::Written;
 use odht_raw::raw_table::ShortBytes;
 use std::io::{self, Write};
+use std::marker::Model;
 
 /// The form says their type. Bytes of another length than it has are written in hexadecimal
 /// digits.
 impl Text for ShortBytes {
-    ghost text = { dynamic_text };
-
     ghost is_word = { IsDynamicWord };
 
     ghost stands_for = { StandsForDynamic };
@@ -47,23 +50,81 @@ impl Text for ShortBytes {
             None
         }
     }
+}
+
+impl Written for ShortBytes {
+    ghost text = { dynamic_text };
 
     fn plain_bytes(&self, form: Form) -> Option<&[u8]> {
-        let (part, bytes) = (form.part(), self.as_slice());
-        if bytes.len() == part.size() as usize {
-            plain_bytes(part, form.part_form(), bytes)
-        } else {
-            no_plain_bytes(bytes)
-        }
+        plain_bytes_in(self.as_slice(), form)
     }
 
     fn write<W: Write>(&self, form: Form, output: &mut W) -> io::Result<()> {
-        let (part, bytes) = (form.part(), self.as_slice());
-        if bytes.len() == part.size() as usize {
-            write_stored(part, form.part_form(), bytes, output)
-        } else {
-            write_bytes(bytes, output)
-        }
+        write_bytes_in(self.as_slice(), form, output)
+    }
+}
+
+/// Bytes of a length that is known only at run time, where they lie.
+///
+/// In a contract it is the list of these bytes.
+#[derive(Drop)]
+pub struct DynBytes<'a> {
+    bytes: &'a [u8],
+}
+
+impl<'a> Model for DynBytes<'a> {
+    ghost use Rattle.std.specs.Prelude.{ℕ, List};
+
+    ghost Value = { List ℕ };
+
+    ghost view = { λ s. s.bytes.now };
+}
+
+impl<'a> DynBytes<'a> {
+    /// These bytes.
+    #[inline(always)]
+    pub fn of(bytes: &'a [u8]) -> DynBytes<'a>
+        ensures { result ≡ bytes.now }
+    {
+        DynBytes { bytes }
+    }
+}
+
+impl<'a> Written for DynBytes<'a> {
+    ghost text = { dynamic_text };
+
+    fn plain_bytes(&self, form: Form) -> Option<&[u8]> {
+        plain_bytes_in(self.bytes, form)
+    }
+
+    fn write<W: Write>(&self, form: Form, output: &mut W) -> io::Result<()> {
+        write_bytes_in(self.bytes, form, output)
+    }
+}
+
+// The text of the bytes, where it may have any bytes.
+fn plain_bytes_in(bytes: &[u8], form: Form) -> Option<&[u8]>
+    ensures some { IfSome result (λ t. t.now ≡ dynamic_text form bytes.now) }
+    ensures none { IsNone result → AllPass is_simple (dynamic_text form bytes.now) }
+{
+    let part = form.part();
+    if bytes.len() == part.size() as usize {
+        plain_bytes(part, form.part_form(), bytes)
+    } else {
+        no_plain_bytes(bytes)
+    }
+}
+
+// Writes the text of the bytes.
+fn write_bytes_in<W: Write>(bytes: &[u8], form: Form, output: &mut W) -> io::Result<()>
+    ensures { OnOk result (Appends (W.contents output.old) (W.contents output.new)
+        (dynamic_text form bytes.now)) }
+{
+    let part = form.part();
+    if bytes.len() == part.size() as usize {
+        write_stored(part, form.part_form(), bytes, output)
+    } else {
+        write_bytes(bytes, output)
     }
 }
 

@@ -1,16 +1,18 @@
 //! What a table shows of the types of its keys and values. A command that adds pairs asks for them
 //! where it shows too little.
-ghost use Rattle.std.specs.Prelude.{◌≡◌, ◌↔◌, ◌||◌, ◌<◌, IsTrue, slice_index};
+ghost use Rattle.std.specs.Prelude.{◌≡◌, ◌↔◌, ◌||◌, ◌&&◌, ◌<◌, IsTrue, count_by, not, slice_index};
 ghost use Rattle.std.specs.List.{AllPass, list_all};
 ghost use Rattle.odht_base.specs.Decoded.{counts_as_free};
-ghost use Rattle.odht_tool_core.specs.Evidence.{are_swapped, are_texts, asked, asked_kinds};
-ghost use Rattle.odht_tool_core.specs.Evidence.{is_letter, is_number_len, key_by_hash, looks};
-ghost use Rattle.odht_tool_core.specs.Evidence.{part_at, parts_to, shows_key, shows_value};
-ghost use Rattle.odht_tool_core.specs.Evidence.{values_of};
+ghost use Rattle.odht_tool_core.specs.Evidence.{are_numbers, are_swapped, are_texts, asked_key};
+ghost use Rattle.odht_tool_core.specs.Evidence.{asked_kinds, asked_value, is_by_hash, is_letter};
+ghost use Rattle.odht_tool_core.specs.Evidence.{is_number_len};
+ghost use Rattle.odht_tool_core.specs.Evidence.{key_by_hash, looks, part_at, parts_to};
+ghost use Rattle.odht_tool_core.specs.Evidence.{reads_otherwise, shows_key, shows_value, values_of};
 
 use crate::any::AnyShape;
 use crate::failure::Failure;
 use crate::forms::Kinds;
+use crate::found::other_hash;
 use crate::plain::{are_plain, plain_of};
 use crate::shapes::Hash;
 use crate::stored::StoredTable;
@@ -21,23 +23,31 @@ use crate::stored::StoredTable;
 pub fn ask_kinds(bytes: &[u8], shape: AnyShape, kinds: Kinds) -> Result<(), Failure>
     ensures { result ≡ asked_kinds bytes.now shape kinds }
 {
+    ask_key(bytes, shape, kinds)?;
+    ask_value(bytes, kinds)
+}
+
+/// The same only of keys.
+pub fn ask_key(bytes: &[u8], shape: AnyShape, kinds: Kinds) -> Result<(), Failure>
+    ensures { result ≡ asked_key bytes.now shape kinds }
+{
     match StoredTable::open(bytes) {
-        Ok(table) => ask(&table, shape.hash(), kinds),
-        Err(_) => Ok(()),
+        Ok(table) if kinds.key.is_none() && !shows_key(&table, shape.hash()) => {
+            Err(Failure::UnknownKey(table.layout().key_len))
+        }
+        _ => Ok(()),
     }
 }
 
-fn ask(table: &StoredTable<'_>, hash: Hash, kinds: Kinds) -> Result<(), Failure>
-    ensures { result ≡ asked table.now hash kinds }
+fn ask_value(bytes: &[u8], kinds: Kinds) -> Result<(), Failure>
+    ensures { result ≡ asked_value bytes.now kinds }
 {
-    let layout = table.layout();
-    if kinds.key.is_none() && !shows_key(table, hash) {
-        return Err(Failure::UnknownKey(layout.key_len));
+    match StoredTable::open(bytes) {
+        Ok(table) if kinds.value.is_none() && !shows_value(&table) => {
+            Err(Failure::UnknownValue(table.layout().value_len))
+        }
+        _ => Ok(()),
     }
-    if kinds.value.is_none() && !shows_value(table) {
-        return Err(Failure::UnknownValue(layout.value_len));
-    }
-    Ok(())
 }
 
 // Whether the hash function, or the keys, show which type the keys are of.
@@ -45,8 +55,19 @@ fn shows_key(table: &StoredTable<'_>, hash: Hash) -> bool
     ensures { result ≡ shows_key table.now hash }
 {
     let len = table.layout().key_len;
-    is_key_of_hash(len, hash)
+    len == 0
+        || is_by_hash(table, hash)
         || (!is_number_len(len) && !are_all(table, Side::Keys, Look::PlainText))
+}
+
+// Whether the keys are of the type that new tables of the hash function have: no other one fits the
+// table, as all of them fit an empty one, and the keys do not read as another type.
+fn is_by_hash(table: &StoredTable<'_>, hash: Hash) -> bool
+    ensures { result ≡ is_by_hash table.now hash }
+{
+    is_key_of_hash(table.layout().key_len, hash)
+        && other_hash(table, hash).is_none()
+        && !reads_otherwise(table, hash)
 }
 
 // Whether new tables of the hash function have keys of that many bytes that are of one type, where
@@ -55,10 +76,20 @@ fn is_key_of_hash(len: u8, hash: Hash) -> bool
     ensures { result ≡ key_by_hash len hash }
 {
     match hash {
-        _ if len == 0 => true,
         Hash::Fx => is_number_len(len),
         Hash::Unhash => len == 4 || (8 <= len && len <= 32),
         Hash::Xxh64 => false,
+    }
+}
+
+// Whether the numbers of a table by `fx` read as texts, or as big-endian numbers. Such keys have
+// this hash function where it was named.
+fn reads_otherwise(table: &StoredTable<'_>, hash: Hash) -> bool
+    ensures { result ≡ reads_otherwise table.now hash }
+{
+    match hash {
+        Hash::Fx => are_texts(table, Side::Keys) || are_swapped(table, Side::Keys),
+        Hash::Unhash | Hash::Xxh64 => false,
     }
 }
 
@@ -69,8 +100,7 @@ fn is_number_len(len: u8) -> bool
     len == 4 || len == 8
 }
 
-// Whether the values show which type they are of: of the length of numbers they are such numbers,
-// unless they all read as texts, or begin with zeros as big-endian numbers do.
+// Whether the values show which type they are of.
 fn shows_value(table: &StoredTable<'_>) -> bool
     ensures { result ≡ shows_value table.now }
 {
@@ -79,23 +109,33 @@ fn shows_value(table: &StoredTable<'_>) -> bool
         return true;
     }
     if is_number_len(len) {
-        return !are_texts(table) && !are_swapped(table);
+        return are_numbers(table);
     }
     !are_all(table, Side::Values, Look::PlainText)
 }
 
-// Whether all values are letters, and not all are short.
-fn are_texts(table: &StoredTable<'_>) -> bool
-    ensures { result ≡ are_texts (values_of table.now) }
+// Whether the values read as numbers, and as nothing else: more than half of them are small enough
+// to end with a zero, and they are neither letters nor big-endian numbers.
+fn are_numbers(table: &StoredTable<'_>) -> bool
+    ensures { result ≡ are_numbers (values_of table.now) }
 {
-    are_all(table, Side::Values, Look::Letters) && !are_all(table, Side::Values, Look::Short)
+    !are_all(table, Side::Values, Look::Letters)
+        && !are_swapped(table, Side::Values)
+        && table.count() / 2 < count_of(table, Side::Values, Look::LastZero)
 }
 
-// Whether all values begin with a zero, and not all are zeros.
-fn are_swapped(table: &StoredTable<'_>) -> bool
-    ensures { result ≡ are_swapped (values_of table.now) }
+// Whether all keys, or all values, are letters, and not all are short.
+fn are_texts(table: &StoredTable<'_>, side: Side) -> bool
+    ensures { result ≡ are_texts (parts_to side table.now table.now.slots) }
 {
-    are_all(table, Side::Values, Look::FirstZero) && !are_all(table, Side::Values, Look::Zeros)
+    are_all(table, side, Look::Letters) && !are_all(table, side, Look::Short)
+}
+
+// Whether all keys, or all values, begin with a zero, and not all are zeros.
+fn are_swapped(table: &StoredTable<'_>, side: Side) -> bool
+    ensures { result ≡ are_swapped (parts_to side table.now table.now.slots) }
+{
+    are_all(table, side, Look::FirstZero) && !are_all(table, side, Look::Zeros)
 }
 
 /// Keys, or values.
@@ -118,6 +158,8 @@ pub(crate) enum Look {
     Zeros,
     /// Bytes of which the first is zero.
     FirstZero,
+    /// Bytes of which the last is zero.
+    LastZero,
 }
 
 impl Look {
@@ -132,6 +174,7 @@ impl Look {
             Look::Short => text.len() <= 1,
             Look::Zeros => text.is_empty(),
             Look::FirstZero => bytes.is_empty() || bytes[0] == 0,
+            Look::LastZero => text.len() < bytes.len(),
         }
     }
 }
@@ -174,5 +217,32 @@ fn is_free_or(table: &StoredTable<'_>, side: Side, look: Look, slot: usize) -> b
         (Some((key, _)), Side::Keys) => look.is_of(key),
         (Some((_, value)), Side::Values) => look.is_of(value),
         (None, _) => true,
+    }
+}
+
+// How many keys, or values, look so.
+fn count_of(table: &StoredTable<'_>, side: Side, look: Look) -> usize
+    ensures { result ≡ count_by (looks look) (parts_to side table.now table.now.slots) }
+{
+    let mut count = 0_usize;
+    for slot in 0..table.slot_count() {
+        let is_so = is_occupied_as(table, side, look, slot);
+        if is_so {
+            count += 1;
+        }
+    }
+    count
+}
+
+// Whether a slot is occupied, and its key or value looks so.
+fn is_occupied_as(table: &StoredTable<'_>, side: Side, look: Look, slot: usize) -> bool
+    requires { slot < table.now.slots }
+    ensures { result ≡ (not (counts_as_free (slice_index table.now.control slot))
+        && looks look (part_at side table.now slot)) }
+{
+    match (table.pair(slot), side) {
+        (Some((key, _)), Side::Keys) => look.is_of(key),
+        (Some((_, value)), Side::Values) => look.is_of(value),
+        (None, _) => false,
     }
 }

@@ -79,20 +79,67 @@ pub fn input_len<R: Files>(rt: &R) -> Option<u64> {
     }
 }
 
-/// All bytes of an input.
-// By lines, as other commands read it: another way to read would keep the compiler from inlining
-// theirs.
-pub fn read_input<I: BufRead>(alloc: Global, input: &mut I) -> Result<Vec<u8>, Failure> {
+/// The bytes of an input that is to have a table at this offset: all of them, or, if none begins
+/// there by its header, as many as [`read_table_file`] reads.
+pub fn read_table_input<I: BufRead>(
+    alloc: Global,
+    input: &mut I,
+    offset: usize,
+) -> Result<Vec<u8>, Failure> {
     let mut bytes = Vec::new(alloc);
-    for _ in 0..u64::MAX {
-        match input.read_until(b'\n', &mut bytes) {
-            Ok(0) => break,
-            Ok(_) => {}
-            Err(error) if error.kind() == io::ErrorKind::OutOfMemory => {
-                return Err(Failure::Memory);
-            }
-            Err(error) => return Err(Failure::Input(error)),
-        }
+    read_some(input, offset.saturating_add(HEADER_SIZE), &mut bytes).map_err(of_input)?;
+    if begins_table_at(bytes.as_slice(), offset) {
+        read_rest(input, &mut bytes)?;
+    } else {
+        read_some(input, MOST_LOOKED as usize, &mut bytes).map_err(of_input)?;
     }
     Ok(bytes)
+}
+
+// Adds the next bytes of an input, at most `most`.
+fn read_some<I: BufRead>(input: &mut I, most: usize, bytes: &mut Vec<u8>) -> io::Result<()> {
+    let mut left = most;
+    for _ in 0..u64::MAX {
+        let available = match input.fill_buf() {
+            Ok(available) => available,
+            Err(error) if error.kind() == io::ErrorKind::Interrupted => continue,
+            Err(error) => return Err(error),
+        };
+        let taken = available.len().min(left);
+        if taken == 0 {
+            break;
+        }
+        bytes.extend_from_slice(&available[..taken])?;
+        input.consume(taken);
+        left -= taken;
+    }
+    Ok(())
+}
+
+fn of_input(error: io::Error) -> Failure {
+    match error.kind() {
+        io::ErrorKind::OutOfMemory => Failure::Memory,
+        _ => Failure::Input(error),
+    }
+}
+
+/// All bytes of an input.
+pub fn read_input<I: BufRead>(alloc: Global, input: &mut I) -> Result<Vec<u8>, Failure> {
+    let mut bytes = Vec::new(alloc);
+    read_rest(input, &mut bytes)?;
+    Ok(bytes)
+}
+
+// Adds all bytes that an input has left.
+// By lines, as other commands read it: another way to read would keep the compiler from inlining
+// theirs.
+fn read_rest<I: BufRead>(input: &mut I, bytes: &mut Vec<u8>) -> Result<(), Failure> {
+    for _ in 0..u64::MAX {
+        match input.read_until(b'\n', bytes) {
+            Ok(0) => break,
+            Ok(_) => {}
+            Err(error) => return Err(of_input(error)),
+        }
+    }
+    Ok(())
 }

@@ -1,6 +1,6 @@
 //! The shape of a file, where its hash function is found by its control bytes.
 ghost use Rattle.std.specs.Prelude.{◌≡◌, ◌≤◌, ◌&&◌, length, slice_index, is_none, is_some, nat_le};
-ghost use Rattle.std.specs.Prelude.{IfOk, IfSome, OnSome, Some};
+ghost use Rattle.std.specs.Prelude.{IfOk, IfSome, None, OnSome, Some};
 ghost use Rattle.odht_base.specs.Format.{format_of};
 ghost use Rattle.odht_header.specs.Refusals.{check_refusal_by, checked};
 ghost use Rattle.odht_tool_core.specs.InfoNumbers.{info_refusal, file_parts};
@@ -9,6 +9,7 @@ ghost use Rattle.odht_tool_core.specs.FoundShapes.{agreed_hash, is_valid_by, set
 ghost use Rattle.odht_tool_core.specs.FoundShapes.{hinted_hash, is_other, other_hash, said_hash};
 ghost use Rattle.odht_tool_core.specs.FoundShapes.{valid_hash};
 ghost use Rattle.odht_tool_core.specs.AnyShapes.{HasLongKeys, checked_any, fitting_any, found_any};
+ghost use Rattle.odht_tool_core.specs.AnyShapes.{read_hash};
 
 use crate::any::{AnyShape, named_any};
 use crate::failure::Failure;
@@ -49,6 +50,23 @@ pub fn found_any(bytes: &[u8], hash: Option<Hash>) -> Result<AnyShape, Failure>
     match (hash, open_with_items(bytes)) {
         (None, Some(table)) => fitting_any(bytes, &table),
         _ => named_any(bytes, hash),
+    }
+}
+
+/// The hash function by which commands read the bytes of a table where none is given; of a table
+/// without items the first one that fits. None where none fits.
+pub(crate) fn read_hash(bytes: &[u8], table: &StoredTable<'_>) -> Option<Hash>
+    requires opens { info_refusal bytes.now ≡ None }
+    requires parts { table.now ≡ file_parts bytes.now }
+    requires long { 32 ≤ length bytes.now }
+    ensures { result ≡ read_hash bytes.now }
+{
+    if Header::of(bytes).item_count() == 0 {
+        return table.hash();
+    }
+    match fitting_any(bytes, table) {
+        Ok(shape) => Some(shape.hash()),
+        Err(_) => None,
     }
 }
 
@@ -209,8 +227,8 @@ pub fn hinted_hash(bytes: &[u8], hash: Hash) -> Option<Hash>
     other_hash(&table, hash)
 }
 
-// The first hash function that is not this one and that all control bytes agree with.
-fn other_hash(table: &StoredTable<'_>, hash: Hash) -> Option<Hash>
+/// The first hash function that is not this one and that all control bytes agree with.
+pub(crate) fn other_hash(table: &StoredTable<'_>, hash: Hash) -> Option<Hash>
     ensures { result ≡ other_hash table.now hash }
 {
     HASHES

@@ -1,13 +1,13 @@
 //! Words of the command line, and lines of an input, that are read as keys.
-ghost use Rattle.std.specs.Prelude.{◌≡◌, [], ◌∷◌, ◌++◌, Ok, IfOk, IfErr, OnOk, map, string_bytes};
+ghost use Rattle.std.specs.Prelude.{◌≡◌, [], ◌∷◌, ◌++◌, IfOk, IfErr, OnErr, OnOk, map, string_bytes};
 ghost use Rattle.std.specs.Io.KnownBytes.{Appends};
 ghost use Rattle.std.specs.List.{AllZip};
-ghost use Rattle.odht_tool_core.specs.Keys.{IsReadAs, IsKeyLine, IsNoKeyLine, IsNextKey};
-ghost use Rattle.odht_tool_core.specs.Keys.{TellsWord, TellsFault};
+ghost use Rattle.odht_tool_core.specs.Keys.{IsReadAs, IsNextKey, IsUnread, TellsWord, TellsFault};
 ghost use Rattle.odht_tool_core.specs.Misreads.{absent_line, repeated_line};
 
 use crate::failure::{Failure, LineFault};
 use crate::forms::Form;
+use crate::key_lists::{KeyAdded, Keys};
 use crate::lines::{is_left_out, read_line};
 use crate::misread::Misread;
 use crate::shown::Shown;
@@ -15,18 +15,26 @@ use crate::text::Text;
 use std::alloc::Global;
 use std::io::{self, BufRead, Write};
 
-/// The keys of the words, or the first word that is none.
-pub fn parse_keys<K: Text>(alloc: Global, words: &[String], form: Form) -> Result<Vec<K>, Failure>
-    ensures keys { IfOk result (λ keys. AllZip (IsReadAs (K.is_word form) (K.stands_for form))
-        (map string_bytes words.now) keys.items) }
-    ensures fault { IfErr result (TellsFault (IsReadAs (K.is_word form) (K.stands_for form))
-        (K.wants form) (map string_bytes words.now)) }
+/// The keys of the words, of this length, or the first word that is none.
+pub fn parse_keys<L: Keys>(
+    alloc: Global,
+    words: &[String],
+    key_len: u8,
+    form: Form,
+) -> Result<L, Failure>
+    ensures keys { IfOk result (λ keys.
+        AllZip (IsReadAs (L.Key.is_word form) (L.Key.stands_for form))
+        (map string_bytes words.now) (L.items keys)) }
+    ensures fault { IfErr result (TellsFault
+        (IsReadAs (L.Key.is_word form) (L.Key.stands_for form))
+        (L.Key.wants form) (map string_bytes words.now)) }
 {
-    let mut keys = Vec::new(alloc);
+    let mut keys = L::none(alloc, key_len);
     for word in words {
-        match K::parse(word.as_str().as_bytes(), form) {
-            Some(key) => push_key(&mut keys, key)?,
-            None => return Err(wrong_key::<K>(alloc, word.as_str(), form)),
+        match keys.add(word.as_str().as_bytes(), form) {
+            KeyAdded::Key => {}
+            KeyAdded::NoKey => return Err(wrong_key::<L::Key>(alloc, word.as_str(), form)),
+            KeyAdded::NoMemory => return Err(Failure::Memory),
         }
     }
     Ok(keys)
@@ -97,15 +105,49 @@ pub fn write_repeated<E: Write>(file: &str, text: &[u8], errors: &mut E) -> io::
     )
 }
 
-/// Adds a key.
-pub fn push_key<K: Text>(keys: &mut Vec<K>, key: K) -> Result<(), Failure>
-    ensures ok { OnOk result (keys.new.items ≡ keys.old.items ++ key ∷ []) }
-    ensures err { IfErr result (λ failure. failure ≡ Failure.Memory) }
-{
-    keys.push(key).map_err(|_| Failure::Memory)
+/// What the next line of an input is.
+#[derive(Clone, Copy)]
+pub enum TakenKey {
+    /// The text of a key, which was added.
+    Key,
+    /// The text of no key.
+    NoKey,
+    /// There is no line, or an empty last one that is no key.
+    End,
 }
 
-/// What the next line of an input is.
+/// Reads the next line, and adds its key, of which it is the text in this form. The bytes of `line`
+/// are replaced. Where an empty line is no key, a line after it is taken too.
+#[inline]
+pub fn take_key<L: Keys, I: BufRead>(
+    input: &mut I,
+    line: &mut Vec<u8>,
+    form: Form,
+    keys: &mut L,
+) -> Result<TakenKey, Failure>
+    ensures next { IfOk result (IsNextKey (IsReadAs (L.Key.is_word form) (L.Key.stands_for form))
+        (I.remaining input.old) (I.remaining input.new) line.new.items
+        (L.items keys.old) (L.items keys.new)) }
+    ensures err { IfErr result (IsUnread (I.remaining input.old)) }
+    ensures kept { OnErr result (L.items keys.new ≡ L.items keys.old) }
+{
+    if !read_line(input, line).map_err(Failure::Input)? {
+        return Ok(TakenKey::End);
+    }
+    match keys.add(line.as_slice(), form) {
+        KeyAdded::Key => Ok(TakenKey::Key),
+        KeyAdded::NoKey => {
+            if is_left_out(input, line).map_err(Failure::Input)? {
+                Ok(TakenKey::End)
+            } else {
+                Ok(TakenKey::NoKey)
+            }
+        }
+        KeyAdded::NoMemory => Err(Failure::Memory),
+    }
+}
+
+/// What the next line of an input is. Only the benchmark reads keys one by one.
 #[derive(Drop)]
 pub enum NextKey<K> {
     /// The text of this key.
@@ -117,43 +159,23 @@ pub enum NextKey<K> {
 }
 
 /// Reads the next line, and parses its key, in the text that its type has. The bytes of `line` are
-/// replaced. Where an empty line is no key, a line after it is taken too.
+/// replaced.
 #[inline]
-pub fn next_key<K: Text, I: BufRead>(input: &mut I, line: &mut Vec<u8>) -> io::Result<NextKey<K>>
-    ensures next { IfOk result (IsNextKey (IsReadAs (K.is_word Form.Own) (K.stands_for Form.Own))
-        (I.remaining input.old) (I.remaining input.new)) }
-    ensures fault { result ≡ Ok NextKey.NoKey
-        → IsNoKeyLine (IsReadAs (K.is_word Form.Own) (K.stands_for Form.Own))
-        (I.remaining input.old) (I.remaining input.new) line.new.items }
-{
-    next_key_as(input, line, Form::Own)
-}
-
-/// `next_key` in texts of this form.
-pub fn next_key_as<K: Text, I: BufRead>(
-    input: &mut I,
-    line: &mut Vec<u8>,
-    form: Form,
-) -> io::Result<NextKey<K>>
-    ensures next { IfOk result (IsNextKey (IsReadAs (K.is_word form) (K.stands_for form))
-        (I.remaining input.old) (I.remaining input.new)) }
-    ensures line { IfOk result (IsKeyLine (IsReadAs (K.is_word form) (K.stands_for form))
-        (I.remaining input.old) (I.remaining input.new) line.new.items) }
-    ensures fault { result ≡ Ok NextKey.NoKey
-        → IsNoKeyLine (IsReadAs (K.is_word form) (K.stands_for form))
-        (I.remaining input.old) (I.remaining input.new) line.new.items }
-{
+pub fn next_key<K: Text, I: BufRead>(input: &mut I, line: &mut Vec<u8>) -> io::Result<NextKey<K>> {
     if !read_line(input, line)? {
         return Ok(NextKey::End);
     }
-    match K::parse(line.as_slice(), form) {
+    match K::parse(line.as_slice(), Form::Own) {
         Some(key) => Ok(NextKey::Key(key)),
-        None => {
-            if is_left_out(input, line)? {
-                Ok(NextKey::End)
-            } else {
-                Ok(NextKey::NoKey)
-            }
-        }
+        None if is_left_out(input, line)? => Ok(NextKey::End),
+        None => Ok(NextKey::NoKey),
     }
+}
+
+/// Adds a key.
+pub fn push_key<K: Text>(keys: &mut Vec<K>, key: K) -> Result<(), Failure>
+    ensures ok { OnOk result (keys.new.items ≡ keys.old.items ++ key ∷ []) }
+    ensures err { IfErr result (λ failure. failure ≡ Failure.Memory) }
+{
+    keys.push(key).map_err(|_| Failure::Memory)
 }

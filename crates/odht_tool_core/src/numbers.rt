@@ -1,13 +1,15 @@
 //! The numbers that `odht info` writes of a table of any key and value sizes.
 ghost use Rattle.std.specs.Prelude.{◌≡◌, ◌<◌, ◌*◌, ◌/◌, IfOk, IfErr};
-ghost use Rattle.odht_tool_core.specs.InfoNumbers.{AreNumbers, IsInfoFailure, IsHistogram};
-ghost use Rattle.odht_tool_core.specs.InfoNumbers.{found_groups, found_hash, nearest_percent};
+ghost use Rattle.odht_tool_core.specs.AllNumbers.{AreNumbers};
+ghost use Rattle.odht_tool_core.specs.InfoNumbers.{IsInfoFailure, IsHistogram, groups_by};
+ghost use Rattle.odht_tool_core.specs.InfoNumbers.{nearest_percent};
 
 use crate::advice::Advice;
 use crate::failure::Failure;
+use crate::found::read_hash;
 use crate::histogram::Histogram;
 use crate::shapes::Hash;
-use crate::stored::StoredTable;
+use crate::stored::{StoredTable, least_key_size};
 use odht_base::load::{Factor, max_item_count_for};
 use odht_header::header::Header;
 use std::alloc::{AllocError, Global};
@@ -35,7 +37,7 @@ pub struct Numbers {
     /// How many slots of each stretch are occupied, in slot order: at most 64 stretches, of equal
     /// length.
     pub stretches: Vec<usize>,
-    /// The hash function that all control bytes agree with, if there is one.
+    /// The hash function by which the commands read the table, if one fits.
     pub hash: Option<Hash>,
     /// The bound of the numbers of groups, where there is one: larger ones are counted as one more
     /// than it.
@@ -60,7 +62,7 @@ pub fn numbers_of(
     ensures err { IfErr result (IsInfoFailure bytes.now) }
 {
     let table = StoredTable::open(bytes).map_err(Failure::Refused)?;
-    let hash = table.hash();
+    let hash = read_hash(bytes, &table);
     let histogram = histogram_of(alloc, &table, hash, bound)?;
     let stretches = table.stretches(alloc)?;
     let header = Header::of(bytes);
@@ -84,19 +86,21 @@ pub fn numbers_of(
     })
 }
 
-// The histogram by the hash function that was found; an empty one where there is none.
+// The histogram by this hash function; an empty one where there is none, or keys are too short
+// for it.
 fn histogram_of(
     alloc: Global,
     table: &StoredTable<'_>,
     hash: Option<Hash>,
     bound: Option<usize>,
 ) -> Result<Histogram, AllocError>
-    requires { hash ≡ found_hash table.now }
-    ensures { IfOk result (IsHistogram (found_groups table.now bound)) }
+    ensures { IfOk result (IsHistogram (groups_by table.now hash bound)) }
 {
     match hash {
-        Some(hash) => table.histogram(alloc, hash, bound),
-        None => Histogram::new(alloc),
+        Some(hash) if least_key_size(hash) <= table.layout().key_len as usize => {
+            table.histogram(alloc, hash, bound)
+        }
+        _ => Histogram::new(alloc),
     }
 }
 

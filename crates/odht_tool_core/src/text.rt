@@ -2,7 +2,7 @@
 //! hexadecimal digits or as plain text, and nothing at all.
 ghost use Rattle.std.specs.Prelude.{◌≡◌, ◌↔◌, ◌<◌, ◌≤◌, ◌*◌, ◌%◌, ℕ};
 ghost use Rattle.std.specs.Prelude.{List, [], length, take, max, slice_index, Some};
-ghost use Rattle.std.specs.Prelude.{IfErr, IfSome, IsFalse, IsNone, IsOk, IsSome, IsTrue, OnOk};
+ghost use Rattle.std.specs.Prelude.{IfErr, IfSome, IsFalse, IsOk, IsSome, IsTrue, OnOk};
 ghost use Rattle.std.specs.Prelude.{false};
 ghost use Rattle.std.specs.Char.{is_ascii_hexdigit, to_ascii_lowercase};
 ghost use Rattle.std.specs.Fmt.{digit_glyph};
@@ -10,27 +10,25 @@ ghost use Rattle.std.specs.List.{AllPass};
 ghost use Rattle.std.specs.Io.KnownBytes.{Appends};
 ghost use Rattle.odht_tool_core.specs.Digits.{IsValueOf};
 ghost use Rattle.std.specs.Int.{w32, w64};
-ghost use Rattle.odht_tool_core.specs.Forms.{number_text, IsNumberText, StandsForNumber};
-ghost use Rattle.odht_tool_core.specs.Forms.{bytes_text, IsBytesText, StandsForBytes};
-ghost use Rattle.odht_tool_core.specs.Json.{is_simple};
+ghost use Rattle.odht_tool_core.specs.Forms.{IsNumberText, StandsForNumber};
+ghost use Rattle.odht_tool_core.specs.Forms.{IsBytesText, StandsForBytes};
 ghost use Rattle.odht_tool_core.specs.Misreads.{IsWanted, bytes_wanted, number_wanted};
 ghost use Rattle.odht_tool_core.specs.declared.misread.Wanted.{Wanted};
 ghost use Rattle.odht_tool_core.specs.declared.misread.Wanted.TheVariants.{Nothing, U32, U64, I32, I64};
 ghost use Rattle.odht_tool_core.specs.Texts.{IsHexWord, WritesBytes, hex_text};
 
-use crate::digits::{parse_number, write_number};
+use crate::digits::parse_number;
 use crate::forms::Form;
-use crate::hexadecimal::{no_plain_bytes, read_many};
+use crate::hexadecimal::read_many;
 use crate::misread::Wanted;
-use crate::plain::{parse_plain, plain_of, write_plain};
-use crate::signed::{parse_signed, write_signed};
+use crate::plain::parse_plain;
+use crate::signed::parse_signed;
+use crate::written::Written;
 use std::io::{self, Write};
 
-/// A key or a value that has a text in each form.
-pub trait Text: Copy {
+/// A key or a value that has a text in each form, and is read from it.
+pub trait Text: Written + Copy {
     ghost use Rattle.odht_tool_core.specs.declared.forms.Form.{Form};
-
-    ghost text: { Form → Self → List ℕ };
 
     ghost is_word: { Form → List ℕ → Type 0 };
 
@@ -47,22 +45,9 @@ pub trait Text: Copy {
     fn parse(word: &[u8], form: Form) -> Option<Self>
         ensures value { IfSome result (stands_for form word.now) }
         ensures some { IsSome result ↔ is_word form word.now };
-
-    /// The text, where it may have any bytes. None where each is a character that stands for
-    /// itself in strings of JSON.
-    fn plain_bytes(&self, form: Form) -> Option<&[u8]>
-        ensures some { IfSome result (λ t. t.now ≡ text form self.now) }
-        ensures none { IsNone result → AllPass is_simple (text form self.now) };
-
-    /// Writes the text.
-    fn write<W: Write>(&self, form: Form, output: &mut W) -> io::Result<()>
-        ensures { OnOk result (Appends (W.contents output.old) (W.contents output.new)
-            (text form self.now)) };
 }
 
 impl Text for u32 {
-    ghost text = { number_text w32 };
-
     ghost is_word = { IsNumberText w32 };
 
     ghost stands_for = { StandsForNumber w32 };
@@ -86,24 +71,9 @@ impl Text for u32 {
             _ => u32::try_from(parse_number(word)?).ok(),
         }
     }
-
-    fn plain_bytes(&self, _form: Form) -> Option<&[u8]> {
-        None
-    }
-
-    #[inline(always)]
-    fn write<W: Write>(&self, form: Form, output: &mut W) -> io::Result<()> {
-        match form {
-            Form::Signed => write_signed(u64::from(*self), u64::from(u32::MAX), output),
-            Form::BigEndian => write_number(u64::from(self.swap_bytes()), output),
-            _ => write_number(u64::from(*self), output),
-        }
-    }
 }
 
 impl Text for u64 {
-    ghost text = { number_text w64 };
-
     ghost is_word = { IsNumberText w64 };
 
     ghost stands_for = { StandsForNumber w64 };
@@ -127,24 +97,9 @@ impl Text for u64 {
             _ => parse_number(word),
         }
     }
-
-    fn plain_bytes(&self, _form: Form) -> Option<&[u8]> {
-        None
-    }
-
-    #[inline(always)]
-    fn write<W: Write>(&self, form: Form, output: &mut W) -> io::Result<()> {
-        match form {
-            Form::Signed => write_signed(*self, u64::MAX, output),
-            Form::BigEndian => write_number(self.swap_bytes(), output),
-            _ => write_number(*self, output),
-        }
-    }
 }
 
 impl Text for () {
-    ghost text = { λ form u. [] };
-
     ghost is_word = { λ form word. word ≡ [] };
 
     ghost stands_for = { λ form word u. word ≡ [] };
@@ -158,19 +113,9 @@ impl Text for () {
     fn parse(word: &[u8], _form: Form) -> Option<()> {
         if word.is_empty() { Some(()) } else { None }
     }
-
-    fn plain_bytes(&self, _form: Form) -> Option<&[u8]> {
-        None
-    }
-
-    fn write<W: Write>(&self, _form: Form, output: &mut W) -> io::Result<()> {
-        output.write_all(b"")
-    }
 }
 
 impl<const N: usize> Text for [u8; N] {
-    ghost text = { bytes_text };
-
     ghost is_word = { IsBytesText N };
 
     ghost stands_for = { StandsForBytes };
@@ -188,21 +133,6 @@ impl<const N: usize> Text for [u8; N] {
         match form {
             Form::Plain => parse_plain(word),
             _ => parse_bytes(word),
-        }
-    }
-
-    fn plain_bytes(&self, form: Form) -> Option<&[u8]> {
-        match form {
-            Form::Plain => Some(plain_of(self)),
-            _ => no_plain_bytes(self),
-        }
-    }
-
-    #[inline(always)]
-    fn write<W: Write>(&self, form: Form, output: &mut W) -> io::Result<()> {
-        match form {
-            Form::Plain => write_plain(self, output),
-            _ => write_bytes(self, output),
         }
     }
 }

@@ -1,16 +1,18 @@
 -- Keys and their answers.
-use Rattle.std.proofs.Common.{◌≡◌, ◌∙◌, List, [], ◌∷◌, ◌++◌, ℕ, zero, suc, ◌+◌, Option, Some, Bool, ◌<◌, ◌≤◌, length, slice_get, take, get_or, ap, sym, subst, refl, arith}
+use Rattle.std.proofs.Common.{◌≡◌, ◌∙◌, List, [], ◌∷◌, ◌++◌, ℕ, zero, suc, Option, Some, None, Bool, true, ◌&&◌, ◌<◌, ◌≤◌, length, slice_get, is_some, ap, sym, subst, refl, arith}
+use Rattle.std.specs.Io.KnownBytes.{Appends}
+use Rattle.std.specs.List.{list_all}
 use Rattle.std.specs.Prelude.{IfSome}
 use Rattle.std.proofs.KnownBytes.{Appends-nil}
-use Rattle.std.proofs.lemmas.List.{take_more}
+use Rattle.std.proofs.lemmas.List.{append-nil}
 use Rattle.odht.specs.Gets.{IsGet}
 use Rattle.odht_header.specs.Coding.{Coding, HasStored}
 use Rattle.odht_tool_core.specs.declared.misread.Wanted.{Wanted}
 use Rattle.odht_tool_core.specs.declared.failure.Failure.{Failure}
 use Rattle.odht_tool_core.specs.declared.failure.Failure.TheVariants.{Input, Memory, Misread, Output}
-use Rattle.odht_tool_reads.specs.GetParts.{IsFlushed, IsKeysFailure, IsLineFailure, IsNextNone}
+use Rattle.odht_tool_reads.specs.GetParts.{AreKeysAnswered, IsFlushed, IsKeysFailure, IsLineFailure, IsNextNone}
 use Rattle.odht_tool_reads.specs.Gets.{AreAnswers}
-use Rattle.odht_tool_reads.proofs.AnswerLists.{are_answers_append}
+use Rattle.odht_tool_reads.proofs.AnswerLists.{are_answers_append, found_append, written_append}
 use Rattle.odht_tool_reads.specs.declared.lookups.TheConstants.{BATCH}
 
 -- of no keys there are no answers
@@ -21,6 +23,15 @@ no_answers c B = record { each = refl; on_valid = λ P is. refl; on_any = λ i k
 pub nothing_flushed : {K V : Type 0} (c : Coding K V) (l : K × Option V → List ℕ) (B : List ℕ) (due : Bool) (ks : List K) (old : Option (List ℕ)) (all : Bool) → length ks < BATCH → IsFlushed c l B due ks ks old old all all
 nothing_flushed c l B due ks old all few =
     record { done = []; left = refl; few = λ _ _. refl; full = λ m. absurd (omega (arith, few, m)); values = []; answers = no_answers c B; written = Appends-nil old; found = refl }
+
+-- no keys are answered by nothing
+pub none_answered : {K V : Type 0} (c : Coding K V) (l : K × Option V → List ℕ) (B : List ℕ) (old : Option (List ℕ)) → AreKeysAnswered c l B [] old old true
+none_answered c l B old = record { values = []; answers = no_answers c B; written = Appends-nil old; found = refl }
+
+-- of one value it is told whether it is there
+pub found_one : {V : Type 0} (o : Option V) → is_some o ≡ list_all is_some (o ∷ [])
+found_one None = refl
+found_one (Some v) = refl
 
 -- of one key there is one
 stored_one : {K V : Type 0} (c : Coding K V) (B : List ℕ) (k : K) (o : Option V) → IfSome o (λ v. HasStored c B k v)
@@ -38,12 +49,25 @@ one_answer c B k o h = record {
   on_any = stored_one c B k o h.on_any;
 }
 
--- of one key more there is one more
-pub answers_more : {K V : Type 0} (c : Coding K V) (B : List ℕ) (ks : List K) (i : ℕ) (k : K) (vs : List (Option V)) (o : Option V) → i < length ks → k ≡ get_or ks i k
-    → AreAnswers c B (take i ks) vs → IsGet c B k o → AreAnswers c B (take (i + 1) ks) (vs ++ (o ∷ []))
-answers_more c B ks i k vs o within is h one =
-    subst (λ xs. AreAnswers c B xs (vs ++ (o ∷ []))) (sym (take_more ks i k within ∙ ap (λ x. take i ks ++ (x ∷ [])) (sym is)))
-    (are_answers_append c B (take i ks) (k ∷ []) vs (o ∷ []) h (one_answer c B k o one))
+-- the answer to one key is its line
+pub one_answered : {K V : Type 0} (c : Coding K V) (l : K × Option V → List ℕ) (B : List ℕ) (k : K) (o : Option V) (old new : Option (List ℕ)) (found : Bool) → IsGet c B k o
+    → Appends old new (l (k, o)) → found ≡ is_some o → AreKeysAnswered c l B (k ∷ []) old new found
+one_answered c l B k o old new found get written is = record {
+  values = o ∷ [];
+  answers = one_answer c B k o get;
+  written = subst (Appends old new) (sym (append-nil (l (k, o)))) written;
+  found = is ∙ found_one o;
+}
+
+-- the answers to the keys of both parts, one part after the other
+pub both_answered : {K V : Type 0} (c : Coding K V) (l : K × Option V → List ℕ) (B : List ℕ) (ks ls : List K) (old mid new : Option (List ℕ)) (was is all : Bool)
+    → AreKeysAnswered c l B ks old mid was → AreKeysAnswered c l B ls mid new is → all ≡ (is && was) → AreKeysAnswered c l B (ks ++ ls) old new all
+both_answered c l B ks ls old mid new was is all h j e = record {
+  values = h.values ++ j.values;
+  answers = are_answers_append c B ks ls h.values j.values h.answers j.answers;
+  written = written_append l ks ls h.values j.values old mid new h.answers.each h.written j.written;
+  found = found_append true h.values j.values was is all h.found j.found e;
+}
 
 -- a failure of so many keys
 pub full_failure : {K : Type 0} (n : ℕ) (ks : List K) (old new : Option (List ℕ)) (f : Failure) → n ≤ length ks → IsKeysFailure 1 ks old new f → IsKeysFailure n ks old new f
@@ -56,4 +80,5 @@ pub key_failed : {K V : Type 0} (c : Coding K V) (l : K × Option V → List ℕ
     → IsNextNone R bytes → IsKeysFailure 1 ks old new f → IsLineFailure c l R p B ks n bytes old new f
 key_failed c l R p B ks n bytes old new (Misread message) none k = absurd k
 key_failed c l R p B ks n bytes old new (Input error) none k = absurd k
+key_failed c l R p B ks n bytes old new Memory none k = ((none.then, none.line, none.next), k)
 key_failed c l R p B ks n bytes old new f none k = (none, k)

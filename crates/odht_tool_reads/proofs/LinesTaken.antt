@@ -18,7 +18,6 @@ use Rattle.odht_tool_core.specs.InputLines.{AreLeft}
 use Rattle.odht_tool_core.specs.Misreads.{misread_text}
 use Rattle.odht_tool_core.specs.Texts.{answers_by}
 use Rattle.odht_tool_core.specs.declared.misread.Wanted.{Wanted}
-use Rattle.odht_tool_core.specs.declared.keys.NextKey.TheVariants.{Key as is_key}
 use Rattle.odht_tool_reads.specs.declared.lookups.Coming.{Coming}
 use Rattle.odht_tool_reads.specs.declared.lookups.TheConstants.{BATCH}
 use Rattle.odht_tool_core.specs.declared.failure.Failure.{Failure}
@@ -29,7 +28,7 @@ use Rattle.odht_tool_reads.proofs.AnswerLists.{IsFront, front_of, appended_kept,
 use Rattle.odht_tool_reads.proofs.KeyAnswers.{no_answers}
 use Rattle.odht_tool_tables.proofs.Lines.{if_some, next_of, only_of, end_of}
 use Rattle.odht_tool_core.proofs.KeyWords.{AllZip-one_more}
-use Rattle.odht_tool_core.specs.Keys.{IsLeftOut, IsNextKey}
+use Rattle.odht_tool_core.specs.Keys.{IsKeyRead, IsLeftOut}
 
 -- the lines from the first to the one before this number were read as these keys, and the input has the bytes of the others
 -- left
@@ -97,7 +96,7 @@ taken_kept c l R B x input now old new last number pending all h k = record {
 module _ {K V : Type 0} (c : Coding K V) (l : K × Option V → List ℕ) (R : List ℕ → K → Type 0) (B : List ℕ) (x : Coming) (input now old new : Option (List ℕ)) where
   -- one line more is read as a key
   pub one_taken : (number : ℕ) (pending : List K) (all : Bool) (then : Option (List ℕ)) (key : K) (more : List K) → AreTaken c l R B x input now old new number pending all
-      → IsNextKey R now then (is_key key) → more ≡ pending ++ (key ∷ []) → AreTaken c l R B x input then old new (number + 1) more all
+      → IsKeyRead R now then key → more ≡ pending ++ (key ∷ []) → AreTaken c l R B x input then old new (number + 1) more all
   one_taken number pending all then key more h next e = record {
     done = h.done;
     batches = h.batches;

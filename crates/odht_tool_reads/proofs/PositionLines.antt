@@ -1,16 +1,15 @@
 -- Lines that are answered one after the other.
-use Rattle.std.proofs.Common.{◌≡◌, ◌∙◌, ◌⊎◌, ℕ, ◌+◌, ◌-◌, ◌^◌, ◌≤◌, Bool, true, ◌&&◌, List, [], ◌∷◌, Option, Some, None, is_some, ap, refl, subst, sym, arith}
+use Rattle.std.proofs.Common.{◌≡◌, ◌∙◌, ◌⊎◌, ℕ, ◌+◌, ◌-◌, ◌^◌, ◌≤◌, Bool, true, ◌&&◌, List, [], ◌∷◌, ◌++◌, Option, Some, None, is_some, ap, refl, subst, sym, arith}
 use Rattle.std.specs.Prelude.{Err, Ok}
 use Rattle.std.specs.Io.KnownBytes.{IsAtEnd}
-use Rattle.std.specs.List.{AllZip, list_all}
+use Rattle.std.specs.List.{AllZip, list_all, slice_get}
 use Rattle.std.proofs.KnownBytes.{Appends-nil, Keeps-refl}
 use Rattle.std.proofs.lemmas.Bool.{true≢false}
 use Rattle.std.proofs.lemmas.List.{append-nil}
 use Rattle.odht_header.specs.Coding.{Coding}
-use Rattle.odht_tool_core.specs.Keys.{IsLeftOut, IsNextKey}
+use Rattle.odht_tool_core.specs.Keys.{IsKeyRead, IsLeftOut}
 use Rattle.odht_tool_core.specs.declared.failure.Failure.{Failure}
 use Rattle.odht_tool_core.specs.declared.failure.Failure.TheVariants.{Input, Memory, Misread, Output, Read}
-use Rattle.odht_tool_core.specs.declared.keys.NextKey.TheVariants.{Key as is_key}
 use Rattle.odht_tool_core.specs.declared.misread.Wanted.{Wanted}
 use Rattle.odht_tool_tables.specs.KeyTexts.{found_status}
 use Rattle.odht_tool_tables.proofs.Lines.{if_some}
@@ -19,17 +18,14 @@ use Rattle.odht_tool_reads.specs.Gets.{answered_status}
 use Rattle.odht_tool_reads.specs.declared.positions.Reached.TheVariants.{End, Line}
 use Rattle.odht_tool_reads.specs.GetParts.{AreKeysAnswered, IsLineFailure}
 use Rattle.odht_tool_reads.specs.PositionLines.{AreLinesRead, IsKeyFailure, IsUnreadKey}
-use Rattle.odht_tool_reads.proofs.KeyAnswers.{no_answers}
+use Rattle.odht_tool_reads.proofs.KeyAnswers.{none_answered}
 use Rattle.odht_tool_reads.proofs.LinesTaken.{AreTaken, batch_answered, batch_failed, first_answered, line_failed, lines_answered, one_taken}
 
--- of one value it is told whether it is there
-pub found_one : {V : Type 0} (o : Option V) → is_some o ≡ list_all is_some (o ∷ [])
-found_one None = refl
-found_one (Some v) = refl
-
--- no keys are answered by nothing
-pub none_answered : {K V : Type 0} (c : Coding K V) (l : K × Option V → List ℕ) (B : List ℕ) (old : Option (List ℕ)) → AreKeysAnswered c l B [] old old true
-none_answered c l B old = record { values = []; answers = no_answers c B; written = Appends-nil old; found = refl }
+-- the one key behind none is the first
+pub only_key : {K : Type 0} (before after : List K) (key k : K) → before ≡ [] → after ≡ before ++ (key ∷ []) → slice_get after 0 ≡ Some k → key ≡ k
+only_key {K = K} before after key k none more is =
+    let here : ◌≡◌ {A = Option K} (Some key) (Some k) = sym (ap (λ ks. slice_get ks 0) (more ∙ ap (λ ks. ks ++ (key ∷ [])) none)) ∙ is in
+    cc
 
 -- a key that is not read is a failure of its line, before which none is left
 unread_line : {K V : Type 0} (c : Coding K V) (l : K × Option V → List ℕ) (R : List ℕ → K → Type 0) (p : Wanted) (B : List ℕ) (number : ℕ) (bytes old : Option (List ℕ)) (f : Failure)
@@ -75,7 +71,7 @@ module _ {K V : Type 0} (c : Coding K V) (l : K × Option V → List ℕ) (R : L
     found = ap found_status (sym h.found);
   }) h.read
 
-  module _ (then last : Option (List ℕ)) (key : K) (next : IsNextKey R now then (is_key key)) where
+  module _ (then last : Option (List ℕ)) (key : K) (next : IsKeyRead R now then key) where
     taken : AreTaken c l R B (all_lines true) input then old new (number + 1) (key ∷ []) all
     taken = one_taken c l R B (all_lines true) input now old new number [] all then key (key ∷ []) h next refl
 

@@ -6,7 +6,7 @@
 --     IsNoKeyTold R p n o t    the next line of the bytes o, which is line n, is a text of no key, where p is wanted, and no
 --                          empty last one; the text t tells that
 --     IsUnreadKey R p n o f    f is why the key of line n, the next of the bytes o, was not read: it is no key, which f tells,
---                          or for that there was no memory; or the reader failed
+--                          or there was no memory; or the reader failed
 --     AreSomeAnswered c l R B bytes now old new x  the answers to some first lines of these bytes were written, all of them
 --                          texts of keys; x are the lines that the input has left, as those before them were answered
 --     IsEnd r              r says that the lines were answered to their end
@@ -30,10 +30,9 @@ use Rattle.odht_tool_core.specs.DynTexts.{IsDynamicOf, dynamic_text, dynamic_wan
 use Rattle.odht_tool_core.specs.Forms.{bytes_form}
 use Rattle.odht_tool_core.specs.InputLines.{AreLeft, IsNextLine}
 use Rattle.odht_tool_core.specs.JsonAnswers.{answer_in}
-use Rattle.odht_tool_core.specs.Keys.{IsTextOfNone}
+use Rattle.odht_tool_core.specs.Keys.{IsTextOfNone, IsUnread}
 use Rattle.odht_tool_core.specs.Misreads.{misread_text}
 use Rattle.odht_tool_reads.specs.GetLines.{AreFirstAnswered, AreLinesAnswered, all_lines}
-use Rattle.odht_tool_reads.specs.GetParts.{IsNextNone}
 use Rattle.odht_tool_reads.specs.Gets.{IsAnswered, by_shape}
 use Rattle.odht_tool_reads.specs.Positions.{IsNamed}
 use Rattle.odht_tool_core.specs.declared.any.AnyShape.{AnyShape}
@@ -73,7 +72,7 @@ pub record IsNoKeyTold {K : Type 0} (R : List ℕ → K → Type 0) (p : Wanted)
 abbrev pub IsUnreadKey : {K : Type 0} → (List ℕ → K → Type 0) → Wanted → ℕ → Option (List ℕ) → Failure → Type 0
 IsUnreadKey R p number bytes (Misread message) = IsNoKeyTold R p number bytes (string_bytes message)
 IsUnreadKey R p number bytes (Input error) = ⊤
-IsUnreadKey R p number bytes Memory = IsNextNone R bytes
+IsUnreadKey R p number bytes Memory = IsUnread bytes Memory
 IsUnreadKey R p number bytes _ = ⊥
 
 pub record AreSomeAnswered {K V : Type 0} (c : Coding K V) (l : K × Option V → List ℕ) (R : List ℕ → K → Type 0) (B bytes : List ℕ) (now old new : Option (List ℕ)) (x : Coming) : Type 0 where

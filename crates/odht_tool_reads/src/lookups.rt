@@ -1,27 +1,26 @@
 //! Keys that are looked up in a table, and what is written of them: those of lines, a batch at a
 //! time, and of the words of a command line.
-ghost use Rattle.std.specs.Prelude.{◌≡◌, ◌<◌, ◌≤◌, false, Ok, Some, None, IfOk, IfErr, IsFalse, IsOk, IsTrue, OnOk};
+ghost use Rattle.std.specs.Prelude.{◌≡◌, ◌<◌, ◌≤◌, false, Some, IfOk, IfErr, IsFalse, IsOk, IsTrue, OnErr, OnOk};
 ghost use Rattle.std.specs.Prelude.{string_bytes};
 ghost use Rattle.std.specs.Io.KnownBytes.{Keeps};
 ghost use Rattle.odht_tool_core.specs.Endings.{IsOutputFailure};
 ghost use Rattle.odht_tool_core.specs.JsonAnswers.{answer_in};
-ghost use Rattle.odht_tool_core.specs.Keys.{IsReadAs, IsNextKey, IsNoKeyLine};
+ghost use Rattle.odht_tool_core.specs.Keys.{IsReadAs, IsNextKey, IsUnread};
 ghost use Rattle.odht_tool_core.specs.Misreads.{misread_text};
 ghost use Rattle.odht_tool_reads.specs.GetLines.{AreLinesAnswered, all_lines};
-ghost use Rattle.odht_tool_reads.specs.GetParts.{AreKeysAnswered, IsKeysFailure};
+ghost use Rattle.odht_tool_reads.specs.GetParts.{IsKeysFailure};
 ghost use Rattle.odht_tool_reads.specs.GetParts.{IsFlushed, IsReadKey, IsLineFailure};
-ghost use Rattle.odht_tool_reads.specs.Gets.{AreAnswers};
 
-use odht_tool_core::answers::are_found;
 use odht_tool_core::failure::{Failure, LineFault};
 use odht_tool_core::forms::Forms;
-use odht_tool_core::json::answers::{AnswerStyle, write_answers_in};
-use odht_tool_core::keys::{NextKey, next_key_as, push_key};
+use odht_tool_core::json::answers::AnswerStyle;
+use odht_tool_core::key_lists::Keys;
+use odht_tool_core::keys::{TakenKey, take_key};
 use odht_tool_core::misread::Misread;
 use odht_tool_core::status::Status;
 use odht_tool_core::text::Text;
 use std::alloc::{AllocError, Global};
-use std::io::{self, BufRead, Write};
+use std::io::{BufRead, Write};
 
 pub mod arriving;
 mod tables;
@@ -68,27 +67,40 @@ pub struct LineStyle<F: Forms> {
 
 /// A table in which keys are looked up that have texts, as its values have.
 pub trait Lookups {
-    ghost use Rattle.std.specs.Prelude.{ℕ, List};
+    ghost use Rattle.std.specs.Prelude.{◌≡◌, ℕ, List, [], IfErr, IfOk};
     ghost use Rattle.odht_header.specs.Coding.{Coding};
+    ghost use Rattle.odht_tool_core.specs.JsonAnswers.{answer_in};
+    ghost use Rattle.odht_tool_reads.specs.GetParts.{AreKeysAnswered, IsKeysFailure};
 
-    /// A key.
-    type Key: Text;
+    /// Keys that are looked up.
+    type Keys: Keys;
 
     /// A value.
     type Value: Text;
 
-    ghost coding: { Self → Coding Self.Key Self.Value };
+    ghost coding: { Self → Coding Self.Keys.Key Self.Value };
 
     ghost bytes: { Self → List ℕ };
 
-    /// The value of each key.
-    fn look_up(
+    /// No keys of this table.
+    fn no_keys(&self, alloc: Global) -> Self::Keys
+        ensures { Self.Keys.items result ≡ [] };
+
+    /// Looks the keys up, and writes a line for each. Returns whether each was found.
+    fn answer<F: Forms, O: Write>(
         &self,
         alloc: Global,
-        keys: &[Self::Key],
-    ) -> Result<Vec<Option<Self::Value>>, AllocError>
-        ensures { IfOk result
-            (λ values. AreAnswers (coding self.now) (bytes self.now) keys.now values.items) };
+        keys: &Self::Keys,
+        style: AnswerStyle<F>,
+        output: &mut O,
+    ) -> Result<bool, Failure>
+        ensures ok { IfOk result (AreKeysAnswered (coding self.now)
+            (answer_in style.printed (Self.Keys.Key.text (F.pair style.forms).0)
+            (Self.Value.text (F.pair style.forms).1))
+            (bytes self.now) (Self.Keys.items keys.now)
+            (O.contents output.old) (O.contents output.new)) }
+        ensures err { IfErr result (IsKeysFailure 1 (Self.Keys.items keys.now)
+            (O.contents output.old) (O.contents output.new)) };
 }
 
 /// Looks up the keys of the lines that are left, a batch at a time, and writes a line for each. Where
@@ -103,35 +115,31 @@ pub fn answer_lines<T: Lookups, F: Forms, I: BufRead + Arriving, O: Write>(
 ) -> Result<Status, Failure>
     ensures { let forms = F.pair style.answers.forms
         in AreLinesAnswered (T.coding table.now)
-        (answer_in style.answers.printed (T.Key.text forms.0) (T.Value.text forms.1))
-        (IsReadAs (T.Key.is_word forms.0) (T.Key.stands_for forms.0))
-        (T.Key.wants forms.0) (T.bytes table.now) style.coming (I.remaining input.old)
+        (answer_in style.answers.printed (T.Keys.Key.text forms.0) (T.Value.text forms.1))
+        (IsReadAs (T.Keys.Key.is_word forms.0) (T.Keys.Key.stands_for forms.0))
+        (T.Keys.Key.wants forms.0) (T.bytes table.now) style.coming (I.remaining input.old)
         (O.contents output.old) (O.contents output.new) result }
 {
     let LineStyle { answers, coming } = style;
-    let mut keys = Vec::new(alloc);
+    let mut keys = table.no_keys(alloc);
     let mut line = Vec::new(alloc);
     let mut is_all_found = coming.is_all_found;
     for number in coming.number..u64::MAX {
-        let taken = keys.as_slice();
         let read = read_key(
-            alloc, table, number, input, &mut line, taken, answers, output,
+            alloc, table, number, input, &mut line, &mut keys, answers, output,
         )?;
-        match read {
-            Some(key) => {
-                push_key(&mut keys, key)?;
-                let is_live = is_due(coming.is_live, input);
-                let due = LineStyle {
-                    answers,
-                    coming: Coming { is_live, ..coming },
-                };
-                is_all_found = answer_batch(alloc, table, &mut keys, is_all_found, due, output)?;
-                write_out(is_live, output)?;
-            }
-            None => break,
+        if !read {
+            break;
         }
+        let is_live = is_due(coming.is_live, input);
+        let due = LineStyle {
+            answers,
+            coming: Coming { is_live, ..coming },
+        };
+        is_all_found = answer_batch(alloc, table, &mut keys, is_all_found, due, output)?;
+        write_out(is_live, output)?;
     }
-    let is_last_found = answer_keys(alloc, table, keys.as_slice(), answers, output)?;
+    let is_last_found = table.answer(alloc, &keys, answers, output)?;
     Ok(Status::of(is_last_found && is_all_found))
 }
 
@@ -143,72 +151,75 @@ pub(crate) fn is_due<I: Arriving>(is_live: bool, input: &I) -> bool
     is_live && input.is_waiting()
 }
 
-// Reads the key of the line of this number, if there is such a line. Where it is no key, the keys
-// before it are answered first.
+// Adds the key of the line of this number, if there is such a line, and returns whether there is.
+// Where it is no key, the keys before it are answered first.
 fn read_key<T: Lookups, F: Forms, I: BufRead, O: Write>(
     alloc: Global,
     table: &T,
     number: u64,
     input: &mut I,
     line: &mut Vec<u8>,
-    keys: &[T::Key],
+    keys: &mut T::Keys,
     style: AnswerStyle<F>,
     output: &mut O,
-) -> Result<Option<T::Key>, Failure>
+) -> Result<bool, Failure>
     ensures key { IfOk result (IsReadKey
-        (IsReadAs (T.Key.is_word (F.pair style.forms).0) (T.Key.stands_for (F.pair style.forms).0))
-        (I.remaining input.old) (I.remaining input.new)) }
+        (IsReadAs (T.Keys.Key.is_word (F.pair style.forms).0)
+        (T.Keys.Key.stands_for (F.pair style.forms).0))
+        (I.remaining input.old) (I.remaining input.new)
+        (T.Keys.items keys.old) (T.Keys.items keys.new)) }
     ensures kept { OnOk result (O.contents output.new ≡ O.contents output.old) }
     ensures err { IfErr result (IsLineFailure (T.coding table.now)
-        (answer_in style.printed (T.Key.text (F.pair style.forms).0)
+        (answer_in style.printed (T.Keys.Key.text (F.pair style.forms).0)
         (T.Value.text (F.pair style.forms).1))
-        (IsReadAs (T.Key.is_word (F.pair style.forms).0) (T.Key.stands_for (F.pair style.forms).0))
-        (T.Key.wants (F.pair style.forms).0) (T.bytes table.now) keys.now number
+        (IsReadAs (T.Keys.Key.is_word (F.pair style.forms).0)
+        (T.Keys.Key.stands_for (F.pair style.forms).0))
+        (T.Keys.Key.wants (F.pair style.forms).0) (T.bytes table.now) (T.Keys.items keys.old) number
         (I.remaining input.old) (O.contents output.old) (O.contents output.new)) }
 {
-    match key_of_line(input, line, style.forms) {
-        Ok(NextKey::Key(key)) => Ok(Some(key)),
-        Ok(NextKey::End) => Ok(None),
-        Ok(NextKey::NoKey) => {
-            let message = wrong_line::<T::Key, F>(alloc, number, line.as_slice(), style.forms)?;
-            answer_keys(alloc, table, keys, style, output)?;
+    match key_of_line(input, line, style.forms, keys)? {
+        TakenKey::Key => Ok(true),
+        TakenKey::End => Ok(false),
+        TakenKey::NoKey => {
+            let message = wrong_line::<T::Keys, F>(alloc, number, line.as_slice(), style.forms)?;
+            table.answer(alloc, keys, style, output)?;
             Err(Failure::Misread(message))
         }
-        Err(error) => Err(Failure::Input(error)),
     }
 }
 
-/// The key of the next line in the form of keys.
+/// Adds the key of the next line, in the form of keys.
 #[inline(always)]
-pub(crate) fn key_of_line<K: Text, F: Forms, I: BufRead>(
+pub(crate) fn key_of_line<L: Keys, F: Forms, I: BufRead>(
     input: &mut I,
     line: &mut Vec<u8>,
     forms: F,
-) -> io::Result<NextKey<K>>
+    keys: &mut L,
+) -> Result<TakenKey, Failure>
     ensures next { IfOk result (IsNextKey
-        (IsReadAs (K.is_word (F.pair forms).0) (K.stands_for (F.pair forms).0))
-        (I.remaining input.old) (I.remaining input.new)) }
-    ensures fault { result ≡ Ok NextKey.NoKey → IsNoKeyLine
-        (IsReadAs (K.is_word (F.pair forms).0) (K.stands_for (F.pair forms).0))
-        (I.remaining input.old) (I.remaining input.new) line.new.items }
+        (IsReadAs (L.Key.is_word (F.pair forms).0) (L.Key.stands_for (F.pair forms).0))
+        (I.remaining input.old) (I.remaining input.new) line.new.items
+        (L.items keys.old) (L.items keys.new)) }
+    ensures err { IfErr result (IsUnread (I.remaining input.old)) }
+    ensures kept { OnErr result (L.items keys.new ≡ L.items keys.old) }
 {
-    next_key_as(input, line, forms.key())
+    take_key(input, line, forms.key(), keys)
 }
 
 /// What is said of a line that is no key.
-pub(crate) fn wrong_line<K: Text, F: Forms>(
+pub(crate) fn wrong_line<L: Keys, F: Forms>(
     alloc: Global,
     number: u64,
     line: &[u8],
     forms: F,
 ) -> Result<String, AllocError>
     ensures { IfOk result (λ s. string_bytes s
-        ≡ misread_text (Some number) LineFault.Key (K.wants (F.pair forms).0) line.now) }
+        ≡ misread_text (Some number) LineFault.Key (L.Key.wants (F.pair forms).0) line.now) }
 {
     let misread = Misread {
         line: Some(number),
         fault: LineFault::Key,
-        wanted: K::wanted(forms.key()),
+        wanted: L::Key::wanted(forms.key()),
         text: line,
     };
     misread.message(alloc)
@@ -219,26 +230,26 @@ pub(crate) fn wrong_line<K: Text, F: Forms>(
 fn answer_batch<T: Lookups, F: Forms, O: Write>(
     alloc: Global,
     table: &T,
-    keys: &mut Vec<T::Key>,
+    keys: &mut T::Keys,
     is_all_found: bool,
     style: LineStyle<F>,
     output: &mut O,
 ) -> Result<bool, Failure>
     ensures ok { let forms = F.pair style.answers.forms
         in IfOk result (IsFlushed (T.coding table.now)
-        (answer_in style.answers.printed (T.Key.text forms.0) (T.Value.text forms.1))
-        (T.bytes table.now) style.coming.is_live keys.old.items keys.new.items
+        (answer_in style.answers.printed (T.Keys.Key.text forms.0) (T.Value.text forms.1))
+        (T.bytes table.now) style.coming.is_live (T.Keys.items keys.old) (T.Keys.items keys.new)
         (O.contents output.old) (O.contents output.new) is_all_found) }
-    ensures err { IfErr result (IsKeysFailure 1 keys.old.items
+    ensures err { IfErr result (IsKeysFailure 1 (T.Keys.items keys.old)
         (O.contents output.old) (O.contents output.new)) }
-    ensures full { style.coming.is_live ≡ false → IfErr result (IsKeysFailure BATCH keys.old.items
-        (O.contents output.old) (O.contents output.new)) }
+    ensures full { style.coming.is_live ≡ false → IfErr result (IsKeysFailure BATCH
+        (T.Keys.items keys.old) (O.contents output.old) (O.contents output.new)) }
 {
-    if is_few(keys.len(), style.coming.is_live) {
+    if is_few(keys.count(), style.coming.is_live) {
         return Ok(is_all_found);
     }
-    let is_found = answer_keys(alloc, table, keys.as_slice(), style.answers, output)?;
-    keys.clear();
+    let is_found = table.answer(alloc, keys, style.answers, output)?;
+    keys.remove_all();
     Ok(is_found && is_all_found)
 }
 
@@ -263,25 +274,4 @@ pub(crate) fn write_out<O: Write>(is_due: bool, output: &mut O) -> Result<(), Fa
         output.flush().map_err(Failure::Output)?;
     }
     Ok(())
-}
-
-// Looks the keys up, and writes a line for each. Returns whether each was found.
-fn answer_keys<T: Lookups, F: Forms, O: Write>(
-    alloc: Global,
-    table: &T,
-    keys: &[T::Key],
-    style: AnswerStyle<F>,
-    output: &mut O,
-) -> Result<bool, Failure>
-    ensures ok { IfOk result (AreKeysAnswered (T.coding table.now)
-        (answer_in style.printed (T.Key.text (F.pair style.forms).0)
-        (T.Value.text (F.pair style.forms).1))
-        (T.bytes table.now) keys.now (O.contents output.old) (O.contents output.new)) }
-    ensures err { IfErr result (IsKeysFailure 1 keys.now
-        (O.contents output.old) (O.contents output.new)) }
-{
-    let values = table.look_up(alloc, keys)?;
-    let values = values.as_slice();
-    write_answers_in(keys, values, style, output).map_err(Failure::Output)?;
-    Ok(are_found(values))
 }

@@ -3,7 +3,7 @@ ghost use Rattle.std.specs.Prelude.{◌≡◌, MatchResult};
 
 use odht_tool_core::arguments::is_stream;
 use odht_tool_core::failure::Failure;
-use odht_tool_core::files::{read_file, read_input, read_table_file};
+use odht_tool_core::files::{read_file, read_input, read_table_file, read_table_input};
 use odht_tool_core::status::Status;
 use std::io::{BufRead, ErrorKind, Write};
 use std::rt::Files;
@@ -23,7 +23,7 @@ pub fn read_bytes<R: Files + AllocGlobal, I: BufRead>(
 }
 
 /// The bytes of a file that is to have a table at this offset, as
-/// [`read_table_file`](odht_tool_core::files::read_table_file) reads them; all of standard input.
+/// [`read_table_file`](odht_tool_core::files::read_table_file) reads them, or of standard input.
 pub fn read_table_bytes<R: Files + AllocGlobal, I: BufRead>(
     rt: &R,
     file: &str,
@@ -31,7 +31,7 @@ pub fn read_table_bytes<R: Files + AllocGlobal, I: BufRead>(
     input: &mut I,
 ) -> Result<Vec<u8>, Failure> {
     if is_stream(file) {
-        read_input(rt.alloc(), input)
+        read_table_input(rt.alloc(), input, offset)
     } else {
         read_table_file(rt, file, offset)
     }

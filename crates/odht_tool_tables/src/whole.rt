@@ -5,10 +5,11 @@ ghost use Rattle.std.specs.Io.KnownBytes.{Appends};
 ghost use Rattle.odht_base.specs.Valid.{IsValidBytes};
 ghost use Rattle.odht_tool_core.specs.AnyShapes.{HasLongKeys, any_format};
 ghost use Rattle.odht_tool_tables.specs.Wholes.{have_same_sizes, sizes_of, sizes_text};
-ghost use Rattle.odht_tool_tables.specs.Wholes.{whole_any};
+ghost use Rattle.odht_tool_tables.specs.Wholes.{asked_whole, whole_any};
 
 use crate::checks::check_any;
 use odht_tool_core::any::{AnyShape, read_any};
+use odht_tool_core::evidence::ask_key;
 use odht_tool_core::failure::Failure;
 use odht_tool_core::forms::{GivenForms, Kinds};
 use odht_tool_core::shapes::Hash;
@@ -32,6 +33,24 @@ pub fn read_whole(
         Ok(()) => Ok(found),
         Err(error) => Err(Failure::Refused(error)),
     }
+}
+
+/// The same for a command that writes, and finds keys by their texts: `UnknownKey` where nothing is
+/// said of keys, and the bytes do not show which type they are of.
+pub fn read_asked(
+    bytes: &[u8],
+    hash: Option<Hash>,
+    kinds: Kinds,
+    bound: Option<usize>,
+) -> Result<(AnyShape, GivenForms), Failure>
+    ensures whole { result ≡ asked_whole bytes.now hash kinds bound }
+    ensures long { IfOk result (λ x. HasLongKeys x.0) }
+    ensures valid { IfOk result (λ x. IsValidBytes (any_format x.0) bytes.now) }
+{
+    let found = read_whole(bytes, hash, kinds, bound)?;
+    let (shape, _) = found;
+    ask_key(bytes, shape, kinds)?;
+    Ok(found)
 }
 
 /// Whether keys and values of two shapes have the same lengths.

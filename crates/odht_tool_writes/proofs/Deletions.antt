@@ -19,7 +19,7 @@ use Rattle.odht.proofs.lemmas.NewRefusals.{default_fits}
 use Rattle.odht_tool_writes.specs.DeleteLines.{IsDeletedBy, IsFailureBy, are_named, is_named_fault}
 use Rattle.odht_tool_writes.specs.Deletes.{AreNamed, IsDeleted, IsLeft, are_keys, cleared, is_among, is_fault, without}
 use Rattle.odht_tool_writes.specs.Rebuilds.{IsNewFailure}
-use Rattle.odht_tool_tables.specs.Wholes.{whole_any}
+use Rattle.odht_tool_tables.specs.Wholes.{asked_whole}
 use Rattle.odht_tool_core.specs.AnyShapes.{any_format, any_hash, any_key, any_value}
 use Rattle.odht_tool_core.specs.Forms.{bytes_form}
 use Rattle.odht_tool_core.specs.DynTexts.{IsDynamicOf}
@@ -192,7 +192,7 @@ format_as s k v t key value hash =
 
 -- what is left of a table in which no rule is broken, for the keys that are named
 pub deleted_of : (B : List ℕ) (h : Option Hash) (ks : Kinds) (o : Option ℕ) (input : Option (List ℕ)) (named : Keys) (s : AnyShape) (forms : GivenForms)
-    → whole_any B h ks o ≡ Ok (s, forms) → (P : Table) → IsImage (any_format s) P B → (ws keys : List (List ℕ)) → are_named forms.key input s ws keys named
+    → asked_whole B h ks o ≡ Ok (s, forms) → (P : Table) → IsImage (any_format s) P B → (ws keys : List (List ℕ)) → are_named forms.key input s ws keys named
     → (B' : List ℕ) (status : Status) → IsLeft (any_format s) keys P B' status → IsDeletedBy B h ks o input B' status named
 deleted_of B h ks o input named s forms whole P image ws keys texts B' status left = record {
   shape = s;
@@ -208,12 +208,12 @@ deleted_of B h ks o input named s forms whole P image ws keys texts B' status le
 
 -- a failure of keys, or of memory, where nothing failed before
 pub failed_later : (B : List ℕ) (h : Option Hash) (ks : Kinds) (o : Option ℕ) (input : Option (List ℕ)) (named : Keys) (s : AnyShape) (forms : GivenForms)
-    → whole_any B h ks o ≡ Ok (s, forms) → (f : Failure) → is_named_fault forms.key input s f named → IsFailureBy B h ks o input f named
+    → asked_whole B h ks o ≡ Ok (s, forms) → (f : Failure) → is_named_fault forms.key input s f named → IsFailureBy B h ks o input f named
 failed_later B h ks o input named s forms found f fault =
     subst (λ r. MatchResult r (λ x. is_named_fault x.1.key input x.0 f named) (λ e. f ≡ e)) (sym found) fault
 
 -- or that of the shape, or the first rule that the bytes break
-pub failed_whole : (B : List ℕ) (h : Option Hash) (ks : Kinds) (o : Option ℕ) (input : Option (List ℕ)) (named : Keys) (f : Failure) → whole_any B h ks o ≡ Err f → IsFailureBy B h ks o input f named
+pub failed_whole : (B : List ℕ) (h : Option Hash) (ks : Kinds) (o : Option ℕ) (input : Option (List ℕ)) (named : Keys) (f : Failure) → asked_whole B h ks o ≡ Err f → IsFailureBy B h ks o input f named
 failed_whole B h ks o input named f found =
     subst (λ r. MatchResult r (λ x. is_named_fault x.1.key input x.0 f named) (λ e. f ≡ e)) (sym found) refl
 

@@ -33,7 +33,7 @@ use Rattle.odht_base.specs.Table.{Table}
 use Rattle.odht_base.specs.Valid.{IsImage}
 use Rattle.odht_tool_writes.specs.Deletes.{IsLeft, are_keys, is_fault}
 use Rattle.odht_tool_tables.specs.KeyTexts.{AreLinesOf}
-use Rattle.odht_tool_tables.specs.Wholes.{whole_any}
+use Rattle.odht_tool_tables.specs.Wholes.{asked_whole}
 use Rattle.odht_tool_core.specs.AnyShapes.{any_format, any_key}
 use Rattle.odht_tool_core.specs.InputLines.{AreLeft, IsNextLine}
 use Rattle.odht_tool_core.specs.Keys.{IsLeftOut, IsTextOfNone}
@@ -94,7 +94,7 @@ is_named_fault f input s failure Lines = is_line_fault f input s failure
 pub record IsDeletedBy (B : List ℕ) (h : Option Hash) (ks : Kinds) (o : Option ℕ) (input : Option (List ℕ)) (B' : List ℕ) (status : Status) (named : Keys) : Type 0 where
   pub shape : AnyShape
   pub forms : GivenForms
-  pub whole : whole_any B h ks o ≡ Ok (shape, forms)
+  pub whole : asked_whole B h ks o ≡ Ok (shape, forms)
   pub table : Table
   pub image : IsImage (any_format shape) table B
   pub words : List (List ℕ)
@@ -104,7 +104,7 @@ pub record IsDeletedBy (B : List ℕ) (h : Option Hash) (ks : Kinds) (o : Option
 
 abbrev pub IsFailureBy : List ℕ → Option Hash → Kinds → Option ℕ → Option (List ℕ) → Failure → Keys → Type 0
 IsFailureBy B h ks o input failure named =
-    MatchResult (whole_any B h ks o)
+    MatchResult (asked_whole B h ks o)
     (λ x. is_named_fault x.1.key input x.0 failure named)
     (λ f. failure ≡ f)
 

@@ -3,7 +3,9 @@
 //! the traits of std say of an error no more than that there is one, so no contract over any
 //! writer or reader can say which it is.
 use crate::tests::checks::{same, same_bytes};
-use odht_tool_core::keys::{NextKey, next_key};
+use odht_tool_core::failure::Failure;
+use odht_tool_core::forms::Form;
+use odht_tool_core::keys::{TakenKey, take_key};
 use odht_tool_core::text::write_bytes;
 use std::alloc::Global;
 use std::io::{self, BufReader, ErrorKind, Read, Write};
@@ -94,10 +96,11 @@ fn read_keys(
 ) -> (Vec<u64>, Option<io::Error>) {
     let (mut keys, mut line) = (Vec::new(alloc), Vec::new(alloc));
     for _ in 0..4 {
-        match next_key(input, &mut line) {
-            Ok(NextKey::Key(key)) => keys.push(key).expect(rt, "memory"),
+        match take_key(input, &mut line, Form::Own, &mut keys) {
+            Ok(TakenKey::Key) => {}
             Ok(_) => return (keys, None),
-            Err(error) => return (keys, Some(error)),
+            Err(Failure::Input(error)) => return (keys, Some(error)),
+            Err(_) => return (keys, None),
         }
     }
     (keys, None)

@@ -7,7 +7,7 @@ use odht::configs::Bytes16ToU32;
 use odht_tool_core::answers::{write_answers, write_pair};
 use odht_tool_core::forms::Form;
 use odht_tool_core::slots::dump_slots;
-use odht_tool_core::text::Text;
+use odht_tool_core::written::Written;
 use std::alloc::Global;
 use std::io::{BufWriter, Write};
 use std::process::Abort;

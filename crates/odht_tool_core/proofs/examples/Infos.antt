@@ -1,5 +1,5 @@
 -- Worked examples: what `info` reports.
-use Rattle.std.proofs.Common.{◌≡◌, ℕ, refl, false, true, [], ◌∷◌, Some, None, map, set, replicate, arith, ap}
+use Rattle.std.proofs.Common.{◌≡◌, ℕ, refl, false, true, [], ◌∷◌, Some, None, map, set, replicate, arith, ap, subst}
 use Rattle.std.specs.List.{range_with_len}
 use Rattle.std.specs.Prelude.{slice_index}
 use Rattle.odht_base.proofs.examples.Configs.{direct_config}
@@ -10,7 +10,8 @@ use Rattle.odht_base.specs.Table.{empty}
 use Rattle.odht_header.specs.declared.error.Error.TheVariants.{TooShort, WrongLength}
 use Rattle.odht_header.proofs.examples.Opened.{opened}
 use Rattle.odht_tool_core.specs.GroupNumbers.{groups_to, groups_to_free}
-use Rattle.odht_tool_core.specs.InfoNumbers.{DynParts, file_parts, info_refusal, agrees, found_hash, occupied, occupied_in, group_numbers, found_groups, longest_miss, stretch_len, stretch_counts, tallies, largest, nearest_percent, IsHistogram, AreNumbers, IsInfoFailure}
+use Rattle.odht_tool_core.specs.InfoNumbers.{DynParts, file_parts, info_refusal, agrees, found_hash, occupied, occupied_in, group_numbers, groups_by, longest_miss, stretch_len, stretch_counts, tallies, largest, nearest_percent, IsHistogram, IsInfoFailure}
+use Rattle.odht_tool_core.specs.AllNumbers.{AreNumbers}
 use Rattle.odht_tool_core.specs.declared.advice.Advice.TheVariants.{Mixing}
 use Rattle.odht_tool_core.specs.declared.failure.Failure.TheVariants.{Refused, Memory, NoHash}
 use Rattle.odht_tool_core.specs.declared.histogram.Histogram.{Histogram}
@@ -63,10 +64,11 @@ unfolding opened
 some_slots = (refl, refl)
 
 pub groups : (group_numbers one_parts Unhash None 16 ≡ 1 ∷ [])
-    × (found_groups one_parts (Some 128) ≡ 1 ∷ [])
-    × (found_groups (record one_parts { control = set one_parts.control 5 1 }) None ≡ [])
+    × (groups_by one_parts (Some Unhash) (Some 128) ≡ 1 ∷ [])
+    × (groups_by one_parts None None ≡ [])
+    × (groups_by (record one_parts { key_len = 3 }) (Some Unhash) None ≡ [])
 unfolding opened groups_to
-groups = (refl, refl, refl)
+groups = (refl, refl, refl, refl)
 
 -- the one group has a free byte for each home; with no free byte a search reads all groups, of which there is one
 pub misses : (longest_miss one_parts (Some 128) ≡ 1) × (longest_miss (record one_parts { control = replicate 32 0 }) None ≡ 1)
@@ -137,7 +139,7 @@ of_table n is along = record {
 pub of_table_alone : (n : Numbers) → AreNumbers one_bytes (Some 128) None n → (n.key_size ≡ 4) × (n.value_size ≡ 4) × (n.len ≡ 192) × (n.item_count ≡ 1) × (n.slot_count ≡ 16)
     × (n.max_item_count ≡ 1) × (n.load ≡ 6) × (n.max_load ≡ 7) × (n.stretches.items ≡ set (replicate 16 0) 5 1) × (n.hash ≡ Some Unhash) × IsHistogram (1 ∷ []) n.histogram × (n.longest_miss ≡ 1) × (n.advice ≡ None)
 unfolding opened largest groups_to groups_to_free
-of_table_alone n is = (is.key_size, is.value_size, is.len, is.items, is.slots, is.maximum, is.load, is.max_load, is.stretches, is.hash, is.histogram, is.miss, is.advice)
+of_table_alone n is = (is.key_size, is.value_size, is.len, is.items, is.slots, is.maximum, is.load, is.max_load, is.stretches, is.hash, subst (λ h. IsHistogram (groups_by one_parts h (Some 128)) n.histogram) is.hash is.histogram, is.miss, is.advice)
 
 -- bytes that do not open have none
 pub of_two_bytes : (n : Numbers) → AreNumbers (79 ∷ 68 ∷ []) None None n → ⊥

@@ -351,7 +351,8 @@ odht delete FILE KEY.. [--null] [--key SHAPE] [--whole]
     --key          the type of the keys, as in `odht build`; it must have the length
                    in the file. If left out, the length decides: 4 bytes are u32, 8
                    are u64, and others hexadecimal digits (keys under unhash too,
-                   unless the file is of a ready shape of numbers)
+                   unless the file is of a ready shape of numbers). It must be
+                   given if the file does not show it
     --whole        as in `odht check`
     --hash         the hash function; if left out, the one that all control bytes
                    fit

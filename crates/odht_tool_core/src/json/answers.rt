@@ -14,7 +14,7 @@ use crate::forms::{Form, Forms};
 use crate::json::pairs::write_any_field;
 use crate::plain::is_plain;
 use crate::shown::Shown;
-use crate::text::Text;
+use crate::written::Written;
 use std::io::{self, Write};
 
 /// What is printed of each key.
@@ -38,7 +38,7 @@ pub struct AnswerStyle<F: Forms> {
 /// Writes a line for each key: with its value, or the key alone where it has none; or an object of
 /// both, in which such a value is null. Or the line has only the value, and is empty where the key
 /// has none. With no keys it writes nothing, and does not fail.
-pub fn write_answers_in<K: Text, V: Text, F: Forms, O: Write>(
+pub fn write_answers_in<K: Written, V: Written, F: Forms, O: Write>(
     keys: &[K],
     values: &[Option<V>],
     style: AnswerStyle<F>,
@@ -60,7 +60,7 @@ pub fn write_answers_in<K: Text, V: Text, F: Forms, O: Write>(
 }
 
 // The same, of which what is printed is looked at for each key.
-fn write_each<K: Text, V: Text, F: Forms, O: Write>(
+fn write_each<K: Written, V: Written, F: Forms, O: Write>(
     keys: &[K],
     values: &[Option<V>],
     style: AnswerStyle<F>,
@@ -80,7 +80,7 @@ fn write_each<K: Text, V: Text, F: Forms, O: Write>(
 }
 
 /// Writes the line of one key, as [`write_answers_in`] does.
-pub fn write_answer_in<K: Text, V: Text, F: Forms, O: Write>(
+pub fn write_answer_in<K: Written, V: Written, F: Forms, O: Write>(
     key: &K,
     value: &Option<V>,
     style: AnswerStyle<F>,
@@ -148,7 +148,7 @@ fn is_in_line(word: &[u8]) -> bool
 }
 
 // Writes the line of a value.
-fn write_value<V: Text, O: Write>(
+fn write_value<V: Written, O: Write>(
     value: &Option<V>,
     form: Form,
     is_json: bool,
@@ -168,7 +168,7 @@ fn write_value<V: Text, O: Write>(
 }
 
 // Writes the object of a value on a line.
-fn write_value_object<V: Text, O: Write>(value: &V, form: Form, output: &mut O) -> io::Result<()>
+fn write_value_object<V: Written, O: Write>(value: &V, form: Form, output: &mut O) -> io::Result<()>
     ensures { OnOk result (Appends (O.contents output.old) (O.contents output.new)
         (text_object (codes "value") (V.text form value.now))) }
 {
@@ -190,7 +190,7 @@ fn write_no_value<O: Write>(is_json: bool, output: &mut O) -> io::Result<()>
 }
 
 // Writes the object of a key and its value on a line, or of the key alone.
-fn write_object<K: Text, V: Text, F: Forms, O: Write>(
+fn write_object<K: Written, V: Written, F: Forms, O: Write>(
     key: &K,
     value: &Option<V>,
     forms: F,
@@ -207,7 +207,7 @@ fn write_object<K: Text, V: Text, F: Forms, O: Write>(
 }
 
 // Writes the object of a key and its value.
-fn write_found<K: Text, V: Text, F: Forms, O: Write>(
+fn write_found<K: Written, V: Written, F: Forms, O: Write>(
     key: &K,
     value: &V,
     forms: F,
@@ -221,7 +221,7 @@ fn write_found<K: Text, V: Text, F: Forms, O: Write>(
 }
 
 // Writes the fields of a key and its value, the end of their object, and of its line.
-fn write_fields<K: Text, V: Text, F: Forms, O: Write>(
+fn write_fields<K: Written, V: Written, F: Forms, O: Write>(
     key: &K,
     value: &V,
     forms: F,
@@ -238,7 +238,7 @@ fn write_fields<K: Text, V: Text, F: Forms, O: Write>(
 }
 
 // Writes the object of a key that is absent.
-fn write_absent<K: Text, O: Write>(key: &K, form: Form, output: &mut O) -> io::Result<()>
+fn write_absent<K: Written, O: Write>(key: &K, form: Form, output: &mut O) -> io::Result<()>
     ensures { OnOk result (Appends (O.contents output.old) (O.contents output.new)
         (absent_object (K.text form key.now))) }
 {
@@ -248,7 +248,7 @@ fn write_absent<K: Text, O: Write>(key: &K, form: Form, output: &mut O) -> io::R
 }
 
 // Writes a field that is the text of a key or a value.
-fn write_text_field<T: Text, O: Write>(
+fn write_text_field<T: Written, O: Write>(
     name: &str,
     value: &T,
     form: Form,

@@ -16,10 +16,12 @@ use crate::lookups::{Coming, is_due, key_of_line, write_out, wrong_line};
 use odht::dynamic::{FileError, FileTable, ShortBytes};
 use odht::hash::HashFn;
 use odht::read_at::{ReadAt, ReadError};
+use odht_tool_core::dynamic_bytes::DynBytes;
 use odht_tool_core::failure::Failure;
 use odht_tool_core::forms::GivenForms;
 use odht_tool_core::json::answers::{AnswerStyle, write_answer_in};
-use odht_tool_core::keys::NextKey;
+use odht_tool_core::key_lists::{ByteKeys, Keys};
+use odht_tool_core::keys::TakenKey;
 use odht_tool_core::status::Status;
 use std::alloc::Global;
 use std::io::{self, BufRead, ErrorKind, Write};
@@ -43,17 +45,17 @@ pub(super) fn answer_lines_at<H: HashFn, S: ReadAt + Drop, I: BufRead + Arriving
         (O.contents output.old) (O.contents output.new) result }
 {
     let mut line = Vec::new(asked.alloc);
+    let mut key = ByteKeys::none(asked.alloc, table.layout().key_len);
     let mut is_all_found = true;
     let mut taken = 0;
     for number in 1..u64::MAX {
-        match line_key(asked.alloc, number, input, &mut line, style.forms)? {
-            Some(key) => {
-                let is_due = is_due(asked.most.is_some(), input);
-                let is_found = answer_key(table, &key, asked.bound, is_due, style, output)?;
-                is_all_found = is_found && is_all_found;
-            }
-            None => break,
+        key.remove_all();
+        if !add_key(asked.alloc, number, input, &mut line, style.forms, &mut key)? {
+            break;
         }
+        let is_due = is_due(asked.most.is_some(), input);
+        let is_found = answer_key(table, key.at(0), asked.bound, is_due, style, output)?;
+        is_all_found = is_found && is_all_found;
         taken = with_line(taken, line.len());
         if is_more(taken, asked.most) {
             return Ok(Reached::Line(Coming {
@@ -81,28 +83,29 @@ fn is_more(bytes: u64, most: Option<u64>) -> bool
     }
 }
 
-// The key of the line of this number, if there is such a line. A line that is no key is a failure.
-fn line_key<I: BufRead>(
+// Adds the key of the line of this number, if there is such a line, and returns whether there is. A
+// line that is no key is a failure.
+fn add_key<I: BufRead>(
     alloc: Global,
     number: u64,
     input: &mut I,
     line: &mut Vec<u8>,
     forms: GivenForms,
-) -> Result<Option<ShortBytes>, Failure>
+    keys: &mut ByteKeys,
+) -> Result<bool, Failure>
     ensures key { IfOk result (IsReadKey (IsDynamicOf forms.key)
-        (I.remaining input.old) (I.remaining input.new)) }
+        (I.remaining input.old) (I.remaining input.new) keys.old keys.new) }
     ensures err { IfErr result (IsUnreadKey (IsDynamicOf forms.key) (dynamic_wanted forms.key)
         number (I.remaining input.old)) }
 {
-    match key_of_line(input, line, forms) {
-        Ok(NextKey::Key(key)) => Ok(Some(key)),
-        Ok(NextKey::End) => Ok(None),
-        Ok(NextKey::NoKey) => {
+    match key_of_line(input, line, forms, keys)? {
+        TakenKey::Key => Ok(true),
+        TakenKey::End => Ok(false),
+        TakenKey::NoKey => {
             let line = line.as_slice();
-            let message = wrong_line::<ShortBytes, GivenForms>(alloc, number, line, forms)?;
+            let message = wrong_line::<ByteKeys, GivenForms>(alloc, number, line, forms)?;
             Err(Failure::Misread(message))
         }
-        Err(error) => Err(Failure::Input(error)),
     }
 }
 
@@ -110,7 +113,7 @@ fn line_key<I: BufRead>(
 // was found.
 fn answer_key<H: HashFn, S: ReadAt + Drop, O: Write>(
     table: &FileTable<H, S>,
-    key: &ShortBytes,
+    key: &[u8],
     bound: Option<usize>,
     is_due: bool,
     style: AnswerStyle<GivenForms>,
@@ -124,7 +127,7 @@ fn answer_key<H: HashFn, S: ReadAt + Drop, O: Write>(
     ensures err { IfErr result (IsKeyFailure (O.contents output.old) (O.contents output.new)) }
 {
     let value = value_at(table, key, bound)?;
-    write_answer_in(key, &value, style, output).map_err(Failure::Output)?;
+    write_answer_in(&DynBytes::of(key), &value, style, output).map_err(Failure::Output)?;
     write_out(is_due, output)?;
     Ok(value.is_some())
 }
@@ -133,7 +136,7 @@ fn answer_key<H: HashFn, S: ReadAt + Drop, O: Write>(
 // failed.
 fn value_at<H: HashFn, S: ReadAt + Drop>(
     table: &FileTable<H, S>,
-    key: &ShortBytes,
+    key: &[u8],
     bound: Option<usize>,
 ) -> Result<Option<ShortBytes>, Failure>
     ensures given { let t = table.now in (B : List ℕ)
@@ -145,7 +148,7 @@ fn value_at<H: HashFn, S: ReadAt + Drop>(
         (IsShortSearch (file_coding table.now H.hash) B (Some key.now)) }
     ensures err { IfErr result IsReadFailure }
 {
-    match table.get_counted(key.as_slice()) {
+    match table.get_counted(key) {
         Ok((value, groups)) => {
             if groups > bound.unwrap_or(usize::MAX) {
                 return Err(Failure::Read(io::Error::from(ErrorKind::InvalidData)));

@@ -11,20 +11,20 @@ ghost use Rattle.odht_tool_writes.specs.Deletes.{IsLeft, are_keys, is_fault};
 use crate::commands::delete_lines::keys_of_lines;
 use crate::dynamic::deletes::{NamedKeys, delete_lengths};
 use crate::reports::PairRun;
-use odht::dynamic::ShortBytes;
 use odht::{FxHashFn, UnHashFn, Xxh64HashFn};
 use odht_tool_core::any::AnyShape;
 use odht_tool_core::arguments::{DeleteOptions, Keys};
 use odht_tool_core::failure::Failure;
 use odht_tool_core::files::read_file;
 use odht_tool_core::forms::Form;
+use odht_tool_core::key_lists::ByteKeys;
 use odht_tool_core::keys::{Word, parse_keys};
 use odht_tool_core::new_file::{NewFile, ended, make_new, replace_file};
 use odht_tool_core::shapes::Hash;
 use odht_tool_core::status::Status;
 use odht_tool_core::targets::Target;
 use odht_tool_tables::dynamic::lengths_of;
-use odht_tool_tables::whole::read_whole;
+use odht_tool_tables::whole::read_asked;
 use std::alloc::Global;
 use std::io::{BufRead, Write};
 use std::os::fd::AsFd;
@@ -84,24 +84,23 @@ fn deleted<R: AllocGlobal + Clock, I: BufRead, E: Write>(
         o.kinds o.bound (I.remaining input.old) failure o.keys) }
 {
     let bytes = bytes.as_slice();
-    let found = read_whole(bytes, options.hash, options.kinds, options.bound)?;
+    let found = read_asked(bytes, options.hash, options.kinds, options.bound)?;
     let (shape, forms) = found;
     match &options.keys {
         Keys::Words(words) => {
             let words = words.as_slice();
             let keys = keys_of_words(rt.alloc(), shape, forms.key, words)?;
             let run = PairRun::new(rt, options.has_progress);
-            let named = NamedKeys {
-                words,
-                keys: keys.as_slice(),
-            };
+            let named = NamedKeys { words, keys: &keys };
             deleted_for(run, file, shape, bytes, &named, errors)
         }
         Keys::Lines => {
             let read = keys_of_lines(rt.alloc(), shape, forms.key, input)?;
-            let (lines, keys) = (read.lines.as_slice(), read.keys.as_slice());
             let run = PairRun::new(rt, options.has_progress);
-            let named = NamedKeys { words: lines, keys };
+            let named = NamedKeys {
+                words: read.lines.as_slice(),
+                keys: &read.keys,
+            };
             deleted_for(run, file, shape, bytes, &named, errors)
         }
     }
@@ -141,9 +140,10 @@ fn keys_of_words(
     shape: AnyShape,
     form: Form,
     words: &[String],
-) -> Result<Vec<ShortBytes>, Failure>
+) -> Result<ByteKeys, Failure>
     ensures { let ws = map string_bytes words.now in MatchResult result
-        (λ keys. are_keys form ws shape keys.items) (is_fault form ws shape) }
+        (λ keys. are_keys form ws shape keys) (is_fault form ws shape) }
 {
-    parse_keys(alloc, words, form.of(shape.key()))
+    let key = shape.key();
+    parse_keys(alloc, words, key.size(), form.of(key))
 }

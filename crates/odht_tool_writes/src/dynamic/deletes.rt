@@ -17,12 +17,13 @@ ghost use Rattle.odht_tool_writes.specs.Deletes.{have_values, without};
 use crate::reports::PairRun;
 use crate::starts::make_lengths;
 use odht::bytes::Borrowed;
-use odht::dynamic::{DynTable, DynTableOwned, Layout, ShortBytes};
+use odht::dynamic::{DynTable, DynTableOwned, Layout};
 use odht::hash::HashFn;
 use odht::load::Percent;
 use odht::memory_layout::{Header, init_parts};
 use odht::raw_table::DynIter;
 use odht_tool_core::failure::Failure;
+use odht_tool_core::key_lists::{ByteKeys, Keys};
 use odht_tool_core::keys::{Word, write_absent};
 use odht_tool_core::status::Status;
 use std::alloc::Global;
@@ -33,7 +34,7 @@ use std::rt::Clock;
 #[derive(Drop)]
 pub struct NamedKeys<'a, W> {
     pub words: &'a [W],
-    pub keys: &'a [ShortBytes],
+    pub keys: &'a ByteKeys,
 }
 
 /// The bytes of the table without these keys, and whether each had a value; a line on `errors`
@@ -68,7 +69,7 @@ pub fn delete_lengths<H: HashFn, W: Word, R: AllocGlobal + Clock, E: Write>(
 fn left_pairs<H: HashFn, R: AllocGlobal + Clock, E: Write>(
     run: PairRun<'_, R>,
     old: &DynTable<H, Borrowed<'_>>,
-    keys: &[ShortBytes],
+    keys: &ByteKeys,
     errors: &mut E,
 ) -> Result<Vec<u8>, Failure>
     requires { IsValidBytes (dyn_format old.now H.hash) old.now.store.0.now }
@@ -86,15 +87,15 @@ fn left_pairs<H: HashFn, R: AllocGlobal + Clock, E: Write>(
 fn named_keys<H: HashFn>(
     alloc: Global,
     key_len: u8,
-    keys: &[ShortBytes],
+    keys: &ByteKeys,
 ) -> Result<DynTableOwned<H>, Failure>
     requires { H.MIN_LEN ≤ key_len }
     ensures ok { IfOk result (IsDynWith key_len 0 (AreNamed keys.now)) }
     ensures memory { OnErr result (result ≡ Err Memory) }
 {
     let mut named = no_keys::<H>(alloc, key_len)?;
-    for key in keys {
-        if named.insert(key.as_slice(), b"").is_err() {
+    for at in 0..keys.count() {
+        if named.insert(keys.at(at), b"").is_err() {
             return Err(Failure::Memory);
         }
     }
@@ -191,12 +192,12 @@ fn insert_other<H: HashFn>(
 }
 
 // Whether each key has a value.
-fn are_there<H: HashFn>(table: &DynTable<H, Borrowed<'_>>, keys: &[ShortBytes]) -> bool
+fn are_there<H: HashFn>(table: &DynTable<H, Borrowed<'_>>, keys: &ByteKeys) -> bool
     ensures { OfTable (dyn_format table.now H.hash) table.now.store.0.now
         (λ P. result ≡ have_values P keys.now) }
 {
-    for key in keys {
-        if !table.contains_key(key.as_slice()) {
+    for at in 0..keys.count() {
+        if !table.contains_key(keys.at(at)) {
             return false;
         }
     }
@@ -208,7 +209,7 @@ fn write_absent_keys<H: HashFn, W: Word, E: Write>(
     file: &str,
     table: &DynTable<H, Borrowed<'_>>,
     words: &[W],
-    keys: &[ShortBytes],
+    keys: &ByteKeys,
     errors: &mut E,
 ) -> io::Result<()>
     requires { length words.now ≡ length keys.now }
@@ -217,7 +218,7 @@ fn write_absent_keys<H: HashFn, W: Word, E: Write>(
         (absent_lines file.now P (map W.bytes words.now) keys.now))) }
 {
     for at in 0..words.len() {
-        if !table.contains_key(keys[at].as_slice()) {
+        if !table.contains_key(keys.at(at)) {
             write_absent(file, words[at].bytes(), errors)?;
         }
     }

@@ -6,8 +6,8 @@ use Rattle.odht_tool_core.proofs.answers.write_answers_as.Goals as goal
 
 pub loop-at-preserved : goal.loop-at-preserved
 loop-at-preserved g c =
-    let f = g.K.Text.text (g.F.Forms.pair c.args.forms).0 in
-    let h = g.V.Text.text (g.F.Forms.pair c.args.forms).1 in
+    let f = g.K.Written.text (g.F.Forms.pair c.args.forms).0 in
+    let h = g.V.Written.text (g.F.Forms.pair c.args.forms).1 in
     let at = c.loop-at.at in
     let keys = c.args.keys.now in
     let values = c.args.values.now in

@@ -14,8 +14,8 @@ loop-slot-preserved g c =
     g.C.EncodedValue.ByteArray.LEN g.C.EncodedValue.ByteArray.bytes g.C.EncodedValue.ByteArray.of_bytes
     g.C.H.HashFn.hash g.C.Config.encode_key g.C.Config.encode_value g.C.Config.decode_key g.C.Config.decode_value in
     let T : TableParts = record { control = c.data_slices-entries.result.0.now; entries = c.data_slices-entries.result.1 } in
-    let f = g.C.Key.Text.text Own in
-    let h = g.C.Value.Text.text Own in
+    let f = g.C.Key.Written.text Own in
+    let h = g.C.Value.Written.text Own in
     let line = slot_line coding f h T in
     let n = c.loop-slot.slot in
     let old = g.O.Write.contents c.args.output.now in

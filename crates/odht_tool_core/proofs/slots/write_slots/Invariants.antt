@@ -11,4 +11,4 @@ invariant-loop-slot g l =
     g.C.EncodedValue.ByteArray.LEN g.C.EncodedValue.ByteArray.bytes g.C.EncodedValue.ByteArray.of_bytes
     g.C.H.HashFn.hash g.C.Config.encode_key g.C.Config.encode_value g.C.Config.decode_key g.C.Config.decode_value in
     Appends (g.O.Write.contents l.initial.output) (g.O.Write.contents l.output)
-    (slots_text c (g.C.Key.Text.text Own) (g.C.Value.Text.text Own) (record { control = l.control; entries = l.entries }) l.slot)
+    (slots_text c (g.C.Key.Written.text Own) (g.C.Value.Written.text Own) (record { control = l.control; entries = l.entries }) l.slot)

@@ -9,6 +9,7 @@ use crate::generated::core::plain::read_plain;
 use crate::generated::core::shapes::Part;
 use crate::generated::core::text::{write_bytes, Text};
 use crate::generated::core::typed::{plain_bytes, write_stored};
+use crate::generated::core::written::Written;
 use crate::generated::raw::raw_table::ShortBytes;
 use crate::host::prelude::*;
 use std::io::{self, Write};
@@ -34,23 +35,60 @@ impl Text for ShortBytes {
             None
         }
     }
+}
 
+impl Written for ShortBytes {
     fn plain_bytes(&self, form: Form) -> Option<&[u8]> {
-        let (part, bytes) = (form.part(), self.as_slice());
-        if bytes.len() == part.size() as usize {
-            plain_bytes(part, form.part_form(), bytes)
-        } else {
-            no_plain_bytes(bytes)
-        }
+        plain_bytes_in(self.as_slice(), form)
     }
 
     fn write<W: Write>(&self, form: Form, output: &mut W) -> io::Result<()> {
-        let (part, bytes) = (form.part(), self.as_slice());
-        if bytes.len() == part.size() as usize {
-            write_stored(part, form.part_form(), bytes, output)
-        } else {
-            write_bytes(bytes, output)
-        }
+        write_bytes_in(self.as_slice(), form, output)
+    }
+}
+
+/// Bytes of a length that is known only at run time, where they lie.
+///
+/// In a contract it is the list of these bytes.
+pub struct DynBytes<'a> {
+    bytes: &'a [u8],
+}
+
+impl<'a> DynBytes<'a> {
+    /// These bytes.
+    #[inline(always)]
+    pub fn of(bytes: &'a [u8]) -> DynBytes<'a> {
+        DynBytes { bytes }
+    }
+}
+
+impl<'a> Written for DynBytes<'a> {
+    fn plain_bytes(&self, form: Form) -> Option<&[u8]> {
+        plain_bytes_in(self.bytes, form)
+    }
+
+    fn write<W: Write>(&self, form: Form, output: &mut W) -> io::Result<()> {
+        write_bytes_in(self.bytes, form, output)
+    }
+}
+
+// The text of the bytes, where it may have any bytes.
+fn plain_bytes_in(bytes: &[u8], form: Form) -> Option<&[u8]> {
+    let part = form.part();
+    if bytes.len() == part.size() as usize {
+        plain_bytes(part, form.part_form(), bytes)
+    } else {
+        no_plain_bytes(bytes)
+    }
+}
+
+// Writes the text of the bytes.
+fn write_bytes_in<W: Write>(bytes: &[u8], form: Form, output: &mut W) -> io::Result<()> {
+    let part = form.part();
+    if bytes.len() == part.size() as usize {
+        write_stored(part, form.part_form(), bytes, output)
+    } else {
+        write_bytes(bytes, output)
     }
 }
 

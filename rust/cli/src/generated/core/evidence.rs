@@ -5,6 +5,7 @@
 use crate::generated::core::any::AnyShape;
 use crate::generated::core::failure::Failure;
 use crate::generated::core::forms::Kinds;
+use crate::generated::core::found::other_hash;
 use crate::generated::core::plain::{are_plain, plain_of};
 use crate::generated::core::shapes::Hash;
 use crate::generated::core::stored::StoredTable;
@@ -14,38 +15,61 @@ use crate::host::prelude::*;
 /// are of this shape, do not show which type they are of. Bytes whose header or length does not fit
 /// are for the check.
 pub fn ask_kinds(bytes: &[u8], shape: AnyShape, kinds: Kinds) -> Result<(), Failure> {
+    ask_key(bytes, shape, kinds)?;
+    ask_value(bytes, kinds)
+}
+
+/// The same only of keys.
+pub fn ask_key(bytes: &[u8], shape: AnyShape, kinds: Kinds) -> Result<(), Failure> {
     match StoredTable::open(bytes) {
-        Ok(table) => ask(&table, shape.hash(), kinds),
-        Err(_) => Ok(()),
+        Ok(table) if kinds.key.is_none() && !shows_key(&table, shape.hash()) => {
+            Err(Failure::UnknownKey(table.layout().key_len))
+        }
+        _ => Ok(()),
     }
 }
 
-fn ask(table: &StoredTable<'_>, hash: Hash, kinds: Kinds) -> Result<(), Failure> {
-    let layout = table.layout();
-    if kinds.key.is_none() && !shows_key(table, hash) {
-        return Err(Failure::UnknownKey(layout.key_len));
+fn ask_value(bytes: &[u8], kinds: Kinds) -> Result<(), Failure> {
+    match StoredTable::open(bytes) {
+        Ok(table) if kinds.value.is_none() && !shows_value(&table) => {
+            Err(Failure::UnknownValue(table.layout().value_len))
+        }
+        _ => Ok(()),
     }
-    if kinds.value.is_none() && !shows_value(table) {
-        return Err(Failure::UnknownValue(layout.value_len));
-    }
-    Ok(())
 }
 
 // Whether the hash function, or the keys, show which type the keys are of.
 fn shows_key(table: &StoredTable<'_>, hash: Hash) -> bool {
     let len = table.layout().key_len;
-    is_key_of_hash(len, hash)
+    len == 0
+        || is_by_hash(table, hash)
         || (!is_number_len(len) && !are_all(table, Side::Keys, Look::PlainText))
+}
+
+// Whether the keys are of the type that new tables of the hash function have: no other one fits the
+// table, as all of them fit an empty one, and the keys do not read as another type.
+fn is_by_hash(table: &StoredTable<'_>, hash: Hash) -> bool {
+    is_key_of_hash(table.layout().key_len, hash)
+        && other_hash(table, hash).is_none()
+        && !reads_otherwise(table, hash)
 }
 
 // Whether new tables of the hash function have keys of that many bytes that are of one type, where
 // none is named.
 fn is_key_of_hash(len: u8, hash: Hash) -> bool {
     match hash {
-        _ if len == 0 => true,
         Hash::Fx => is_number_len(len),
         Hash::Unhash => len == 4 || (8 <= len && len <= 32),
         Hash::Xxh64 => false,
+    }
+}
+
+// Whether the numbers of a table by `fx` read as texts, or as big-endian numbers. Such keys have
+// this hash function where it was named.
+fn reads_otherwise(table: &StoredTable<'_>, hash: Hash) -> bool {
+    match hash {
+        Hash::Fx => are_texts(table, Side::Keys) || are_swapped(table, Side::Keys),
+        Hash::Unhash | Hash::Xxh64 => false,
     }
 }
 
@@ -54,27 +78,34 @@ fn is_number_len(len: u8) -> bool {
     len == 4 || len == 8
 }
 
-// Whether the values show which type they are of: of the length of numbers they are such numbers,
-// unless they all read as texts, or begin with zeros as big-endian numbers do.
+// Whether the values show which type they are of.
 fn shows_value(table: &StoredTable<'_>) -> bool {
     let len = table.layout().value_len;
     if len == 0 {
         return true;
     }
     if is_number_len(len) {
-        return !are_texts(table) && !are_swapped(table);
+        return are_numbers(table);
     }
     !are_all(table, Side::Values, Look::PlainText)
 }
 
-// Whether all values are letters, and not all are short.
-fn are_texts(table: &StoredTable<'_>) -> bool {
-    are_all(table, Side::Values, Look::Letters) && !are_all(table, Side::Values, Look::Short)
+// Whether the values read as numbers, and as nothing else: more than half of them are small enough
+// to end with a zero, and they are neither letters nor big-endian numbers.
+fn are_numbers(table: &StoredTable<'_>) -> bool {
+    !are_all(table, Side::Values, Look::Letters)
+        && !are_swapped(table, Side::Values)
+        && table.count() / 2 < count_of(table, Side::Values, Look::LastZero)
 }
 
-// Whether all values begin with a zero, and not all are zeros.
-fn are_swapped(table: &StoredTable<'_>) -> bool {
-    are_all(table, Side::Values, Look::FirstZero) && !are_all(table, Side::Values, Look::Zeros)
+// Whether all keys, or all values, are letters, and not all are short.
+fn are_texts(table: &StoredTable<'_>, side: Side) -> bool {
+    are_all(table, side, Look::Letters) && !are_all(table, side, Look::Short)
+}
+
+// Whether all keys, or all values, begin with a zero, and not all are zeros.
+fn are_swapped(table: &StoredTable<'_>, side: Side) -> bool {
+    are_all(table, side, Look::FirstZero) && !are_all(table, side, Look::Zeros)
 }
 
 /// Keys, or values.
@@ -97,6 +128,8 @@ pub(crate) enum Look {
     Zeros,
     /// Bytes of which the first is zero.
     FirstZero,
+    /// Bytes of which the last is zero.
+    LastZero,
 }
 
 impl Look {
@@ -109,6 +142,7 @@ impl Look {
             Look::Short => text.len() <= 1,
             Look::Zeros => text.is_empty(),
             Look::FirstZero => bytes.is_empty() || bytes[0] == 0,
+            Look::LastZero => text.len() < bytes.len(),
         }
     }
 }
@@ -141,5 +175,26 @@ fn is_free_or(table: &StoredTable<'_>, side: Side, look: Look, slot: usize) -> b
         (Some((key, _)), Side::Keys) => look.is_of(key),
         (Some((_, value)), Side::Values) => look.is_of(value),
         (None, _) => true,
+    }
+}
+
+// How many keys, or values, look so.
+fn count_of(table: &StoredTable<'_>, side: Side, look: Look) -> usize {
+    let mut count = 0_usize;
+    for slot in 0..table.slot_count() {
+        let is_so = is_occupied_as(table, side, look, slot);
+        if is_so {
+            count += 1;
+        }
+    }
+    count
+}
+
+// Whether a slot is occupied, and its key or value looks so.
+fn is_occupied_as(table: &StoredTable<'_>, side: Side, look: Look, slot: usize) -> bool {
+    match (table.pair(slot), side) {
+        (Some((key, _)), Side::Keys) => look.is_of(key),
+        (Some((_, value)), Side::Values) => look.is_of(value),
+        (None, _) => false,
     }
 }

@@ -34,6 +34,18 @@ pub fn found_any(bytes: &[u8], hash: Option<Hash>) -> Result<AnyShape, Failure> 
     }
 }
 
+/// The hash function by which commands read the bytes of a table where none is given; of a table
+/// without items the first one that fits. None where none fits.
+pub(crate) fn read_hash(bytes: &[u8], table: &StoredTable<'_>) -> Option<Hash> {
+    if Header::of(bytes).item_count() == 0 {
+        return table.hash();
+    }
+    match fitting_any(bytes, table) {
+        Ok(shape) => Some(shape.hash()),
+        Err(_) => None,
+    }
+}
+
 // A shape of the header's sizes that fits the parts of the table.
 fn fitting_any(bytes: &[u8], table: &StoredTable<'_>) -> Result<AnyShape, Failure> {
     let header = Header::of(bytes);
@@ -149,8 +161,8 @@ pub fn hinted_hash(bytes: &[u8], hash: Hash) -> Option<Hash> {
     other_hash(&table, hash)
 }
 
-// The first hash function that is not this one and that all control bytes agree with.
-fn other_hash(table: &StoredTable<'_>, hash: Hash) -> Option<Hash> {
+/// The first hash function that is not this one and that all control bytes agree with.
+pub(crate) fn other_hash(table: &StoredTable<'_>, hash: Hash) -> Option<Hash> {
     HASHES.iter().copied().find(|other| is_other(*other, hash, table))
 }
 

@@ -3,6 +3,7 @@
 
 use crate::generated::core::failure::{Failure, LineFault};
 use crate::generated::core::forms::Form;
+use crate::generated::core::key_lists::{KeyAdded, Keys};
 use crate::generated::core::lines::{is_left_out, read_line};
 use crate::generated::core::misread::Misread;
 use crate::generated::core::shown::Shown;
@@ -11,13 +12,19 @@ use crate::host::prelude::*;
 use crate::shim::Global;
 use std::io::{self, BufRead, Write};
 
-/// The keys of the words, or the first word that is none.
-pub fn parse_keys<K: Text>(alloc: Global, words: &[String], form: Form) -> Result<Vec<K>, Failure> {
-    let mut keys = crate::host::lists::empty(alloc);
+/// The keys of the words, of this length, or the first word that is none.
+pub fn parse_keys<L: Keys>(
+    alloc: Global,
+    words: &[String],
+    key_len: u8,
+    form: Form,
+) -> Result<L, Failure> {
+    let mut keys = L::none(alloc, key_len);
     for word in words {
-        match K::parse(word.as_str().as_bytes(), form) {
-            Some(key) => push_key(&mut keys, key)?,
-            None => return Err(wrong_key::<K>(alloc, word.as_str(), form)),
+        match keys.add(word.as_str().as_bytes(), form) {
+            KeyAdded::Key => {}
+            KeyAdded::NoKey => return Err(wrong_key::<L::Key>(alloc, word.as_str(), form)),
+            KeyAdded::NoMemory => return Err(Failure::Memory),
         }
     }
     Ok(keys)
@@ -66,12 +73,43 @@ pub fn write_repeated<E: Write>(file: &str, text: &[u8], errors: &mut E) -> io::
     writeln!(errors, "odht: {file}: the key {text} is in a file before it too")
 }
 
-/// Adds a key.
-pub fn push_key<K: Text>(keys: &mut Vec<K>, key: K) -> Result<(), Failure> {
-    keys.try_push(key).map_err(|_| Failure::Memory)
+/// What the next line of an input is.
+#[derive(Clone, Copy)]
+pub enum TakenKey {
+    /// The text of a key, which was added.
+    Key,
+    /// The text of no key.
+    NoKey,
+    /// There is no line, or an empty last one that is no key.
+    End,
 }
 
-/// What the next line of an input is.
+/// Reads the next line, and adds its key, of which it is the text in this form. The bytes of `line`
+/// are replaced. Where an empty line is no key, a line after it is taken too.
+#[inline]
+pub fn take_key<L: Keys, I: BufRead>(
+    input: &mut I,
+    line: &mut Vec<u8>,
+    form: Form,
+    keys: &mut L,
+) -> Result<TakenKey, Failure> {
+    if !read_line(input, line).map_err(Failure::Input)? {
+        return Ok(TakenKey::End);
+    }
+    match keys.add(line.as_slice(), form) {
+        KeyAdded::Key => Ok(TakenKey::Key),
+        KeyAdded::NoKey => {
+            if is_left_out(input, line).map_err(Failure::Input)? {
+                Ok(TakenKey::End)
+            } else {
+                Ok(TakenKey::NoKey)
+            }
+        }
+        KeyAdded::NoMemory => Err(Failure::Memory),
+    }
+}
+
+/// What the next line of an input is. Only the benchmark reads keys one by one.
 pub enum NextKey<K> {
     /// The text of this key.
     Key(K),
@@ -82,29 +120,20 @@ pub enum NextKey<K> {
 }
 
 /// Reads the next line, and parses its key, in the text that its type has. The bytes of `line` are
-/// replaced. Where an empty line is no key, a line after it is taken too.
+/// replaced.
 #[inline]
 pub fn next_key<K: Text, I: BufRead>(input: &mut I, line: &mut Vec<u8>) -> io::Result<NextKey<K>> {
-    next_key_as(input, line, Form::Own)
-}
-
-/// `next_key` in texts of this form.
-pub fn next_key_as<K: Text, I: BufRead>(
-    input: &mut I,
-    line: &mut Vec<u8>,
-    form: Form,
-) -> io::Result<NextKey<K>> {
     if !read_line(input, line)? {
         return Ok(NextKey::End);
     }
-    match K::parse(line.as_slice(), form) {
+    match K::parse(line.as_slice(), Form::Own) {
         Some(key) => Ok(NextKey::Key(key)),
-        None => {
-            if is_left_out(input, line)? {
-                Ok(NextKey::End)
-            } else {
-                Ok(NextKey::NoKey)
-            }
-        }
+        None if is_left_out(input, line)? => Ok(NextKey::End),
+        None => Ok(NextKey::NoKey),
     }
+}
+
+/// Adds a key.
+pub fn push_key<K: Text>(keys: &mut Vec<K>, key: K) -> Result<(), Failure> {
+    keys.try_push(key).map_err(|_| Failure::Memory)
 }

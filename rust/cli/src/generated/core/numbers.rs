@@ -4,9 +4,10 @@
 use crate::generated::base::load::{max_item_count_for, Factor};
 use crate::generated::core::advice::Advice;
 use crate::generated::core::failure::Failure;
+use crate::generated::core::found::read_hash;
 use crate::generated::core::histogram::Histogram;
 use crate::generated::core::shapes::Hash;
-use crate::generated::core::stored::StoredTable;
+use crate::generated::core::stored::{least_key_size, StoredTable};
 use crate::generated::header::header::Header;
 use crate::host::prelude::*;
 use crate::shim::{AllocError, Global};
@@ -33,7 +34,7 @@ pub struct Numbers {
     /// How many slots of each stretch are occupied, in slot order: at most 64 stretches, of equal
     /// length.
     pub stretches: Vec<usize>,
-    /// The hash function that all control bytes agree with, if there is one.
+    /// The hash function by which the commands read the table, if one fits.
     pub hash: Option<Hash>,
     /// The bound of the numbers of groups, where there is one: larger ones are counted as one more
     /// than it.
@@ -55,7 +56,7 @@ pub fn numbers_of(
     advice: Option<Advice>,
 ) -> Result<Numbers, Failure> {
     let table = StoredTable::open(bytes).map_err(Failure::Refused)?;
-    let hash = table.hash();
+    let hash = read_hash(bytes, &table);
     let histogram = histogram_of(alloc, &table, hash, bound)?;
     let stretches = table.stretches(alloc)?;
     let header = Header::of(bytes);
@@ -79,7 +80,8 @@ pub fn numbers_of(
     })
 }
 
-// The histogram by the hash function that was found; an empty one where there is none.
+// The histogram by this hash function; an empty one where there is none, or keys are too short
+// for it.
 fn histogram_of(
     alloc: Global,
     table: &StoredTable<'_>,
@@ -87,8 +89,10 @@ fn histogram_of(
     bound: Option<usize>,
 ) -> Result<Histogram, AllocError> {
     match hash {
-        Some(hash) => table.histogram(alloc, hash, bound),
-        None => Histogram::new(alloc),
+        Some(hash) if least_key_size(hash) <= table.layout().key_len as usize => {
+            table.histogram(alloc, hash, bound)
+        }
+        _ => Histogram::new(alloc),
     }
 }
 

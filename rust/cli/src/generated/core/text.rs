@@ -2,29 +2,23 @@
 //! Keys and values as text: a number in decimal digits, with a sign or without, bytes in
 //! hexadecimal digits or as plain text, and nothing at all.
 
-use crate::generated::core::digits::{parse_number, write_number};
+use crate::generated::core::digits::parse_number;
 use crate::generated::core::forms::Form;
-use crate::generated::core::hexadecimal::{no_plain_bytes, read_many};
+use crate::generated::core::hexadecimal::read_many;
 use crate::generated::core::misread::Wanted;
-use crate::generated::core::plain::{parse_plain, plain_of, write_plain};
-use crate::generated::core::signed::{parse_signed, write_signed};
+use crate::generated::core::plain::parse_plain;
+use crate::generated::core::signed::parse_signed;
+use crate::generated::core::written::Written;
 use crate::host::prelude::*;
 use std::io::{self, Write};
 
-/// A key or a value that has a text in each form.
-pub trait Text: Copy {
+/// A key or a value that has a text in each form, and is read from it.
+pub trait Text: Written + Copy {
     /// What its texts are.
     fn wanted(form: Form) -> Wanted;
 
     /// The value of which the word is the text. None where it is the text of no such value.
     fn parse(word: &[u8], form: Form) -> Option<Self>;
-
-    /// The text, where it may have any bytes. None where each is a character that stands for
-    /// itself in strings of JSON.
-    fn plain_bytes(&self, form: Form) -> Option<&[u8]>;
-
-    /// Writes the text.
-    fn write<W: Write>(&self, form: Form, output: &mut W) -> io::Result<()>;
 }
 
 impl Text for u32 {
@@ -43,19 +37,6 @@ impl Text for u32 {
                 Some(number.swap_bytes())
             }
             _ => u32::try_from(parse_number(word)?).ok(),
-        }
-    }
-
-    fn plain_bytes(&self, _form: Form) -> Option<&[u8]> {
-        None
-    }
-
-    #[inline(always)]
-    fn write<W: Write>(&self, form: Form, output: &mut W) -> io::Result<()> {
-        match form {
-            Form::Signed => write_signed(u64::from(*self), u64::from(u32::MAX), output),
-            Form::BigEndian => write_number(u64::from(self.swap_bytes()), output),
-            _ => write_number(u64::from(*self), output),
         }
     }
 }
@@ -78,19 +59,6 @@ impl Text for u64 {
             _ => parse_number(word),
         }
     }
-
-    fn plain_bytes(&self, _form: Form) -> Option<&[u8]> {
-        None
-    }
-
-    #[inline(always)]
-    fn write<W: Write>(&self, form: Form, output: &mut W) -> io::Result<()> {
-        match form {
-            Form::Signed => write_signed(*self, u64::MAX, output),
-            Form::BigEndian => write_number(self.swap_bytes(), output),
-            _ => write_number(*self, output),
-        }
-    }
 }
 
 impl Text for () {
@@ -104,14 +72,6 @@ impl Text for () {
         } else {
             None
         }
-    }
-
-    fn plain_bytes(&self, _form: Form) -> Option<&[u8]> {
-        None
-    }
-
-    fn write<W: Write>(&self, _form: Form, output: &mut W) -> io::Result<()> {
-        output.write_all(b"")
     }
 }
 
@@ -127,21 +87,6 @@ impl<const N: usize> Text for [u8; N] {
         match form {
             Form::Plain => parse_plain(word),
             _ => parse_bytes(word),
-        }
-    }
-
-    fn plain_bytes(&self, form: Form) -> Option<&[u8]> {
-        match form {
-            Form::Plain => Some(plain_of(self)),
-            _ => no_plain_bytes(self),
-        }
-    }
-
-    #[inline(always)]
-    fn write<W: Write>(&self, form: Form, output: &mut W) -> io::Result<()> {
-        match form {
-            Form::Plain => write_plain(self, output),
-            _ => write_bytes(self, output),
         }
     }
 }

@@ -11,7 +11,8 @@ use crate::generated::core::forms::{Form, GivenForms};
 use crate::generated::core::hexadecimal::no_plain_bytes;
 use crate::generated::core::plain::{plain_of, write_plain};
 use crate::generated::core::shapes::Part;
-use crate::generated::core::text::{write_bytes, Text};
+use crate::generated::core::text::write_bytes;
+use crate::generated::core::written::Written;
 use std::io::{self, Write};
 use stored::Typed;
 

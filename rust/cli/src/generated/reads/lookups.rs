@@ -2,17 +2,17 @@
 //! Keys that are looked up in a table, and what is written of them: those of lines, a batch at a
 //! time, and of the words of a command line.
 
-use crate::generated::core::answers::are_found;
 use crate::generated::core::failure::{Failure, LineFault};
 use crate::generated::core::forms::Forms;
-use crate::generated::core::json::answers::{write_answers_in, AnswerStyle};
-use crate::generated::core::keys::{next_key_as, push_key, NextKey};
+use crate::generated::core::json::answers::AnswerStyle;
+use crate::generated::core::key_lists::Keys;
+use crate::generated::core::keys::{take_key, TakenKey};
 use crate::generated::core::misread::Misread;
 use crate::generated::core::status::Status;
 use crate::generated::core::text::Text;
 use crate::host::prelude::*;
 use crate::shim::{AllocError, Global};
-use std::io::{self, BufRead, Write};
+use std::io::{BufRead, Write};
 
 pub mod arriving;
 mod tables;
@@ -53,18 +53,23 @@ pub struct LineStyle<F: Forms> {
 
 /// A table in which keys are looked up that have texts, as its values have.
 pub trait Lookups {
-    /// A key.
-    type Key: Text;
+    /// Keys that are looked up.
+    type Keys: Keys;
 
     /// A value.
     type Value: Text;
 
-    /// The value of each key.
-    fn look_up(
+    /// No keys of this table.
+    fn no_keys(&self, alloc: Global) -> Self::Keys;
+
+    /// Looks the keys up, and writes a line for each. Returns whether each was found.
+    fn answer<F: Forms, O: Write>(
         &self,
         alloc: Global,
-        keys: &[Self::Key],
-    ) -> Result<Vec<Option<Self::Value>>, AllocError>;
+        keys: &Self::Keys,
+        style: AnswerStyle<F>,
+        output: &mut O,
+    ) -> Result<bool, Failure>;
 }
 
 /// Looks up the keys of the lines that are left, a batch at a time, and writes a line for each. Where
@@ -78,24 +83,20 @@ pub fn answer_lines<T: Lookups, F: Forms, I: BufRead + Arriving, O: Write>(
     output: &mut O,
 ) -> Result<Status, Failure> {
     let LineStyle { answers, coming } = style;
-    let mut keys = crate::host::lists::empty(alloc);
+    let mut keys = table.no_keys(alloc);
     let mut line = crate::host::lists::empty(alloc);
     let mut is_all_found = coming.is_all_found;
     for number in coming.number..u64::MAX {
-        let taken = keys.as_slice();
-        let read = read_key(alloc, table, number, input, &mut line, taken, answers, output)?;
-        match read {
-            Some(key) => {
-                push_key(&mut keys, key)?;
-                let is_live = is_due(coming.is_live, input);
-                let due = LineStyle { answers, coming: Coming { is_live, ..coming } };
-                is_all_found = answer_batch(alloc, table, &mut keys, is_all_found, due, output)?;
-                write_out(is_live, output)?;
-            }
-            None => break,
+        let read = read_key(alloc, table, number, input, &mut line, &mut keys, answers, output)?;
+        if !read {
+            break;
         }
+        let is_live = is_due(coming.is_live, input);
+        let due = LineStyle { answers, coming: Coming { is_live, ..coming } };
+        is_all_found = answer_batch(alloc, table, &mut keys, is_all_found, due, output)?;
+        write_out(is_live, output)?;
     }
-    let is_last_found = answer_keys(alloc, table, keys.as_slice(), answers, output)?;
+    let is_last_found = table.answer(alloc, &keys, answers, output)?;
     Ok(Status::of(is_last_found && is_all_found))
 }
 
@@ -105,42 +106,42 @@ pub(crate) fn is_due<I: Arriving>(is_live: bool, input: &I) -> bool {
     is_live && input.is_waiting()
 }
 
-// Reads the key of the line of this number, if there is such a line. Where it is no key, the keys
-// before it are answered first.
+// Adds the key of the line of this number, if there is such a line, and returns whether there is.
+// Where it is no key, the keys before it are answered first.
 fn read_key<T: Lookups, F: Forms, I: BufRead, O: Write>(
     alloc: Global,
     table: &T,
     number: u64,
     input: &mut I,
     line: &mut Vec<u8>,
-    keys: &[T::Key],
+    keys: &mut T::Keys,
     style: AnswerStyle<F>,
     output: &mut O,
-) -> Result<Option<T::Key>, Failure> {
-    match key_of_line(input, line, style.forms) {
-        Ok(NextKey::Key(key)) => Ok(Some(key)),
-        Ok(NextKey::End) => Ok(None),
-        Ok(NextKey::NoKey) => {
-            let message = wrong_line::<T::Key, F>(alloc, number, line.as_slice(), style.forms)?;
-            answer_keys(alloc, table, keys, style, output)?;
+) -> Result<bool, Failure> {
+    match key_of_line(input, line, style.forms, keys)? {
+        TakenKey::Key => Ok(true),
+        TakenKey::End => Ok(false),
+        TakenKey::NoKey => {
+            let message = wrong_line::<T::Keys, F>(alloc, number, line.as_slice(), style.forms)?;
+            table.answer(alloc, keys, style, output)?;
             Err(Failure::Misread(message))
         }
-        Err(error) => Err(Failure::Input(error)),
     }
 }
 
-/// The key of the next line in the form of keys.
+/// Adds the key of the next line, in the form of keys.
 #[inline(always)]
-pub(crate) fn key_of_line<K: Text, F: Forms, I: BufRead>(
+pub(crate) fn key_of_line<L: Keys, F: Forms, I: BufRead>(
     input: &mut I,
     line: &mut Vec<u8>,
     forms: F,
-) -> io::Result<NextKey<K>> {
-    next_key_as(input, line, forms.key())
+    keys: &mut L,
+) -> Result<TakenKey, Failure> {
+    take_key(input, line, forms.key(), keys)
 }
 
 /// What is said of a line that is no key.
-pub(crate) fn wrong_line<K: Text, F: Forms>(
+pub(crate) fn wrong_line<L: Keys, F: Forms>(
     alloc: Global,
     number: u64,
     line: &[u8],
@@ -149,7 +150,7 @@ pub(crate) fn wrong_line<K: Text, F: Forms>(
     let misread = Misread {
         line: Some(number),
         fault: LineFault::Key,
-        wanted: K::wanted(forms.key()),
+        wanted: L::Key::wanted(forms.key()),
         text: line,
     };
     misread.message(alloc)
@@ -160,16 +161,16 @@ pub(crate) fn wrong_line<K: Text, F: Forms>(
 fn answer_batch<T: Lookups, F: Forms, O: Write>(
     alloc: Global,
     table: &T,
-    keys: &mut Vec<T::Key>,
+    keys: &mut T::Keys,
     is_all_found: bool,
     style: LineStyle<F>,
     output: &mut O,
 ) -> Result<bool, Failure> {
-    if is_few(keys.len(), style.coming.is_live) {
+    if is_few(keys.count(), style.coming.is_live) {
         return Ok(is_all_found);
     }
-    let is_found = answer_keys(alloc, table, keys.as_slice(), style.answers, output)?;
-    keys.clear();
+    let is_found = table.answer(alloc, keys, style.answers, output)?;
+    keys.remove_all();
     Ok(is_found && is_all_found)
 }
 
@@ -186,18 +187,4 @@ pub(crate) fn write_out<O: Write>(is_due: bool, output: &mut O) -> Result<(), Fa
         output.flush().map_err(Failure::Output)?;
     }
     Ok(())
-}
-
-// Looks the keys up, and writes a line for each. Returns whether each was found.
-fn answer_keys<T: Lookups, F: Forms, O: Write>(
-    alloc: Global,
-    table: &T,
-    keys: &[T::Key],
-    style: AnswerStyle<F>,
-    output: &mut O,
-) -> Result<bool, Failure> {
-    let values = table.look_up(alloc, keys)?;
-    let values = values.as_slice();
-    write_answers_in(keys, values, style, output).map_err(Failure::Output)?;
-    Ok(are_found(values))
 }

@@ -3,7 +3,7 @@
 
 use crate::generated::core::arguments::is_stream;
 use crate::generated::core::failure::Failure;
-use crate::generated::core::files::{read_file, read_input, read_table_file};
+use crate::generated::core::files::{read_file, read_input, read_table_file, read_table_input};
 use crate::generated::core::status::Status;
 use crate::host::prelude::*;
 use crate::host::rt::Files;
@@ -24,7 +24,7 @@ pub fn read_bytes<R: Files + AllocGlobal, I: BufRead>(
 }
 
 /// The bytes of a file that is to have a table at this offset, as
-/// [`read_table_file`](odht_tool_core::files::read_table_file) reads them; all of standard input.
+/// [`read_table_file`](odht_tool_core::files::read_table_file) reads them, or of standard input.
 pub fn read_table_bytes<R: Files + AllocGlobal, I: BufRead>(
     rt: &R,
     file: &str,
@@ -32,7 +32,7 @@ pub fn read_table_bytes<R: Files + AllocGlobal, I: BufRead>(
     input: &mut I,
 ) -> Result<Vec<u8>, Failure> {
     if is_stream(file) {
-        read_input(rt.alloc(), input)
+        read_table_input(rt.alloc(), input, offset)
     } else {
         read_table_file(rt, file, offset)
     }

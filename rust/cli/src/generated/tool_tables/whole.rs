@@ -3,6 +3,7 @@
 //! lengths.
 
 use crate::generated::core::any::{read_any, AnyShape};
+use crate::generated::core::evidence::ask_key;
 use crate::generated::core::failure::Failure;
 use crate::generated::core::forms::{GivenForms, Kinds};
 use crate::generated::core::shapes::Hash;
@@ -24,6 +25,20 @@ pub fn read_whole(
         Ok(()) => Ok(found),
         Err(error) => Err(Failure::Refused(error)),
     }
+}
+
+/// The same for a command that writes, and finds keys by their texts: `UnknownKey` where nothing is
+/// said of keys, and the bytes do not show which type they are of.
+pub fn read_asked(
+    bytes: &[u8],
+    hash: Option<Hash>,
+    kinds: Kinds,
+    bound: Option<usize>,
+) -> Result<(AnyShape, GivenForms), Failure> {
+    let found = read_whole(bytes, hash, kinds, bound)?;
+    let (shape, _) = found;
+    ask_key(bytes, shape, kinds)?;
+    Ok(found)
 }
 
 /// Whether keys and values of two shapes have the same lengths.

@@ -9,7 +9,8 @@ mod command;
 
 use crate::generated::core::forms::Form;
 use crate::generated::core::places::cut_at;
-use crate::generated::core::text::{write_bytes, Text};
+use crate::generated::core::text::write_bytes;
+use crate::generated::core::written::Written;
 use crate::generated::tables::configs::U64ToU32;
 use crate::generated::tables::error::Error;
 use crate::generated::tables::load::{max_item_count_for, slots_needed, Factor};

@@ -9,7 +9,7 @@ use Rattle.odht_tool_core.proofs.json.answers.write_text_field.Goals as goal
 pub returns : goal.returns
 returns g c =
     let name = c.args.name.now in
-    let text = g.T.Text.text c.args.form c.args.value.now in
+    let text = g.T.Written.text c.args.form c.args.value.now in
     let old = g.O.Write.contents c.args.output.now in
     let new = g.O.Write.contents c.write_all.new.self in
     let written : OnOk c.write_all.result (Appends old new (34 ∷ (name ++ (34 ∷ 58 ∷ 34 ∷ (text ++ (34 ∷ [])))))) = grind (arith, common_steps) in

@@ -12,6 +12,6 @@ unfolding text_object
 returns g c =
     let old = g.O.Write.contents c.args.output.now in
     let new = g.O.Write.contents c.write_all-2.new.self in
-    let value = text_field (codes "value") (g.V.Text.text c.args.form c.args.value.now) in
+    let value = text_field (codes "value") (g.V.Written.text c.args.form c.args.value.now) in
     let written : OnOk c.write_all-2.result (Appends old new (123 ∷ (json_field value ++ (125 ∷ 10 ∷ [])))) = grind (arith, common_steps) in
     subst (λ t. OnOk c.write_all-2.result (Appends old new t)) (text_parts value) written

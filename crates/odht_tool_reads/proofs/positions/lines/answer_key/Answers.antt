@@ -5,8 +5,7 @@ use Rattle.odht.specs.Files.{file_coding}
 use Rattle.odht_tool_core.specs.DynTexts.{dynamic_text}
 use Rattle.odht_tool_core.specs.JsonAnswers.{answer_in}
 use Rattle.odht_tool_reads.proofs.AnswerLists.{appended_kept}
-use Rattle.odht_tool_reads.proofs.KeyAnswers.{one_answer}
-use Rattle.odht_tool_reads.proofs.PositionLines.{found_one}
+use Rattle.odht_tool_reads.proofs.KeyAnswers.{found_one, one_answer}
 use Rattle.odht_tool_reads.proofs.positions.lines.answer_key.Goals as goal
 
 -- the value that was read is the answer to the key

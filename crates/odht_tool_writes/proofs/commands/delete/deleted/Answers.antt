@@ -8,7 +8,7 @@ use Rattle.odht_tool_writes.proofs.Deletions.{as_many, deleted_of}
 use Rattle.odht_tool_writes.proofs.KeyLines.{lines_are_keys}
 use Rattle.odht_tool_writes.proofs.NewTables.{on_value}
 use Rattle.odht_tool_core.specs.AnyShapes.{any_format}
-use Rattle.odht_tool_tables.specs.Wholes.{whole_any}
+use Rattle.odht_tool_tables.specs.Wholes.{asked_whole}
 use Rattle.odht_tool_writes.proofs.commands.delete.deleted.Goals as goal
 
 pub returns-in-Words-clause-ok : goal.returns-in-Words-clause-ok
@@ -19,15 +19,15 @@ returns-in-Words-clause-ok g c =
     let forms = c.in_ok-found.found.1 in
     let input = g.I.Read.remaining c.args.input.now in
     let bytes = c.as_slice-bytes.ensures.value in
-    let whole : whole_any B o.hash o.kinds o.bound ≡ Ok (s, forms) = ap (λ b. whole_any b o.hash o.kinds o.bound) (sym bytes) ∙ sym c.read_whole.ensures.whole ∙ c.in_ok-found.was in
+    let whole : asked_whole B o.hash o.kinds o.bound ≡ Ok (s, forms) = ap (λ b. asked_whole b o.hash o.kinds o.bound) (sym bytes) ∙ sym c.read_asked.ensures.whole ∙ c.in_ok-found.was in
     let valid = c.in_ok-found.ensures.valid in
     let image : IsImage (any_format s) valid.0 B = subst (IsImage (any_format s) valid.0) bytes valid.1 in
     let ws = map string_bytes c.in-Words.words.items in
-    let keys = c.as_slice.result.now in
-    let all : are_keys forms.key ws s c.in_ok-keys-in-Words.keys.items =
-    subst (λ w. are_keys forms.key (map string_bytes w) s c.in_ok-keys-in-Words.keys.items) c.as_slice-words.ensures.value c.in_ok-keys-in-Words.ensures in
+    let keys = c.in_ok-keys-in-Words.keys in
+    let all : are_keys forms.key ws s keys =
+    subst (λ w. are_keys forms.key (map string_bytes w) s keys) c.as_slice-words.ensures.value c.in_ok-keys-in-Words.ensures in
     let texts : are_named forms.key input s ws keys o.keys =
-    subst (are_named forms.key input s ws keys) (sym c.in-Words.is) (refl, subst (are_keys forms.key ws s) (sym c.as_slice.ensures.value) all) in
+    subst (are_named forms.key input s ws keys) (sym c.in-Words.is) (refl, all) in
     on_value c.deleted_for.result _ _
     (λ x left. deleted_of B o.hash o.kinds o.bound input o.keys s forms whole valid.0 image ws keys texts x.0.items x.1 left)
     (c.deleted_for.ensures.ok valid.0 valid.1)
@@ -38,8 +38,8 @@ deleted_for-requires-in-Lines-clause-each g c =
     let read = c.in_ok-read-in-Lines.read in
     let f = c.in_ok-found.found.1.key in
     let ws = map (λ line. line.items) read.lines.items in
-    let many = as_many f ws s read.keys.items (lines_are_keys f (g.I.Read.remaining c.args.input.now) ws s read.keys.items c.in_ok-read-in-Lines.ensures) in
-    ap length c.as_slice-lines.ensures.value ∙ sym (length-map read.lines.items (λ line. line.items)) ∙ many ∙ ap length (sym c.as_slice-keys.ensures.value)
+    let many = as_many f ws s read.keys (lines_are_keys f (g.I.Read.remaining c.args.input.now) ws s read.keys c.in_ok-read-in-Lines.ensures) in
+    ap length c.as_slice.ensures.value ∙ sym (length-map read.lines.items (λ line. line.items)) ∙ many
 
 pub returns-clause-ok : goal.returns-clause-ok
 returns-clause-ok g c =
@@ -49,12 +49,12 @@ returns-clause-ok g c =
     let forms = c.in_ok-found.found.1 in
     let input = g.I.Read.remaining c.args.input.now in
     let bytes = c.as_slice-bytes.ensures.value in
-    let whole : whole_any B o.hash o.kinds o.bound ≡ Ok (s, forms) = ap (λ b. whole_any b o.hash o.kinds o.bound) (sym bytes) ∙ sym c.read_whole.ensures.whole ∙ c.in_ok-found.was in
+    let whole : asked_whole B o.hash o.kinds o.bound ≡ Ok (s, forms) = ap (λ b. asked_whole b o.hash o.kinds o.bound) (sym bytes) ∙ sym c.read_asked.ensures.whole ∙ c.in_ok-found.was in
     let valid = c.in_ok-found.ensures.valid in
     let image : IsImage (any_format s) valid.0 B = subst (IsImage (any_format s) valid.0) bytes valid.1 in
     let ws = map (λ line. line.items) c.in_ok-read-in-Lines.read.lines.items in
-    let keys = c.as_slice-keys.result.now in
-    let all : are_lines_keys forms.key input ws s keys = subst (are_lines_keys forms.key input ws s) (sym c.as_slice-keys.ensures.value) c.in_ok-read-in-Lines.ensures in
+    let keys = c.in_ok-read-in-Lines.read.keys in
+    let all : are_lines_keys forms.key input ws s keys = c.in_ok-read-in-Lines.ensures in
     let texts : are_named forms.key input s ws keys o.keys = subst (are_named forms.key input s ws keys) (sym c.in-Lines.is) all in
     on_value c.deleted_for-in-Lines.result _ _
     (λ x left. deleted_of B o.hash o.kinds o.bound input o.keys s forms whole valid.0 image ws keys texts x.0.items x.1 left)

@@ -11,9 +11,9 @@ use Rattle.odht_tool_writes.proofs.commands.delete.keys_of_words.Goals as goal
 
 pub returns : goal.returns
 returns c =
-    let of = c.of.ensures ∙ ap (bytes_form c.args.form) c.key.ensures in
+    let of = c.of.ensures ∙ ap (bytes_form c.args.form) c.key-key.ensures in
     let ws = map string_bytes c.args.words.now in
     let r = c.parse_keys.result in
-    either r (λ keys. are_keys c.args.form ws c.args.shape keys.items) (is_fault c.args.form ws c.args.shape)
-    (subst (λ (f : Form). IfOk r (λ keys. AllZip (IsDynamicOf f) ws keys.items)) of c.parse_keys.ensures.keys)
+    either r (λ keys. are_keys c.args.form ws c.args.shape keys) (is_fault c.args.form ws c.args.shape)
+    (subst (λ (f : Form). IfOk r (λ keys. AllZip (IsDynamicOf f) ws keys)) of c.parse_keys.ensures.keys)
     (subst (λ (f : Form). IfErr r (TellsFault (IsDynamicOf f) (dynamic_wanted f) ws)) of c.parse_keys.ensures.fault)

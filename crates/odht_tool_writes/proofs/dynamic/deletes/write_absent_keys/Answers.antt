@@ -1,5 +1,6 @@
-use Rattle.std.proofs.Common.{rules, ◌≡◌, ◌∙◌, ◌++◌, ◌+◌, ◌<◌, suc, [], true, false, cond, sym, ap, subst, arith, length, map, take}
+use Rattle.std.proofs.Common.{rules, ◌≡◌, ◌∙◌, ◌++◌, ◌+◌, ◌<◌, suc, [], true, false, cond, sym, ap, subst, arith, get_or, length, map, take}
 use Rattle.std.specs.Io.KnownBytes.{Appends}
+use Rattle.std.proofs.lemmas.Option.{get_or_from_slice_get}
 use Rattle.odht_base.specs.Map.{map_of}
 use Rattle.odht_tool_writes.specs.Deletes.{absent_lines, has_value}
 use Rattle.odht_tool_core.specs.Misreads.{absent_line}
@@ -14,14 +15,14 @@ loop-at-preserved g c P is =
     let words = c.args.words.now in
     let keys = c.args.keys.now in
     let at = c.loop-at.at in
-    let k = c.index-keys-at.result in
+    let k = c.at.result.now in
     let old = g.E.Write.contents c.args.errors.now in
     let mid = g.E.Write.contents c.loop-at.errors in
     let new = g.E.Write.contents c.if-not-contains_key.errors in
     let next : at + 1 ≡ suc at = omega arith in
     let inside : at < length keys = omega (arith, c.loop-at-test.true, c.requires) in
-    let key : c.as_slice.result.now ≡ k = c.as_slice.ensures in
-    let known : has_value P k ≡ c.contains_key.result = ap (has_value P) (sym key) ∙ is_there (map_of P c.as_slice.result.now) c.contains_key.result (c.contains_key.ensures.on_valid P is) in
+    let here : k ≡ get_or keys at k = sym (get_or_from_slice_get keys at k k c.at.ensures) in
+    let known : has_value P k ≡ c.contains_key.result = is_there (map_of P k) c.contains_key.result (c.contains_key.ensures.on_valid P is) in
     let lines = absent_lines file P (map g.W.Word.bytes (take at words)) (take at keys) in
     let all : absent_lines file P (map g.W.Word.bytes (take (suc at) words)) (take (suc at) keys) ≡ absent_lines file P (map g.W.Word.bytes (take (at + 1) words)) (take (at + 1) keys) =
     ap (λ n. absent_lines file P (map g.W.Word.bytes (take n words)) (take n keys)) (sym next) in
@@ -34,13 +35,13 @@ loop-at-preserved g c P is =
           subst (λ t. Appends mid (g.E.Write.contents w.write_absent.new.errors) (absent_line file t)) w.bytes.ensures w.in_ok-write_absent.ensures in
           let more = appends_more old mid (g.E.Write.contents w.write_absent.new.errors) lines line (c.loop-at.invariant P is) one in
           let taken : lines ++ line ≡ absent_lines file P (map g.W.Word.bytes (take (at + 1) words)) (take (at + 1) keys) =
-          ap (λ b. lines ++ cond b [] line) (sym (known ∙ no)) ∙ sym (lines_take g.W.Word.bytes file P words keys at word k c.loop-at-test.true inside w.index-words-at.is c.index-keys-at.is) ∙ all in
+          ap (λ b. lines ++ cond b [] line) (sym (known ∙ no)) ∙ sym (lines_take g.W.Word.bytes file P words keys at word k c.loop-at-test.true inside w.index-words-at.is here) ∙ all in
           subst (λ e. Appends old (g.E.Write.contents e) (absent_lines file P (map g.W.Word.bytes (take (at + 1) words)) (take (at + 1) keys))) (sym w.errors-is)
           (subst (Appends old (g.E.Write.contents w.write_absent.new.errors)) taken more))
       | else-not-contains_key w ↦ (
           let yes : c.contains_key.result ≡ true = search rules in
           let taken : lines ≡ absent_lines file P (map g.W.Word.bytes (take (at + 1) words)) (take (at + 1) keys) =
-          sym (lines_same g.W.Word.bytes file P words keys at k c.loop-at-test.true inside c.index-keys-at.is (known ∙ yes)) ∙ all in
+          sym (lines_same g.W.Word.bytes file P words keys at k c.loop-at-test.true inside here (known ∙ yes)) ∙ all in
           subst (λ e. Appends old (g.E.Write.contents e) (absent_lines file P (map g.W.Word.bytes (take (at + 1) words)) (take (at + 1) keys))) (sym w.errors-is)
           (subst (Appends old mid) taken (c.loop-at.invariant P is)))
     ]

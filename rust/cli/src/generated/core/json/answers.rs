@@ -6,7 +6,7 @@ use crate::generated::core::forms::{Form, Forms};
 use crate::generated::core::json::pairs::write_any_field;
 use crate::generated::core::plain::is_plain;
 use crate::generated::core::shown::Shown;
-use crate::generated::core::text::Text;
+use crate::generated::core::written::Written;
 use crate::host::prelude::*;
 use std::io::{self, Write};
 
@@ -31,7 +31,7 @@ pub struct AnswerStyle<F: Forms> {
 /// Writes a line for each key: with its value, or the key alone where it has none; or an object of
 /// both, in which such a value is null. Or the line has only the value, and is empty where the key
 /// has none. With no keys it writes nothing, and does not fail.
-pub fn write_answers_in<K: Text, V: Text, F: Forms, O: Write>(
+pub fn write_answers_in<K: Written, V: Written, F: Forms, O: Write>(
     keys: &[K],
     values: &[Option<V>],
     style: AnswerStyle<F>,
@@ -46,7 +46,7 @@ pub fn write_answers_in<K: Text, V: Text, F: Forms, O: Write>(
 }
 
 // The same, of which what is printed is looked at for each key.
-fn write_each<K: Text, V: Text, F: Forms, O: Write>(
+fn write_each<K: Written, V: Written, F: Forms, O: Write>(
     keys: &[K],
     values: &[Option<V>],
     style: AnswerStyle<F>,
@@ -59,7 +59,7 @@ fn write_each<K: Text, V: Text, F: Forms, O: Write>(
 }
 
 /// Writes the line of one key, as [`write_answers_in`] does.
-pub fn write_answer_in<K: Text, V: Text, F: Forms, O: Write>(
+pub fn write_answer_in<K: Written, V: Written, F: Forms, O: Write>(
     key: &K,
     value: &Option<V>,
     style: AnswerStyle<F>,
@@ -112,7 +112,7 @@ fn is_in_line(word: &[u8]) -> bool {
 }
 
 // Writes the line of a value.
-fn write_value<V: Text, O: Write>(
+fn write_value<V: Written, O: Write>(
     value: &Option<V>,
     form: Form,
     is_json: bool,
@@ -129,7 +129,11 @@ fn write_value<V: Text, O: Write>(
 }
 
 // Writes the object of a value on a line.
-fn write_value_object<V: Text, O: Write>(value: &V, form: Form, output: &mut O) -> io::Result<()> {
+fn write_value_object<V: Written, O: Write>(
+    value: &V,
+    form: Form,
+    output: &mut O,
+) -> io::Result<()> {
     output.write_all(b"{")?;
     write_text_field("value", value, form, output)?;
     output.write_all(b"}\n")
@@ -145,7 +149,7 @@ fn write_no_value<O: Write>(is_json: bool, output: &mut O) -> io::Result<()> {
 }
 
 // Writes the object of a key and its value on a line, or of the key alone.
-fn write_object<K: Text, V: Text, F: Forms, O: Write>(
+fn write_object<K: Written, V: Written, F: Forms, O: Write>(
     key: &K,
     value: &Option<V>,
     forms: F,
@@ -158,7 +162,7 @@ fn write_object<K: Text, V: Text, F: Forms, O: Write>(
 }
 
 // Writes the object of a key and its value.
-fn write_found<K: Text, V: Text, F: Forms, O: Write>(
+fn write_found<K: Written, V: Written, F: Forms, O: Write>(
     key: &K,
     value: &V,
     forms: F,
@@ -169,7 +173,7 @@ fn write_found<K: Text, V: Text, F: Forms, O: Write>(
 }
 
 // Writes the fields of a key and its value, the end of their object, and of its line.
-fn write_fields<K: Text, V: Text, F: Forms, O: Write>(
+fn write_fields<K: Written, V: Written, F: Forms, O: Write>(
     key: &K,
     value: &V,
     forms: F,
@@ -182,14 +186,14 @@ fn write_fields<K: Text, V: Text, F: Forms, O: Write>(
 }
 
 // Writes the object of a key that is absent.
-fn write_absent<K: Text, O: Write>(key: &K, form: Form, output: &mut O) -> io::Result<()> {
+fn write_absent<K: Written, O: Write>(key: &K, form: Form, output: &mut O) -> io::Result<()> {
     output.write_all(b"{")?;
     write_text_field("key", key, form, output)?;
     output.write_all(b",\"value\":null}\n")
 }
 
 // Writes a field that is the text of a key or a value.
-fn write_text_field<T: Text, O: Write>(
+fn write_text_field<T: Written, O: Write>(
     name: &str,
     value: &T,
     form: Form,

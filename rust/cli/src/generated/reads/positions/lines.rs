@@ -2,10 +2,12 @@
 //! Keys of lines that are looked up in a table that is read by position.
 
 use super::{Asked, Reached};
+use crate::generated::core::dynamic_bytes::DynBytes;
 use crate::generated::core::failure::Failure;
 use crate::generated::core::forms::GivenForms;
 use crate::generated::core::json::answers::{write_answer_in, AnswerStyle};
-use crate::generated::core::keys::NextKey;
+use crate::generated::core::key_lists::{ByteKeys, Keys};
+use crate::generated::core::keys::TakenKey;
 use crate::generated::core::status::Status;
 use crate::generated::reads::lookups::arriving::Arriving;
 use crate::generated::reads::lookups::{is_due, key_of_line, write_out, wrong_line, Coming};
@@ -27,17 +29,17 @@ pub(super) fn answer_lines_at<H: HashFn, S: ReadAt, I: BufRead + Arriving, O: Wr
     output: &mut O,
 ) -> Result<Reached, Failure> {
     let mut line = crate::host::lists::empty(asked.alloc);
+    let mut key = ByteKeys::none(asked.alloc, table.layout().key_len);
     let mut is_all_found = true;
     let mut taken = 0;
     for number in 1..u64::MAX {
-        match line_key(asked.alloc, number, input, &mut line, style.forms)? {
-            Some(key) => {
-                let is_due = is_due(asked.most.is_some(), input);
-                let is_found = answer_key(table, &key, asked.bound, is_due, style, output)?;
-                is_all_found = is_found && is_all_found;
-            }
-            None => break,
+        key.remove_all();
+        if !add_key(asked.alloc, number, input, &mut line, style.forms, &mut key)? {
+            break;
         }
+        let is_due = is_due(asked.most.is_some(), input);
+        let is_found = answer_key(table, key.at(0), asked.bound, is_due, style, output)?;
+        is_all_found = is_found && is_all_found;
         taken = with_line(taken, line.len());
         if is_more(taken, asked.most) {
             return Ok(Reached::Line(Coming { is_live: true, number: number + 1, is_all_found }));
@@ -59,23 +61,24 @@ fn is_more(bytes: u64, most: Option<u64>) -> bool {
     }
 }
 
-// The key of the line of this number, if there is such a line. A line that is no key is a failure.
-fn line_key<I: BufRead>(
+// Adds the key of the line of this number, if there is such a line, and returns whether there is. A
+// line that is no key is a failure.
+fn add_key<I: BufRead>(
     alloc: Global,
     number: u64,
     input: &mut I,
     line: &mut Vec<u8>,
     forms: GivenForms,
-) -> Result<Option<ShortBytes>, Failure> {
-    match key_of_line(input, line, forms) {
-        Ok(NextKey::Key(key)) => Ok(Some(key)),
-        Ok(NextKey::End) => Ok(None),
-        Ok(NextKey::NoKey) => {
+    keys: &mut ByteKeys,
+) -> Result<bool, Failure> {
+    match key_of_line(input, line, forms, keys)? {
+        TakenKey::Key => Ok(true),
+        TakenKey::End => Ok(false),
+        TakenKey::NoKey => {
             let line = line.as_slice();
-            let message = wrong_line::<ShortBytes, GivenForms>(alloc, number, line, forms)?;
+            let message = wrong_line::<ByteKeys, GivenForms>(alloc, number, line, forms)?;
             Err(Failure::Misread(message))
         }
-        Err(error) => Err(Failure::Input(error)),
     }
 }
 
@@ -83,14 +86,14 @@ fn line_key<I: BufRead>(
 // was found.
 fn answer_key<H: HashFn, S: ReadAt, O: Write>(
     table: &FileTable<H, S>,
-    key: &ShortBytes,
+    key: &[u8],
     bound: Option<usize>,
     is_due: bool,
     style: AnswerStyle<GivenForms>,
     output: &mut O,
 ) -> Result<bool, Failure> {
     let value = value_at(table, key, bound)?;
-    write_answer_in(key, &value, style, output).map_err(Failure::Output)?;
+    write_answer_in(&DynBytes::of(key), &value, style, output).map_err(Failure::Output)?;
     write_out(is_due, output)?;
     Ok(value.is_some())
 }
@@ -99,10 +102,10 @@ fn answer_key<H: HashFn, S: ReadAt, O: Write>(
 // failed.
 fn value_at<H: HashFn, S: ReadAt>(
     table: &FileTable<H, S>,
-    key: &ShortBytes,
+    key: &[u8],
     bound: Option<usize>,
 ) -> Result<Option<ShortBytes>, Failure> {
-    match table.get_counted(key.as_slice()) {
+    match table.get_counted(key) {
         Ok((value, groups)) => {
             if groups > bound.unwrap_or(usize::MAX) {
                 return Err(Failure::Read(io::Error::from(ErrorKind::InvalidData)));

@@ -6,15 +6,15 @@ use crate::generated::core::arguments::{DeleteOptions, Keys};
 use crate::generated::core::failure::Failure;
 use crate::generated::core::files::read_file;
 use crate::generated::core::forms::Form;
+use crate::generated::core::key_lists::ByteKeys;
 use crate::generated::core::keys::{parse_keys, Word};
 use crate::generated::core::new_file::{ended, make_new, replace_file, NewFile};
 use crate::generated::core::shapes::Hash;
 use crate::generated::core::status::Status;
 use crate::generated::core::targets::Target;
-use crate::generated::tables::dynamic::ShortBytes;
 use crate::generated::tables::{FxHashFn, UnHashFn, Xxh64HashFn};
 use crate::generated::tool_tables::dynamic::lengths_of;
-use crate::generated::tool_tables::whole::read_whole;
+use crate::generated::tool_tables::whole::read_asked;
 use crate::generated::writes::commands::delete_lines::keys_of_lines;
 use crate::generated::writes::dynamic::deletes::{delete_lengths, NamedKeys};
 use crate::generated::writes::reports::PairRun;
@@ -73,21 +73,20 @@ fn deleted<R: AllocGlobal + Clock, I: BufRead, E: Write>(
     errors: &mut E,
 ) -> Result<(Vec<u8>, Status), Failure> {
     let bytes = bytes.as_slice();
-    let found = read_whole(bytes, options.hash, options.kinds, options.bound)?;
+    let found = read_asked(bytes, options.hash, options.kinds, options.bound)?;
     let (shape, forms) = found;
     match &options.keys {
         Keys::Words(words) => {
             let words = words.as_slice();
             let keys = keys_of_words(rt.alloc(), shape, forms.key, words)?;
             let run = PairRun::new(rt, options.has_progress);
-            let named = NamedKeys { words, keys: keys.as_slice() };
+            let named = NamedKeys { words, keys: &keys };
             deleted_for(run, file, shape, bytes, &named, errors)
         }
         Keys::Lines => {
             let read = keys_of_lines(rt.alloc(), shape, forms.key, input)?;
-            let (lines, keys) = (read.lines.as_slice(), read.keys.as_slice());
             let run = PairRun::new(rt, options.has_progress);
-            let named = NamedKeys { words: lines, keys };
+            let named = NamedKeys { words: read.lines.as_slice(), keys: &read.keys };
             deleted_for(run, file, shape, bytes, &named, errors)
         }
     }
@@ -120,6 +119,7 @@ fn keys_of_words(
     shape: AnyShape,
     form: Form,
     words: &[String],
-) -> Result<Vec<ShortBytes>, Failure> {
-    parse_keys(alloc, words, form.of(shape.key()))
+) -> Result<ByteKeys, Failure> {
+    let key = shape.key();
+    parse_keys(alloc, words, key.size(), form.of(key))
 }

@@ -4,7 +4,8 @@
 use crate::generated::core::any::AnyShape;
 use crate::generated::core::failure::{Failure, LineFault};
 use crate::generated::core::forms::Form;
-use crate::generated::core::keys::{next_key_as, push_key, NextKey};
+use crate::generated::core::key_lists::{ByteKeys, Keys};
+use crate::generated::core::keys::{take_key, TakenKey};
 use crate::generated::core::misread::Misread;
 use crate::generated::core::text::Text;
 use crate::generated::tables::dynamic::ShortBytes;
@@ -13,9 +14,9 @@ use crate::shim::Global;
 use std::io::BufRead;
 
 /// Lines, and the keys that they are the texts of.
-pub struct KeyLines<K> {
+pub struct KeyLines {
     pub lines: Vec<Vec<u8>>,
-    pub keys: Vec<K>,
+    pub keys: ByteKeys,
 }
 
 /// The lines, and the bytes of their keys in this form, or the first line that is no key.
@@ -24,19 +25,21 @@ pub fn keys_of_lines<I: BufRead>(
     shape: AnyShape,
     form: Form,
     input: &mut I,
-) -> Result<KeyLines<ShortBytes>, Failure> {
-    read_lines(alloc, form.of(shape.key()), input)
+) -> Result<KeyLines, Failure> {
+    let key = shape.key();
+    read_lines(alloc, key.size(), form.of(key), input)
 }
 
-// The lines of an input, but for an empty last one that is no key, and their keys; or the first
-// line that is no key.
-fn read_lines<K: Text, I: BufRead>(
+// The lines of an input, except an empty last one that is no key, and their keys, of this length; or
+// the first line that is no key.
+fn read_lines<I: BufRead>(
     alloc: Global,
+    key_len: u8,
     form: Form,
     input: &mut I,
-) -> Result<KeyLines<K>, Failure> {
+) -> Result<KeyLines, Failure> {
     let mut lines = crate::host::lists::empty(alloc);
-    let mut keys = crate::host::lists::empty(alloc);
+    let mut keys = ByteKeys::none(alloc, key_len);
     for number in 1..u64::MAX {
         if !take_line(alloc, number, form, input, &mut lines, &mut keys)? {
             return Ok(KeyLines { lines, keys });
@@ -47,31 +50,33 @@ fn read_lines<K: Text, I: BufRead>(
 }
 
 // Adds the line of this number and its key, if there is such a line. Returns whether there is.
-fn take_line<K: Text, I: BufRead>(
+fn take_line<I: BufRead>(
     alloc: Global,
     number: u64,
     form: Form,
     input: &mut I,
     lines: &mut Vec<Vec<u8>>,
-    keys: &mut Vec<K>,
+    keys: &mut ByteKeys,
 ) -> Result<bool, Failure> {
     let mut line = crate::host::lists::empty(alloc);
-    match next_key_as(input, &mut line, form) {
-        Ok(NextKey::Key(key)) => {
+    match take_key(input, &mut line, form, keys)? {
+        TakenKey::Key => {
             lines.try_push(line).map_err(|_| Failure::Memory)?;
-            push_key(keys, key)?;
             Ok(true)
         }
-        Ok(NextKey::End) => Ok(false),
-        Ok(NextKey::NoKey) => Err(wrong_line::<K>(alloc, number, line.as_slice(), form)),
-        Err(error) => Err(Failure::Input(error)),
+        TakenKey::End => Ok(false),
+        TakenKey::NoKey => Err(wrong_line(alloc, number, line.as_slice(), form)),
     }
 }
 
 // What is said of the line of this number, which is no key.
-fn wrong_line<K: Text>(alloc: Global, number: u64, line: &[u8], form: Form) -> Failure {
-    let misread =
-        Misread { line: Some(number), fault: LineFault::Key, wanted: K::wanted(form), text: line };
+fn wrong_line(alloc: Global, number: u64, line: &[u8], form: Form) -> Failure {
+    let misread = Misread {
+        line: Some(number),
+        fault: LineFault::Key,
+        wanted: <ShortBytes as Text>::wanted(form),
+        text: line,
+    };
     match misread.message(alloc) {
         Ok(message) => Failure::Misread(message),
         Err(_) => Failure::Memory,

@@ -2,10 +2,11 @@
 //! `odht delete` of dynamic tables.
 
 use crate::generated::core::failure::Failure;
+use crate::generated::core::key_lists::{ByteKeys, Keys};
 use crate::generated::core::keys::{write_absent, Word};
 use crate::generated::core::status::Status;
 use crate::generated::tables::bytes::Borrowed;
-use crate::generated::tables::dynamic::{DynTable, DynTableOwned, Layout, ShortBytes};
+use crate::generated::tables::dynamic::{DynTable, DynTableOwned, Layout};
 use crate::generated::tables::hash::HashFn;
 use crate::generated::tables::load::Percent;
 use crate::generated::tables::memory_layout::{init_parts, Header};
@@ -20,7 +21,7 @@ use std::io::{self, Write};
 /// Keys, each with the word or the line that is its text.
 pub struct NamedKeys<'a, W> {
     pub words: &'a [W],
-    pub keys: &'a [ShortBytes],
+    pub keys: &'a ByteKeys,
 }
 
 /// The bytes of the table without these keys, and whether each had a value; a line on `errors`
@@ -47,7 +48,7 @@ pub fn delete_lengths<H: HashFn, W: Word, R: AllocGlobal + Clock, E: Write>(
 fn left_pairs<H: HashFn, R: AllocGlobal + Clock, E: Write>(
     run: PairRun<'_, R>,
     old: &DynTable<H, Borrowed<'_>>,
-    keys: &[ShortBytes],
+    keys: &ByteKeys,
     errors: &mut E,
 ) -> Result<Vec<u8>, Failure> {
     let named = named_keys::<H>(run.alloc(), old.layout().key_len, keys)?;
@@ -60,11 +61,11 @@ fn left_pairs<H: HashFn, R: AllocGlobal + Clock, E: Write>(
 fn named_keys<H: HashFn>(
     alloc: Global,
     key_len: u8,
-    keys: &[ShortBytes],
+    keys: &ByteKeys,
 ) -> Result<DynTableOwned<H>, Failure> {
     let mut named = no_keys::<H>(alloc, key_len)?;
-    for key in keys {
-        if named.insert(key.as_slice(), b"").is_err() {
+    for at in 0..keys.count() {
+        if named.insert(keys.at(at), b"").is_err() {
             return Err(Failure::Memory);
         }
     }
@@ -124,9 +125,9 @@ fn insert_other<H: HashFn>(
 }
 
 // Whether each key has a value.
-fn are_there<H: HashFn>(table: &DynTable<H, Borrowed<'_>>, keys: &[ShortBytes]) -> bool {
-    for key in keys {
-        if !table.contains_key(key.as_slice()) {
+fn are_there<H: HashFn>(table: &DynTable<H, Borrowed<'_>>, keys: &ByteKeys) -> bool {
+    for at in 0..keys.count() {
+        if !table.contains_key(keys.at(at)) {
             return false;
         }
     }
@@ -138,11 +139,11 @@ fn write_absent_keys<H: HashFn, W: Word, E: Write>(
     file: &str,
     table: &DynTable<H, Borrowed<'_>>,
     words: &[W],
-    keys: &[ShortBytes],
+    keys: &ByteKeys,
     errors: &mut E,
 ) -> io::Result<()> {
     for at in 0..words.len() {
-        if !table.contains_key(keys[at].as_slice()) {
+        if !table.contains_key(keys.at(at)) {
             write_absent(file, words[at].bytes(), errors)?;
         }
     }

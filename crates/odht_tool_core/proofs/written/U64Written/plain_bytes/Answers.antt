@@ -1,6 +1,6 @@
 use Rattle.std.specs.Int.{w64}
 use Rattle.odht_tool_core.proofs.JsonTexts.{number_simple}
-use Rattle.odht_tool_core.proofs.text.U64Text.plain_bytes.Goals as goal
+use Rattle.odht_tool_core.proofs.written.U64Written.plain_bytes.Goals as goal
 
 -- digits stand for themselves
 pub returns-clause-none : goal.returns-clause-none

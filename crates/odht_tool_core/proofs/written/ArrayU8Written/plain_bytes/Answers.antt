@@ -1,7 +1,7 @@
 use Rattle.std.proofs.Common.{◌≡◌, IfSome, sym, subst}
 use Rattle.odht_tool_core.specs.Forms.{bytes_text}
 use Rattle.odht_tool_core.proofs.JsonTexts.{bytes_simple}
-use Rattle.odht_tool_core.proofs.text.ArrayU8Text.plain_bytes.Goals as goal
+use Rattle.odht_tool_core.proofs.written.ArrayU8Written.plain_bytes.Goals as goal
 
 -- digits stand for themselves
 pub returns-in_default : goal.returns-in_default
