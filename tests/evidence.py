@@ -4,8 +4,9 @@
   tests/evidence.py PROGRAM
 
 Every pair of types that `build` names can be built, and is read as it was given. The one key of a table is found by each
-hash function, though another one may have its tag too. `put` and `delete` ask for a type where a file does not show it. The last
-line counts the tests.
+hash function, though another one may have its tag too. `put` and `delete` ask for a type where a file does not show it.
+`merge` takes the hash function of a file that has items, and asks where those of two files show other types. The last line
+counts the tests.
 """
 import os
 import random
@@ -131,6 +132,37 @@ def asked(program, file):
         yield f"put {key} {value} {said}"
 
 
+def merged(program, file):
+    """`merge` of an empty table and one that shows its hash function, in each order; and of keys of two types."""
+    empty, full, other = f"{file}.empty", f"{file}.full", f"{file}.other"
+    for key in "text:16", "u64be", "u32", "hex20":
+        named = [f"--key={key}", "--value=u32"]
+        lines = "".join(f"{it:040x}\t1\n" if key == "hex20" else f"{it}\t1\n" for it in range(200))
+        run(program, "build", empty, "--force", *named, "--percent=50")
+        run(program, "build", full, "--force", *named, given=lines)
+        hash_name = run(program, "find", full)[0].split("\t")[7]
+        for files in (empty, full), (empty, empty, full), (full, empty):
+            run(program, "merge", file, "--force", *files)
+            report = run(program, "find", file)[0]
+            check(report.split("\t")[7] == hash_name, f"merge of {key} {files}: {report}")
+            found = run(program, "dump", file, *named)[0]
+            check(sorted(found.splitlines()) == sorted(lines.splitlines()), f"merge of {key} {files}")
+            yield f"merge of {key} {len(files)}"
+    run(program, "build", full, "--force", "--key=u64", "--value=u32", given="1\t1\n2\t2\n3\t3\n")
+    run(program, "build", other, "--force", "--key=u64be", "--value=u32", given="1\t1\n2\t2\n3\t3\n")
+    with open(file, "rb") as it:
+        before = it.read()
+    for files in (full, other), (other, full), (full, full, other):
+        told = run(program, "merge", file, *files, status=1)[1]
+        check(f"odht: {files[-1]}: " in told and "--key says whether" in told, f"merge of two types: {told}")
+        with open(file, "rb") as it:
+            check(it.read() == before, "merge of two types: other bytes")
+        run(program, "merge", file, *files, "--key=u64" if files[0] == full else "--key=u64be")
+        with open(file, "wb") as it:
+            it.write(before)
+        yield f"merge of two types, {len(files)}"
+
+
 def sides(program, file):
     """What is said of one side leaves the other as it would be by itself."""
     run(program, "build", file, "--force", "--key", "u64", "--value", "text:24", given="1\ttwo words\n")
@@ -146,7 +178,7 @@ def main(program):
     program = os.path.abspath(program)
     with tempfile.TemporaryDirectory(prefix="odht-evidence-") as room:
         try:
-            for tests in pairs, one_key, asked, asked_more, sides:
+            for tests in pairs, one_key, asked, asked_more, merged, sides:
                 for _ in tests(program, f"{room}/table"):
                     passed += 1
         except AssertionError as what:

@@ -158,6 +158,9 @@ def write_merged_cases():
             text += "".join(f"before {it}.odht: < crates/odht_tool/data/{it}.odht\n" for it in dict.fromkeys(names))
             chosen = "" if duplicates == "last" else f" --duplicates {duplicates}"
             kinds = made[names[0]].kinds
+            # numbers by the default of texts, and by their own
+            if "u32_xxh64" in names and len(set(names)) > 1:
+                kinds = " --key u32"
             inputs = " ".join(f"{it}.odht" for it in names)
             text += f"args: merge out.odht {inputs}{chosen}{kinds}{words and ' '}{words}\n"
             if new:

@@ -4,4 +4,5 @@ pub mod build;
 pub mod delete;
 pub mod delete_lines;
 pub mod merge;
+mod merged_hash;
 pub mod rebuild;

@@ -11,6 +11,7 @@ ghost use Rattle.odht_tool_writes.specs.Merges.{IsInputOf, IsLateStop, IsMergeFa
 ghost use Rattle.odht_tool_writes.specs.Merges.{IsMergedFrom, IsMergedOf, IsReadFailure, IsStoppedOf};
 ghost use Rattle.odht_tool_writes.specs.Merges.{IsTableOf, all_pairs, input_pairs, shape_of_other};
 
+use super::merged_hash::{other_keys, take_hash};
 use crate::dynamic::merges::{Input, MergeFailure, MergeJob, merge_lengths};
 use crate::reports::PairRun;
 use odht::load::Percent;
@@ -40,21 +41,21 @@ use std::rt::{Clock, Files};
 pub fn merge<R: Files + AllocGlobal + Clock, I: BufRead, O: Write, E: Write>(
     rt: &R,
     file: &str,
-    options: MergeOptions,
+    mut options: MergeOptions,
     streams: &mut Streams<'_, '_, '_, I, O, E>,
 ) -> Result<Status, Failure>
 where
     R::File: AsFd,
 {
     if is_stream(file) {
-        return match merged_files(rt, &options, streams.input, streams.errors)? {
+        return match merged_files(rt, &mut options, streams.input, streams.errors)? {
             Some(bytes) => of_output(streams.output.write_all(bytes.as_slice())),
             None => Ok(Status::NotDone),
         };
     }
     let target = Target::find(rt, file, options.allowed)?;
     let mut new = make_new(rt, target)?;
-    let done = merge_as(rt, &mut new, &options, streams.input, streams.errors);
+    let done = merge_as(rt, &mut new, &mut options, streams.input, streams.errors);
     ended(rt, new, done)
 }
 
@@ -62,7 +63,7 @@ where
 fn merge_as<R: Files + AllocGlobal + Clock, I: BufRead, E: Write>(
     rt: &R,
     new: &mut NewFile<R::File>,
-    options: &MergeOptions,
+    options: &mut MergeOptions,
     input: &mut I,
     errors: &mut E,
 ) -> Result<Status, Failure>
@@ -81,7 +82,7 @@ where
 // The bytes of the new table. None where one of the files fails, which is reported.
 fn merged_files<R: Files + AllocGlobal + Clock, I: BufRead, E: Write>(
     rt: &R,
-    options: &MergeOptions,
+    options: &mut MergeOptions,
     input: &mut I,
     errors: &mut E,
 ) -> Result<Option<Vec<u8>>, Failure> {
@@ -96,6 +97,11 @@ fn merged_files<R: Files + AllocGlobal + Clock, I: BufRead, E: Write>(
             Ok(bytes) => others.push(bytes).or(Err(Failure::Memory))?,
             Err(failure) => return Ok(reported(name.as_str(), failure, errors)),
         }
+    }
+    take_hash(first.as_slice(), others.as_slice(), options);
+    if let Some((at, size)) = other_keys(first.as_slice(), others.as_slice(), options) {
+        let name = name_of(options, at.saturating_add(1));
+        return Ok(reported(name, Failure::UnknownKey(size), errors));
     }
     merged_or_told(rt, first, others, options, errors)
 }

@@ -7,4 +7,5 @@ pub mod build;
 pub mod delete;
 pub mod delete_lines;
 pub mod merge;
+mod merged_hash;
 pub mod rebuild;

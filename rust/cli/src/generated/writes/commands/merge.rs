@@ -1,6 +1,7 @@
 // Generated from crates/odht_tool_writes/src/commands/merge.rt by make generate.
 //! `odht merge`: a table file of the pairs of others.
 
+use super::merged_hash::{other_keys, take_hash};
 use crate::generated::core::any::AnyShape;
 use crate::generated::core::arguments::{is_stream, MergeOptions};
 use crate::generated::core::failure::Failure;
@@ -31,21 +32,21 @@ use std::os::fd::AsFd;
 pub fn merge<R: Files + AllocGlobal + Clock, I: BufRead, O: Write, E: Write>(
     rt: &R,
     file: &str,
-    options: MergeOptions,
+    mut options: MergeOptions,
     streams: &mut Streams<'_, '_, '_, I, O, E>,
 ) -> Result<Status, Failure>
 where
     R::File: AsFd,
 {
     if is_stream(file) {
-        return match merged_files(rt, &options, streams.input, streams.errors)? {
+        return match merged_files(rt, &mut options, streams.input, streams.errors)? {
             Some(bytes) => of_output(streams.output.write_all(bytes.as_slice())),
             None => Ok(Status::NotDone),
         };
     }
     let target = Target::find(rt, file, options.allowed)?;
     let mut new = make_new(rt, target)?;
-    let done = merge_as(rt, &mut new, &options, streams.input, streams.errors);
+    let done = merge_as(rt, &mut new, &mut options, streams.input, streams.errors);
     ended(rt, new, done)
 }
 
@@ -53,7 +54,7 @@ where
 fn merge_as<R: Files + AllocGlobal + Clock, I: BufRead, E: Write>(
     rt: &R,
     new: &mut NewFile<R::File>,
-    options: &MergeOptions,
+    options: &mut MergeOptions,
     input: &mut I,
     errors: &mut E,
 ) -> Result<Status, Failure>
@@ -72,7 +73,7 @@ where
 // The bytes of the new table. None where one of the files fails, which is reported.
 fn merged_files<R: Files + AllocGlobal + Clock, I: BufRead, E: Write>(
     rt: &R,
-    options: &MergeOptions,
+    options: &mut MergeOptions,
     input: &mut I,
     errors: &mut E,
 ) -> Result<Option<Vec<u8>>, Failure> {
@@ -87,6 +88,11 @@ fn merged_files<R: Files + AllocGlobal + Clock, I: BufRead, E: Write>(
             Ok(bytes) => others.try_push(bytes).or(Err(Failure::Memory))?,
             Err(failure) => return Ok(reported(name.as_str(), failure, errors)),
         }
+    }
+    take_hash(first.as_slice(), others.as_slice(), options);
+    if let Some((at, size)) = other_keys(first.as_slice(), others.as_slice(), options) {
+        let name = name_of(options, at.saturating_add(1));
+        return Ok(reported(name, Failure::UnknownKey(size), errors));
     }
     merged_or_told(rt, first, others, options, errors)
 }
