@@ -1,8 +1,9 @@
 #!/usr/bin/env python3
 """Tests that the program `odht` counts the items of a table that is larger than memory: it reads only the header. The
 file is sparse: a header of 2^36 slots for keys of eight bytes and values of four, and no other byte written. And that it
-rejects 3 GB of zeros at once, in little memory, also on standard input, and `get` a table whose first slots fit no hash function. And that
-`get` looks up 1,000 keys of a table of 1.7 GB in little memory: as words, and as lines of a file and of a pipe.
+rejects 3 GB of zeros at once, in little memory, also on standard input, and a table whose first slots fit no hash
+function, by each command that needs one. That `find` goes through 3 GB in little memory. And that `get` looks up 1,000
+keys of a table of 1.7 GB in little memory: as words, and as lines of a file and of a pipe.
 
   tests/large.py PROGRAM..
 
@@ -29,8 +30,32 @@ REJECTED = [
     (["count", "zeros"], (1, "", f"odht: {FOREIGN}")),
     (["get", "zeros", "1"], (2, "", f"odht: {FOREIGN}")),
 ]
+NOT_FOUND = "odht: {}: no table is in it\n"
+ENDLESS = "odht: -: standard input cannot be read: it is a device, not a regular file\n"
 UNFIT = ("odht: unfit: the control bytes fit no hash function with keys of 8 and values of 4 bytes; `odht check` and "
          "`odht info` say more\n")
+# commands that need the hash function of a file, their input, and the status of their failure; `small` is a table
+OF_UNFIT = [
+    (["get", "unfit", "0"], None, 2),
+    (["get", "unfit", "--key", "u64", "0"], None, 2),
+    (["get", "unfit", "-"], b"0\n", 2),
+    (["dump", "unfit"], None, 1),
+    (["dump", "unfit", "--values"], None, 1),
+    (["dump", "unfit", "--slots"], None, 1),
+    (["keys", "unfit", "--key", "u64"], None, 1),
+    (["order", "unfit"], None, 1),
+    (["count", "unfit", "--check"], None, 1),
+    (["diff", "unfit", "small"], None, 2),
+    (["diff", "small", "unfit"], None, 2),
+    (["put", "unfit", "0", "0"], None, 1),
+    (["put", "unfit"], b"0\t0\n", 1),
+    (["delete", "unfit", "0"], None, 2),
+    (["delete", "unfit", "-"], b"0\n", 2),
+    (["rebuild", "unfit"], None, 1),
+    (["merge", "new", "unfit", "small"], None, 1),
+    (["merge", "new", "small", "unfit"], None, 1),
+    (["merge", "-", "small", "unfit"], None, 1),
+]
 # how many keys a table of 2^27 slots has, and how many slots are from one to the next
 KEYS, APART, KEY_SLOTS = 1000, 5, 1 << 27
 # FxHashFn multiplies a key of eight bytes: modulo 2^32, this gives the key of a hash
@@ -44,8 +69,13 @@ def limited():
     resource.setrlimit(resource.RLIMIT_CPU, (SECONDS, SECONDS))
 
 
-def run(program, words, folder, given=None):
-    done = subprocess.run([program, *words], stdin=given, capture_output=True, preexec_fn=limited, timeout=60, cwd=folder)
+# the same for a command that goes through all bytes
+def limited_in_memory():
+    resource.setrlimit(resource.RLIMIT_AS, (MEMORY, MEMORY))
+
+
+def run(program, words, folder, given=None, limit=limited):
+    done = subprocess.run([program, *words], stdin=given, capture_output=True, preexec_fn=limit, timeout=60, cwd=folder)
     return done.returncode, done.stdout.decode(), done.stderr.decode()
 
 
@@ -56,10 +86,13 @@ def test_unfit(program, room):
         # the tag 1 in sixteen slots, by keys that are zero, whose tag it is under no hash function
         it.seek(32 + SLOTS * (8 + 4))
         it.write(bytes([1]) * 16)
-    for words, lines in (["0"], None), (["--key", "u64", "0"], None), (["-"], b"0\n"):
-        done = subprocess.run([program, "get", "unfit", *words], input=lines, capture_output=True, preexec_fn=limited,
-                              timeout=60, cwd=room)
-        assert (done.returncode, done.stdout, done.stderr.decode()) == (2, b"", UNFIT), (words, done)
+    words = ["build", "small", "--key", "u64", "--value", "u32"]
+    subprocess.run([program, *words], input=b"1\t2\n", check=True, cwd=room)
+    for words, lines, status in OF_UNFIT:
+        before = sorted(os.listdir(room))
+        done = subprocess.run([program, *words], input=lines, capture_output=True, preexec_fn=limited, timeout=60, cwd=room)
+        assert (done.returncode, done.stdout, done.stderr.decode()) == (status, b"", UNFIT), (words, done)
+        assert sorted(os.listdir(room)) == before, words
 
 
 def key_of(home, top):
@@ -122,6 +155,28 @@ def test_zeros(program, room):
             assert found == tuple(it.replace("zeros", "-") if isinstance(it, str) else it for it in wanted), (words, found)
 
 
+def test_find(program, room):
+    """3 GB of zeros, and 16 MB with two tables, the first of which lies across the border of a part that is read."""
+    with open(f"{room}/small", "rb") as it:
+        table = it.read()
+    for length, offsets in (ZEROS, []), (1 << 24, [(1 << 16) - 2, (1 << 24) - len(table) - 1]):
+        with open(f"{room}/zeros", "r+b") as it:
+            it.truncate(length)
+            for offset in offsets:
+                it.seek(offset)
+                it.write(table)
+        # keys of 8 and values of 4 bytes, one item in sixteen slots
+        lines = "".join(f"{it}\t{len(table)}\t8\t4\t1\t16\t6\tfx\tvalid\n" for it in offsets)
+        for file in "zeros", "-":
+            with open(f"{room}/zeros", "rb") as given:
+                found = run(program, ["find", file], room, given, limited_in_memory)
+            wanted = (0, lines, "") if offsets else (1, "", NOT_FOUND.format(file))
+            assert found == wanted, (file, found)
+    with open("/dev/zero", "rb") as given:
+        found = run(program, ["find", "-"], room, given)
+    assert found == (1, "", ENDLESS), found
+
+
 def test(program, room):
     name = f"{room}/large"
     for before, words in ((b"", ()), (b"some bytes", ("--at", "10"))):
@@ -144,6 +199,7 @@ def main(*programs):
                 test(program, room)
                 test_zeros(program, room)
                 test_unfit(program, room)
+                test_find(program, room)
                 test_keys(program, room)
             except (AssertionError, subprocess.TimeoutExpired) as error:
                 failed += 1

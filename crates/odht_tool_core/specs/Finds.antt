@@ -1,4 +1,5 @@
 -- The tables inside the bytes of a file.
+--     tag_bytes            the bytes with which every table begins
 --     has_fields B         nothing is rejected of the load factor, the padding, and the item count that it allows
 --     has_front B          B begins with a header of which nothing is rejected, and there are as many bytes as it says
 --     has_mirror T         the last sixteen control bytes of the parts T are as the first
@@ -29,6 +30,9 @@ use Rattle.odht_tool_core.specs.declared.failure.Failure.TheVariants.{Memory, Fo
 use Rattle.odht_tool_core.specs.declared.shapes.Hash.TheVariants.{Fx, Unhash, Xxh64}
 use Rattle.odht_tool_core.specs.declared.find.Look.{Look}
 use Rattle.odht_tool_core.specs.declared.find.Look.TheVariants.{Table, False, Nothing}
+
+abbrev pub tag_bytes : List ℕ
+tag_bytes = codes "ODHT"
 
 abbrev pub has_fields : List ℕ → Bool
 has_fields B = is_none (factor_refusal B) && is_none (padding_refusal B) && is_none (room_refusal B)

@@ -24,18 +24,15 @@
 --     IsInfoFailure B f    f is the error of opening, or out of memory where there is none
 use Rattle.std.specs.Prelude.{◌≡◌, ℕ, ◌+◌, ◌*◌, ◌/◌, min, max, Bool, not, ◌&&◌, nat_le, nat_lt, ◌==◌, List, [], length, map, filter, find, fold, count_by, slice_index, is_none, Option, Some, None, if◌then◌else◌}
 use Rattle.std.specs.List.{range_with_len}
-use Rattle.odht_base.specs.Decoded.{header_count, header_slots, header_factor, entries_of, controls_of, slot_key, counts_as_free}
+use Rattle.odht_base.specs.Decoded.{header_slots, entries_of, controls_of, slot_key, counts_as_free}
 use Rattle.odht_base.specs.Format.{Format, format_of}
-use Rattle.odht_base.specs.Load.{max_items}
 use Rattle.odht_header.specs.Refusals.{first_slot, control_mismatch, opening_refusal}
 use Rattle.odht_header.specs.declared.error.Error.{Error}
 use Rattle.odht_tool_core.specs.GroupNumbers.{groups_to, groups_to_free, capped}
 use Rattle.odht_tool_core.specs.ReadyShapes.{hash_of, hashes}
-use Rattle.odht_tool_core.specs.declared.advice.Advice.{Advice}
 use Rattle.odht_tool_core.specs.declared.failure.Failure.{Failure}
 use Rattle.odht_tool_core.specs.declared.failure.Failure.TheVariants.{Refused, Memory}
 use Rattle.odht_tool_core.specs.declared.histogram.Histogram.{Histogram}
-use Rattle.odht_tool_core.specs.declared.numbers.Numbers.{Numbers}
 use Rattle.odht_tool_core.specs.declared.shapes.Hash.{Hash}
 use Rattle.odht_tool_core.specs.declared.shapes.Hash.TheVariants.{Fx, Unhash, Xxh64}
 

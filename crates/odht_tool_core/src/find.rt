@@ -73,8 +73,8 @@ pub fn find_tables(alloc: Global, bytes: &[u8]) -> Result<Vec<usize>, Failure>
     Ok(tables)
 }
 
-// The first place from this one on of a byte with which a table may begin, or the end.
-fn next_first(bytes: &[u8], from: usize) -> usize
+/// The first place from this one on of a byte with which a table may begin, or the end.
+pub(crate) fn next_first(bytes: &[u8], from: usize) -> usize
     requires { from ≤ length bytes.now }
     ensures after { from ≤ result }
     ensures within { result ≤ length bytes.now }
@@ -94,42 +94,42 @@ fn add(tables: &mut Vec<usize>, at: usize) -> Result<(), Failure>
     }
 }
 
-/// Writes the line of the table that begins at this offset, or its object of JSON: the offset, its
+/// Writes the line of the table that begins at this offset of its file, or its object of JSON: the offset, its
 /// length, the sizes of keys and values, the item count, the slot count, the load in percent, the
 /// hash functions that its control bytes fit, and what the check says of it. There are tabs between
 /// them in the line.
 pub fn write_row<O: Write>(
-    at: usize,
+    offset: u128,
     table: &[u8],
     checked: &str,
     is_json: bool,
     output: &mut O,
 ) -> Result<(), Failure>
     ensures ok { OnOk result (Appends (O.contents output.old) (O.contents output.new)
-        (report_among is_json (table_report at table.now checked.now))) }
+        (report_among is_json (table_report offset table.now checked.now))) }
     ensures err { IfErr result (IsRowFailure table.now) }
 {
     let parts = StoredTable::open(table).map_err(Failure::Refused)?;
-    let report = report_of(at, table, &parts, checked);
+    let report = report_of(offset, table, &parts, checked);
     write_among(&report, is_json, output).map_err(Failure::Output)
 }
 
 // What is told of a table.
 fn report_of<'a>(
-    at: usize,
+    offset: u128,
     table: &[u8],
     parts: &StoredTable<'_>,
     checked: &'a str,
 ) -> [Field<'a>; 9]
     requires long { 32 ≤ length table.now }
     requires parts { parts.now ≡ file_parts table.now }
-    ensures { map told result ≡ table_report at table.now checked.now }
+    ensures { map told result ≡ table_report offset table.now checked.now }
 {
     let header = Header::of(table);
     let (items, slots) = (header.item_count(), header.slot_count());
     let load = items as u128 * 100 / (slots as u128).max(1);
     [
-        column("offset", at as u128),
+        column("offset", offset),
         column("bytes", table.len() as u128),
         column("key_bytes", header.key_size() as u128),
         column("value_bytes", header.value_size() as u128),

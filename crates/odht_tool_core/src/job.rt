@@ -14,7 +14,7 @@ pub struct Job<'a> {
     pub file: &'a str,
     /// Whether there may be no other file.
     pub is_one: bool,
-    /// The byte of the file at which the bytes begin, where that is told.
+    /// The byte of the file at which the bytes begin. None where they begin the file.
     pub at: Option<usize>,
     /// The bytes.
     pub bytes: &'a [u8],

@@ -1,15 +1,16 @@
--- What `find` writes and returns, of the bytes B of a file, where o is the bound of searches, or there is none.
---     table_text j B o at  the line of the table at the offset `at`; with j its object of JSON
+-- What `find` writes and returns, of the bytes B of a file, which begin at its byte p, where o is the bound of searches,
+-- or there is none.
+--     table_text j p B o at    the line of the table at the offset `at` in B; with j its object of JSON
 --     comma_of j i         the comma before the object i, but the first
---     tables_text j B o ts     those of the tables at the offsets ts; there are commas between objects
+--     tables_text j p B o ts   those of the tables at the offsets ts; there are commas between objects
 --     tables_object name t     the object of the file of this name, and of the tables of which the text t tells
---     found_text j name B o ts     what is written of them: with j this object, and else their lines
+--     found_text j name p B o ts   what is written of them: with j this object, and else their lines
 --     none_text file       the line on standard error where there is none
 --     AreTablesWritten B f old new s    the text f of all tables in B was written, which took the writer from the bytes old
 --                          to new, and the status s says whether there is one
 --     AreFound B f old new r   a call that took a writer from the bytes old to new and returned r did that; only the writer,
 --                          memory, or headers that overlap may have kept it from that
-use Rattle.std.specs.Prelude.{◌≡◌, ℕ, Bool, ◌&&◌, List, [], ◌∷◌, slice_index, drop, length, ◌≤◌, nat_lt, flat_map, codes, ◌++◌, Option, None, Result, Ok, Err, if◌then◌else◌}
+use Rattle.std.specs.Prelude.{◌≡◌, ◌+◌, ℕ, Bool, ◌&&◌, List, [], ◌∷◌, slice_index, drop, length, ◌≤◌, nat_lt, flat_map, codes, ◌++◌, Option, None, Result, Ok, Err, if◌then◌else◌}
 use Rattle.std.specs.Io.KnownBytes.{Appends, Keeps}
 use Rattle.std.specs.List.{range_with_len}
 use Rattle.odht_tool_reads.specs.Outcomes.{check_word}
@@ -23,20 +24,20 @@ use Rattle.odht_tool_core.specs.declared.failure.Failure.TheVariants.{Output}
 use Rattle.odht_tool_core.specs.declared.status.Status.{Status}
 use Rattle.odht_tool_core.specs.declared.status.Status.TheVariants.{Done, NotDone}
 
-abbrev pub table_text : Bool → List ℕ → Option ℕ → ℕ → List ℕ
-table_text is_json B o at =
+abbrev pub table_text : Bool → ℕ → List ℕ → Option ℕ → ℕ → List ℕ
+table_text is_json p B o at =
     let T = table_front (drop at B) in
-    report_among is_json (table_report at T (check_word o T (found_any T None)))
+    report_among is_json (table_report (p + at) T (check_word o T (found_any T None)))
 
 -- what stands before the table of this index
 abbrev pub comma_of : Bool → ℕ → List ℕ
 comma_of is_json i = if is_json && nat_lt 0 i then codes "," else []
 
-abbrev pub table_item : Bool → List ℕ → Option ℕ → List ℕ → ℕ → List ℕ
-table_item is_json B o ts i = comma_of is_json i ++ table_text is_json B o (slice_index ts i)
+abbrev pub table_item : Bool → ℕ → List ℕ → Option ℕ → List ℕ → ℕ → List ℕ
+table_item is_json p B o ts i = comma_of is_json i ++ table_text is_json p B o (slice_index ts i)
 
-abbrev pub tables_text : Bool → List ℕ → Option ℕ → List ℕ → List ℕ
-tables_text is_json B o ts = flat_map (table_item is_json B o ts) (range_with_len 0 (length ts))
+abbrev pub tables_text : Bool → ℕ → List ℕ → Option ℕ → List ℕ → List ℕ
+tables_text is_json p B o ts = flat_map (table_item is_json p B o ts) (range_with_len 0 (length ts))
 
 abbrev pub begin_text : List ℕ → List ℕ
 begin_text name = 123 ∷ (json_field (string_field (codes "file") name) ++ codes ",\"tables\":[")
@@ -44,9 +45,9 @@ begin_text name = 123 ∷ (json_field (string_field (codes "file") name) ++ code
 abbrev pub tables_object : List ℕ → List ℕ → List ℕ
 tables_object name text = json_object (string_field (codes "file") name ∷ (codes "tables", 91 ∷ (text ++ (93 ∷ []))) ∷ []) ++ (10 ∷ [])
 
-abbrev pub found_text : Bool → List ℕ → List ℕ → Option ℕ → List ℕ → List ℕ
-found_text is_json name B o ts =
-    let text = tables_text is_json B o ts in
+abbrev pub found_text : Bool → List ℕ → ℕ → List ℕ → Option ℕ → List ℕ → List ℕ
+found_text is_json name p B o ts =
+    let text = tables_text is_json p B o ts in
     if is_json then tables_object name text else text
 
 abbrev pub none_text : List ℕ → List ℕ

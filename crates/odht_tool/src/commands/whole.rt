@@ -1,10 +1,9 @@
-//! The bytes of a file that a command reads whole.
-use odht_tool_core::arguments::{Reading, is_stream};
+//! The bytes of an open file that a command reads whole.
+use odht_tool_core::arguments::is_stream;
 use odht_tool_core::failure::Failure;
-use odht_tool_tables::files::{read_bytes, read_table_bytes};
 use std::alloc::Global;
 use std::fs::{self, OpenFile};
-use std::io::{self, BufRead, Read};
+use std::io::{self, Read};
 use std::rt::Files;
 
 /// Opens a file whose keys come as lines of a pipe or a terminal. They may come for long, and all of
@@ -15,21 +14,6 @@ pub(super) fn open_for_long<R: Files>(rt: &R, file: &str, is_live: bool) -> Opti
         return None;
     }
     fs::open(rt, file).ok()
-}
-
-/// All bytes of a file, or those that show that no table begins there, if the command reads one.
-pub(super) fn read_whole<R: Files + AllocGlobal, I: BufRead>(
-    rt: &R,
-    file: &str,
-    at: Option<usize>,
-    reading: &Reading,
-    input: &mut I,
-) -> Result<Vec<u8>, Failure> {
-    if reading.is_search() {
-        read_bytes(rt, file, input)
-    } else {
-        read_table_bytes(rt, file, at.unwrap_or(0), input)
-    }
 }
 
 /// All bytes of an open file.

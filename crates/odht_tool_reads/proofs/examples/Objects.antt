@@ -60,8 +60,8 @@ sides = (refl, refl, refl)
 
 -- ---- find
 -- no table, and one at the byte 0; and its line
-pub found : (found_text true (codes "a") (7 ∷ []) None [] ≡ codes "{\"file\":\"a\",\"tables\":[]}\n")
-    × (found_text true (codes "a") one_bytes (Some 128) (0 ∷ []) ≡ codes "{\"file\":\"a\",\"tables\":[{\"offset\":0,\"bytes\":192,\"key_bytes\":4,\"value_bytes\":4,\"items\":1,\"slots\":16,\"load_percent\":6,\"hash\":\"unhash\",\"check\":\"valid\"}]}\n")
-    × (found_text false (codes "a") one_bytes (Some 128) (0 ∷ []) ≡ codes "0\t192\t4\t4\t1\t16\t6\tunhash\tvalid\n")
+pub found : (found_text true (codes "a") 0 (7 ∷ []) None [] ≡ codes "{\"file\":\"a\",\"tables\":[]}\n")
+    × (found_text true (codes "a") 0 one_bytes (Some 128) (0 ∷ []) ≡ codes "{\"file\":\"a\",\"tables\":[{\"offset\":0,\"bytes\":192,\"key_bytes\":4,\"value_bytes\":4,\"items\":1,\"slots\":16,\"load_percent\":6,\"hash\":\"unhash\",\"check\":\"valid\"}]}\n")
+    × (found_text false (codes "a") 300 one_bytes (Some 128) (0 ∷ []) ≡ codes "300\t192\t4\t4\t1\t16\t6\tunhash\tvalid\n")
 unfolding opened first_longer digits
 found = (refl, refl, refl)

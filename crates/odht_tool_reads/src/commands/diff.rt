@@ -12,6 +12,7 @@ ghost use Rattle.odht_tool_reads.specs.Diffs.{IsDiffed, diff_of, pairs_diff};
 ghost use Rattle.odht_tool_tables.specs.Wholes.{have_same_sizes, whole_any};
 
 use crate::dynamic::diffs::diff_lengths;
+use crate::positions::check_hash;
 use odht::hash::HashFn;
 use odht::{FxHashFn, UnHashFn, Xxh64HashFn};
 use odht_tool_core::any::AnyShape;
@@ -25,6 +26,7 @@ use odht_tool_core::typed::Texts;
 use odht_tool_tables::files::{finish_as, read_bytes};
 use odht_tool_tables::whole::{have_same_sizes, read_whole, sizes_of, write_sizes};
 use std::io::{BufRead, Write};
+use std::os::unix::fs::FileExt;
 use std::rt::Files;
 
 /// The first one of two files: a valid table, whose texts the lines have.
@@ -46,7 +48,11 @@ pub fn diff<R: Files + AllocGlobal, I: BufRead, O: Write, E: Write>(
     file: &str,
     options: DiffOptions,
     streams: &mut Streams<'_, '_, '_, I, O, E>,
-) -> Result<Status, Failure> {
+) -> Result<Status, Failure>
+where
+    R::File: FileExt,
+{
+    check_hash(rt, file, None, options.hash, options.kinds)?;
     let first = read_bytes(rt, file, streams.input)?;
     let bytes = first.as_slice();
     let (shape, forms) = read_whole(bytes, options.hash, options.kinds, options.bound)?;
@@ -57,7 +63,7 @@ pub fn diff<R: Files + AllocGlobal, I: BufRead, O: Write, E: Write>(
         bytes,
     };
     let other = options.other.as_str();
-    let second = match read_bytes(rt, other, streams.input) {
+    let second = match read_other(rt, other, options.hash, streams.input) {
         Ok(second) => second,
         Err(failure) => {
             return Ok(finish_as(other, Err(failure), Status::Trouble, streams.errors));
@@ -65,6 +71,25 @@ pub fn diff<R: Files + AllocGlobal, I: BufRead, O: Write, E: Write>(
     };
     let second = second.as_slice();
     diff_beside(&first, &options, second, streams.output, streams.errors)
+}
+
+// The bytes of the second file.
+fn read_other<R: Files + AllocGlobal, I: BufRead>(
+    rt: &R,
+    other: &str,
+    hash: Option<Hash>,
+    input: &mut I,
+) -> Result<Vec<u8>, Failure>
+where
+    R::File: FileExt,
+{
+    let kinds = Kinds {
+        key: None,
+        value: None,
+        hash: None,
+    };
+    check_hash(rt, other, None, hash, kinds)?;
+    read_bytes(rt, other, input)
 }
 
 // The same where the second file has these bytes. A failure of it is reported here.

@@ -1,5 +1,6 @@
 //! `odht find`: the tables inside a file.
 ghost use Rattle.std.specs.Prelude.{◌≡◌, ◌<◌, true, drop, length, slice_index, None, IfErr, OnOk};
+ghost use Rattle.std.specs.Prelude.{unwrap_or};
 ghost use Rattle.std.specs.Io.KnownBytes.{Appends};
 ghost use Rattle.odht_tool_core.specs.Endings.{IsOutputFailure};
 ghost use Rattle.odht_tool_core.specs.Finds.{AreTables, is_table};
@@ -20,11 +21,11 @@ use odht_tool_tables::checks::check_any;
 use std::io::{self, Write};
 
 /// `odht find` of the bytes of a file: writes a line for each table inside them, or an object of
-/// JSON. The status is `NotDone` where there is none. `Forged` where there are headers that
+/// JSON. The offsets are those in the file, whose first bytes may be left out. The status is `NotDone` where there is none. `Forged` where there are headers that
 /// overlap, as `find_tables` says.
 pub fn find_file<O: Write>(job: &Job<'_>, output: &mut O) -> Result<Status, Failure>
     ensures { let j = job.now
-        in AreFound j.bytes.now (found_text j.is_json j.file.now j.bytes.now j.bound)
+        in AreFound j.bytes.now (found_text j.is_json j.file.now (unwrap_or j.at 0) j.bytes.now j.bound)
         (O.contents output.old) (O.contents output.new) result }
 {
     let tables = find_tables(job.alloc, job.bytes)?;
@@ -45,7 +46,7 @@ fn write_found<O: Write>(job: &Job<'_>, tables: &[usize], output: &mut O) -> Res
     requires { AreTables job.now.bytes.now 0 tables.now }
     ensures ok { let j = job.now
         in OnOk result (Appends (O.contents output.old) (O.contents output.new)
-        (found_text j.is_json j.file.now j.bytes.now j.bound tables.now)) }
+        (found_text j.is_json j.file.now (unwrap_or j.at 0) j.bytes.now j.bound tables.now)) }
     ensures err { IfErr result IsOutputFailure }
 {
     if job.is_json {
@@ -60,7 +61,8 @@ fn write_object<O: Write>(job: &Job<'_>, tables: &[usize], output: &mut O) -> Re
     requires { AreTables job.now.bytes.now 0 tables.now }
     ensures ok { let j = job.now
         in OnOk result (Appends (O.contents output.old) (O.contents output.new)
-        (tables_object j.file.now (tables_text j.is_json j.bytes.now j.bound tables.now))) }
+        (tables_object j.file.now
+        (tables_text j.is_json (unwrap_or j.at 0) j.bytes.now j.bound tables.now))) }
     ensures err { IfErr result IsOutputFailure }
 {
     write_begin(job.file, output).map_err(Failure::Output)?;
@@ -82,7 +84,7 @@ fn write_tables<O: Write>(job: &Job<'_>, tables: &[usize], output: &mut O) -> Re
     requires { AreTables job.now.bytes.now 0 tables.now }
     ensures ok { let j = job.now
         in OnOk result (Appends (O.contents output.old) (O.contents output.new)
-        (tables_text j.is_json j.bytes.now j.bound tables.now)) }
+        (tables_text j.is_json (unwrap_or j.at 0) j.bytes.now j.bound tables.now)) }
     ensures err { IfErr result IsOutputFailure }
 {
     for index in 0..tables.len() {
@@ -102,7 +104,7 @@ fn write_item<O: Write>(
     requires table { is_table (drop (slice_index tables.now index) job.now.bytes.now) ≡ true }
     ensures ok { let j = job.now
         in OnOk result (Appends (O.contents output.old) (O.contents output.new)
-        (table_item j.is_json j.bytes.now j.bound tables.now index)) }
+        (table_item j.is_json (unwrap_or j.at 0) j.bytes.now j.bound tables.now index)) }
     ensures err { IfErr result IsOutputFailure }
 {
     let comma = comma_of(job.is_json, index);
@@ -122,12 +124,13 @@ fn write_table<O: Write>(job: &Job<'_>, at: usize, output: &mut O) -> Result<(),
     requires { is_table (drop at job.now.bytes.now) ≡ true }
     ensures ok { let j = job.now
         in OnOk result (Appends (O.contents output.old) (O.contents output.new)
-        (table_text j.is_json j.bytes.now j.bound at)) }
+        (table_text j.is_json (unwrap_or j.at 0) j.bytes.now j.bound at)) }
     ensures err { IfErr result IsOutputFailure }
 {
     let table = table_at(job.bytes, at)?;
     let checked = check_word(table, job.bound);
-    write_row(at, table, checked, job.is_json, output)
+    let offset = job.at.unwrap_or(0) as u128 + at as u128;
+    write_row(offset, table, checked, job.is_json, output)
 }
 
 // What the check says of a table; `-` where its control bytes fit no hash function.

@@ -51,6 +51,7 @@ pub mod slots;
 pub mod status;
 pub mod stored;
 mod stretches;
+pub mod tags;
 pub mod targets;
 pub mod text;
 pub mod typed;

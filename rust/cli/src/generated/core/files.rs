@@ -53,7 +53,7 @@ fn begins_table_at(bytes: &[u8], offset: usize) -> bool {
     offset <= bytes.len() && begins_table(&bytes[offset..])
 }
 
-fn of_reading(error: io::Error) -> Failure {
+pub(crate) fn of_reading(error: io::Error) -> Failure {
     match error.kind() {
         io::ErrorKind::OutOfMemory => Failure::Memory,
         _ => Failure::Read(error),
@@ -99,7 +99,11 @@ pub fn read_table_input<I: BufRead>(
 }
 
 // Adds the next bytes of an input, at most `most`.
-fn read_some<I: BufRead>(input: &mut I, most: usize, bytes: &mut Vec<u8>) -> io::Result<()> {
+pub(crate) fn read_some<I: BufRead>(
+    input: &mut I,
+    most: usize,
+    bytes: &mut Vec<u8>,
+) -> io::Result<()> {
     let mut left = most;
     for _ in 0..u64::MAX {
         let available = match input.fill_buf() {
@@ -118,7 +122,7 @@ fn read_some<I: BufRead>(input: &mut I, most: usize, bytes: &mut Vec<u8>) -> io:
     Ok(())
 }
 
-fn of_input(error: io::Error) -> Failure {
+pub(crate) fn of_input(error: io::Error) -> Failure {
     match error.kind() {
         io::ErrorKind::OutOfMemory => Failure::Memory,
         _ => Failure::Input(error),

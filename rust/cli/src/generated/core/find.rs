@@ -57,8 +57,8 @@ pub fn find_tables(alloc: Global, bytes: &[u8]) -> Result<Vec<usize>, Failure> {
     Ok(tables)
 }
 
-// The first place from this one on of a byte with which a table may begin, or the end.
-fn next_first(bytes: &[u8], from: usize) -> usize {
+/// The first place from this one on of a byte with which a table may begin, or the end.
+pub(crate) fn next_first(bytes: &[u8], from: usize) -> usize {
     from + place_of(&bytes[from..], FIRST)
 }
 
@@ -70,25 +70,25 @@ fn add(tables: &mut Vec<usize>, at: usize) -> Result<(), Failure> {
     }
 }
 
-/// Writes the line of the table that begins at this offset, or its object of JSON: the offset, its
+/// Writes the line of the table that begins at this offset of its file, or its object of JSON: the offset, its
 /// length, the sizes of keys and values, the item count, the slot count, the load in percent, the
 /// hash functions that its control bytes fit, and what the check says of it. There are tabs between
 /// them in the line.
 pub fn write_row<O: Write>(
-    at: usize,
+    offset: u128,
     table: &[u8],
     checked: &str,
     is_json: bool,
     output: &mut O,
 ) -> Result<(), Failure> {
     let parts = StoredTable::open(table).map_err(Failure::Refused)?;
-    let report = report_of(at, table, &parts, checked);
+    let report = report_of(offset, table, &parts, checked);
     write_among(&report, is_json, output).map_err(Failure::Output)
 }
 
 // What is told of a table.
 fn report_of<'a>(
-    at: usize,
+    offset: u128,
     table: &[u8],
     parts: &StoredTable<'_>,
     checked: &'a str,
@@ -97,7 +97,7 @@ fn report_of<'a>(
     let (items, slots) = (header.item_count(), header.slot_count());
     let load = items as u128 * 100 / (slots as u128).max(1);
     [
-        column("offset", at as u128),
+        column("offset", offset),
         column("bytes", table.len() as u128),
         column("key_bytes", header.key_size() as u128),
         column("value_bytes", header.value_size() as u128),

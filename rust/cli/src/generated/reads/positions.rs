@@ -42,6 +42,10 @@ const FRONT: usize = 4096;
 /// A line has some ten bytes: to look it up takes as long as to read fewer bytes than ten times this.
 const FILE_BYTES: u64 = 1 << 14;
 
+/// The least length of a file whose first slots are read before all bytes: to read a shorter one
+/// takes no longer.
+const LARGE: u64 = 1 << 24;
+
 /// Whether lines of that many bytes are few for a file of that many.
 pub fn are_few(input_len: u64, file_len: usize) -> bool {
     input_len <= most_few(file_len)
@@ -69,6 +73,44 @@ where
     }
     let len = usize::try_from(found.len()).ok()?;
     Some((FileSource::new(file), len))
+}
+
+/// Fails with `NoHash` if no hash function is named, and the first slots of the table in this large
+/// file exclude each. A command that needs a hash function would fail so once it has read all bytes.
+/// A short file passes, and one that is not regular or cannot be opened: reading it says why.
+pub fn check_hash<R: Files + AllocGlobal>(
+    rt: &R,
+    file: &str,
+    at: Option<usize>,
+    hash: Option<Hash>,
+    kinds: Kinds,
+) -> Result<(), Failure>
+where
+    R::File: FileExt,
+{
+    match fs::metadata(rt, file) {
+        Ok(found) if hash.is_none() && found.len() >= LARGE => {}
+        _ => return Ok(()),
+    }
+    let Some((source, len)) = open_regular(rt, file) else {
+        return Ok(());
+    };
+    let asked = Asked {
+        alloc: rt.alloc(),
+        at,
+        hash,
+        kinds,
+        bound: None,
+        printed: Printed { is_json: false, is_values: false },
+        most: None,
+    };
+    check_hash_at(&asked, &source, len)
+}
+
+/// The same of a source of that many bytes.
+pub fn check_hash_at<S: ReadAt>(asked: &Asked, source: &S, len: usize) -> Result<(), Failure> {
+    let _found = found_in(asked, source, len)?;
+    Ok(())
 }
 
 /// What is asked of a table that is read by position.

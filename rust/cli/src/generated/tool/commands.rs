@@ -15,7 +15,7 @@ use crate::generated::reads::lookups::arriving::Arriving;
 use crate::generated::reads::lookups::Coming;
 use crate::generated::reads::positions::{self, Asked, Reached};
 use crate::generated::tool::pairs::of_words;
-use crate::generated::tool_tables::files::{finish, finish_as, read_table_bytes};
+use crate::generated::tool_tables::files::{finish, finish_as, read_table_bytes, read_tagged};
 use crate::generated::writes::commands::{build, delete, merge, rebuild};
 use crate::host::io::{BufRead, IsTerminal, Write};
 use crate::host::prelude::*;
@@ -25,10 +25,12 @@ use std::os::fd::AsFd;
 use std::os::unix::fs::FileExt;
 
 mod readings;
+mod unfit;
 mod whole;
 
 use readings::{count_label, run_reading};
-use whole::{open_for_long, read_opened, read_whole};
+use unfit::{check_command, check_reading};
+use whole::{open_for_long, read_opened};
 
 /// Does what the words ask for. Each failure is reported by a line on `errors`; where that cannot
 /// be written either, only the status reports it. Where nobody reads `output` any more, nothing
@@ -94,6 +96,9 @@ fn run_command<
 where
     R::File: AsFd + FileExt,
 {
+    if let Some(status) = check_command(rt, file, &command, streams.errors)? {
+        return Ok(status);
+    }
     match command {
         Command::Read { others, at, reading } => {
             read_files(rt, file, others.as_slice(), at, &reading, streams)
@@ -177,15 +182,19 @@ fn read_one<R: Files + AllocGlobal, I: BufRead + Arriving, O: Write, E: Write>(
 where
     R::File: FileExt,
 {
+    if reading.is_search() {
+        return search_one(rt, file, is_one, reading, streams);
+    }
     let opened = open_for_long(rt, file, is_live(rt, reading));
     let (coming, opened) = match read_by_position(rt, file, is_one, at, reading, streams)? {
         Some(Reached::End(status)) => return Ok(status),
         Some(Reached::Line(coming)) => (coming, opened),
         None => (Coming::all(is_live(rt, reading)), None),
     };
+    check_reading(rt, file, at, reading)?;
     let bytes = match opened {
         Some(opened) => read_opened(rt.alloc(), opened)?,
-        None => read_whole(rt, file, at, reading, streams.input)?,
+        None => read_table_bytes(rt, file, at.unwrap_or(0), streams.input)?,
     };
     let table = match at {
         Some(offset) => table_at(bytes.as_slice(), offset)?,
@@ -202,11 +211,30 @@ where
         is_values: false,
     };
     let done = run_reading(&job, reading, coming, streams);
-    if reading.is_search() {
-        done
-    } else {
-        with_hint(&job, done, reading.failed(), streams.output, streams.errors)
-    }
+    with_hint(&job, done, reading.failed(), streams.output, streams.errors)
+}
+
+// Runs a command that looks for tables at every byte of its file. It needs no bytes before the
+// first tag.
+fn search_one<R: Files + AllocGlobal, I: BufRead + Arriving, O: Write, E: Write>(
+    rt: &R,
+    file: &str,
+    is_one: bool,
+    reading: &Reading,
+    streams: &mut Streams<'_, '_, '_, I, O, E>,
+) -> Result<Status, Failure> {
+    let tagged = read_tagged(rt, file, streams.input)?;
+    let job = Job {
+        alloc: rt.alloc(),
+        file,
+        is_one,
+        at: Some(tagged.skipped),
+        bytes: tagged.bytes.as_slice(),
+        bound: None,
+        is_json: false,
+        is_values: false,
+    };
+    run_reading(&job, reading, Coming::all(false), streams)
 }
 
 // Whether lines are answered as they come: where they are keys, and standard input is no file.

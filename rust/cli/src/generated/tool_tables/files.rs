@@ -5,6 +5,7 @@ use crate::generated::core::arguments::is_stream;
 use crate::generated::core::failure::Failure;
 use crate::generated::core::files::{read_file, read_input, read_table_file, read_table_input};
 use crate::generated::core::status::Status;
+use crate::generated::core::tags::{read_tagged_file, read_tagged_input, Tagged};
 use crate::host::prelude::*;
 use crate::host::rt::Files;
 use std::io::{BufRead, ErrorKind, Write};
@@ -35,6 +36,19 @@ pub fn read_table_bytes<R: Files + AllocGlobal, I: BufRead>(
         read_table_input(rt.alloc(), input, offset)
     } else {
         read_table_file(rt, file, offset)
+    }
+}
+
+/// The bytes of the file from the first tag of a table on, or of standard input.
+pub fn read_tagged<R: Files + AllocGlobal, I: BufRead>(
+    rt: &R,
+    file: &str,
+    input: &mut I,
+) -> Result<Tagged, Failure> {
+    if is_stream(file) {
+        read_tagged_input(rt, input)
+    } else {
+        read_tagged_file(rt, file)
     }
 }
 

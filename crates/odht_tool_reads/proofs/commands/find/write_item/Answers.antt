@@ -1,4 +1,4 @@
-use Rattle.std.proofs.Common.{rules, slice_index}
+use Rattle.std.proofs.Common.{rules, slice_index, unwrap_or}
 use Rattle.std.specs.Io.KnownBytes.{Appends}
 use Rattle.odht_tool_reads.specs.FindLines.{comma_of, table_text}
 use Rattle.odht_tool_core.proofs.InfoLines.{then_appends}
@@ -14,4 +14,4 @@ returns-clause-ok g c =
     let new = o c.write_table.new.output in
     let comma : Appends old mid (comma_of j.is_json c.args.index) = search rules in
     then_appends c.write_table.result old mid new (comma_of j.is_json c.args.index)
-    (table_text j.is_json j.bytes.now j.bound (slice_index c.args.tables.now c.args.index)) comma c.write_table.ensures.ok
+    (table_text j.is_json (unwrap_or j.at 0) j.bytes.now j.bound (slice_index c.args.tables.now c.args.index)) comma c.write_table.ensures.ok

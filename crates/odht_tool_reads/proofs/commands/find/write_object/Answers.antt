@@ -1,4 +1,4 @@
-use Rattle.std.proofs.Common.{rules, ◌≡◌, ◌∙◌, ℕ, List, [], ◌∷◌, ◌++◌, ap, subst, sym}
+use Rattle.std.proofs.Common.{rules, ◌≡◌, ◌∙◌, ℕ, List, [], ◌∷◌, ◌++◌, ap, subst, sym, unwrap_or}
 use Rattle.std.specs.Io.KnownBytes.{Appends}
 use Rattle.std.specs.Prelude.{OnOk, codes}
 use Rattle.std.proofs.lemmas.List.{append_assoc}
@@ -26,7 +26,7 @@ returns-clause-ok g c =
     let new = o c.write_all.new.self in
     let r = c.map_err-2.result in
     let name = j.file.now in
-    let text = tables_text j.is_json j.bytes.now j.bound c.args.tables.now in
+    let text = tables_text j.is_json (unwrap_or j.at 0) j.bytes.now j.bound c.args.tables.now in
     let begun : Appends old p1 (begin_text name) = search rules in
     let last : OnOk r (Appends p2 new (codes "]}\n")) = search rules in
     let rest = then_appends r p1 p2 new text (codes "]}\n") c.in_ok-write_tables.ensures.ok last in

@@ -1,4 +1,4 @@
-use Rattle.std.proofs.Common.{◌≡◌, ◌∙◌, ℕ, List, length, nat_lt, drop, false, None, sym, ap, subst, arith, le-ltb}
+use Rattle.std.proofs.Common.{◌≡◌, ◌∙◌, ℕ, List, length, nat_lt, drop, false, None, sym, ap, subst, arith, le-ltb, ◌+◌}
 use Rattle.std.specs.Bool.{then_some}
 use Rattle.std.specs.Io.KnownBytes.{Appends}
 use Rattle.std.specs.Prelude.{OnOk}
@@ -7,7 +7,7 @@ use Rattle.std.proofs.lemmas.Option.{none-some}
 use Rattle.odht_tool_core.specs.declared.failure.Failure.TheVariants.{PastEnd}
 use Rattle.odht_tool_core.specs.AnyShapes.{found_any}
 use Rattle.odht_tool_core.specs.Finds.{table_report}
-use Rattle.odht_tool_core.specs.Fronts.{offset_failure}
+use Rattle.odht_tool_core.specs.Fronts.{offset_failure, table_front}
 use Rattle.odht_tool_core.specs.InfoNumbers.{info_refusal}
 use Rattle.odht_tool_core.specs.Reports.{report_among}
 use Rattle.odht_tool_reads.specs.Outcomes.{check_word}
@@ -37,6 +37,9 @@ returns-clause-ok g c =
     let old = g.O.Write.contents c.args.output.now in
     let new = g.O.Write.contents c.write_row.new.output in
     let r = c.write_row.result in
-    let text = λ (T : List ℕ). λ (word : List ℕ). report_among j.is_json (table_report c.args.at T word) in
-    subst (λ T. OnOk r (Appends old new (text T (check_word j.bound T (found_any T None))))) c.in_ok-table.ensures.table
-    (subst (λ word. OnOk r (Appends old new (text c.in_ok-table.table.now word))) c.check_word-checked.ensures c.write_row.ensures.ok)
+    let text = λ (p : ℕ). λ (T : List ℕ). λ (word : List ℕ). report_among j.is_json (table_report (p + c.args.at) T word) in
+    let front = table_front (drop c.args.at j.bytes.now) in
+    let before = c.unwrap_or.result in
+    subst (λ p. OnOk r (Appends old new (text p front (check_word j.bound front (found_any front None))))) c.unwrap_or.ensures
+    (subst (λ T. OnOk r (Appends old new (text before T (check_word j.bound T (found_any T None))))) c.in_ok-table.ensures.table
+    (subst (λ word. OnOk r (Appends old new (text before c.in_ok-table.table.now word))) c.check_word-checked.ensures c.write_row.ensures.ok))

@@ -1,4 +1,4 @@
-use Rattle.std.proofs.Common.{sym, subst, arith}
+use Rattle.std.proofs.Common.{sym, subst, arith, unwrap_or}
 use Rattle.std.specs.Io.KnownBytes.{Appends}
 use Rattle.std.specs.List.{flat_map, range_with_len}
 use Rattle.std.proofs.KnownBytes.{Appends-trans}
@@ -14,7 +14,7 @@ write_item-requires-clause-table g c = each_table c.args.job.now.bytes.now 0 c.a
 pub loop-index-preserved : goal.loop-index-preserved
 loop-index-preserved g c =
     let j = c.args.job.now in
-    let item = table_item j.is_json j.bytes.now j.bound c.args.tables.now in
+    let item = table_item j.is_json (unwrap_or j.at 0) j.bytes.now j.bound c.args.tables.now in
     let n = c.loop-index.index in
     let old = g.O.Write.contents c.args.output.now in
     let mid = g.O.Write.contents c.loop-index.output in

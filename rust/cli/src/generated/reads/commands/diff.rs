@@ -10,6 +10,7 @@ use crate::generated::core::shapes::Hash;
 use crate::generated::core::status::Status;
 use crate::generated::core::typed::Texts;
 use crate::generated::reads::dynamic::diffs::diff_lengths;
+use crate::generated::reads::positions::check_hash;
 use crate::generated::tables::hash::HashFn;
 use crate::generated::tables::{FxHashFn, UnHashFn, Xxh64HashFn};
 use crate::generated::tool_tables::files::{finish_as, read_bytes};
@@ -17,6 +18,7 @@ use crate::generated::tool_tables::whole::{have_same_sizes, read_whole, sizes_of
 use crate::host::prelude::*;
 use crate::host::rt::Files;
 use std::io::{BufRead, Write};
+use std::os::unix::fs::FileExt;
 
 /// The first one of two files: a valid table, whose texts the lines have.
 #[derive(Clone, Copy)]
@@ -37,13 +39,17 @@ pub fn diff<R: Files + AllocGlobal, I: BufRead, O: Write, E: Write>(
     file: &str,
     options: DiffOptions,
     streams: &mut Streams<'_, '_, '_, I, O, E>,
-) -> Result<Status, Failure> {
+) -> Result<Status, Failure>
+where
+    R::File: FileExt,
+{
+    check_hash(rt, file, None, options.hash, options.kinds)?;
     let first = read_bytes(rt, file, streams.input)?;
     let bytes = first.as_slice();
     let (shape, forms) = read_whole(bytes, options.hash, options.kinds, options.bound)?;
     let first = First { file, shape, forms, bytes };
     let other = options.other.as_str();
-    let second = match read_bytes(rt, other, streams.input) {
+    let second = match read_other(rt, other, options.hash, streams.input) {
         Ok(second) => second,
         Err(failure) => {
             return Ok(finish_as(other, Err(failure), Status::Trouble, streams.errors));
@@ -51,6 +57,21 @@ pub fn diff<R: Files + AllocGlobal, I: BufRead, O: Write, E: Write>(
     };
     let second = second.as_slice();
     diff_beside(&first, &options, second, streams.output, streams.errors)
+}
+
+// The bytes of the second file.
+fn read_other<R: Files + AllocGlobal, I: BufRead>(
+    rt: &R,
+    other: &str,
+    hash: Option<Hash>,
+    input: &mut I,
+) -> Result<Vec<u8>, Failure>
+where
+    R::File: FileExt,
+{
+    let kinds = Kinds { key: None, value: None, hash: None };
+    check_hash(rt, other, None, hash, kinds)?;
+    read_bytes(rt, other, input)
 }
 
 // The same where the second file has these bytes. A failure of it is reported here.

@@ -14,7 +14,7 @@ use crate::host::prelude::*;
 use std::io::{self, Write};
 
 /// `odht find` of the bytes of a file: writes a line for each table inside them, or an object of
-/// JSON. The status is `NotDone` where there is none. `Forged` where there are headers that
+/// JSON. The offsets are those in the file, whose first bytes may be left out. The status is `NotDone` where there is none. `Forged` where there are headers that
 /// overlap, as `find_tables` says.
 pub fn find_file<O: Write>(job: &Job<'_>, output: &mut O) -> Result<Status, Failure> {
     let tables = find_tables(job.alloc, job.bytes)?;
@@ -82,7 +82,8 @@ fn comma_of(is_json: bool, index: usize) -> &'static str {
 fn write_table<O: Write>(job: &Job<'_>, at: usize, output: &mut O) -> Result<(), Failure> {
     let table = table_at(job.bytes, at)?;
     let checked = check_word(table, job.bound);
-    write_row(at, table, checked, job.is_json, output)
+    let offset = job.at.unwrap_or(0) as u128 + at as u128;
+    write_row(offset, table, checked, job.is_json, output)
 }
 
 // What the check says of a table; `-` where its control bytes fit no hash function.

@@ -1,13 +1,12 @@
 // Generated from crates/odht_tool/src/commands/whole.rt by make generate.
-//! The bytes of a file that a command reads whole.
-use crate::generated::core::arguments::{is_stream, Reading};
+//! The bytes of an open file that a command reads whole.
+use crate::generated::core::arguments::is_stream;
 use crate::generated::core::failure::Failure;
-use crate::generated::tool_tables::files::{read_bytes, read_table_bytes};
 use crate::host::fs::{self, OpenFile};
 use crate::host::prelude::*;
 use crate::host::rt::Files;
 use crate::shim::Global;
-use std::io::{self, BufRead, Read};
+use std::io::{self, Read};
 
 /// Opens a file whose keys come as lines of a pipe or a terminal. They may come for long, and all of
 /// them are answered from the file as it is at first, even if another one replaces it meanwhile.
@@ -17,21 +16,6 @@ pub(super) fn open_for_long<R: Files>(rt: &R, file: &str, is_live: bool) -> Opti
         return None;
     }
     fs::open(rt, file).ok()
-}
-
-/// All bytes of a file, or those that show that no table begins there, if the command reads one.
-pub(super) fn read_whole<R: Files + AllocGlobal, I: BufRead>(
-    rt: &R,
-    file: &str,
-    at: Option<usize>,
-    reading: &Reading,
-    input: &mut I,
-) -> Result<Vec<u8>, Failure> {
-    if reading.is_search() {
-        read_bytes(rt, file, input)
-    } else {
-        read_table_bytes(rt, file, at.unwrap_or(0), input)
-    }
 }
 
 /// All bytes of an open file.
