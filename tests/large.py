@@ -2,7 +2,7 @@
 """Tests that the program `odht` counts the items of a table that is larger than memory: it reads only the header. The
 file is sparse: a header of 2^36 slots for keys of eight bytes and values of four, and no other byte written. And that it
 rejects 3 GB of zeros at once, in little memory, also on standard input, and a table whose first slots fit no hash
-function, by each command that needs one. That `find` goes through 3 GB in little memory. And that `get` looks up 1,000
+function, by each command that needs one. That `--at` reads only the table. That `find` goes through 3 GB in little memory. And that `get` looks up 1,000
 keys of a table of 1.7 GB in little memory: as words, and as lines of a file and of a pipe.
 
   tests/large.py PROGRAM..
@@ -55,6 +55,16 @@ OF_UNFIT = [
     (["merge", "new", "unfit", "small"], None, 1),
     (["merge", "new", "small", "unfit"], None, 1),
     (["merge", "-", "small", "unfit"], None, 1),
+]
+# commands that read a table in a longer file
+OF_PART = [
+    ["check", "long", "--at", "0"],
+    ["info", "long", "--at", "0"],
+    ["dump", "long", "--at", "0"],
+    ["dump", "long", "--at", "0", "--slots"],
+    ["keys", "long", "--at", "0"],
+    ["order", "long", "--at", "0"],
+    ["count", "long", "--at", "0", "--check"],
 ]
 # how many keys a table of 2^27 slots has, and how many slots are from one to the next
 KEYS, APART, KEY_SLOTS = 1000, 5, 1 << 27
@@ -155,6 +165,19 @@ def test_zeros(program, room):
             assert found == tuple(it.replace("zeros", "-") if isinstance(it, str) else it for it in wanted), (words, found)
 
 
+def test_part(program, room):
+    """The table `small`, with 3 GB after it, is read as if nothing came after it."""
+    with open(f"{room}/small", "rb") as small, open(f"{room}/long", "wb") as it:
+        it.write(small.read())
+        it.truncate(ZEROS)
+    for words in OF_PART:
+        alone = run(program, [{"long": "small"}.get(it, it) for it in words], room)
+        assert alone[0] == 0 and alone[1], (words, alone)
+        found = run(program, words, room)
+        assert found == (0, alone[1].replace("small", "long"), ""), (words, found)
+    os.remove(f"{room}/long")
+
+
 def test_find(program, room):
     """3 GB of zeros, and 16 MB with two tables, the first of which lies across the border of a part that is read."""
     with open(f"{room}/small", "rb") as it:
@@ -199,6 +222,7 @@ def main(*programs):
                 test(program, room)
                 test_zeros(program, room)
                 test_unfit(program, room)
+                test_part(program, room)
                 test_find(program, room)
                 test_keys(program, room)
             except (AssertionError, subprocess.TimeoutExpired) as error:

@@ -30,7 +30,7 @@ mod whole;
 
 use readings::{count_label, run_reading};
 use unfit::{check_command, check_reading};
-use whole::{open_for_long, read_opened};
+use whole::{open_for_long, read_from, read_opened};
 
 /// Does what the words ask for. Each failure is reported by a line on `errors`; where that cannot
 /// be written either, only the status reports it. Where nobody reads `output` any more, nothing
@@ -192,11 +192,11 @@ where
         None => (Coming::all(is_live(rt, reading)), None),
     };
     check_reading(rt, file, at, reading)?;
-    let bytes = match opened {
-        Some(opened) => read_opened(rt.alloc(), opened)?,
-        None => read_table_bytes(rt, file, at.unwrap_or(0), streams.input)?,
+    let (bytes, begins) = match opened {
+        Some(opened) => (read_opened(rt.alloc(), opened)?, at),
+        None => read_from(rt, file, at, streams.input)?,
     };
-    let table = match at {
+    let table = match begins {
         Some(offset) => table_at(bytes.as_slice(), offset)?,
         None => bytes.as_slice(),
     };
