@@ -5,8 +5,8 @@
 
 Every pair of types that `build` names can be built, and is read as it was given. The one key of a table is found by each
 hash function, though another one may have its tag too. `put` and `delete` ask for a type where a file does not show it.
-`merge` takes the hash function of a file that has items, and asks where those of two files show other types. The last line
-counts the tests.
+`merge` takes the hash function of a file that has items, and asks where those of two files show other types. The last
+line counts the tests.
 """
 import os
 import random

@@ -1,9 +1,11 @@
 #!/usr/bin/env python3
 """Tests that the program `odht` counts the items of a table that is larger than memory: it reads only the header. The
-file is sparse: a header of 2^36 slots for keys of eight bytes and values of four, and no other byte written. And that it
-rejects 3 GB of zeros at once, in little memory, also on standard input, and a table whose first slots fit no hash
-function, by each command that needs one. That `--at` reads only the table. That `find` goes through 3 GB in little memory. And that `get` looks up 1,000
-keys of a table of 1.7 GB in little memory: as words, and as lines of a file and of a pipe.
+file is sparse: a header of 2^36 slots for keys of eight bytes and values of four, and no other byte written. Also:
+
+- 3 GB of zeros, also on standard input, are rejected at once, in little memory; `find` searches them in little memory
+- a table whose first slots fit no hash function is rejected at once by each command that needs one
+- `--at` reads only the table, of a file of 3 GB
+- `get` looks up 1,000 keys of a table of 1.7 GB in little memory: as words, and as lines of a file and of a pipe
 
   tests/large.py PROGRAM..
 
