@@ -59,7 +59,7 @@ where
     read_part(rt.alloc(), &source, offset as u64, needed)
 }
 
-// So many bytes from an offset on.
+// The bytes from an offset on, `len` of them. None where a read failed, or memory is short.
 fn read_part<S: ReadAt>(alloc: Global, source: &S, at: u64, len: usize) -> Option<Vec<u8>> {
     let mut bytes = Vec::with_capacity(alloc, len).ok()?;
     let mut part = [0; PART];
